@@ -1,0 +1,11 @@
+pub mod Records
+pub mod Bodies
+pub mod Growth
+pub mod Keys
+pub mod Entries
+pub mod Scans
+pub mod Pieces
+pub mod Spellings
+pub mod Orders
+pub mod LastRecords
+pub mod OnePiece

@@ -1,0 +1,5 @@
+use Rattle.bk_record.proofs.LastRecords.{scan_takes_last}
+use Rattle.bk_record.proofs.laws.last_record_wins.Goals as goal
+
+pub returns : goal.returns
+returns c = scan_takes_last

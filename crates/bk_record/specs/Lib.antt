@@ -1,0 +1,9 @@
+pub mod Key
+pub mod Location
+pub mod Record
+pub mod Body
+pub mod Files
+pub mod Scan
+pub mod Piece
+pub mod Spelling
+pub mod Latest

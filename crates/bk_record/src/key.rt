@@ -1,0 +1,56 @@
+//! The key of an entry: two ids, each from 0 to 2^63 - 1.
+
+ghost use Rattle.std.specs.Prelude.{◌≡◌, ◌<◌, ◌^◌};
+
+use std::marker::Model;
+
+/// The ledger and the entry id of an entry, each from 0 to 2^63 - 1. Keys are in order of ledger, then entry.
+#[derive(Clone, Copy, Debug, PartialEq, Eq, PartialOrd, Ord)]
+pub struct Key {
+    ledger: u64,
+    entry: u64,
+}
+
+impl Model for Key {
+    ghost use Rattle.std.specs.Prelude.{◌<◌, ◌^◌};
+    ghost use Rattle.bk_record.specs.Key.{EntryKey};
+
+    ghost Value = { EntryKey };
+
+    ghost view = { λ key. record { ledger = key.ledger; entry = key.entry } };
+
+    ghost invariant = { λ key. (key.ledger < 2 ^ 63) × (key.entry < 2 ^ 63) };
+
+    ghost inverse = { λ value. record { ledger = value.ledger; entry = value.entry } };
+}
+
+impl Key {
+    ghost use Rattle.std.specs.Option.{SomeIff};
+
+    /// The key of these ids, `None` where one of them is past 2^63 - 1 (this project's rule).
+    pub fn new(ledger: u64, entry: u64) -> Option<Key>
+        ensures { SomeIff result ((ledger < 2 ^ 63) × (entry < 2 ^ 63)) (record { ledger = ledger; entry = entry }) }
+    {
+        if ledger >> 63 == 0 && entry >> 63 == 0 {
+            Some(Key { ledger, entry })
+        } else {
+            None
+        }
+    }
+
+    /// The ledger's id.
+    pub fn ledger(&self) -> u64
+        ensures value { result ≡ self.now.ledger }
+        ensures bound { result < 2 ^ 63 }
+    {
+        self.ledger
+    }
+
+    /// The entry's id in its ledger.
+    pub fn entry(&self) -> u64
+        ensures value { result ≡ self.now.entry }
+        ensures bound { result < 2 ^ 63 }
+    {
+        self.entry
+    }
+}

@@ -1,0 +1,18 @@
+//! Keys, locations and records: what one entry of an entry log is, and how its bytes are written and read.
+#![tactic(auto)]
+
+mod fault;
+mod key;
+mod laws;
+mod location;
+mod piece;
+mod record;
+#[cfg(test)]
+mod tests;
+
+pub use fault::RecordFault;
+pub use key::Key;
+pub use laws::{last_record_wins, one_piece, one_spelling};
+pub use location::Location;
+pub use piece::{Piece, read_record};
+pub use record::{check_add, key_of, write_record};

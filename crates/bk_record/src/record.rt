@@ -1,0 +1,61 @@
+//! A payload, its key, and its record: the length in four bytes, big-endian, then the payload.
+
+ghost use Rattle.std.specs.Prelude.{◌≡◌, ◌++◌, OnOk, OnErr, IsOkUnless, length, Result};
+ghost use Rattle.bk_record.specs.Record.{record_of, IsPayload, read_key, read_added};
+ghost use Rattle.bk_record.specs.declared.fault.RecordFault.TheVariants.{Memory};
+
+use crate::{Key, RecordFault};
+use byteorder::{BigEndian, ByteOrder};
+
+/// The most bytes that the payload of an add may have (this project's rule).
+const MAX_ADDED: usize = 1_048_576;
+
+/// The key of a payload: the ledger id in its first eight bytes, the entry id in the next eight, both big-endian.
+///
+/// Faults, tried in this order: `Short` with the length where the payload has fewer than 16 bytes, `Negative` where
+/// an id, read as a signed number, is negative (this project's rule).
+#[tactic(auto, unfolding(crate::specs::Record::read_key, crate::specs::Record::key_of, crate::specs::Record::ledger_field, crate::specs::Record::entry_field))]
+pub fn key_of(payload: &[u8]) -> Result<Key, RecordFault>
+    ensures { result ≡ read_key payload.now }
+{
+    if payload.len() < 16 {
+        return Err(RecordFault::Short(payload.len() as u64));
+    }
+    let ledger = BigEndian::read_u64(payload);
+    let entry = BigEndian::read_u64(&payload[8..]);
+    match Key::new(ledger, entry) {
+        Some(key) => Ok(key),
+        None => Err(RecordFault::Negative),
+    }
+}
+
+/// The key of a payload that is to be added: as `key_of`, and then `TooLong` with the length where the payload has
+/// more than 1,048,576 bytes (this project's rule).
+#[tactic(auto, unfolding(crate::specs::Record::read_added))]
+pub fn check_add(payload: &[u8]) -> Result<Key, RecordFault>
+    ensures { result ≡ read_added payload.now }
+{
+    match key_of(payload) {
+        Ok(_) if payload.len() > MAX_ADDED => Err(RecordFault::TooLong(payload.len() as u64)),
+        outcome => outcome,
+    }
+}
+
+/// Appends the record of a payload: its length in four bytes, big-endian, then its bytes (the BookKeeper entry log
+/// format). `Memory`, the only fault, leaves `out` as it was.
+#[tactic(auto, unfolding(crate::specs::Record::record_of))]
+pub fn write_record(payload: &[u8], out: &mut Vec<u8>) -> Result<(), RecordFault>
+    requires { IsPayload payload.now }
+    ensures ok { OnOk result (out.new.items ≡ out.old.items ++ record_of payload.now) }
+    ensures only { IsOkUnless result Memory }
+    ensures err { OnErr result (out.new.items ≡ out.old.items) }
+{
+    if out.reserve(4 + payload.len()).is_err() {
+        return Err(RecordFault::Memory);
+    }
+    let mut length = [0; 4];
+    BigEndian::write_u32(&mut length, payload.len() as u32);
+    out.extend_from_slice(&length).unwrap();
+    out.extend_from_slice(payload).unwrap();
+    Ok(())
+}
