@@ -1,0 +1,11 @@
+//! From the key of an entry to the place where it stands: a finite map, walked in the order of its keys.
+#![tactic(auto)]
+
+mod index;
+mod walk;
+
+pub use index::Index;
+pub use walk::Walk;
+
+#[cfg(test)]
+mod tests;

@@ -1,0 +1,166 @@
+//! The keeper of the lease words: the one that opens, pins, closes and frees slots.
+//!
+//! A keeper has the state of each slot at hand, and the lease rule says that the words agree with
+//! it: so no call has to ask a word for its log, and a count that a step finds is the count of that
+//! log.
+ghost use Rattle.std.specs.Prelude.{◌≡◌, ℕ, ◌^◌, ◌<◌, ◌≤◌, length};
+ghost use Rattle.std.specs.Prelude.{IfOk, IfErr, OnOk, OnErr, IsErrOf};
+ghost use Rattle.bk_lease.specs.declared.slot.Slot.TheVariants.{Free, Open};
+ghost use Rattle.bk_lease.specs.Leases.{state_at, log_at, IsOpen, IsClosed, MayOpen};
+
+use crate::answers::{Closed, Leased, PinFault};
+use crate::lease::Lease;
+use crate::rule::{Board, Role};
+use crate::seat::LeaseSeat;
+use crate::slot::Slot;
+use crate::steps::{CloseStep, FreeStep, GrantStep, NeverStep, OpenStep, PinStep, UndoStep};
+use crate::word;
+use atomic_table::Seat;
+use std::marker::Model;
+use std::sync::Arc;
+
+/// The one that opens, pins, closes and frees the slots of a table. None of its calls waits.
+#[derive(Drop)]
+pub struct Keeper {
+    table: Arc<Board>,
+    seat: Seat<(), Role>,
+    slots: Vec<Slot>,
+    most: u64,
+}
+
+impl Model for Keeper {
+    ghost use Rattle.std.specs.Arc.{arc_value};
+    ghost use Rattle.bk_lease.specs.Values.{Desk};
+
+    ghost Value = { Desk };
+
+    ghost use Rattle.bk_lease.specs.Values.{IsAtRest};
+
+    ghost view = { λ k. record { table = k.seat.table_id; slots = k.slots.items; most = k.most } };
+
+    ghost invariant = { λ k.
+        IsAtRest k.seat (arc_value k.table).shared.table_id k.slots.items k.most };
+}
+
+impl Keeper {
+    ghost use Rattle.std.specs.Arc.{arc_value};
+    ghost use Rattle.bk_lease.specs.Values.{Desk, IsAtRest, with_state, with_closed};
+    ghost use Rattle.bk_lease.specs.Values.{new_ticket, MayMeet};
+
+    pub(crate) fn new(
+        table: Arc<Board>,
+        seat: Seat<(), Role>,
+        slots: Vec<Slot>,
+        most: u64,
+    ) -> Keeper
+        requires { IsAtRest seat (arc_value table).shared.table_id slots.items most }
+        ensures { result ≡ record { table = seat.table_id; slots = slots.items; most = most } }
+    {
+        Keeper {
+            table,
+            seat,
+            slots,
+            most,
+        }
+    }
+
+    /// The state of each slot, by which a caller tests whether one is open.
+    pub fn slots(&self) -> &[Slot]
+        ensures { result.now ≡ self.now.slots }
+    {
+        &self.slots
+    }
+
+    /// Opens a slot, which is free or closed, for this log.
+    pub fn open(&mut self, slot: usize, log: u32)
+        requires slot { slot < length self.old.slots }
+        requires log { log < 2 ^ 31 }
+        requires may_open { MayOpen (state_at self.old.slots slot) }
+        ensures { self.new ≡ with_state self.old slot (Open log) }
+    {
+        let shared = &self.table.shared;
+        shared.store::<OpenStep>(&mut self.seat, slot, word::unleased(log));
+        self.slots[slot] = Slot::Open(log);
+    }
+
+    /// A seat that holds this slot, which is open: a lease of its log.
+    ///
+    /// The faults are `NoSeat`, before anything is done, and `TooMany`, where as many leases as the
+    /// table allows were out: the step that found them is then taken back by a second one.
+    pub fn pin(&mut self, slot: usize) -> Result<LeaseSeat, PinFault>
+        requires { IsOpen self.old.slots slot }
+        ensures keeper { self.new ≡ self.old }
+        ensures ok { IfOk result (λ seat. seat ≡ new_ticket self.old slot) }
+        ensures room { OnOk result ((met : ℕ) × (met < self.old.most) × MayMeet self.old slot met) }
+        ensures too_many { IsErrOf result PinFault.TooMany → MayMeet self.old slot self.old.most }
+    {
+        let Ok(table) = Arc::try_clone(&self.table) else {
+            return Err(PinFault::NoSeat);
+        };
+        let log = self.log_at(slot);
+        let shared = &self.table.shared;
+        let found = shared.fetch_add::<PinStep>(&mut self.seat, slot, 1);
+        if word::count_of(found) >= self.most {
+            shared.fetch_sub::<UndoStep>(&mut self.seat, slot, 1);
+            return Err(PinFault::TooMany);
+        }
+        let seat = shared.split_seat::<GrantStep>(&mut self.seat);
+        Ok(LeaseSeat::new(table, seat, slot, log))
+    }
+
+    /// Closes an open slot if no lease of its log is out, and else says how many were, at one step.
+    pub fn close(&mut self, slot: usize) -> Result<Closed, Leased>
+        requires { IsOpen self.old.slots slot }
+        ensures ok { IfOk result (λ c. (c.slot ≡ slot) × (c.log ≡ log_at self.old.slots slot)) }
+        ensures closed { OnOk result (self.new ≡ with_closed self.old slot) }
+        ensures unleased { OnOk result (MayMeet self.old slot 0) }
+        ensures leased { IfErr result (λ e. (0 < e.count) × (e.count ≤ self.old.most)) }
+        ensures met { IfErr result (λ e. MayMeet self.old slot e.count) }
+        ensures err { OnErr result (self.new ≡ self.old) }
+    {
+        let log = self.log_at(slot);
+        let unleased = word::unleased(log);
+        let closed = word::closed(log);
+        let shared = &self.table.shared;
+        let found = shared.compare_exchange::<CloseStep>(&mut self.seat, slot, unleased, closed);
+        if found != unleased {
+            let count = word::count_of(found);
+            return Err(Leased { count });
+        }
+        self.slots[slot] = Slot::Closed(log);
+        Ok(Closed { slot, log })
+    }
+
+    /// Frees a slot that was closed and still is.
+    pub fn free(&mut self, closed: Closed)
+        requires { state_at self.old.slots closed.slot ≡ Slot.Closed closed.log }
+        ensures { self.new ≡ with_state self.old closed.slot Free }
+    {
+        let shared = &self.table.shared;
+        shared.store::<FreeStep>(&mut self.seat, closed.slot, 0);
+        self.slots[closed.slot] = Slot::Free;
+    }
+
+    /// Shows that no lease is of a slot which this keeper has closed, by putting the two together:
+    /// a caller that has both calls it in an arm that is never reached.
+    pub fn meet<V: Drop>(&mut self, lease: Lease<V>)
+        requires table { lease.ticket.table ≡ self.old.table }
+        requires closed { IsClosed self.old.slots lease.ticket.slot }
+        ensures { ⊥ }
+    {
+        lease.into_kept().meet(&mut self.seat);
+        let shared = &self.table.shared;
+        shared.load::<NeverStep>(&mut self.seat, 0);
+    }
+
+    /// The log of an open slot.
+    fn log_at(&self, slot: usize) -> u32
+        requires { IsOpen self.now.slots slot }
+        ensures { result ≡ log_at self.now.slots slot }
+    {
+        let Slot::Open(log) = self.slots[slot] else {
+            unreachable!()
+        };
+        log
+    }
+}

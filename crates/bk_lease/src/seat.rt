@@ -1,0 +1,98 @@
+//! The seat of a lease at the table: it holds one slot until it is spent, by one atomic step.
+ghost use Rattle.std.specs.Prelude.{◌≡◌, ◌<◌, true, []};
+
+use crate::rule::{Board, Role};
+use crate::steps::{MeetStep, ReleaseStep};
+use atomic_table::Seat;
+use std::marker::Model;
+use std::sync::Arc;
+
+/// A seat, which holds one slot until it is spent. While it holds the slot the slot's log is
+/// leased.
+///
+/// The seat is an owner of its table, so it may outlive the keeper and go to any thread. One that
+/// is dropped while it holds its slot leaves the log leased for good: put it into a `Lease`.
+#[derive(Drop)]
+pub struct LeaseSeat {
+    table: Arc<Board>,
+    seat: Seat<(), Role>,
+    slot: usize,
+    log: u32,
+}
+
+impl Model for LeaseSeat {
+    ghost use Rattle.std.specs.Arc.{arc_value};
+    ghost use Rattle.bk_lease.specs.Values.{Ticket};
+
+    ghost Value = { Ticket };
+
+    ghost use Rattle.bk_lease.specs.Values.{IsSeatOf, is_held};
+
+    ghost view = { λ s. record {
+      table = s.seat.table_id;
+      slot = s.slot;
+      log = s.log;
+      is_held = is_held s.seat.me.0;
+    } };
+
+    ghost invariant = { λ s. IsSeatOf s.seat (arc_value s.table).shared.table_id s.slot };
+}
+
+impl LeaseSeat {
+    ghost use Rattle.std.specs.Arc.{arc_value};
+    ghost use Rattle.bk_lease.specs.declared.rule.Role.TheVariants.{Held, Spent};
+    ghost use Rattle.bk_lease.specs.Values.{Ticket, HasClosed, IsSameSeat, held_ticket, spent};
+
+    /// The seat of a pin that was granted.
+    pub(crate) fn new(table: Arc<Board>, seat: Seat<(), Role>, slot: usize, log: u32) -> LeaseSeat
+        requires seated { seat.table_id ≡ (arc_value table).shared.table_id }
+        requires inside { slot < seat.table_id.words }
+        requires held { seat.me ≡ (Held slot, []) }
+        ensures { result ≡ held_ticket seat.table_id slot log }
+    {
+        LeaseSeat {
+            table,
+            seat,
+            slot,
+            log,
+        }
+    }
+
+    pub(crate) fn slot(&self) -> usize
+        ensures { result ≡ self.now.slot }
+    {
+        self.slot
+    }
+
+    pub(crate) fn log(&self) -> u32
+        ensures { result ≡ self.now.log }
+    {
+        self.log
+    }
+
+    /// Gives the lease back, by one atomic step on the slot's word. The seat has to hold its slot.
+    pub fn spend(&mut self)
+        requires { self.old.is_held ≡ true }
+        ensures { self.new ≡ spent self.old }
+    {
+        let shared = &self.table.shared;
+        shared.fetch_sub::<ReleaseStep>(&mut self.seat, self.slot, 1);
+    }
+
+    /// Puts a seat that holds its slot together with that of a keeper which has closed the slot.
+    pub(crate) fn meet(self, keeper: &mut Seat<(), Role>)
+        requires table { keeper.old.table_id ≡ self.table }
+        requires closed { HasClosed keeper.old.me self.slot }
+        requires held { self.is_held ≡ true }
+        ensures seat { IsSameSeat keeper.old keeper.new }
+        ensures spent { keeper.new.me ≡ (Spent, []) }
+    {
+        let Self {
+            table,
+            seat,
+            slot: _,
+            log: _,
+        } = self;
+        table.shared.join_seat::<MeetStep>(keeper, seat);
+    }
+}

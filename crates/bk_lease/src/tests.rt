@@ -1,0 +1,25 @@
+//! What no clause says: that the calls succeed, in the order of a worked example and with threads,
+//! and that the contracts are enough for a caller.
+ghost use Rattle.std.specs.Prelude.{◌≡◌, IfOk};
+ghost use Rattle.bk_lease.specs.Leases.{IsOpen};
+ghost use Rattle.bk_lease.specs.Values.{new_ticket};
+
+mod callers;
+mod rows;
+mod threads;
+
+use crate::{Keeper, Lease, PinFault};
+use std::sync::Arc;
+
+/// What the leases of these tests show.
+type Bytes = Vec<u8>;
+
+fn lease(keeper: &mut Keeper, slot: usize, view: &Arc<Bytes>) -> Result<Lease<Bytes>, PinFault>
+    requires { IsOpen keeper.old.slots slot }
+    ensures keeper { keeper.new ≡ keeper.old }
+    ensures ticket { IfOk result (λ lease. lease.ticket ≡ new_ticket keeper.old slot) }
+{
+    let view = Arc::try_clone(view).map_err(|_| PinFault::NoSeat)?;
+    let seat = keeper.pin(slot)?;
+    Ok(Lease::of(seat, view))
+}
