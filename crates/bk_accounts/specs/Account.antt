@@ -1,0 +1,61 @@
+-- The account of one open entry log: what its entries add up to, by ledger, and how many keys name the log.
+use Rattle.std.specs.Prelude.{ℕ, ◌+◌, ◌-◌, Bool, cond}
+use Rattle.std.proofs.Common.{refl}
+use Rattle.std.specs.Coded.{Coded, code_by, coded×, coded_ℕ}
+use Rattle.std.specs.FinMap as finmap
+use Rattle.std.specs.List.{sum}
+use Rattle.std.specs.Option.{unwrap_or}
+use Rattle.std.specs.Ordering.{nat_cmp}
+
+-- a log's total in bytes, the number of keys that name it, and what was counted for each ledger that has room
+pub record Account : Type 0 where
+  pub total : ℕ
+  pub named : ℕ
+  pub live : finmap.FinMap nat_cmp ℕ
+
+-- an account is stored as the tuple of its fields
+abbrev pub account_code : Coded Account
+account_code =
+    code_by (ℕ × (ℕ × finmap.FinMap nat_cmp ℕ)) (coded× coded_ℕ (coded× coded_ℕ (finmap.code coded_ℕ coded_ℕ)))
+    (λ a. (a.total, (a.named, a.live))) (λ p. record { total = p.0; named = p.1.0; live = p.1.1 }) (λ _. refl)
+
+-- what remains of the log: the sum over its live ledgers
+abbrev pub remaining_size : Account → ℕ
+remaining_size account = sum (finmap.values account.live)
+
+-- what was counted for a live ledger, 0 for any other
+abbrev pub ledger_size : Account → ℕ → ℕ
+ledger_size account ledger = unwrap_or (finmap.get account.live ledger) 0
+
+-- whether there is room for the ledger's sum
+abbrev pub has_room : Account → ℕ → Bool
+has_room account ledger = finmap.contains_key account.live ledger
+
+-- a log that was just opened
+abbrev pub fresh : Account
+fresh = record { total = 0; named = 0; live = finmap.empty }
+
+-- with room for the ledger's sum, which is 0 where there was none
+abbrev pub with_room : ℕ → Account → Account
+with_room ledger account = record account {
+  live = cond (has_room account ledger) account.live (finmap.insert account.live ledger 0);
+}
+
+-- with a size counted for the ledger
+abbrev pub with_size : ℕ → ℕ → Account → Account
+with_size ledger size account = record account {
+  total = account.total + size;
+  live = finmap.insert account.live ledger (ledger_size account ledger + size);
+}
+
+-- named by one key more
+abbrev pub with_name : Account → Account
+with_name account = record account { named = account.named + 1 }
+
+-- named by one key less
+abbrev pub without_name : Account → Account
+without_name account = record account { named = account.named - 1 }
+
+-- with nothing left of the ledger; what it counted stays in the total
+abbrev pub without_ledger : ℕ → Account → Account
+without_ledger ledger account = record account { live = finmap.remove account.live ledger }

@@ -1,0 +1,202 @@
+//! The accounts of all open logs. Each call finds the log's account and changes it alone, but for
+//! `forget`, which goes through all of them.
+ghost use Rattle.std.specs.Prelude.{◌≡◌, ◌+◌, ◌^◌, ◌<◌, ◌↔◌, All, IfSome, MatchOption, IsOk, IfOk, IfErr, OnOk, OnErr, IsOkUnless, IsErrOf};
+ghost use Rattle.std.specs.FinMap as finmap;
+ghost use Rattle.std.specs.Option.{ok_or};
+ghost use Rattle.bk_accounts.specs.Choice.{IsChoice, NoneBelow};
+
+use crate::fault::AccountFault;
+use crate::log_account::LogAccount;
+use crate::usage::Usage;
+use std::alloc::Global;
+use std::collections::BTreeMap;
+use std::marker::Model;
+
+/// For each open log: the bytes of its entries by ledger, what of them is left to ledgers that were
+/// not forgotten, and how many keys name the log.
+///
+/// A contract sees the finite map from each open log to its account: `specs/Book.antt`.
+#[derive(Debug, Drop)]
+pub struct Accounts {
+    alloc: Global,
+    logs: BTreeMap<u32, LogAccount>,
+}
+
+impl Model for Accounts {
+    ghost use Rattle.std.specs.FinMap as finmap;
+    ghost use Rattle.bk_accounts.specs.Book.{Book, book_code};
+
+    ghost Value = { Book };
+
+    ghost coded = { book_code };
+
+    ghost view = { λ a. finmap.from_entries a.logs.entries };
+}
+
+impl Accounts {
+    ghost use Rattle.bk_accounts.specs.Book.{IsOpen, IsNotOpen, IsReady, total_in, remaining_in, named_in, total_at, remaining_at, after_open, after_ready, after_count, after_name, after_unname, after_forget, after_drop};
+
+    /// No log is open. It takes no memory; the allocator is for the calls that do.
+    pub fn new(alloc: Global) -> Accounts
+        ensures { result ≡ finmap.empty }
+    {
+        Accounts {
+            alloc,
+            logs: BTreeMap::new(alloc),
+        }
+    }
+
+    /// Opens the account of a log that is not open: nothing counted, named by no key.
+    ///
+    /// `Memory` alone refuses it, and leaves the accounts as they were.
+    pub fn open(&mut self, log: u32) -> Result<(), AccountFault>
+        requires { IsNotOpen self.old log }
+        ensures ok { OnOk result (self.new ≡ after_open self.old log) }
+        ensures memory { IsOkUnless result AccountFault.Memory }
+        ensures err { OnErr result (self.new ≡ self.old) }
+    {
+        self.logs.insert(log, LogAccount::new(self.alloc))?;
+        Ok(())
+    }
+
+    /// Makes room for the sum of a ledger in a log, so that `count` can't fail. Room that is there
+    /// stays as it is and takes no memory.
+    ///
+    /// `NoLog` exactly where the log is not open, `Memory` only where the room is new. Both leave the
+    /// accounts as they were.
+    pub fn ready(&mut self, log: u32, ledger: u64) -> Result<(), AccountFault>
+        ensures ok { OnOk result (self.new ≡ after_ready self.old log ledger) }
+        ensures no_log { IsErrOf result AccountFault.NoLog ↔ IsNotOpen self.old log }
+        ensures ready { OnOk result (IsReady self.new log ledger) }
+        ensures room { IsReady self.old log ledger → IsOk result }
+        ensures err { OnErr result (self.new ≡ self.old) }
+    {
+        let Some(account) = self.logs.get_mut(&log) else {
+            return Err(AccountFault::NoLog);
+        };
+        account.ready(ledger)?;
+        Ok(())
+    }
+
+    /// Counts an entry of a ledger in a log: `size` is all of its record, the length field with it. It
+    /// takes no memory and can't fail.
+    ///
+    /// The caller has made room with `ready`, which a later `open` of the log or `forget` of the ledger
+    /// takes away again, and a log's total stays within 2^32 - 1.
+    pub fn count(&mut self, log: u32, ledger: u64, size: u32)
+        requires ready { IsReady self.old log ledger }
+        requires fits { IfSome (total_in self.old log) (λ total. total + size < 2 ^ 32) }
+        ensures { self.new ≡ after_count self.old log ledger size }
+    {
+        self.logs.get_mut(&log).unwrap().count(ledger, size);
+    }
+
+    /// Counts one more key that the index sends to the log. A log that is not open stays so. It takes
+    /// no memory.
+    ///
+    /// A log is named at most 2^32 - 1 times.
+    pub fn name(&mut self, log: u32)
+        requires { IfSome (named_in self.old log) (λ named. named + 1 < 2 ^ 32) }
+        ensures { self.new ≡ after_name self.old log }
+    {
+        if let Some(account) = self.logs.get_mut(&log) {
+            account.name();
+        }
+    }
+
+    /// Counts one key less that the index sends to the log. A log that is not open stays so. It takes
+    /// no memory.
+    ///
+    /// An open log still has a name to lose.
+    pub fn unname(&mut self, log: u32)
+        requires { IfSome (named_in self.old log) (λ named. 0 < named) }
+        ensures { self.new ≡ after_unname self.old log }
+    {
+        if let Some(account) = self.logs.get_mut(&log) {
+            account.unname();
+        }
+    }
+
+    /// Takes a ledger out of what remains of every log; the totals stay. What is counted for it later
+    /// remains again. It takes no memory.
+    pub fn forget(&mut self, ledger: u64)
+        ensures { self.new ≡ after_forget self.old ledger }
+    {
+        // Of a map's methods that write to each value, `retain` alone has a contract that says what was written.
+        self.logs.retain(|_, account| {
+            account.forget(ledger);
+            true
+        });
+    }
+
+    /// The bytes of all entries counted in a log, or `NoLog` where it is not open.
+    pub fn total(&self, log: u32) -> Result<u32, AccountFault>
+        ensures { result ≡ ok_or (total_in self.now log) AccountFault.NoLog }
+    {
+        Ok(self.account(log)?.total())
+    }
+
+    /// The bytes of those entries whose ledger was not forgotten since, or `NoLog`.
+    pub fn remaining(&self, log: u32) -> Result<u32, AccountFault>
+        ensures { result ≡ ok_or (remaining_in self.now log) AccountFault.NoLog }
+    {
+        Ok(self.account(log)?.remaining())
+    }
+
+    /// The number of keys that name a log, or `NoLog`.
+    pub fn named(&self, log: u32) -> Result<u32, AccountFault>
+        ensures { result ≡ ok_or (named_in self.now log) AccountFault.NoLog }
+    {
+        Ok(self.account(log)?.named())
+    }
+
+    /// The log to compact. A log qualifies if it is among `allowed` and fewer than `threshold`
+    /// thousandths of its bytes remain; the one that is used least wins, and of several that are used
+    /// alike the lowest id. `None` where no log qualifies. It takes no memory.
+    ///
+    /// Every allowed log is open. That a log is compacted when its usage falls below a threshold is
+    /// BookKeeper's rule; thousandths, exact products and the order of ties are this project's.
+    pub fn lowest_below(&self, threshold: u32, allowed: &[u32]) -> Option<u32>
+        requires { All (λ log. IsOpen self.now log) allowed.now }
+        ensures { MatchOption result
+            (NoneBelow (total_at self.now) (remaining_at self.now) threshold allowed.now)
+            (IsChoice (total_at self.now) (remaining_at self.now) threshold allowed.now) }
+    {
+        let mut lowest: Option<Usage> = None;
+        for log in allowed {
+            let usage = self.usage(*log);
+            if usage.is_below(threshold) {
+                lowest = Some(usage.first_of(lowest));
+            }
+        }
+        Some(lowest?.log)
+    }
+
+    /// Drops the account of a log, which is then not open. It takes no memory.
+    pub fn drop_log(&mut self, log: u32)
+        ensures { self.new ≡ after_drop self.old log }
+    {
+        let _ = self.logs.remove(&log);
+    }
+
+    fn account(&self, log: u32) -> Result<&LogAccount, AccountFault>
+        ensures open { IfOk result (λ account. finmap.get self.now log ≡ Some account.now) }
+        ensures closed { IfErr result (λ fault. (fault ≡ AccountFault.NoLog) × (finmap.get self.now log ≡ None)) }
+    {
+        self.logs.get(&log).ok_or(AccountFault::NoLog)
+    }
+
+    fn usage(&self, log: u32) -> Usage
+        requires { IsOpen self.now log }
+        ensures total { result.total ≡ total_at self.now log }
+        ensures remaining { result.remaining ≡ remaining_at self.now log }
+        ensures log { result.log ≡ log }
+    {
+        let account = self.account(log).unwrap();
+        Usage {
+            log,
+            total: account.total(),
+            remaining: account.remaining(),
+        }
+    }
+}

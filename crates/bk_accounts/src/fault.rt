@@ -1,0 +1,33 @@
+//! Why a call of the accounts is refused.
+ghost use Rattle.std.specs.Prelude.{◌≡◌};
+ghost use Rattle.bk_accounts.specs.declared.fault.AccountFault.TheVariants.{Memory};
+
+use std::alloc::{AllocError, AllocFailed};
+use thiserror::Error;
+
+/// A refused call leaves the accounts as they were.
+#[derive(Clone, Copy, Debug, PartialEq, Eq, Error)]
+pub enum AccountFault {
+    /// No memory for an account, or for the room of a sum.
+    #[error("out of memory")]
+    Memory,
+    /// The log is not open.
+    #[error("no such log")]
+    NoLog,
+}
+
+impl From<AllocError> for AccountFault {
+    ghost from_gives = { λ _ fault. fault ≡ Memory };
+
+    fn from(_error: AllocError) -> AccountFault {
+        AccountFault::Memory
+    }
+}
+
+impl<T: Drop> From<AllocFailed<T>> for AccountFault {
+    ghost from_gives = { λ _ fault. fault ≡ Memory };
+
+    fn from(_error: AllocFailed<T>) -> AccountFault {
+        AccountFault::Memory
+    }
+}

@@ -1,0 +1,117 @@
+//! One open log's sums. What remains is kept as a number, and is always the sum of the live ledgers'
+//! parts, so that it is read in one step and a forgotten ledger takes its part out of it.
+ghost use Rattle.std.specs.Prelude.{◌≡◌, ◌+◌, ◌^◌, ◌<◌, IsTrue, IsOk, OnOk, OnErr};
+
+use std::alloc::{AllocError, Global};
+use std::collections::BTreeMap;
+use std::marker::Model;
+
+#[derive(Debug, Drop)]
+pub(crate) struct LogAccount {
+    total: u32,
+    remaining: u32,
+    named: u32,
+    parts: BTreeMap<u64, u32>,
+}
+
+impl Model for LogAccount {
+    ghost use Rattle.std.specs.FinMap as finmap;
+    ghost use Rattle.bk_accounts.specs.Account.{Account, account_code};
+    ghost use Rattle.bk_accounts.specs.Parts.{IsSplit};
+
+    ghost Value = { Account };
+
+    ghost coded = { account_code };
+
+    ghost view = { λ a. record { total = a.total; named = a.named; live = finmap.from_entries a.parts.entries } };
+
+    ghost invariant = { λ a. IsSplit a.total a.remaining (finmap.from_entries a.parts.entries) };
+}
+
+impl LogAccount {
+    ghost use Rattle.bk_accounts.specs.Account.{fresh, has_room, remaining_size, with_room, with_size, with_name, without_name, without_ledger};
+
+    /// A log with nothing counted. It takes no memory.
+    pub(crate) fn new(alloc: Global) -> LogAccount
+        ensures { result ≡ fresh }
+    {
+        LogAccount {
+            total: 0,
+            remaining: 0,
+            named: 0,
+            parts: BTreeMap::new(alloc),
+        }
+    }
+
+    /// The bytes counted.
+    pub(crate) fn total(&self) -> u32
+        ensures { result ≡ self.now.total }
+    {
+        self.total
+    }
+
+    /// The bytes counted for ledgers that were not forgotten since.
+    pub(crate) fn remaining(&self) -> u32
+        ensures { result ≡ remaining_size self.now }
+    {
+        self.remaining
+    }
+
+    /// The number of keys that name the log.
+    pub(crate) fn named(&self) -> u32
+        ensures { result ≡ self.now.named }
+    {
+        self.named
+    }
+
+    /// Makes room for a ledger's sum.
+    pub(crate) fn ready(&mut self, ledger: u64) -> Result<(), AllocError>
+        ensures ok { OnOk result (self.new ≡ with_room ledger self.old) }
+        ensures err { OnErr result (self.new ≡ self.old) }
+
+        // Only new room takes memory.
+        ensures room { IsTrue (has_room self.old ledger) → IsOk result }
+    {
+        if !self.parts.contains_key(&ledger) {
+            self.parts.insert(ledger, 0)?;
+        }
+        Ok(())
+    }
+
+    /// Counts bytes for a ledger that has room.
+    pub(crate) fn count(&mut self, ledger: u64, size: u32)
+        requires ready { IsTrue (has_room self.old ledger) }
+        requires fits { self.old.total + size < 2 ^ 32 }
+        ensures { self.new ≡ with_size ledger size self.old }
+    {
+        let part = self.parts.get_mut(&ledger).unwrap();
+        *part += size;
+        self.total += size;
+        self.remaining += size;
+    }
+
+    /// Counts a key that names the log.
+    pub(crate) fn name(&mut self)
+        requires { self.old.named + 1 < 2 ^ 32 }
+        ensures { self.new ≡ with_name self.old }
+    {
+        self.named += 1;
+    }
+
+    /// Takes the count of one key back.
+    pub(crate) fn unname(&mut self)
+        requires { 0 < self.old.named }
+        ensures { self.new ≡ without_name self.old }
+    {
+        self.named -= 1;
+    }
+
+    /// Takes a ledger out of what remains.
+    pub(crate) fn forget(&mut self, ledger: u64)
+        ensures { self.new ≡ without_ledger ledger self.old }
+    {
+        if let Some(part) = self.parts.remove(&ledger) {
+            self.remaining -= part;
+        }
+    }
+}
