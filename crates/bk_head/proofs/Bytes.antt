@@ -1,0 +1,52 @@
+-- Numbers of four and eight bytes, big-endian: what stands in bytes is spelled again, and what is spelled is read again.
+use Rattle.std.proofs.Common.{◌≡◌, ℕ, ◌+◌, ◌^◌, ◌<◌, ◌≤◌, List, ◌++◌, length, take, drop, refl, sym, arith, inl, inr}
+use Rattle.std.specs.Int.{w32, w64, to_be_bytes, from_be_bytes}
+use Rattle.std.proofs.lemmas.Bool.{cases_lt}
+use Rattle.std.proofs.lemmas.List.{length-take, get_or-drop, get_or-take, get_or_past}
+use Rattle.std.proofs.lemmas.Nat.{be_bytes_4, be_bytes_8, from_be_bytes-to_be_bytes_4, from_be_bytes-to_be_bytes_8}
+use Rattle.byteorder.specs.Endian.{big_number}
+use Rattle.bk_record.specs.Spelling.{IsBytes}
+
+pub IsBytes-drop : (n : ℕ) (bytes : List ℕ) → IsBytes bytes → IsBytes (drop n bytes)
+IsBytes-drop n bytes each i = rw get_or-drop (each (n + i))
+
+pub IsBytes-take : (n : ℕ) (bytes : List ℕ) → IsBytes bytes → IsBytes (take n bytes)
+IsBytes-take n bytes each i =
+    elim (cases_lt i n) [
+      | inl lt ↦ rw (get_or-take n bytes i 0 lt) (each i)
+      | inr le ↦ rw (get_or_past (take n bytes) i 0 (omega (arith, length-take n bytes))) (omega arith)
+    ]
+
+-- what `byteorder` reads is the number that the definitions name
+pub big_number-4 : (bytes : List ℕ) → big_number 4 bytes ≡ from_be_bytes w32 bytes
+big_number-4 bytes = omega arith
+
+pub big_number-8 : (bytes : List ℕ) → big_number 8 bytes ≡ from_be_bytes w64 bytes
+big_number-8 bytes = omega arith
+
+pub from_be_bytes-take-4 : (bytes : List ℕ) → from_be_bytes w32 (take 4 bytes) ≡ from_be_bytes w32 bytes
+from_be_bytes-take-4 bytes = rw (get_or-take 4 bytes 0 0 (omega arith), get_or-take 4 bytes 1 0 (omega arith), get_or-take 4 bytes 2 0 (omega arith), get_or-take 4 bytes 3 0 (omega arith)) refl
+
+-- the first four bytes are those of the number that they spell
+pub front_4 : (bytes : List ℕ) → IsBytes bytes → 4 ≤ length bytes → to_be_bytes w32 (from_be_bytes w32 bytes) ≡ take 4 bytes
+front_4 bytes each long = be_bytes_4 (take 4 bytes) (from_be_bytes w32 bytes) (omega (arith, length-take 4 bytes)) (IsBytes-take 4 bytes each) (sym (from_be_bytes-take-4 bytes))
+
+pub below_4 : (bytes : List ℕ) → IsBytes bytes → from_be_bytes w32 bytes < 2 ^ 32
+below_4 bytes each = omega (arith, each 0, each 1, each 2, each 3)
+
+pub below_8 : (bytes : List ℕ) → IsBytes bytes → from_be_bytes w64 bytes < 2 ^ 64
+below_8 bytes each = omega (arith, each 0, each 1, each 2, each 3, each 4, each 5, each 6, each 7)
+
+pub from_be_bytes-take-8 : (bytes : List ℕ) → from_be_bytes w64 (take 8 bytes) ≡ from_be_bytes w64 bytes
+from_be_bytes-take-8 bytes =
+    rw (get_or-take 8 bytes 0 0 (omega arith), get_or-take 8 bytes 1 0 (omega arith), get_or-take 8 bytes 2 0 (omega arith), get_or-take 8 bytes 3 0 (omega arith), get_or-take 8 bytes 4 0 (omega arith), get_or-take 8 bytes 5 0 (omega arith), get_or-take 8 bytes 6 0 (omega arith), get_or-take 8 bytes 7 0 (omega arith)) refl
+
+pub front_8 : (bytes : List ℕ) → IsBytes bytes → 8 ≤ length bytes → to_be_bytes w64 (from_be_bytes w64 bytes) ≡ take 8 bytes
+front_8 bytes each long = be_bytes_8 (take 8 bytes) (from_be_bytes w64 bytes) (omega (arith, length-take 8 bytes)) (IsBytes-take 8 bytes each) (sym (from_be_bytes-take-8 bytes))
+
+-- a number that is spelled is read again, whatever follows it
+pub again_4 : (n : ℕ) (rest : List ℕ) → n < 2 ^ 32 → from_be_bytes w32 (to_be_bytes w32 n ++ rest) ≡ n
+again_4 n rest fits = from_be_bytes-to_be_bytes_4 n fits
+
+pub again_8 : (n : ℕ) (rest : List ℕ) → n < 2 ^ 64 → from_be_bytes w64 (to_be_bytes w64 n ++ rest) ≡ n
+again_8 n rest fits = from_be_bytes-to_be_bytes_8 n fits

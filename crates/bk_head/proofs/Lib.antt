@@ -1,0 +1,17 @@
+pub mod Adding
+pub mod Again
+pub mod Answering
+pub mod BatchBytes
+pub mod Batching
+pub mod Bytes
+pub mod Distinct
+pub mod Foreign
+pub mod HeaderLemmas
+pub mod MapViews
+pub mod OneFault
+pub mod OneReading
+pub mod Pairs
+pub mod RecordBytes
+pub mod Spelling
+pub mod Unwritten
+pub mod Writable

@@ -1,0 +1,64 @@
+-- The ledgers map of a sealed log: for each ledger the sum of its records' sizes, in batches, each of them a record.
+use Rattle.std.specs.Prelude.{◌≡◌, ℕ, ◌<◌, ◌^◌, negsuc, List, [], ◌∷◌, ◌++◌, map, length}
+use Rattle.std.specs.Int.{w32, w64, to_be_bytes, cast_unsigned}
+use Rattle.std.specs.List.{flat_map, AllByRecursion}
+use Rattle.std.specs.Ordering.{nat_cmp}
+use Rattle.std.specs.BTreeMap.{BTreeMap}
+use Rattle.std.specs.FinMap as ledgers
+use Rattle.bk_record.specs.Record.{record_of, IsPayload}
+use Rattle.bk_record.specs.Files.{In}
+
+-- a size for each of finitely many ledgers
+abbrev pub LedgersMap : Type 0
+LedgersMap = ledgers.FinMap nat_cmp ℕ
+
+-- a map of the program as a finite map
+abbrev pub map_of : BTreeMap ℕ ℕ → LedgersMap
+map_of tree = ledgers.from_entries tree.entries
+
+-- the ids of a batch's record: ledger id -1 and entry id -2 (the BookKeeper entry log format)
+unfoldable pub batch_ids : List ℕ
+batch_ids = to_be_bytes w64 (cast_unsigned w64 (negsuc 0)) ++ to_be_bytes w64 (cast_unsigned w64 (negsuc 1))
+
+-- a pair's bytes: the ledger and its size, eight bytes each
+unfoldable pub pair_bytes : ℕ × ℕ → List ℕ
+pair_bytes pair = to_be_bytes w64 pair.0 ++ to_be_bytes w64 pair.1
+
+-- a batch's payload: its ids, the number of its pairs in four bytes, and the pairs (the BookKeeper entry log format)
+unfoldable pub batch_payload : List (ℕ × ℕ) → List ℕ
+batch_payload pairs = batch_ids ++ to_be_bytes w32 (length pairs) ++ flat_map pair_bytes pairs
+
+-- A batch is the record of that payload, so its length field leaves its own four bytes out (this project's rule).
+abbrev pub batch_of : List (ℕ × ℕ) → List ℕ
+batch_of pairs = record_of (batch_payload pairs)
+
+-- neither number of the pair is negative, read as a signed one
+abbrev pub IsPair : ℕ × ℕ → Type 0
+IsPair pair = (pair.0 < 2 ^ 63) × (pair.1 < 2 ^ 63)
+
+-- pairs that a batch can have: one record holds them, and none is negative
+pub record IsBatch (pairs : List (ℕ × ℕ)) : Type 0 where
+  pub fits : IsPayload (batch_payload pairs)
+  pub each : AllByRecursion IsPair pairs
+
+-- the bytes are made of batches alone, and these are the pairs in them, as they stand
+pub data Batches : List ℕ → List (ℕ × ℕ) → Type 0 where
+  none : Batches [] []
+  more : {pairs others : List (ℕ × ℕ)} {behind : List ℕ} → IsBatch pairs → Batches behind others
+      → Batches (batch_of pairs ++ behind) (pairs ++ others)
+
+-- the ledgers of pairs, as they stand
+abbrev pub ledgers_of : List (ℕ × ℕ) → List ℕ
+ledgers_of pairs = map (λ pair. pair.0) pairs
+
+-- nothing stands twice
+abbrev pub AreDistinct : List ℕ → Type 0
+AreDistinct [] = Unit {0}
+AreDistinct (x ∷ xs) = ¬ (In x xs) × AreDistinct xs
+
+-- The bytes spell the map: the pairs in their batches are the map's, in any order, each ledger once.
+pub record SpellsMap (bytes : List ℕ) (map : LedgersMap) : Type 0 where
+  pub pairs : List (ℕ × ℕ)
+  pub spelled : Batches bytes pairs
+  pub distinct : AreDistinct (ledgers_of pairs)
+  pub map_is : map ≡ ledgers.from_entries pairs

@@ -1,0 +1,54 @@
+-- What reading a log's ledgers map answers: the map, that there is none, or the first fault from the left.
+use Rattle.std.specs.Prelude.{◌≡◌, ◌≢◌, ℕ, ◌+◌, ◌≤◌, ℤ, pos, negsuc, List, length, ◌&&◌, ◌==◌, nat_le, if◌then◌else◌, Option, Some, None, Result, Ok, Err}
+use Rattle.std.specs.BTreeMap.{BTreeMap}
+use Rattle.std.specs.FinMap as ledgers
+use Rattle.bk_record.specs.Files.{header_length}
+use Rattle.bk_head.specs.declared.header.Header.{Header}
+use Rattle.bk_head.specs.declared.fault.HeadFault.{HeadFault}
+use Rattle.bk_head.specs.declared.fault.HeadFault.TheVariants.{Negative, NotAMap, CountDiffers}
+use Rattle.bk_head.specs.Ledgers.{LedgersMap, map_of, SpellsMap}
+use Rattle.bk_head.specs.Faults.{FirstFault, OrMemory}
+
+-- Where a header has the map, and how many ledgers: none in a log that is not sealed (the BookKeeper entry log
+-- format). A map stands from byte 1024 on, and its offset may be the log's length.
+abbrev pub map_place : ℕ → ℤ → ℤ → Result (Option (ℕ × ℕ)) HeadFault
+map_place length (negsuc n) count = Err Negative
+map_place length (pos offset) (negsuc n) = Err Negative
+map_place length (pos offset) (pos count) = if offset == 0 && count == 0 then Ok None
+    else if nat_le header_length offset && nat_le offset length then Ok (Some (offset, count))
+    else Err (NotAMap offset)
+
+-- what the bytes from the offset on answer
+abbrev pub TailAnswer : ℕ → ℕ → List ℕ → Result (Option LedgersMap) HeadFault → Type 0
+TailAnswer offset count tail (Ok None) = ⊥
+TailAnswer offset count tail (Ok (Some map)) = SpellsMap tail map × (ledgers.len map ≡ count)
+TailAnswer offset count tail (Err (CountDiffers found)) = (map : LedgersMap)
+    × (SpellsMap tail map × ((found ≡ ledgers.len map) × (found ≢ count)))
+TailAnswer offset count tail (Err fault) = FirstFault offset tail fault
+
+-- the same behind a header's offset and count
+abbrev pub AnswerAt : Result (Option (ℕ × ℕ)) HeadFault → List ℕ → Result (Option LedgersMap) HeadFault
+    → Type 0
+AnswerAt (Err fault) tail answer = answer ≡ Err fault
+AnswerAt (Ok None) tail answer = answer ≡ Ok None
+AnswerAt (Ok (Some place)) tail answer = TailAnswer place.0 place.1 tail answer
+
+-- What reading the map of a log of this length answers: `tail` is the log from the header's offset on.
+unfoldable pub MapAnswer : List ℕ → ℕ → Header → Result (Option LedgersMap) HeadFault → Type 0
+MapAnswer tail length header answer = AnswerAt (map_place length header.map_offset header.count) tail answer
+
+-- an answer of the program, with its map as a finite map
+abbrev pub seen : Result (Option (BTreeMap ℕ ℕ)) HeadFault → Result (Option LedgersMap) HeadFault
+seen (Ok None) = Ok None
+seen (Ok (Some tree)) = Ok (Some (map_of tree))
+seen (Err fault) = Err fault
+
+-- want of memory, or what is said of every other answer
+abbrev pub UnlessMemory : Result (Option LedgersMap) HeadFault → Type 0 → Type 0
+UnlessMemory (Ok map) P = P
+UnlessMemory (Err fault) P = OrMemory fault P
+
+-- These bytes are as many as a log of this length has from the offset on. An offset outside asks nothing.
+abbrev pub IsTail : List ℕ → ℕ → ℤ → Type 0
+IsTail tail end map_offset = (offset : ℕ) → map_offset ≡ pos offset
+    → header_length ≤ offset → offset ≤ end → offset + length tail ≡ end

@@ -1,0 +1,159 @@
+//! Reading the ledgers map: batch by batch from the left, so that the fault that is told is the first one.
+
+ghost use Rattle.std.specs.Prelude.{◌≡◌, ◌+◌, ◌*◌, ◌<◌, ◌^◌, ℕ, List, Option, Result, length, OnOk, IfOk, IfErr, MatchOption, MatchResult};
+ghost use Rattle.std.specs.FinMap as ledgers;
+ghost use Rattle.bk_record.specs.Piece.{BeginsWith};
+ghost use Rattle.bk_head.specs.declared.fault.HeadFault.{HeadFault as Fault};
+ghost use Rattle.bk_head.specs.Ledgers.{LedgersMap, map_of, SpellsMap, IsPair, ledgers_of, AreDistinct};
+ghost use Rattle.bk_head.specs.Faults.{HasNoBatch, HasPairs, PairFault, FaultAt, FirstFault, OrMemory};
+ghost use Rattle.bk_head.specs.Reading.{MapAnswer, UnlessMemory, seen, IsTail, map_place};
+ghost use Rattle.bk_head.specs.Parts.{Adds, PairRefusal};
+
+use crate::batch::{IDS_AND_COUNT, PAIR, batch_ids};
+use crate::{HeadFault, Header};
+use bk_record::{Piece, read_record};
+use byteorder::{BigEndian, ByteOrder};
+use std::alloc::Global;
+use std::collections::BTreeMap;
+
+/// The least position that a map can have: the header's length.
+const FIRST: u64 = 1024;
+
+/// The length field's bytes.
+const FIELD: usize = 4;
+
+/// Reads the ledgers map of a log of `length` bytes whose header was read. `tail` is the log from the header's offset
+/// on, of which nothing is asked where the offset is not in 1024 to `length`. `None` where the offset and the count
+/// are both 0, as in a log that is not sealed. The pairs may stand in any order and in batches of any number.
+///
+/// Faults, tried in this order: `Negative` where the offset or the count is negative; `NotAMap` with the offset where
+/// it is not in 1024 to `length`. Then for each batch from the left: `NotAMap` where no whole record with the ids -1
+/// and -2 stands, `MapLength` where it has not the length that its number of pairs wants, both with the position of
+/// its length field in the log, and for each of its pairs `Negative` where the ledger or the size is negative,
+/// `Repeated` where the ledger was there before. At the end `CountDiffers` with the number of ledgers where it is not
+/// the header's count (this project's rules). `Memory` may come at any pair.
+pub fn read_map(
+    alloc: Global,
+    tail: &[u8],
+    length: u64,
+    header: &Header,
+) -> Result<Option<BTreeMap<u64, u64>>, HeadFault>
+    requires { IsTail tail.now length header.now.map_offset }
+    ensures answer { UnlessMemory (seen result) (MapAnswer tail.now length header.now (seen result)) }
+    ensures only { (answer : Result (Option LedgersMap) Fault)
+        → MapAnswer tail.now length header.now answer → UnlessMemory (seen result) (seen result ≡ answer) }
+{
+    let Some((offset, count)) = place_of(length, header)? else {
+        return Ok(None);
+    };
+    let map = read_batches(alloc, tail, offset)?;
+    let found = map.len() as u64;
+    if found != count {
+        return Err(HeadFault::CountDiffers(found));
+    }
+    Ok(Some(map))
+}
+
+/// The map's offset and the header's count, which are no faults; `None` where the log has no map.
+fn place_of(length: u64, header: &Header) -> Result<Option<(u64, u64)>, HeadFault>
+    ensures { result ≡ map_place length header.now.map_offset header.now.count }
+{
+    if header.map_offset < 0 || header.count < 0 {
+        return Err(HeadFault::Negative);
+    }
+    let offset = header.map_offset as u64;
+    let count = header.count as u64;
+    if offset == 0 && count == 0 {
+        return Ok(None);
+    }
+    if offset < FIRST || offset > length {
+        return Err(HeadFault::NotAMap(offset));
+    }
+    Ok(Some((offset, count)))
+}
+
+/// The map that the bytes spell, which stand in the log from the offset on.
+fn read_batches(alloc: Global, tail: &[u8], offset: u64) -> Result<BTreeMap<u64, u64>, HeadFault>
+    requires { offset + length tail.now < 2 ^ 64 }
+    ensures ok { IfOk result (λ map. SpellsMap tail.now (map_of map)) }
+    ensures err { IfErr result (λ fault. OrMemory fault (FirstFault offset tail.now fault)) }
+{
+    let mut map = BTreeMap::new(alloc);
+    let mut at = 0;
+    while at < tail.len() {
+        let pairs = pairs_at(&tail[at..], offset + at as u64)?;
+        add_pairs(pairs, &mut map)?;
+        at += FIELD + IDS_AND_COUNT + pairs.len();
+    }
+    Ok(map)
+}
+
+/// The bytes of the pairs of the batch that begins here, at position `at` of the log.
+fn pairs_at(bytes: &[u8], at: u64) -> Result<&[u8], HeadFault>
+    requires { 0 < length bytes.now }
+    ensures ok { IfOk result (λ pairs. HasPairs bytes.now pairs.now) }
+    ensures err { IfErr result (λ fault. (before : List (ℕ × ℕ)) → FaultAt at before bytes.now fault) }
+{
+    let Some(payload) = payload_at(bytes) else {
+        return Err(HeadFault::NotAMap(at));
+    };
+    if !payload.starts_with(&batch_ids()) {
+        return Err(HeadFault::NotAMap(at));
+    }
+    if payload.len() < IDS_AND_COUNT {
+        return Err(HeadFault::MapLength(at));
+    }
+    let (head, pairs) = payload.split_at(IDS_AND_COUNT);
+    let count = BigEndian::read_u32(&head[16..]) as usize;
+    if pairs.len() != PAIR * count {
+        return Err(HeadFault::MapLength(at));
+    }
+    Ok(pairs)
+}
+
+/// The payload of the whole record without a key that begins here, and `None` where none does. A batch has no key,
+/// since its ids are negative.
+fn payload_at(bytes: &[u8]) -> Option<&[u8]>
+    ensures { MatchOption result (HasNoBatch bytes.now) (λ payload. BeginsWith bytes.now payload.now) }
+{
+    match read_record(bytes, 0) {
+        Piece::Foreign { to } => Some(&bytes[FIELD..to]),
+        _ => None,
+    }
+}
+
+/// Adds the pairs that have these bytes.
+fn add_pairs(bytes: &[u8], map: &mut BTreeMap<u64, u64>) -> Result<(), HeadFault>
+    requires { (count : ℕ) × (length bytes.now ≡ 16 * count) }
+    ensures { (before : List (ℕ × ℕ))
+        → AreDistinct (ledgers_of before) → map_of map.old ≡ ledgers.from_entries before
+        → MatchResult result (λ _. Adds before bytes.now (map_of map.new))
+        (λ fault. OrMemory fault (PairFault before bytes.now fault)) }
+{
+    for k in 0..bytes.len() / PAIR {
+        let pair = &bytes[PAIR * k..PAIR * k + PAIR];
+        add_pair(
+            BigEndian::read_u64(pair),
+            BigEndian::read_u64(&pair[8..]),
+            map,
+        )?;
+    }
+    Ok(())
+}
+
+/// Adds one pair. After a fault the map is not used again.
+fn add_pair(ledger: u64, size: u64, map: &mut BTreeMap<u64, u64>) -> Result<(), HeadFault>
+    ensures pair { OnOk result (IsPair (ledger, size)) }
+    ensures new { OnOk result (ledgers.get (map_of map.old) ledger ≡ None) }
+    ensures added { OnOk result (map_of map.new ≡ ledgers.insert (map_of map.old) ledger size) }
+    ensures err { IfErr result (λ fault. OrMemory fault (PairRefusal (map_of map.old) (ledger, size) fault)) }
+{
+    if ledger >> 63 != 0 || size >> 63 != 0 {
+        return Err(HeadFault::Negative);
+    }
+    match map.insert(ledger, size) {
+        Ok(None) => Ok(()),
+        Ok(Some(_)) => Err(HeadFault::Repeated(ledger)),
+        Err(_) => Err(HeadFault::Memory),
+    }
+}

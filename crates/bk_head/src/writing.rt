@@ -1,0 +1,53 @@
+//! Writing the ledgers map: the room for all of it is made first, so a refusal leaves the bytes as they were.
+
+ghost use Rattle.std.specs.Prelude.{◌≡◌, ◌+◌, ◌≤◌, ◌++◌, length, OnOk, OnErr, IsOkUnless, vec_len, vec_capacity};
+ghost use Rattle.bk_head.specs.declared.fault.HeadFault.TheVariants.{Memory};
+ghost use Rattle.bk_head.specs.Ledgers.{map_of, SpellsMap};
+ghost use Rattle.bk_head.specs.Written.{written_map, IsWritable};
+
+use crate::HeadFault;
+use crate::batch::{BATCH_PAIRS, PAIR, batch_head, pair_bytes};
+use std::collections::BTreeMap;
+
+/// The bytes before the pairs of a batch.
+const HEAD: usize = 24;
+
+/// Appends the ledgers map: its pairs by rising ledger, in full batches of 10,000 and one with what is left, so an empty
+/// map adds nothing (this project's rule; a batch's form is the BookKeeper entry log format). The map has at most
+/// 2^31 - 1 ledgers, and no number past 2^63 - 1. `Memory`, the only fault, leaves `out` as it was.
+pub fn write_map(map: &BTreeMap<u64, u64>, out: &mut Vec<u8>) -> Result<(), HeadFault>
+    requires { IsWritable (map_of map.now) }
+    ensures ok { OnOk result (out.new.items ≡ out.old.items ++ written_map (map_of map.now)) }
+    ensures spells { SpellsMap (written_map (map_of map.now)) (map_of map.now) }
+    ensures only { IsOkUnless result Memory }
+    ensures err { OnErr result (out.new.items ≡ out.old.items) }
+{
+    let mut left = map.len();
+    if out
+        .reserve(left.div_ceil(BATCH_PAIRS) * HEAD + left * PAIR)
+        .is_err()
+    {
+        return Err(HeadFault::Memory);
+    }
+    // How many pairs the batch that was begun still takes.
+    let mut room = 0;
+    for (ledger, size) in map {
+        if room == 0 {
+            room = left.min(BATCH_PAIRS);
+            append(&batch_head(room), out);
+        }
+        append(&pair_bytes(*ledger, *size), out);
+        room -= 1;
+        left -= 1;
+    }
+    Ok(())
+}
+
+/// Appends bytes for which there is room.
+fn append(bytes: &[u8], out: &mut Vec<u8>)
+    requires { vec_len out.old + length bytes.now ≤ vec_capacity out.old }
+    ensures items { out.new.items ≡ out.old.items ++ bytes.now }
+    ensures room { vec_capacity out.old ≤ vec_capacity out.new }
+{
+    out.extend_from_slice(bytes).unwrap();
+}
