@@ -1,0 +1,4 @@
+pub mod Cuts
+pub mod FileMaps
+pub mod Listings
+pub mod Answered

@@ -1,0 +1,137 @@
+-- What the calls on a disk do to its files, why they may fail, and what a failure leaves. Each relation goes by cases
+-- on the answer; a fault that the call does not have holds of nothing.
+use Rattle.std.specs.Prelude.{◌≡◌, ℕ, ◌+◌, ◌<◌, ◌≤◌, ◌^◌, max, nat_le, if◌then◌else◌, Bool, IsTrue, List, [], ◌++◌, length, take, drop, Some, IsSome, IsNone, Result, Ok, Err, IsErrOf}
+use Rattle.std.specs.Option.{option_map_or}
+use Rattle.std.specs.FinMap as map
+use Rattle.bk_record.specs.Files.{Files, header_length}
+use Rattle.bk_disk.specs.declared.fault.DiskFault.{DiskFault}
+use Rattle.bk_disk.specs.declared.fault.DiskFault.TheVariants.{Disk, Exists, NoLog, PastEnd, TooLong, Memory}
+
+-- The count of the device's failures does not fall, and `Disk` is told only where it rose.
+pub record HasCause {T : Type 0} (before now : ℕ) (result : Result T DiskFault) : Type 0 where
+  pub later : before ≤ now
+  pub failed : IsErrOf result Disk → before < now
+
+-- the log's file is this one
+abbrev pub IsFile : Files → ℕ → List ℕ → Type 0
+IsFile fs log file = map.get fs log ≡ Some file
+
+-- the files with more bytes at the end of a log; as they are where there is no such log
+abbrev pub grown : Files → ℕ → List ℕ → Files
+grown fs log piece = option_map_or (λ file. map.insert fs log (file ++ piece)) (map.get fs log) fs
+
+-- a file with other bytes at 8 to 20; as it is where it is shorter
+abbrev pub patched_file : List ℕ → List ℕ → List ℕ
+patched_file file bytes = if nat_le 20 (length file) then take 8 file ++ bytes ++ drop 20 file else file
+
+-- the files with other bytes at 8 to 20 of a log; as they are where there is no such log
+abbrev pub patched : Files → ℕ → List ℕ → Files
+patched fs log bytes = option_map_or (λ file. map.insert fs log (patched_file file bytes)) (map.get fs log) fs
+
+-- `list`: the ids of all logs, rising
+abbrev pub Lists : {T : Type 0} → (T → List ℕ) → Files → Result T DiskFault → Files → Type 0
+Lists ids old (Ok found) new = (ids found ≡ map.keys old) × (new ≡ old)
+Lists ids old (Err Disk) new = new ≡ old
+Lists ids old (Err Memory) new = new ≡ old
+Lists ids old (Err Exists) new = ⊥
+Lists ids old (Err NoLog) new = ⊥
+Lists ids old (Err PastEnd) new = ⊥
+Lists ids old (Err TooLong) new = ⊥
+
+-- `length`: how many bytes a log has
+abbrev pub Measures : Files → ℕ → Result ℕ DiskFault → Files → Type 0
+Measures old log (Ok n) new = (file : List ℕ) × IsFile old log file × (n ≡ length file) × (new ≡ old)
+Measures old log (Err Disk) new = new ≡ old
+Measures old log (Err NoLog) new = IsNone (map.get old log) × (new ≡ old)
+Measures old log (Err Memory) new = new ≡ old
+Measures old log (Err Exists) new = ⊥
+Measures old log (Err PastEnd) new = ⊥
+Measures old log (Err TooLong) new = ⊥
+
+-- `create`: an empty file, where there was none
+abbrev pub Creates : {T : Type 0} → Files → ℕ → Result T DiskFault → Files → Type 0
+Creates old log (Ok _) new = IsNone (map.get old log) × (new ≡ map.insert old log [])
+Creates old log (Err Disk) new = new ≡ old
+Creates old log (Err Exists) new = IsSome (map.get old log) × (new ≡ old)
+Creates old log (Err Memory) new = new ≡ old
+Creates old log (Err NoLog) new = ⊥
+Creates old log (Err PastEnd) new = ⊥
+Creates old log (Err TooLong) new = ⊥
+
+-- `append`: the piece at the log's end. A failing device leaves the old bytes and a prefix of the piece, possibly all of it.
+abbrev pub Appends : {T : Type 0} → Files → ℕ → List ℕ → Result T DiskFault → Files → Type 0
+Appends old log piece (Ok _) new = (file : List ℕ) × IsFile old log file × (length file + length piece < 2 ^ 32) × (new ≡ grown old log piece)
+Appends old log piece (Err Disk) new = (n : ℕ) × (new ≡ grown old log (take n piece))
+Appends old log piece (Err NoLog) new = IsNone (map.get old log) × (new ≡ old)
+Appends old log piece (Err TooLong) new = (file : List ℕ) × IsFile old log file × (2 ^ 32 ≤ length file + length piece) × (new ≡ old)
+Appends old log piece (Err Memory) new = new ≡ old
+Appends old log piece (Err Exists) new = ⊥
+Appends old log piece (Err PastEnd) new = ⊥
+
+-- `patch`: twelve bytes at position 8. A failing device leaves any bytes there.
+abbrev pub Patches : {T : Type 0} → Files → ℕ → List ℕ → Result T DiskFault → Files → Type 0
+Patches old log bytes (Ok _) new = (file : List ℕ) × IsFile old log file × (20 ≤ length file) × (new ≡ patched old log bytes)
+Patches old log bytes (Err Disk) new = (left : List ℕ) × (length left ≡ 12) × (new ≡ patched old log left)
+Patches old log bytes (Err NoLog) new = IsNone (map.get old log) × (new ≡ old)
+Patches old log bytes (Err PastEnd) new = (file : List ℕ) × IsFile old log file × (length file < 20) × (new ≡ old)
+Patches old log bytes (Err Memory) new = new ≡ old
+Patches old log bytes (Err Exists) new = ⊥
+Patches old log bytes (Err TooLong) new = ⊥
+
+-- `sync`: the files stay; nothing is claimed of what a crash would leave
+abbrev pub Syncs : {T : Type 0} → Files → ℕ → Result T DiskFault → Files → Type 0
+Syncs old log (Ok _) new = IsSome (map.get old log) × (new ≡ old)
+Syncs old log (Err Disk) new = new ≡ old
+Syncs old log (Err NoLog) new = IsNone (map.get old log) × (new ≡ old)
+Syncs old log (Err Memory) new = new ≡ old
+Syncs old log (Err Exists) new = ⊥
+Syncs old log (Err PastEnd) new = ⊥
+Syncs old log (Err TooLong) new = ⊥
+
+-- `read_at`: so many bytes of a log from a position on
+abbrev pub Reads : {T : Type 0} → (T → List ℕ) → Files → ℕ → ℕ → ℕ → Result T DiskFault → Files → Type 0
+Reads bytes old log at n (Ok found) new = (file : List ℕ) × IsFile old log file × (at + n ≤ length file) × (bytes found ≡ take n (drop at file)) × (new ≡ old)
+Reads bytes old log at n (Err Disk) new = new ≡ old
+Reads bytes old log at n (Err NoLog) new = IsNone (map.get old log) × (new ≡ old)
+Reads bytes old log at n (Err PastEnd) new = (file : List ℕ) × IsFile old log file × (length file < at + n) × (new ≡ old)
+Reads bytes old log at n (Err Memory) new = new ≡ old
+Reads bytes old log at n (Err Exists) new = ⊥
+Reads bytes old log at n (Err TooLong) new = ⊥
+
+-- `view`: an honest view of the log as it is, for good
+abbrev pub Views : {V : Type 0} → (V → List ℕ) → (V → Bool) → Files → ℕ → Result V DiskFault → Files → Type 0
+Views bytes honest old log (Ok view) new = IsFile old log (bytes view) × IsTrue (honest view) × (new ≡ old)
+Views bytes honest old log (Err Disk) new = new ≡ old
+Views bytes honest old log (Err NoLog) new = IsNone (map.get old log) × (new ≡ old)
+Views bytes honest old log (Err Memory) new = new ≡ old
+Views bytes honest old log (Err Exists) new = ⊥
+Views bytes honest old log (Err PastEnd) new = ⊥
+Views bytes honest old log (Err TooLong) new = ⊥
+
+-- `remove`: the log's file goes, and nothing else
+abbrev pub Removes : {T : Type 0} → Files → ℕ → Result T DiskFault → Files → Type 0
+Removes old log (Ok _) new = IsSome (map.get old log) × (new ≡ map.remove old log)
+Removes old log (Err Disk) new = new ≡ old
+Removes old log (Err NoLog) new = IsNone (map.get old log) × (new ≡ old)
+Removes old log (Err Memory) new = new ≡ old
+Removes old log (Err Exists) new = ⊥
+Removes old log (Err PastEnd) new = ⊥
+Removes old log (Err TooLong) new = ⊥
+
+-- where a view of a log with these bytes ends: behind the header, even where the log has less
+abbrev pub view_end : List ℕ → ℕ
+view_end file = max header_length (length file)
+
+-- what can be read of such a view: from the header's end to the view's end
+abbrev pub IsInView : List ℕ → ℕ → ℕ → Type 0
+IsInView file at n = (header_length ≤ at) × (at + n ≤ view_end file)
+
+-- a read of a view of a log with these bytes
+abbrev pub ReadsView : {T : Type 0} → (T → List ℕ) → List ℕ → ℕ → ℕ → Result T DiskFault → Type 0
+ReadsView bytes file at n (Ok found) = IsInView file at n × (bytes found ≡ take n (drop at file))
+ReadsView bytes file at n (Err PastEnd) = ¬ (IsInView file at n)
+ReadsView bytes file at n (Err Disk) = Unit {0}
+ReadsView bytes file at n (Err Memory) = Unit {0}
+ReadsView bytes file at n (Err Exists) = ⊥
+ReadsView bytes file at n (Err NoLog) = ⊥
+ReadsView bytes file at n (Err TooLong) = ⊥

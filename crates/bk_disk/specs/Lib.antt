@@ -1,0 +1,3 @@
+pub mod Disk
+pub mod Blocks
+pub mod Logs

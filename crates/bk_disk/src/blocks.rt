@@ -1,0 +1,151 @@
+//! The bytes of a log in memory, as blocks of one size that views of the log share.
+//!
+//! Every block but the last is full and never changes in place, so that any number of views may share it; a patch puts
+//! another block in its stead. The last block belongs to the log alone: an append writes in it, and a view copies it.
+
+ghost use Rattle.std.specs.Prelude.{◌≡◌, ◌+◌, ◌-◌, ◌%◌, ◌<◌, ◌≤◌, ◌^◌, [], ◌++◌, length, take, drop, IfOk, OnOk, OnErr};
+ghost use Rattle.bk_disk.specs.Blocks.{BeginsWith};
+
+use std::alloc::{AllocError, Global};
+use std::marker::Model;
+use std::sync::Arc;
+
+/// Bytes of a full block.
+pub(crate) const BLOCK: usize = 65_536;
+
+/// The bytes of a log, at most 2^32 - 1.
+#[derive(Drop)]
+pub(crate) struct Blocks {
+    full: Vec<Arc<Vec<u8>>>,
+    last: Vec<u8>,
+}
+
+impl Model for Blocks {
+    ghost use Rattle.std.specs.Prelude.{ℕ, List, map};
+    ghost use Rattle.bk_disk.specs.Blocks.{bytes_of, joined, IsCut};
+
+    ghost Value = { List ℕ };
+
+    ghost view = { λ b. joined (map bytes_of b.full.items) b.last.items };
+
+    ghost invariant = { λ b. IsCut (map bytes_of b.full.items) b.last.items };
+}
+
+impl Blocks {
+    pub(crate) fn new(alloc: Global) -> Self
+        ensures { result ≡ [] }
+    {
+        Blocks {
+            full: Vec::new(alloc),
+            last: Vec::new(alloc),
+        }
+    }
+
+    #[tactic(auto, using(crate::proofs::Cuts::length_joined))]
+    pub(crate) fn len(&self) -> u64
+        ensures value { result ≡ length self.now }
+        ensures bound { result < 2 ^ 32 }
+    {
+        (self.full.len() * BLOCK + self.last.len()) as u64
+    }
+
+    /// The same bytes, for a view: the full blocks shared, the last one copied.
+    pub(crate) fn share(&self) -> Result<Blocks, AllocError>
+        ensures { IfOk result (λ copy. copy ≡ self.now) }
+    {
+        let full = self.full.clone()?;
+        let last = Vec::from_slice(*self.last.allocator(), &self.last)?;
+        Ok(Blocks { full, last })
+    }
+
+    /// The bytes from position `from` up to position `to`.
+    pub(crate) fn read(&self, alloc: Global, from: usize, to: usize) -> Result<Vec<u8>, AllocError>
+        requires order { from ≤ to }
+        requires within { to ≤ length self.now }
+        ensures { IfOk result (λ bytes. bytes.items ≡ take (to - from) (drop from self.now)) }
+    {
+        let mut bytes = Vec::with_capacity(alloc, to - from)?;
+        let mut next = from;
+        while next < to {
+            let within = next % BLOCK;
+            let block = self.block_of(next);
+            let size = (block.len() - within).min(to - next);
+            bytes.extend_from_slice(&block[within..within + size])?;
+            next += size;
+        }
+        Ok(bytes)
+    }
+
+    // The block in which a position lies.
+    fn block_of(&self, at: usize) -> &[u8]
+        requires { at < length self.now }
+        ensures inside { at % BLOCK < length result.now }
+        ensures value { BeginsWith (drop at self.now) (drop (at % BLOCK) result.now) }
+    {
+        if at / BLOCK < self.full.len() {
+            &self.full[at / BLOCK]
+        } else {
+            &self.last
+        }
+    }
+
+    /// The bytes of a block that isn't full and then others, cut into blocks.
+    pub(crate) fn cut(alloc: Global, begun: &[u8], bytes: &[u8]) -> Result<Blocks, AllocError>
+        requires short { length begun.now < BLOCK }
+        requires fits { length begun.now + length bytes.now < 2 ^ 32 }
+        ensures { IfOk result (λ blocks. blocks ≡ begun.now ++ bytes.now) }
+    {
+        let mut full = Vec::new(alloc);
+        let mut last = Vec::with_capacity(alloc, BLOCK)?;
+        last.extend_from_slice(begun)?;
+        let mut rest = bytes;
+        while rest.len() >= BLOCK - last.len() {
+            let (head, behind) = rest.split_at(BLOCK - last.len());
+            last.extend_from_slice(head)?;
+            full.push(Arc::new(alloc, last)?)?;
+            last = Vec::with_capacity(alloc, BLOCK)?;
+            rest = behind;
+        }
+        last.extend_from_slice(rest)?;
+        Ok(Blocks { full, last })
+    }
+
+    pub(crate) fn append(&mut self, bytes: &[u8]) -> Result<(), AllocError>
+        requires { length self.old + length bytes.now < 2 ^ 32 }
+        ensures ok { OnOk result (self.new ≡ self.old ++ bytes.now) }
+        ensures err { OnErr result (self.new ≡ self.old) }
+    {
+        if bytes.len() < BLOCK - self.last.len() {
+            return self.last.extend_from_slice(bytes);
+        }
+        let Blocks { mut full, last } = Blocks::cut(*self.last.allocator(), &self.last, bytes)?;
+        self.full.append(&mut full)?;
+        self.last = last;
+        Ok(())
+    }
+
+    pub(crate) fn patch(&mut self, bytes: &[u8; 12]) -> Result<(), AllocError>
+        requires { 20 ≤ length self.old }
+        ensures ok { OnOk result (self.new ≡ take 8 self.old ++ bytes.now ++ drop 20 self.old) }
+        ensures err { OnErr result (self.new ≡ self.old) }
+    {
+        if self.full.is_empty() {
+            self.last[8..20].copy_from_slice(bytes);
+            return Ok(());
+        }
+        let alloc = *self.last.allocator();
+        let first = patched(alloc, &self.full[0], bytes)?;
+        self.full[0] = Arc::new(alloc, first)?;
+        Ok(())
+    }
+}
+
+// A copy of a block with other bytes at 8 to 20.
+fn patched(alloc: Global, block: &[u8], bytes: &[u8; 12]) -> Result<Vec<u8>, AllocError>
+    requires { 20 ≤ length block.now }
+    ensures { IfOk result (λ copy. copy.items ≡ take 8 block.now ++ bytes.now ++ drop 20 block.now) }
+{
+    let mut copy = Vec::from_slice(alloc, block)?;
+    copy[8..20].copy_from_slice(bytes);
+    Ok(copy)
+}

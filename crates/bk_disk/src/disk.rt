@@ -1,0 +1,104 @@
+//! The two traits: a disk of entry logs, and a view of one log.
+//!
+//! A disk says what its files are, whether it is honest, and how often the device has failed. What its calls do to
+//! the files is promised under honesty alone; on any disk each call returns, honesty stays, the count of failures
+//! doesn't fall, and `Disk` is answered only where it rose. An honest disk may fail.
+
+ghost use Rattle.std.specs.Prelude.{◌≡◌, ℕ, Bool, false, List, IsTrue, IsErrOf};
+ghost use Rattle.bk_record.specs.Files.{Files};
+ghost use Rattle.bk_disk.specs.Disk.{HasCause, Lists, Measures, Creates, Appends, Patches, Syncs, Reads, Views, Removes, ReadsView, view_end};
+
+use crate::DiskFault;
+use std::alloc::Global;
+
+/// The bytes of one log as they were when the view was made, for good: from byte 1024 to `end`. Threads may read it
+/// together. A sound view never answers `Disk`.
+pub trait LogView: Send + Sync + Drop {
+    ghost bytes: { Self → List ℕ };
+
+    ghost honest: { Self → Bool };
+
+    ghost sound: { Self → Bool };
+
+    /// The position at which the view ends: the log's length when the view was made, or 1024 where that is less.
+    fn end(&self) -> u64
+        ensures { IsTrue (honest self.now) → result ≡ view_end (bytes self.now) };
+
+    /// `n` bytes from position `at` on. Faults: `PastEnd` where they don't lie from 1024 to `end`, `Disk` where the
+    /// view isn't sound, `Memory`.
+    fn read_at(&self, alloc: Global, at: u64, n: u64) -> Result<Vec<u8>, DiskFault>
+        ensures cause { IsErrOf result DiskFault.Disk → sound self.now ≡ false }
+        ensures turn { IsTrue (honest self.now) → ReadsView (λ v. v.items) (bytes self.now) at n result };
+}
+
+/// A folder of entry logs, each a file of bytes named by the log's id. Every fault but a failing append's or patch's
+/// `Disk` leaves the files as they were.
+pub trait LogDisk: Send + Drop {
+    type View: LogView;
+
+    ghost files: { Self → Files };
+
+    ghost honest: { Self → Bool };
+
+    ghost failures: { Self → ℕ };
+
+    /// The ids of all logs, rising. Faults: `Disk`, `Memory`.
+    fn list(&mut self, alloc: Global) -> Result<Vec<u32>, DiskFault>
+        ensures honest { honest self.new ≡ honest self.old }
+        ensures cause { HasCause (failures self.old) (failures self.new) result }
+        ensures turn { IsTrue (honest self.old) → Lists (λ v. v.items) (files self.old) result (files self.new) };
+
+    /// The length of a log in bytes. Faults: `NoLog`, `Disk`, `Memory`.
+    fn length(&mut self, alloc: Global, log: u32) -> Result<u64, DiskFault>
+        ensures honest { honest self.new ≡ honest self.old }
+        ensures cause { HasCause (failures self.old) (failures self.new) result }
+        ensures turn { IsTrue (honest self.old) → Measures (files self.old) log result (files self.new) };
+
+    /// Makes an empty log. Faults: `Exists` where there is one of that id, `Disk`, `Memory`.
+    fn create(&mut self, alloc: Global, log: u32) -> Result<(), DiskFault>
+        ensures honest { honest self.new ≡ honest self.old }
+        ensures cause { HasCause (failures self.old) (failures self.new) result }
+        ensures turn { IsTrue (honest self.old) → Creates (files self.old) log result (files self.new) };
+
+    /// Writes the bytes at a log's end. Faults: `NoLog`, `TooLong` where the log would pass 2^32 - 1 bytes, `Disk`,
+    /// which leaves the old bytes and a prefix of the new ones, possibly all of them, `Memory`.
+    fn append(&mut self, alloc: Global, log: u32, bytes: &[u8]) -> Result<(), DiskFault>
+        ensures honest { honest self.new ≡ honest self.old }
+        ensures cause { HasCause (failures self.old) (failures self.new) result }
+        ensures turn { IsTrue (honest self.old) → Appends (files self.old) log bytes.now result (files self.new) };
+
+    /// Writes twelve bytes over those at position 8. Faults: `NoLog`, `PastEnd` where the log is shorter than 20
+    /// bytes, `Disk`, which leaves any bytes at 8 to 20, `Memory`.
+    fn patch(&mut self, alloc: Global, log: u32, bytes: &[u8; 12]) -> Result<(), DiskFault>
+        ensures honest { honest self.new ≡ honest self.old }
+        ensures cause { HasCause (failures self.old) (failures self.new) result }
+        ensures turn { IsTrue (honest self.old) → Patches (files self.old) log bytes.now result (files self.new) };
+
+    /// Asks the device to keep what was written to a log. Nothing is promised of it but that the files stay.
+    /// Faults: `NoLog`, `Disk`, `Memory`.
+    fn sync(&mut self, alloc: Global, log: u32) -> Result<(), DiskFault>
+        ensures honest { honest self.new ≡ honest self.old }
+        ensures cause { HasCause (failures self.old) (failures self.new) result }
+        ensures turn { IsTrue (honest self.old) → Syncs (files self.old) log result (files self.new) };
+
+    /// `n` bytes of a log from position `at` on. Faults: `NoLog`, `PastEnd` where the log is shorter, `Disk`,
+    /// `Memory`.
+    fn read_at(&mut self, alloc: Global, log: u32, at: u64, n: u64) -> Result<Vec<u8>, DiskFault>
+        ensures honest { honest self.new ≡ honest self.old }
+        ensures cause { HasCause (failures self.old) (failures self.new) result }
+        ensures turn { IsTrue (honest self.old)
+            → Reads (λ v. v.items) (files self.old) log at n result (files self.new) };
+
+    /// A view of a log as it is now. Faults: `NoLog`, `Disk`, `Memory`.
+    fn view(&mut self, alloc: Global, log: u32) -> Result<Self::View, DiskFault>
+        ensures honest { honest self.new ≡ honest self.old }
+        ensures cause { HasCause (failures self.old) (failures self.new) result }
+        ensures turn { IsTrue (honest self.old)
+            → Views Self.View.bytes Self.View.honest (files self.old) log result (files self.new) };
+
+    /// Takes a log's file away. Views of it stay. Faults: `NoLog`, `Disk`, `Memory`.
+    fn remove(&mut self, alloc: Global, log: u32) -> Result<(), DiskFault>
+        ensures honest { honest self.new ≡ honest self.old }
+        ensures cause { HasCause (failures self.old) (failures self.new) result }
+        ensures turn { IsTrue (honest self.old) → Removes (files self.old) log result (files self.new) };
+}

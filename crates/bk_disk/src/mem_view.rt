@@ -1,0 +1,61 @@
+//! A view of a log in memory: the log's blocks as they were, shared with the log.
+
+ghost use Rattle.std.specs.Prelude.{◌≡◌, true};
+
+use crate::blocks::Blocks;
+use crate::{DiskFault, LogView};
+use std::alloc::Global;
+use std::marker::Model;
+
+/// The length of a log's header, where its records begin.
+const HEADER: u64 = 1024;
+
+/// A view of a log of a `MemDisk`. It is sound, and keeps its bytes while the log grows, is patched and is removed.
+#[derive(Drop)]
+pub struct MemView {
+    bytes: Blocks,
+}
+
+impl Model for MemView {
+    ghost use Rattle.std.specs.Prelude.{ℕ, List};
+
+    ghost Value = { List ℕ };
+
+    ghost view = { λ view. view.bytes };
+}
+
+impl MemView {
+    pub(crate) fn new(bytes: Blocks) -> Self
+        ensures { result ≡ bytes }
+    {
+        MemView { bytes }
+    }
+}
+
+impl LogView for MemView {
+    ghost bytes = { λ view. view };
+
+    ghost honest = { λ _. true };
+
+    ghost sound = { λ _. true };
+
+    fn end(&self) -> u64 {
+        self.bytes.len().max(HEADER)
+    }
+
+    fn read_at(&self, alloc: Global, at: u64, n: u64) -> Result<Vec<u8>, DiskFault> {
+        let end = self.end();
+        let Some(to) = at.checked_add(n) else {
+            return Err(DiskFault::PastEnd);
+        };
+        if at < HEADER || end < to {
+            return Err(DiskFault::PastEnd);
+        }
+        if n == 0 {
+            return Ok(Vec::new(alloc));
+        }
+        self.bytes
+            .read(alloc, at as usize, to as usize)
+            .map_err(|_| DiskFault::Memory)
+    }
+}

@@ -1,0 +1,15 @@
+use Rattle.std.proofs.Common.{arith}
+use Rattle.bk_drive.proofs.Showing.{next_within, next_stands, showing_on}
+use Rattle.bk_drive.proofs.publish.show_logs.Goals as goal
+
+pub show_log-requires-clause-within : goal.show_log-requires-clause-within
+show_log-requires-clause-within g c κs within =
+    next_within _ _ _ _ _ _ _ c.args.logs.now _ _ c.loop-number.invariant (omega (arith, c.loop-number-test.true, c.len-number-end.ensures))
+
+pub show_log-requires-clause-stands : goal.show_log-requires-clause-stands
+show_log-requires-clause-stands g c κs within = next_stands _ _ _ _ _ _ _ _ _ _ c.loop-number.invariant c.requires.stand
+
+pub loop-number-preserved : goal.loop-number-preserved
+loop-number-preserved g c =
+    showing_on _ _ _ _ _ _ _ _ _ _ c.loop-number.invariant _ _ _ _
+    c.in_ok-show_log.ensures.honest c.in_ok-show_log.ensures.cause.later c.in_ok-show_log.ensures.files c.in_ok-show_log.ensures.ok

@@ -1,0 +1,15 @@
+pub mod Caches
+pub mod Logs
+pub mod State
+pub mod Fits
+pub mod Stored
+pub mod Meaning
+pub mod Plain
+pub mod Holding
+pub mod Flushing
+pub mod Making
+pub mod Machine
+pub mod Headline
+pub mod Publishing
+pub mod Limits
+pub mod Held

@@ -1,0 +1,91 @@
+-- The sizes by ledger, after a record more.
+use Rattle.std.proofs.Common.{◌≡◌, ℕ, ◌+◌, ◌<◌, ◌≤◌, ◌^◌, true, false, cond, List, [], ◌∷◌, ◌++◌, Some, None, Option, IsSome, nat_cmp, refl, sym, ap, subst, ◌∙◌, arith, is_some, unwrap_or}
+use Rattle.std.specs.Cmp.{nat_cmp_total}
+use Rattle.std.specs.Ordering.{eq_by_cmp}
+use Rattle.std.specs.FinMap.{empty, get, len, contains_key, get-empty, get-insert, len-empty, len-insert}
+use Rattle.std.proofs.lemmas.Bool.{false≢true}
+use Rattle.std.proofs.lemmas.List.Sums.{fold-append}
+use Rattle.std.proofs.lemmas.Map.Lookups.{exact_unsigned}
+use Rattle.std.proofs.lemmas.Map.Views.{tells_apart}
+use Rattle.bk_head.specs.Written.{IsWritable}
+use Rattle.bk_log.specs.Sizes.{Sizes, size_in, with_size, put_back, with_record, sizes_of}
+use Rattle.bk_log.specs.Writing.{IsCounted}
+use Rattle.bk_log.proofs.Maps.{insert-insert, insert_same, remove-insert}
+use Rattle.bk_log.proofs.Files.{stands-insert}
+
+-- what was counted is taken back
+pub put_back-with_size : (sizes : Sizes) (ledger size : ℕ) → put_back (with_size sizes ledger size) ledger (get sizes ledger) ≡ sizes
+put_back-with_size sizes ledger size =
+    elim (get sizes ledger) as (λ o. get sizes ledger ≡ o → put_back (with_size sizes ledger size) ledger o ≡ sizes) [
+      | Some was ↦ λ is. insert-insert sizes ledger _ was ∙ insert_same sizes ledger was is
+      | None ↦ λ is. remove-insert sizes ledger _ is
+    ] refl
+
+-- the same, with what the calls said between
+pub restored : (sizes counted back : Sizes) (ledger size : ℕ) (was : Option ℕ) → was ≡ get sizes ledger → counted ≡ with_size sizes ledger size
+    → back ≡ put_back counted ledger was → back ≡ sizes
+restored sizes counted back ledger size was met added taken =
+    taken ∙ ap (put_back counted ledger) met ∙ ap (λ s. put_back s ledger (get sizes ledger)) added ∙ put_back-with_size sizes ledger size
+
+-- a ledger that was counted is there
+pub counted_is_there : (sizes : Sizes) (ledger size : ℕ) → IsSome (get (with_size sizes ledger size) ledger)
+counted_is_there sizes ledger size = ap is_some (stands-insert sizes ledger (size_in sizes ledger + size))
+
+-- no ledger has more than before and the new bytes
+pub size_in-with_size : (sizes : Sizes) (ledger size most other : ℕ) → ((q : ℕ) → size_in sizes q ≤ most)
+    → size_in (with_size sizes ledger size) other ≤ most + size
+size_in-with_size sizes ledger size most other within =
+    elim (eq_by_cmp nat_cmp other ledger) as (λ b. eq_by_cmp nat_cmp other ledger ≡ b → size_in (with_size sizes ledger size) other ≤ most + size) [
+      | true ↦ λ here. rw (get-insert nat_cmp_total sizes ledger (size_in sizes ledger + size) other, here) (omega (arith, within ledger))
+      | false ↦ λ apart. rw (get-insert nat_cmp_total sizes ledger (size_in sizes ledger + size) other, apart) (omega (arith, within other))
+    ] refl
+
+-- no more ledgers than records
+few_more : (sizes : Sizes) (ledger size count : ℕ) → len sizes ≤ count → len (with_size sizes ledger size) ≤ count + 1
+few_more sizes ledger size count few =
+    rw (len-insert nat_cmp_total sizes ledger (size_in sizes ledger + size))
+    (elim (contains_key sizes ledger) as (λ b. cond b (len sizes) (len sizes + 1) ≤ count + 1) [ true ↦ omega arith | false ↦ omega arith ])
+
+-- each with a key's id
+keyed_more : (sizes : Sizes) (ledger size other : ℕ) → ledger < 2 ^ 63 → ((q : ℕ) → IsSome (get sizes q) → q < 2 ^ 63)
+    → IsSome (get (with_size sizes ledger size) other) → other < 2 ^ 63
+keyed_more sizes ledger size other low keyed =
+    elim (eq_by_cmp nat_cmp other ledger) as (λ b. eq_by_cmp nat_cmp other ledger ≡ b → IsSome (get (with_size sizes ledger size) other) → other < 2 ^ 63) [
+      | true ↦ λ here some. subst (λ q. q < 2 ^ 63) (sym (tells_apart exact_unsigned other ledger here)) low
+      | false ↦ λ apart some. keyed other (sym (ap is_some (get-insert nat_cmp_total sizes ledger (size_in sizes ledger + size) other
+          ∙ ap (λ b. cond b (Some (size_in sizes ledger + size)) (get sizes other)) apart)) ∙ some)
+    ] refl
+
+-- a writer's numbers, after a record more
+pub counted_put : (log end count size ledger : ℕ) (sizes sizes' : Sizes) → IsCounted log end count sizes → 20 ≤ size → ledger < 2 ^ 63
+    → sizes' ≡ with_size sizes ledger size → IsCounted log (end + size) (count + 1) sizes'
+counted_put log end count size ledger sizes sizes' counted least low is = record {
+  named = counted.named;
+  room = omega (arith, counted.room);
+  within = λ q. rw is (size_in-with_size sizes ledger size end q counted.within);
+  few = rw is (few_more sizes ledger size count counted.few);
+  keyed = λ q. rw is (keyed_more sizes ledger size q low counted.keyed);
+}
+
+-- the numbers of a log without records
+pub counted_none : (log end : ℕ) (sizes : Sizes) → log < 2 ^ 31 → 1024 ≤ end → sizes ≡ empty → IsCounted log end 0 sizes
+counted_none log end sizes named headed is = record {
+  named = named;
+  room = omega arith;
+  within = λ q. rw (is, get-empty nat_cmp q) (omega arith);
+  few = rw (is, len-empty nat_cmp ℕ) (omega arith);
+  keyed = λ q some. absurd (false≢true (sym (ap is_some (ap (λ s. get s q) is ∙ get-empty nat_cmp q)) ∙ some));
+}
+
+-- the sizes can be written as a ledgers map
+pub counted_is_writable : (log end count : ℕ) (sizes : Sizes) → IsCounted log end count sizes → end < 2 ^ 32 → IsWritable sizes
+counted_is_writable log end count sizes counted fits = record {
+  few = omega (arith, counted.few, counted.room);
+  each = λ ledger size is. (counted.keyed ledger (ap is_some is), omega (arith, counted.within ledger, ap (λ o. unwrap_or o 0) is));
+}
+
+-- the sizes of the records with one record more
+pub sizes_of-push : (records : List (ℕ × List ℕ)) (at : ℕ) (payload : List ℕ)
+    → sizes_of (records ++ (at, payload) ∷ []) ≡ with_record (sizes_of records) payload
+unfolding sizes_of
+sizes_of-push records at payload = fold-append _ _ records ((at, payload) ∷ [])

@@ -1,0 +1,13 @@
+pub mod Faults
+pub mod Sizes
+pub mod Text
+pub mod Calls
+pub mod Writing
+pub mod Sealing
+pub mod Reads
+pub mod Places
+pub mod Ranges
+pub mod Fronts
+pub mod Ahead
+pub mod Scanning
+pub mod Scanned

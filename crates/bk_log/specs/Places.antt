@@ -1,0 +1,48 @@
+-- What stands at a place of a log: a whole record whose payload begins there.
+use Rattle.std.specs.Prelude.{◌≡◌, ℕ, ◌+◌, ◌-◌, ◌≤◌, List, drop, Some, Result, Ok, Err}
+use Rattle.bk_record.specs.Key.{EntryKey}
+use Rattle.bk_record.specs.Record.{key_of}
+use Rattle.bk_record.specs.Body.{Body}
+use Rattle.bk_record.specs.Piece.{BeginsWith}
+use Rattle.bk_record.specs.Files.{header_length, In}
+use Rattle.bk_log.specs.declared.reading.ReadFault.{ReadFault}
+use Rattle.bk_log.specs.declared.reading.ReadFault.TheVariants as reads
+use Rattle.bk_log.specs.declared.fault.FetchFault.{FetchFault}
+use Rattle.bk_log.specs.declared.fault.FetchFault.TheVariants.{Disk, NotThere, Memory, Odd}
+
+-- Behind the header stands a whole record, and its payload begins at this position of the file. Where a record of the
+-- log begins there, it is that record.
+pub record HasRecordAt (file : List ℕ) (at : ℕ) (payload : List ℕ) : Type 0 where
+  pub behind_header : header_length + 4 ≤ at
+  pub begins : BeginsWith (drop (at - 4) file) payload
+
+-- a record of the key has this payload at the position
+pub record HasEntryAt (file : List ℕ) (at : ℕ) (key : EntryKey) (payload : List ℕ) : Type 0 where
+  pub here : HasRecordAt file at payload
+  pub keyed : key_of payload ≡ Some key
+
+-- a refused fetch, of an honest view of a log with these bytes: `NotThere` only where no whole record of the key has its
+-- payload at the position
+abbrev pub FetchFails : List ℕ → ℕ → EntryKey → FetchFault → Type 0
+FetchFails file at key Disk = Unit {0}
+FetchFails file at key NotThere = (payload : List ℕ) → ¬ (HasEntryAt file at key payload)
+FetchFails file at key Memory = Unit {0}
+FetchFails file at key Odd = ⊥
+
+-- `fetch`: the payload of the record of the key that stands there
+abbrev pub Fetches : {T : Type 0} → (T → List ℕ) → List ℕ → ℕ → EntryKey → Result T FetchFault → Type 0
+Fetches bytes file at key (Ok found) = HasEntryAt file at key (bytes found)
+Fetches bytes file at key (Err fault) = FetchFails file at key fault
+
+-- what a read that a record would need, and that is refused, means for a fetch
+abbrev pub missed : ReadFault → FetchFault
+missed reads.Disk = Disk
+missed reads.PastEnd = NotThere
+missed reads.Memory = Memory
+missed reads.Odd = Odd
+
+-- At a position stands one record at most, and where a record of the log's list has its payload there, it is that one.
+pub record StandsOnce (file : List ℕ) (at : ℕ) : Type 0 where
+  pub one : (payload other : List ℕ) → HasRecordAt file at payload → HasRecordAt file at other → payload ≡ other
+  pub listed : (payload rest : List ℕ) (records : List (ℕ × List ℕ)) → Body header_length (drop header_length file) records rest
+      → In (at, payload) records → HasRecordAt file at payload

@@ -1,0 +1,17 @@
+-- A read of a view that gives the bytes asked for, or says why not.
+use Rattle.std.specs.Prelude.{◌≡◌, ℕ, List, take, drop, Result, Ok, Err}
+use Rattle.bk_disk.specs.Disk.{IsInView}
+use Rattle.bk_log.specs.declared.reading.ReadFault.{ReadFault}
+use Rattle.bk_log.specs.declared.reading.ReadFault.TheVariants.{Disk, PastEnd, Memory, Odd}
+
+-- a refused read of an honest view of a log with these bytes: `PastEnd` only where so many don't lie in it from there on
+abbrev pub ReadFails : List ℕ → ℕ → ℕ → ReadFault → Type 0
+ReadFails file at n Disk = Unit {0}
+ReadFails file at n PastEnd = ¬ (IsInView file at n)
+ReadFails file at n Memory = Unit {0}
+ReadFails file at n Odd = ⊥
+
+-- a read: so many bytes from a position on
+abbrev pub Shows : {T : Type 0} → (T → List ℕ) → List ℕ → ℕ → ℕ → Result T ReadFault → Type 0
+Shows bytes file at n (Ok found) = IsInView file at n × (bytes found ≡ take n (drop at file))
+Shows bytes file at n (Err fault) = ReadFails file at n fault

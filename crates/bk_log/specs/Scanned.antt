@@ -1,0 +1,39 @@
+-- What a scanner's fields show, and what they keep.
+use Rattle.std.specs.Prelude.{◌≡◌, ℕ, ◌-◌, ◌≤◌, Bool, false, IsTrue, List, take, drop, Option, Some, None}
+use Rattle.bk_record.specs.Files.{header_length}
+use Rattle.bk_disk.specs.Disk.{view_end}
+use Rattle.bk_log.specs.declared.fault.ScanFault.{ScanFault}
+use Rattle.bk_log.specs.declared.fault.ScanFault.TheVariants.{Disk}
+use Rattle.bk_log.specs.Ahead.{Ahead}
+use Rattle.bk_log.specs.Scanning.{Scan, IsPlaced, IsScanned}
+
+-- the scan of a window's log
+abbrev pub scan_of : Ahead → ℕ → ℕ → ℕ → ℕ → ℕ → Bool → Option ScanFault → Scan
+scan_of window from end given foreign torn ended fault = record {
+  from = from;
+  end = end;
+  bytes = take (end - from) (drop from window.bytes);
+  honest = window.honest;
+  sound = window.sound;
+  left = end - window.at;
+  given = given;
+  foreign = foreign;
+  torn = torn;
+  ended = ended;
+  fault = fault;
+}
+
+-- a scan that begins
+abbrev pub new_scan : List ℕ → Bool → Bool → ℕ → ℕ → Scan
+new_scan bytes honest sound from end =
+    scan_of (record { at = from; bytes = bytes; honest = honest; sound = sound; ready = 0 }) from end 0 0 0 false None
+
+-- The position is in the part; `Disk` was told of a view that isn't sound. Of an honest view: the part lies in it, and the scan
+-- is that of its bytes.
+pub record IsKept (window : Ahead) (from end given foreign torn : ℕ) (ended : Bool) (fault : Option ScanFault) : Type 0 where
+  pub placed : IsPlaced from end window.at given foreign
+  pub told : fault ≡ Some Disk → window.sound ≡ false
+  pub headed : header_length ≤ from
+  pub in_view : IsTrue window.honest → end ≤ view_end window.bytes
+  pub scanned : IsTrue window.honest
+      → IsScanned (scan_of window from end given foreign torn ended fault) window.at (take (end - window.at) (drop window.at window.bytes))

@@ -1,0 +1,94 @@
+-- A scan of a part of a log: its entries one after another, then the end or a bad length.
+use Rattle.std.specs.Prelude.{◌≡◌, ℕ, ◌+◌, ◌≤◌, Bool, true, false, ◌&&◌, not, IsTrue, List, length, Option, Some, None, is_none, ◌*◌, ◌<◌, ◌^◌, Result, Ok, Err, slice_get}
+use Rattle.bk_record.specs.Record.{key_of}
+use Rattle.bk_record.specs.Body.{Body, IsBadAt}
+use Rattle.bk_log.specs.declared.fault.ScanFault.{ScanFault}
+use Rattle.bk_log.specs.declared.fault.ScanFault.TheVariants.{BadLength, Disk, Memory, Odd}
+use Rattle.bk_log.specs.declared.found.Found.{Found}
+use Rattle.bk_record.specs.Spelling.{all_pieces, all_leftover}
+use Rattle.bk_log.specs.Ranges.{IsPassed, entries_in, foreign_in}
+
+-- What a scanner shows. The part: where it begins and ends, its bytes, whether the view is honest and sound. Where the
+-- scan is: how many bytes are left, how many entries were given and foreign records passed, how many bytes were found torn
+-- at the end, whether the end was reached, and the fault that ended the scan.
+pub record Scan : Type 0 where
+  pub from : ℕ
+  pub end : ℕ
+  pub bytes : List ℕ
+  pub honest : Bool
+  pub sound : Bool
+  pub left : ℕ
+  pub given : ℕ
+  pub foreign : ℕ
+  pub torn : ℕ
+  pub ended : Bool
+  pub fault : Option ScanFault
+
+-- the scan has neither reached the end nor met a fault
+abbrev pub is_going : Scan → Bool
+is_going s = not s.ended && is_none s.fault
+
+-- the next entry of the part, in order
+pub record IsGiven (s : Scan) (found : Found) : Type 0 where
+  pub payload : List ℕ
+  pub stands : slice_get (entries_in s.from s.bytes) s.given ≡ Some (found.at, payload)
+  pub keyed : key_of payload ≡ Some found.key
+  pub sized : found.size ≡ 4 + length payload
+
+-- all entries were given, the part is spelled to its end, and the counts are its
+pub record IsFinished (s : Scan) : Type 0 where
+  pub given : s.given ≡ length (entries_in s.from s.bytes)
+  pub spelled : Body s.from s.bytes (all_pieces s.from s.bytes) (all_leftover s.bytes)
+  pub foreign : s.foreign ≡ foreign_in s.from s.bytes
+  pub torn : s.torn ≡ length (all_leftover s.bytes)
+
+-- the fault of a scan of an honest view: a bad length exactly where the part has one, behind all its entries
+abbrev pub ScanFails : Scan → ScanFault → Type 0
+ScanFails s (BadLength at value) = (s.given ≡ length (entries_in s.from s.bytes)) × IsBadAt s.from s.bytes at value
+ScanFails s Disk = Unit {0}
+ScanFails s Memory = Unit {0}
+ScanFails s Odd = ⊥
+
+-- `next`, on an honest view
+abbrev pub NextTurn : Scan → Result (Option Found) ScanFault → Scan → Type 0
+NextTurn s (Ok (Some found)) s' = IsGiven s found
+NextTurn s (Ok None) s' = IsFinished s'
+NextTurn s (Err fault) s' = ScanFails s' fault
+
+-- `next`, on any view: what it moves. An entry has twenty bytes or more and lies in the part, and so many bytes
+-- less are left.
+abbrev pub NextMoves : Scan → Result (Option Found) ScanFault → Scan → Type 0
+NextMoves s (Ok (Some found)) s' = IsTrue (is_going s) × (20 ≤ found.size) × (found.at + found.size ≤ s.end + 4) × (s'.left + found.size ≤ s.left)
+    × (s' ≡ record s { left = s'.left; given = s.given + 1; foreign = s'.foreign })
+NextMoves s (Ok None) s' = (s.fault ≡ None) × (s' ≡ record s { left = s'.left; foreign = s'.foreign; torn = s'.torn; ended = true })
+NextMoves s (Err fault) s' = s' ≡ record s { left = s'.left; foreign = s'.foreign; fault = Some fault }
+
+-- pieces that were passed without an entry, by how the scan stands now: with a fault, at the end, or going on
+abbrev pub PassedOver : Option ScanFault → Bool → Scan → Scan → Type 0
+PassedOver (Some fault) ended s s' = s' ≡ record s { left = s'.left; foreign = s'.foreign; fault = Some fault }
+PassedOver None true s s' = s' ≡ record s { left = s'.left; foreign = s'.foreign; torn = s'.torn; ended = true }
+PassedOver None false s s' = s' ≡ record s { left = s'.left; foreign = s'.foreign }
+
+-- one step of a scan, on any view: an entry, or a piece that is passed, which leaves fewer bytes or ends the scan
+abbrev pub StepMoves : Scan → Option Found → Scan → Type 0
+StepMoves s (Some found) s' = NextMoves s (Ok (Some found)) s'
+StepMoves s None s' = PassedOver s'.fault s'.ended s s' × (s'.left ≤ s.left) × (IsTrue (is_going s') → s'.left < s.left)
+
+-- the same scan, which gave no entry since, and not another if it had stopped
+pub record IsStillScan (s s' : Scan) : Type 0 where
+  pub passed : PassedOver s'.fault s'.ended s s'
+  pub fewer : s'.left ≤ s.left
+  pub stopped : ¬ (IsTrue (is_going s)) → s' ≡ s
+
+-- what a scanner keeps of its numbers: a position in the part, and every record has 20 bytes or more
+pub record IsPlaced (from end at given foreign : ℕ) : Type 0 where
+  pub begun : from ≤ at
+  pub within : at ≤ end
+  pub room : from + 20 * (given + foreign) ≤ at
+  pub end_fits : end < 2 ^ 64
+
+-- what it keeps of an honest view: the whole records before the position were given or passed, and how the scan ended is so
+pub record IsScanned (s : Scan) (at : ℕ) (here : List ℕ) : Type 0 where
+  pub passed : IsPassed s.from s.bytes at here s.given s.foreign
+  pub finished : s.ended ≡ true → IsFinished s
+  pub stopped : (fault : ScanFault) → s.fault ≡ Some fault → ScanFails s fault

@@ -1,0 +1,68 @@
+//! One call on the disk that changes a log, its faults told as a log's.
+
+ghost use Rattle.std.specs.Prelude.{◌≡◌, IsTrue, IsErrOf, length};
+ghost use Rattle.bk_log.specs.Faults.{IsCaused};
+ghost use Rattle.bk_log.specs.Calls.{HasRoom, Adds, HasHeader, Overwrites};
+
+use crate::LogFault;
+use crate::fault::log_fault;
+use bk_disk::LogDisk;
+use std::alloc::Global;
+
+/// Writes bytes at the end of a log that has room for them.
+pub(crate) fn append<D: LogDisk>(
+    disk: &mut D,
+    alloc: Global,
+    log: u32,
+    bytes: &[u8],
+) -> Result<(), LogFault>
+    requires { IsTrue (D.honest disk.old) → HasRoom (D.files disk.old) log (length bytes.now) }
+    ensures honest { D.honest disk.new ≡ D.honest disk.old }
+    ensures cause { IsCaused (D.failures disk.old) (D.failures disk.new) (IsErrOf result LogFault.Disk) }
+    ensures never { ¬ (IsErrOf result LogFault.Failed) }
+    ensures turn { IsTrue (D.honest disk.old) → Adds (D.files disk.old) log bytes.now result (D.files disk.new) }
+{
+    match disk.append(alloc, log, bytes) {
+        Ok(()) => Ok(()),
+        Err(fault) => Err(log_fault(fault)),
+    }
+}
+
+/// The same, without a call on the disk where there are no bytes.
+pub(crate) fn append_any<D: LogDisk>(
+    disk: &mut D,
+    alloc: Global,
+    log: u32,
+    bytes: &[u8],
+) -> Result<(), LogFault>
+    requires { IsTrue (D.honest disk.old) → HasRoom (D.files disk.old) log (length bytes.now) }
+    ensures honest { D.honest disk.new ≡ D.honest disk.old }
+    ensures cause { IsCaused (D.failures disk.old) (D.failures disk.new) (IsErrOf result LogFault.Disk) }
+    ensures never { ¬ (IsErrOf result LogFault.Failed) }
+    ensures turn { IsTrue (D.honest disk.old) → Adds (D.files disk.old) log bytes.now result (D.files disk.new) }
+{
+    if bytes.is_empty() {
+        return Ok(());
+    }
+    append(disk, alloc, log, bytes)
+}
+
+/// Writes twelve bytes over those at position 8 of a log that has its header.
+pub(crate) fn patch<D: LogDisk>(
+    disk: &mut D,
+    alloc: Global,
+    log: u32,
+    bytes: &[u8; 12],
+) -> Result<(), LogFault>
+    requires { IsTrue (D.honest disk.old) → HasHeader (D.files disk.old) log }
+    ensures honest { D.honest disk.new ≡ D.honest disk.old }
+    ensures cause { IsCaused (D.failures disk.old) (D.failures disk.new) (IsErrOf result LogFault.Disk) }
+    ensures never { ¬ (IsErrOf result LogFault.Failed) }
+    ensures turn { IsTrue (D.honest disk.old)
+        → Overwrites (D.files disk.old) log bytes.now result (D.files disk.new) }
+{
+    match disk.patch(alloc, log, bytes) {
+        Ok(()) => Ok(()),
+        Err(fault) => Err(log_fault(fault)),
+    }
+}

@@ -1,0 +1,45 @@
+//! What stands at the front of a log's bytes, told from the first twenty: the length field and the two ids.
+
+ghost use Rattle.std.specs.Prelude.{◌≡◌, ℕ, List, length, take, min};
+ghost use Rattle.bk_log.specs.Fronts.{IsFront, FitsIn};
+
+use crate::length::{is_payload_length, length_in};
+use bk_record::{Key, key_of};
+
+/// How many bytes at most tell what stands there.
+pub(crate) const HEAD: u64 = 20;
+
+/// What stands at the front of bytes.
+#[derive(Clone, Copy)]
+pub(crate) enum Front {
+    /// A whole record of this size, its length field included; its key where it is no foreign one.
+    Record { size: u32, key: Option<Key> },
+    /// Fewer bytes than the length field or the record needs, or none.
+    Rest,
+    /// A length below 16, as a signed number.
+    Bad(i32),
+}
+
+/// What stands at the front of `left` bytes, of which these are the first twenty, or all where there are fewer.
+pub(crate) fn front_of(head: &[u8], left: u64) -> Front
+    requires { length head.now ≡ min HEAD left }
+    ensures fits { FitsIn left result }
+    ensures front { (bytes : List ℕ) → left ≡ length bytes → head.now ≡ take HEAD bytes → IsFront bytes result }
+{
+    if left < 4 {
+        return Front::Rest;
+    }
+    let length = length_in(head);
+    if !is_payload_length(length) {
+        return Front::Bad(length.cast_signed());
+    }
+    let size = 4 + length;
+    if left < u64::from(size) {
+        return Front::Rest;
+    }
+    let key = match key_of(&head[4..20]) {
+        Ok(key) => Some(key),
+        Err(_) => None,
+    };
+    Front::Record { size, key }
+}

@@ -1,0 +1,23 @@
+//! Laws of the definitions that contracts cite, stated once for every file; the functions do nothing.
+
+ghost use Rattle.std.specs.Prelude.{ℕ, List};
+ghost use Rattle.bk_log.specs.Places.{StandsOnce};
+ghost use Rattle.bk_log.specs.Ranges.{IsWholePart};
+ghost use Rattle.bk_log.specs.Sizes.{AddsUp};
+
+/// A scan from the header's end to a log's end is a scan of the log: the same entries, foreign records and rest.
+pub fn whole_log_is_one_part()
+    ensures { (file : List ℕ) → IsWholePart file }
+{}
+
+/// At each position of a log stands one record at most, so a fetch has one answer; and where a record of the log's list
+/// has its payload there, it is that record.
+pub fn one_record_at_a_place()
+    ensures { (file : List ℕ) (at : ℕ) → StandsOnce file at }
+{}
+
+/// The sizes that a ledgers map is made of are, for each ledger, the sum over its records of their bytes, the four of
+/// each length field included.
+pub fn sizes_are_sums()
+    ensures { (records : List (ℕ × List ℕ)) (ledger : ℕ) → AddsUp records ledger }
+{}

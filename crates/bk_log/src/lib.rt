@@ -1,0 +1,24 @@
+//! One entry log: written record by record, and read again whole or in one place.
+#![tactic(auto)]
+
+mod calls;
+mod fault;
+mod fetching;
+mod found;
+mod front;
+mod laws;
+mod length;
+mod reading;
+mod scanner;
+mod sizes;
+#[cfg(test)]
+mod tests;
+mod window;
+mod writer;
+
+pub use fault::{CreateFault, FetchFault, LogFault, ScanFault};
+pub use fetching::fetch;
+pub use found::Found;
+pub use laws::{one_record_at_a_place, sizes_are_sums, whole_log_is_one_part};
+pub use scanner::Scanner;
+pub use writer::LogWriter;

@@ -1,0 +1,41 @@
+//! Bytes of a view: as many as were asked for, or why not.
+
+ghost use Rattle.std.specs.Prelude.{◌≡◌, false, IsTrue, IsErrOf, IfOk, length};
+ghost use Rattle.bk_log.specs.Reads.{Shows};
+
+use bk_disk::{DiskFault, LogView};
+use std::alloc::Global;
+
+/// Why bytes of a view could not be read.
+#[derive(Clone, Copy)]
+pub(crate) enum ReadFault {
+    /// The view isn't sound.
+    Disk,
+    /// The bytes don't lie in the view.
+    PastEnd,
+    /// No memory was to be had.
+    Memory,
+    /// The view answered what an honest view can't.
+    Odd,
+}
+
+/// The `n` bytes of a view from a position on.
+pub(crate) fn read<V: LogView>(
+    view: &V,
+    alloc: Global,
+    at: u64,
+    n: u64,
+) -> Result<Vec<u8>, ReadFault>
+    ensures cause { IsErrOf result ReadFault.Disk → V.sound view.now ≡ false }
+    ensures long { IfOk result (λ v. length v.items ≡ n) }
+    ensures turn { IsTrue (V.honest view.now) → Shows (λ v. v.items) (V.bytes view.now) at n result }
+{
+    match view.read_at(alloc, at, n) {
+        Ok(bytes) if bytes.len() as u64 == n => Ok(bytes),
+        Ok(_) => Err(ReadFault::Odd),
+        Err(DiskFault::Disk) => Err(ReadFault::Disk),
+        Err(DiskFault::PastEnd) => Err(ReadFault::PastEnd),
+        Err(DiskFault::Memory) => Err(ReadFault::Memory),
+        Err(DiskFault::Exists | DiskFault::NoLog | DiskFault::TooLong) => Err(ReadFault::Odd),
+    }
+}

@@ -1,0 +1,121 @@
+//! A log that is being written. Records are only ever put at its end, so its length is known without asking the
+//! disk; a write that failed may have left part of a record, so nothing is written behind it.
+
+ghost use Rattle.std.specs.Prelude.{◌≡◌, ◌<◌, ◌^◌, IsTrue, IfOk, IsErrAnd};
+ghost use Rattle.bk_head.specs.Header.{empty_header};
+ghost use Rattle.bk_log.specs.Faults.{IsCaused};
+
+mod put;
+mod seal;
+
+use crate::calls::append;
+use crate::fault::log_fault;
+use crate::sizes::LedgerSizes;
+use crate::{CreateFault, LogFault};
+use bk_disk::{DiskFault, LogDisk};
+use bk_head::new_header;
+use std::alloc::Global;
+use std::marker::Model;
+
+/// The length of a log's header in bytes.
+const HEADER_LENGTH: u32 = 1024;
+
+/// The writer of one log. A contract sees its id, its length, the number of records put and their sizes by ledger,
+/// and whether a write failed: `specs/Writing.antt`.
+#[derive(Drop)]
+pub struct LogWriter {
+    log: u32,
+    end: u32,
+    count: u32,
+    sizes: LedgerSizes,
+    failed: bool,
+}
+
+impl Model for LogWriter {
+    ghost use Rattle.bk_log.specs.Writing.{Writing, writing_code, IsCounted};
+
+    ghost Value = { Writing };
+
+    ghost coded = { writing_code };
+
+    ghost view = { λ w. record { log = w.log; end = w.end; count = w.count; sizes = w.sizes; failed = w.failed } };
+
+    ghost invariant = { λ w. IsCounted w.log w.end w.count w.sizes };
+}
+
+impl LogWriter {
+    ghost use Rattle.bk_log.specs.Writing.{new_writing, CreateTurn, Writes};
+
+    /// Makes the log's file and writes its header.
+    ///
+    /// The caller gives an id of at most 2^31 - 1. Faults: `Disk`, `Memory`, and `Odd` where a file of that id is
+    /// there already; each with `made`, whether a file of the id stands afterwards. One that this call made then has
+    /// a part of the header, or none of it.
+    pub fn create<D: LogDisk>(
+        disk: &mut D,
+        alloc: Global,
+        log: u32,
+    ) -> Result<LogWriter, CreateFault>
+        requires { log < 2 ^ 31 }
+        ensures honest { D.honest disk.new ≡ D.honest disk.old }
+        ensures cause { IsCaused (D.failures disk.old) (D.failures disk.new)
+            (IsErrAnd result (λ f. f.fault ≡ LogFault.Disk)) }
+        ensures ok { IfOk result (λ w. w ≡ new_writing log) }
+        ensures turn { IsTrue (D.honest disk.old) → CreateTurn (D.files disk.old) log result (D.files disk.new) }
+        ensures writes { IsTrue (D.honest disk.old) → IfOk result (λ w. Writes (D.files disk.new) w) }
+    {
+        if let Err(fault) = disk.create(alloc, log) {
+            return Err(CreateFault {
+                made: fault == DiskFault::Exists,
+                fault: log_fault(fault),
+            });
+        }
+        if let Err(fault) = append(disk, alloc, log, &header_bytes()) {
+            return Err(CreateFault { made: true, fault });
+        }
+        Ok(LogWriter {
+            log,
+            end: HEADER_LENGTH,
+            count: 0,
+            sizes: LedgerSizes::new(alloc),
+            failed: false,
+        })
+    }
+
+    /// The log's id.
+    pub fn log(&self) -> u32
+        ensures value { result ≡ self.now.log }
+        ensures bound { result < 2 ^ 31 }
+    {
+        self.log
+    }
+
+    /// The log's length in bytes, as far as records were written: at most 2^32 - 1.
+    pub fn length(&self) -> u64
+        ensures value { result ≡ self.now.end }
+        ensures bound { result < 2 ^ 32 }
+    {
+        u64::from(self.end)
+    }
+
+    /// How many records were put.
+    pub fn records(&self) -> u32
+        ensures { result ≡ self.now.count }
+    {
+        self.count
+    }
+
+    /// Whether a write failed, so that the log takes no further record.
+    pub fn failed(&self) -> bool
+        ensures { result ≡ self.now.failed }
+    {
+        self.failed
+    }
+}
+
+/// What a new log begins with.
+fn header_bytes() -> [u8; 1024]
+    ensures { result ≡ empty_header }
+{
+    new_header()
+}

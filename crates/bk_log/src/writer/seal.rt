@@ -1,0 +1,55 @@
+//! Sealing: the ledgers map goes behind the records, then the header says where it stands. Only then is the log taken
+//! for a sealed one, so a map that was written in part misleads nobody.
+
+ghost use Rattle.std.specs.Prelude.{◌≡◌, ◌↔◌, false, true, IsTrue, IsErrOf, OnOk};
+ghost use Rattle.bk_record.specs.Files.{file_of};
+ghost use Rattle.bk_log.specs.Faults.{IsCaused};
+
+use crate::calls::{append_any, patch};
+use crate::{LogFault, LogWriter};
+use bk_disk::LogDisk;
+use bk_head::patch_bytes;
+use std::alloc::Global;
+
+impl LogWriter {
+    ghost use Rattle.bk_log.specs.Writing.{Writes};
+    ghost use Rattle.bk_log.specs.Sealing.{SealTurn, KeepsEntries, HasMap, map_fits};
+
+    /// Seals the log: appends the ledgers map of the records that were put, which has no bytes where none was, and
+    /// patches the header to say where it stands and how many ledgers it has. Where the map would end past byte
+    /// 2^32 - 1, neither is done, and the log is left as one that isn't sealed (this project's rule). The log is written
+    /// no more, whatever is answered.
+    ///
+    /// Faults: `Failed`, where an earlier write failed, without a call on the disk; `Disk`, which may leave a part of the
+    /// map, or any bytes where the header was patched; `Memory`, which may leave the map without a patched header;
+    /// `Odd`.
+    pub fn seal<D: LogDisk>(self, disk: &mut D, alloc: Global) -> Result<(), LogFault>
+        requires { IsTrue (D.honest disk.old) → self.failed ≡ false → Writes (D.files disk.old) self }
+        ensures honest { D.honest disk.new ≡ D.honest disk.old }
+        ensures cause { IsCaused (D.failures disk.old) (D.failures disk.new) (IsErrOf result LogFault.Disk) }
+        ensures failed { IsErrOf result LogFault.Failed ↔ (self.failed ≡ true) }
+        ensures untouched { IsErrOf result LogFault.Failed → disk.new ≡ disk.old }
+        ensures turn { IsTrue (D.honest disk.old) → SealTurn (D.files disk.old) self result (D.files disk.new) }
+
+        // What follows for the log: no entry comes or goes, and a log that was sealed has its map.
+        ensures entries { IsTrue (D.honest disk.old) → KeepsEntries (D.files disk.old) (D.files disk.new) }
+        ensures map { IsTrue (D.honest disk.old) → map_fits self ≡ true
+            → OnOk result (HasMap (file_of (D.files disk.new) self.log)) }
+    {
+        if self.failed {
+            return Err(LogFault::Failed);
+        }
+        let Ok(map) = self.sizes.map_bytes(alloc) else {
+            return Err(LogFault::Memory);
+        };
+        let end = self.length();
+        if end + map.len() as u64 > u64::from(u32::MAX) {
+            return Ok(());
+        }
+        if let Err(fault) = append_any(disk, alloc, self.log, &map) {
+            return Err(fault);
+        }
+        let header = patch_bytes(end, self.sizes.len());
+        patch(disk, alloc, self.log, &header)
+    }
+}
