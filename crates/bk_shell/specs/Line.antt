@@ -1,0 +1,53 @@
+-- A line of a script, and the step that it spells: words with one space between.
+use Rattle.std.specs.Prelude.{◌≡◌, ◌≢◌, ℕ, ◌<◌, ◌≤◌, ◌^◌, List, [], ◌∷◌, ◌++◌, codes, Option, Some, None}
+use Rattle.std.specs.List.{All, join_with_byte}
+use Rattle.std.specs.Fmt.{decimal}
+use Rattle.std.specs.Int.{w64, to_be_bytes, IsInRange}
+use Rattle.std.specs.Global.{Vec}
+use Rattle.bk_drive.specs.declared.step.Step.{Step}
+use Rattle.bk_drive.specs.declared.step.Step.TheVariants as steps
+use Rattle.bk_drive.specs.declared.step.Work.{Work}
+use Rattle.bk_drive.specs.declared.step.Work.TheVariants.{Swap, WriteOne, Publish}
+
+-- words with one space between
+abbrev pub words : List (List ℕ) → List ℕ
+words = join_with_byte 32
+
+-- a word, and what stands behind it and a space, where something does
+abbrev pub followed : List ℕ → Option (List ℕ) → List ℕ
+followed word None = word
+followed word (Some rest) = word ++ 32 ∷ rest
+
+-- a word has no space
+abbrev pub IsWord : List ℕ → Type 0
+IsWord word = All (λ byte. byte ≢ 32) word
+
+-- from a space to a tilde
+abbrev pub IsPrintable : ℕ → Type 0
+IsPrintable = IsInRange 32 126
+
+-- the payload of an add: the ledger id and the entry id, eight bytes each, big-endian, then the data
+unfoldable pub payload_of : ℕ → ℕ → List ℕ → List ℕ
+payload_of ledger entry text = to_be_bytes w64 ledger ++ to_be_bytes w64 entry ++ text
+
+-- the step adds that payload
+abbrev pub IsAdd : ℕ → ℕ → List ℕ → Step → Type 0
+IsAdd ledger entry text step = (payload : Vec ℕ) × (step ≡ steps.Add payload) × (payload.items ≡ payload_of ledger entry text)
+
+-- the word that asks for a call of the flush
+abbrev pub word_of : Work → List ℕ
+word_of Swap = codes "swap"
+word_of WriteOne = codes "write"
+word_of Publish = codes "publish"
+
+-- The line spells the step (this project's rule). Ids are below 2 ^ 63, readers are numbered from 0 to 3.
+pub data Spells : List ℕ → Step → Type 0 where
+  work : {call : Work} → Spells (word_of call) (steps.Work call)
+  add : {ledger entry : ℕ} {step : Step} → ledger < 2 ^ 63 → entry < 2 ^ 63 → IsAdd ledger entry [] step
+      → Spells (words (codes "add" ∷ decimal ledger ∷ decimal entry ∷ [])) step
+  add_text : {ledger entry : ℕ} {text : List ℕ} {step : Step} → ledger < 2 ^ 63 → entry < 2 ^ 63
+      → text ≢ [] → All IsPrintable text → IsAdd ledger entry text step
+      → Spells (words (codes "add" ∷ decimal ledger ∷ decimal entry ∷ text ∷ [])) step
+  take : {reader ledger entry : ℕ} → reader ≤ 3 → ledger < 2 ^ 63 → entry < 2 ^ 63
+      → Spells (words (codes "take" ∷ decimal reader ∷ decimal ledger ∷ decimal entry ∷ []))
+      (steps.Take reader (record { ledger = ledger; entry = entry }))

@@ -1,0 +1,94 @@
+-- The texts of answers and faults (this project's rule). Numbers are decimal, data is lower-case hexadecimal.
+use Rattle.std.specs.Prelude.{ℕ, ◌/◌, ◌%◌, List, [], ◌∷◌, ◌++◌, drop, codes, false, Result, Ok, Err}
+use Rattle.std.specs.List.{flat_map}
+use Rattle.std.specs.Fmt.{decimal, digit_glyph}
+use Rattle.bk_record.specs.Location.{packed}
+use Rattle.bk_record.specs.declared.fault.RecordFault.{RecordFault}
+use Rattle.bk_record.specs.declared.fault.RecordFault.TheVariants as record_faults
+use Rattle.bk_drive.specs.declared.answer.Added.{Added}
+use Rattle.bk_drive.specs.declared.answer.Added.TheVariants.{Accepted, Held}
+use Rattle.bk_drive.specs.declared.answer.AddFault.{AddFault}
+use Rattle.bk_drive.specs.declared.answer.AddFault.TheVariants as add_faults
+use Rattle.bk_drive.specs.declared.answer.TakeFault.{TakeFault}
+use Rattle.bk_drive.specs.declared.answer.TakeFault.TheVariants as take_faults
+use Rattle.bk_drive.specs.declared.answer.SwapAnswer.{SwapAnswer}
+use Rattle.bk_drive.specs.declared.answer.SwapAnswer.TheVariants as swaps
+use Rattle.bk_drive.specs.declared.answer.WriteAnswer.{WriteAnswer}
+use Rattle.bk_drive.specs.declared.answer.WriteAnswer.TheVariants as writes
+use Rattle.bk_drive.specs.declared.answer.PublishAnswer.{PublishAnswer}
+use Rattle.bk_drive.specs.declared.answer.PublishAnswer.TheVariants as publishes
+use Rattle.bk_drive.specs.declared.answer.FlushFault.{FlushFault}
+use Rattle.bk_drive.specs.declared.answer.FlushFault.TheVariants as flush_faults
+use Rattle.bk_drive.specs.declared.step.TakeAnswer.{TakeAnswer}
+use Rattle.bk_drive.specs.declared.step.TakeAnswer.TheVariants as takes
+use Rattle.bk_drive.specs.declared.step.Answer.{Answer}
+use Rattle.bk_drive.specs.declared.step.Answer.TheVariants as answers
+
+-- a byte as two digits, and bytes as such pairs in a row
+abbrev pub digit_pair : ℕ → List ℕ
+digit_pair byte = digit_glyph false (byte / 16) ∷ digit_glyph false (byte % 16) ∷ []
+
+abbrev pub hex_of : List ℕ → List ℕ
+hex_of = flat_map digit_pair
+
+-- data, or a sign where there is none
+abbrev pub data_text : List ℕ → List ℕ
+data_text [] = codes "-"
+data_text (byte ∷ bytes) = hex_of (byte ∷ bytes)
+
+abbrev pub record_fault_text : RecordFault → List ℕ
+record_fault_text (record_faults.Short n) = codes "short " ++ decimal n
+record_fault_text record_faults.Negative = codes "negative number"
+record_fault_text (record_faults.TooLong n) = codes "too long " ++ decimal n
+record_fault_text record_faults.Memory = codes "memory"
+
+abbrev pub add_text : Result Added AddFault → List ℕ
+add_text (Ok Accepted) = codes "accepted"
+add_text (Ok Held) = codes "held"
+add_text (Err (add_faults.Bad fault)) = codes "fault " ++ record_fault_text fault
+add_text (Err add_faults.Memory) = codes "fault memory"
+
+-- the data of a payload stands behind its two ids
+abbrev pub take_text : Result TakeAnswer TakeFault → List ℕ
+take_text (Ok takes.NoReader) = codes "no reader"
+take_text (Ok takes.ReaderBusy) = codes "reader busy"
+take_text (Ok takes.NotHeld) = codes "not held"
+take_text (Ok (takes.Cached payload)) = codes "cached " ++ data_text (drop 16 payload.value.items)
+take_text (Ok (takes.Leased place)) = codes "leased " ++ decimal (packed place)
+take_text (Err take_faults.Memory) = codes "fault memory"
+
+abbrev pub swap_text : SwapAnswer → List ℕ
+swap_text swaps.Running = codes "running"
+swap_text swaps.Nothing = codes "nothing"
+swap_text (swaps.Swapped n) = codes "swapped " ++ decimal n
+
+abbrev pub flush_fault_text : FlushFault → List ℕ
+flush_fault_text flush_faults.Disk = codes "disk"
+flush_fault_text (flush_faults.Memory n) = codes "memory after " ++ decimal n
+flush_fault_text flush_faults.LogsFull = codes "logs full"
+flush_fault_text flush_faults.NoMoreIds = codes "no more ids"
+flush_fault_text flush_faults.Odd = codes "odd disk"
+
+abbrev pub write_text : Result WriteAnswer FlushFault → List ℕ
+write_text (Ok writes.NoFlush) = codes "no flush"
+write_text (Ok writes.AllWritten) = codes "all written"
+write_text (Ok (writes.Wrote place)) = codes "wrote " ++ decimal (packed place)
+write_text (Err fault) = codes "fault " ++ flush_fault_text fault
+
+abbrev pub publish_text : Result PublishAnswer FlushFault → List ℕ
+publish_text (Ok publishes.NoFlush) = codes "no flush"
+publish_text (Ok publishes.NotAllWritten) = codes "not all written"
+publish_text (Ok (publishes.Published n)) = codes "published " ++ decimal n
+publish_text (Err fault) = codes "fault " ++ flush_fault_text fault
+
+-- the text of an answer
+abbrev pub text_of : Answer → List ℕ
+text_of (answers.Add answer) = add_text answer
+text_of (answers.Take answer) = take_text answer
+text_of (answers.Swap answer) = swap_text answer
+text_of (answers.Write answer) = write_text answer
+text_of (answers.Publish answer) = publish_text answer
+
+-- one line for each answer
+abbrev pub lines_of : List Answer → List ℕ
+lines_of = flat_map (λ answer. text_of answer ++ 10 ∷ [])

@@ -1,0 +1,39 @@
+//! Reading an input to its end, within bounds on its bytes and on the reads that it takes.
+
+ghost use Rattle.std.specs.Prelude.{◌≤◌, IfOk, OnOk, vec_len};
+ghost use Rattle.std.specs.Io.KnownBytes.{Consumes, IsAtEnd};
+
+use crate::ScriptFault;
+use std::alloc::Global;
+use std::io::Read;
+
+/// The most bytes of an input (this project's rule).
+const MAX_BYTES: usize = 16_777_216;
+
+/// The most calls of `read`, the one that finds the end among them (this project's rule).
+const MAX_READS: u32 = 1_048_576;
+
+/// All bytes that a reader has left. `Read` where a read fails, or the input is past its bounds; `Memory`.
+pub(crate) fn read_input<R: Read>(alloc: Global, reader: &mut R) -> Result<Vec<u8>, ScriptFault>
+    ensures bytes { IfOk result (λ input. Consumes (R.remaining reader.old) (R.remaining reader.new) input.items) }
+    ensures end { OnOk result (IsAtEnd (R.remaining reader.new)) }
+    ensures bound { IfOk result (λ input. vec_len input ≤ MAX_BYTES) }
+{
+    let mut input = Vec::new(alloc);
+    let mut chunk = [0; 8192];
+    for _ in 0..MAX_READS {
+        let Ok(count) = reader.read(&mut chunk) else {
+            return Err(ScriptFault::Read);
+        };
+        if count == 0 {
+            return Ok(input);
+        }
+        if count > MAX_BYTES - input.len() {
+            return Err(ScriptFault::Read);
+        }
+        if input.extend_from_slice(&chunk[..count]).is_err() {
+            return Err(ScriptFault::Memory);
+        }
+    }
+    Err(ScriptFault::Read)
+}
