@@ -53,16 +53,16 @@ slice_get-insert (y ∷ xs) (suc i) x zero e is = inr (0, is)
 slice_get-insert (y ∷ xs) (suc i) x (suc j) e is = elim (slice_get-insert xs i x j e is) [
   | inl same ↦ inl same
   | inr (k, there) ↦ inr (suc k, there)
-  ]
+]
 
 seen_gap : (ps : List (EntryKey × Shared)) (key : EntryKey) (i : ℕ) → IsGapFor ps key i → IsGapFor (seen_pairs ps) key i
 seen_gap ps key i gap = record {
-    in_range = omega (arith, gap.in_range, length-map ps seen);
-    smaller_before = λ j e before is. let raw = map_some seen (slice_get ps j) e (sym (slice_get-map seen ps j) ∙ is) in
-        ap (λ (x : EntryKey × List ℕ). key_cmp x.0 key) (sym raw.1.1) ∙ gap.smaller_before j raw.0 before raw.1.0;
-    greater_from = λ j e from is. let raw = map_some seen (slice_get ps j) e (sym (slice_get-map seen ps j) ∙ is) in
-        ap (λ (x : EntryKey × List ℕ). key_cmp x.0 key) (sym raw.1.1) ∙ gap.greater_from j raw.0 from raw.1.0
-  }
+  in_range = omega (arith, gap.in_range, length-map ps seen);
+  smaller_before = λ j e before is. let raw = map_some seen (slice_get ps j) e (sym (slice_get-map seen ps j) ∙ is) in
+      ap (λ (x : EntryKey × List ℕ). key_cmp x.0 key) (sym raw.1.1) ∙ gap.smaller_before j raw.0 before raw.1.0;
+  greater_from = λ j e from is. let raw = map_some seen (slice_get ps j) e (sym (slice_get-map seen ps j) ∙ is) in
+      ap (λ (x : EntryKey × List ℕ). key_cmp x.0 key) (sym raw.1.1) ∙ gap.greater_from j raw.0 from raw.1.0;
+}
 
 module _ (ps : List (EntryKey × Shared)) (cache : IsCache ps) (m : Payloads) (is : from_sorted (seen_pairs ps) ≡ m) where
   sorted : IsTrue (is_sorted key_cmp (seen_pairs ps))
@@ -103,9 +103,9 @@ module _ (ps : List (EntryKey × Shared)) (cache : IsCache ps) (m : Payloads) (i
 
     pub cache_put : (payload : Shared) → read_added payload.value.items ≡ Ok key → IsCache (insert ps i (key, payload))
     cache_put payload read = record {
-        sorted = is_sorted_gap ps cache.sorted (from_sorted ps) refl key i gap payload;
-        keyed = λ j e is_at. elim (slice_get-insert (seen_pairs ps) i (key, payload.value.items) j e (ap (λ l. slice_get l j) (sym (seen-insert ps i (key, payload))) ∙ is_at)) as (λ _. read_added e.1 ≡ Ok e.0) [
-          | inl same ↦ subst (λ (x : EntryKey × List ℕ). read_added x.1 ≡ Ok x.0) same read
-          | inr old ↦ cache.keyed old.0 e old.1
-          ]
-      }
+      sorted = is_sorted_gap ps cache.sorted (from_sorted ps) refl key i gap payload;
+      keyed = λ j e is_at. elim (slice_get-insert (seen_pairs ps) i (key, payload.value.items) j e (ap (λ l. slice_get l j) (sym (seen-insert ps i (key, payload))) ∙ is_at)) as (λ _. read_added e.1 ≡ Ok e.0) [
+        | inl same ↦ subst (λ (x : EntryKey × List ℕ). read_added x.1 ≡ Ok x.0) same read
+        | inr old ↦ cache.keyed old.0 e old.1
+      ];
+    }

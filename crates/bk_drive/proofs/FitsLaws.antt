@@ -42,18 +42,18 @@ viewed_at logs id log is = ap (λ o. option_and_then (λ (l : Log). l.view) o) i
 
 pub logs_pushed : (logs : Logs) (n : ℕ) (state : LogState) → LogsGrow logs (logs ++ (n, made_log state) ∷ [])
 logs_pushed logs n state = record {
-    held = λ id is. let log = some_value (log_at logs id) is in ap is_some (log_at-push_old logs n id (made_log state) log.0 log.1);
-    viewed = λ id is.
+  held = λ id is. let log = some_value (log_at logs id) is in ap is_some (log_at-push_old logs n id (made_log state) log.0 log.1);
+  viewed = λ id is.
       let view = some_value (last_view logs id) is in
       let log = viewed_log logs id view.0 view.1 in
       ap is_some (viewed_at _ id log.0 (log_at-push_old logs n id (made_log state) log.0 log.1.0) ∙ log.1.1);
-    views = λ id view is.
+  views = λ id view is.
       let log = viewed_log (logs ++ (n, made_log state) ∷ []) id view is in
       elim (log_at-push logs n id (made_log state) log.0 log.1.0) as (λ _. last_view logs id ≡ Some view) [
         | inl old ↦ viewed_at logs id log.0 old ∙ log.1.1
         | inr new ↦ absurd (none-some view (ap (λ (l : Log). l.view) new.1 ∙ log.1.1))
-      ]
-  }
+      ];
+}
 
 pub logs_in_states : (rule : LogState → LogState) (logs : Logs) → LogsGrow logs (with_states rule logs)
 logs_in_states rule logs =
@@ -61,13 +61,13 @@ logs_in_states rule logs =
     record {
       held = λ id is. let log = some_value (log_at logs id) is in ap is_some (log_at-with_states rule logs id ∙ some_log (log_at logs id) put log.0 log.1);
       viewed = λ id is.
-        let view = some_value (last_view logs id) is in
-        let log = viewed_log logs id view.0 view.1 in
-        ap is_some (viewed_at (with_states rule logs) id (put log.0) (log_at-with_states rule logs id ∙ some_log (log_at logs id) put log.0 log.1.0) ∙ log.1.1);
+          let view = some_value (last_view logs id) is in
+          let log = viewed_log logs id view.0 view.1 in
+          ap is_some (viewed_at (with_states rule logs) id (put log.0) (log_at-with_states rule logs id ∙ some_log (log_at logs id) put log.0 log.1.0) ∙ log.1.1);
       views = λ id view is.
-        let log = viewed_log (with_states rule logs) id view is in
-        let old = log_some (log_at logs id) put log.0 (sym (log_at-with_states rule logs id) ∙ log.1.0) in
-        viewed_at logs id old.0 old.1.0 ∙ ap (λ (l : Log). l.view) old.1.1 ∙ log.1.1
+          let log = viewed_log (with_states rule logs) id view is in
+          let old = log_some (log_at logs id) put log.0 (sym (log_at-with_states rule logs id) ∙ log.1.0) in
+          viewed_at logs id old.0 old.1.0 ∙ ap (λ (l : Log). l.view) old.1.1 ∙ log.1.1;
     }
 
 -- a flush with the same entries, whose places are as before or none
@@ -86,21 +86,21 @@ pub fits_moved : (settings : Settings) (honest : Bool) (files files' : Files) (f
     → (IsTrue honest → IsBacked files logs writing next → IsBacked files' logs' writing' next')
     → Fits settings honest files' flush' index logs' writing' next'
 fits_moved settings honest files files' flush flush' index logs logs' writing writing' next next' fits grow stays going ids backed = record {
-    limit = fits.limit;
-    one = fits.one;
-    written = λ f is. elim (stays.written f is) as (λ _. length f.places ≤ finite.len f.pairs) [
-      | inl old ↦ fits.written f old
-      | inr none ↦ omega (arith, ap length none)
-      ];
-    placed = λ f i place is there. elim (stays.written f is) as (λ _. IsSome (log_at logs' place.log)) [
-      | inl old ↦ grow.held place.log (fits.placed f i place old there)
-      | inr none ↦ absurd (none-some place (sym (slice_get_past [] i (omega arith)) ∙ ap (λ (l : List Place). slice_get l i) (sym none) ∙ there))
-      ];
-    viewed = λ key place is. grow.viewed place.log (fits.viewed key place is);
-    going = going;
-    ids = ids;
-    backed = λ h. backed h (fits.backed h)
-  }
+  limit = fits.limit;
+  one = fits.one;
+  written = λ f is. elim (stays.written f is) as (λ _. length f.places ≤ finite.len f.pairs) [
+    | inl old ↦ fits.written f old
+    | inr none ↦ omega (arith, ap length none)
+  ];
+  placed = λ f i place is there. elim (stays.written f is) as (λ _. IsSome (log_at logs' place.log)) [
+    | inl old ↦ grow.held place.log (fits.placed f i place old there)
+    | inr none ↦ absurd (none-some place (sym (slice_get_past [] i (omega arith)) ∙ ap (λ (l : List Place). slice_get l i) (sym none) ∙ there))
+  ];
+  viewed = λ key place is. grow.viewed place.log (fits.viewed key place is);
+  going = going;
+  ids = ids;
+  backed = λ h. backed h (fits.backed h);
+}
 
 -- ---- the flush starts again
 
@@ -114,17 +114,17 @@ held_before rule logs id is = mapped_some (λ (l : Log). in_state (rule l.state)
 
 views_in_states : (rule : LogState → LogState) (files : Files) (logs : Logs) (writing : Option writers.Writing) (next : ℕ) → IsBacked files logs writing next → IsBacked files (with_states rule logs) None next
 views_in_states rule files logs writing next backed = record {
-    fresh = backed.fresh;
-    writes = λ w is. cc;
-    stand = λ id is. backed.stand id (held_before rule logs id is);
-    views = λ id view is. backed.views id view ((logs_in_states rule logs).views id view is)
-  }
+  fresh = backed.fresh;
+  writes = λ w is. cc;
+  stand = λ id is. backed.stand id (held_before rule logs id is);
+  views = λ id view is. backed.views id view ((logs_in_states rule logs).views id view is);
+}
 
 pub fits_restarted : (settings : Settings) (honest : Bool) (files : Files) (flush : Option Flush) (index : Places) (logs : Logs) (writing : Option writers.Writing) (next : ℕ)
     → Fits settings honest files flush index logs writing next → Fits settings honest files (option_map unwritten flush) index (with_states settled logs) None next
 fits_restarted settings honest files flush index logs writing next fits =
     fits_moved settings honest files files flush (option_map unwritten flush) index logs (with_states settled logs) writing None next next fits
-        (logs_in_states settled logs) (flush_unwritten flush) (λ w is. cc) fits.ids (λ _. views_in_states settled files logs writing next)
+    (logs_in_states settled logs) (flush_unwritten flush) (λ w is. cc) fits.ids (λ _. views_in_states settled files logs writing next)
 
 -- ---- a log is made, or half made
 
@@ -179,7 +179,7 @@ held_new : (logs : Logs) (n : ℕ) (new : Log) → IsSome (log_at (logs ++ (n, n
 held_new logs n new = elim (log_at logs n) as (λ o. log_at logs n ≡ o → IsSome (log_at (logs ++ (n, new) ∷ []) n)) [
   | Some log ↦ λ is. ap is_some (log_at-push_old logs n n new log is)
   | None ↦ λ none. ap is_some (log_at-push_new logs n new none)
-  ] refl
+] refl
 
 pub fits_made : (settings : Settings) (honest honest' : Bool) (files files' : Files) (flush : Option Flush) (index : Places) (logs logs' : Logs) (writing : Option writers.Writing) (w : writers.Writing) (next : ℕ)
     → Fits settings honest files flush index logs writing next → honest' ≡ honest → logs' ≡ logs ++ (next, made_log Writing) ∷ [] → w ≡ new_writing next → next < 2 ^ 31
@@ -188,18 +188,18 @@ pub fits_made : (settings : Settings) (honest honest' : Bool) (files files' : Fi
 fits_made settings honest honest' files files' flush index logs logs' writing w next fits same pushed is below made =
     subst (λ (h : Bool). Fits settings h files' flush index logs' (Some w) (next + 1)) (sym same)
     (subst (λ (ls : Logs). Fits settings honest files' flush index ls (Some w) (next + 1)) (sym pushed)
-      (fits_moved settings honest files files' flush flush index logs (logs ++ (next, made_log Writing) ∷ []) writing (Some w) next (next + 1) fits
-        (logs_pushed logs next Writing) (flush_same flush)
-        (λ v e. subst (λ (x : writers.Writing). IsGoing (logs ++ (next, made_log Writing) ∷ []) (next + 1) x) (sym is ∙ (cc))
-          (record { whole = refl; below = omega arith; held = held_new logs next (made_log Writing); empty = λ _. refl }))
-        (omega arith)
-        (λ h backed. let m = made h (backed.fresh next (omega arith)) in record {
-          fresh = fresh_still files files' next backed.fresh m.0;
-          stand = stand_pushed files files' logs next (made_log Writing) backed.stand m.0
-            (ap is_some (ap (λ (x : writers.Writing). finite.get files' x.log) (sym is) ∙ m.1.stands));
-          writes = λ v e. let same_writer : w ≡ v = cc in subst (λ (x : writers.Writing). writers.Writes files' x) same_writer m.1;
-          views = λ id view there. backed.views id view ((logs_pushed logs next Writing).views id view there)
-        })))
+    (fits_moved settings honest files files' flush flush index logs (logs ++ (next, made_log Writing) ∷ []) writing (Some w) next (next + 1) fits
+    (logs_pushed logs next Writing) (flush_same flush)
+    (λ v e. subst (λ (x : writers.Writing). IsGoing (logs ++ (next, made_log Writing) ∷ []) (next + 1) x) (sym is ∙ (cc))
+    (record { whole = refl; below = omega arith; held = held_new logs next (made_log Writing); empty = λ _. refl }))
+    (omega arith)
+    (λ h backed. let m = made h (backed.fresh next (omega arith)) in record {
+      fresh = fresh_still files files' next backed.fresh m.0;
+      stand = stand_pushed files files' logs next (made_log Writing) backed.stand m.0
+          (ap is_some (ap (λ (x : writers.Writing). finite.get files' x.log) (sym is) ∙ m.1.stands));
+      writes = λ v e. let same_writer : w ≡ v = cc in subst (λ (x : writers.Writing). writers.Writes files' x) same_writer m.1;
+      views = λ id view there. backed.views id view ((logs_pushed logs next Writing).views id view there);
+    })))
 
 pub fits_half_made : (settings : Settings) (honest honest' : Bool) (files files' : Files) (flush : Option Flush) (index : Places) (logs logs' : Logs) (writing : Option writers.Writing) (next : ℕ)
     → Fits settings honest files flush index logs writing next → honest' ≡ honest → logs' ≡ logs ++ (next, made_log Readable) ∷ [] → next < 2 ^ 31 → IsNone writing
@@ -209,13 +209,13 @@ fits_half_made settings honest honest' files files' flush index logs logs' writi
     let none_is : writing ≡ None = no_value writing none in
     subst (λ (h : Bool). Fits settings h files' flush index logs' writing (next + 1)) (sym same)
     (subst (λ (ls : Logs). Fits settings honest files' flush index ls writing (next + 1)) (sym pushed)
-      (fits_moved settings honest files files' flush flush index logs (logs ++ (next, made_log Readable) ∷ []) writing writing next (next + 1) fits
-        (logs_pushed logs next Readable) (flush_same flush)
-        (λ v e. absurd (none-some v (sym none_is ∙ e)))
-        (omega arith)
-        (λ h backed. let m = made h (backed.fresh next (omega arith)) in record {
-          fresh = fresh_still files files' next backed.fresh m.0;
-          stand = stand_pushed files files' logs next (made_log Readable) backed.stand m.0 m.1;
-          writes = λ v e. absurd (none-some v (sym none_is ∙ e));
-          views = λ id view there. backed.views id view ((logs_pushed logs next Readable).views id view there)
-        })))
+    (fits_moved settings honest files files' flush flush index logs (logs ++ (next, made_log Readable) ∷ []) writing writing next (next + 1) fits
+    (logs_pushed logs next Readable) (flush_same flush)
+    (λ v e. absurd (none-some v (sym none_is ∙ e)))
+    (omega arith)
+    (λ h backed. let m = made h (backed.fresh next (omega arith)) in record {
+      fresh = fresh_still files files' next backed.fresh m.0;
+      stand = stand_pushed files files' logs next (made_log Readable) backed.stand m.0 m.1;
+      writes = λ v e. absurd (none-some v (sym none_is ∙ e));
+      views = λ id view there. backed.views id view ((logs_pushed logs next Readable).views id view there);
+    })))

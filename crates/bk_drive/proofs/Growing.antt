@@ -32,10 +32,13 @@ module _ (fs : Files) (log : ℕ) (none : finite.get fs log ≡ None) (bytes : L
 
   pub made_grows : (id : ℕ) → IsPrefix (file_of fs id) (file_of (finite.insert fs log bytes) id)
   made_grows id = elim (key_cases nat_cmp_total nat_cmp-IsAntisymmetric id log) as (λ _. IsPrefix (file_of fs id) (file_of (finite.insert fs log bytes) id)) [
-    | inl e ↦ record { behind = bytes; is = ap (λ (x : ℕ). file_of (finite.insert fs log bytes) x) e ∙ file-insert_here fs log bytes
-        ∙ ap (λ (l : List ℕ). l ++ bytes) (sym (ap (file_of fs) e ∙ no_file)) }
+    | inl e ↦ record {
+      behind = bytes;
+      is = ap (λ (x : ℕ). file_of (finite.insert fs log bytes) x) e ∙ file-insert_here fs log bytes
+          ∙ ap (λ (l : List ℕ). l ++ bytes) (sym (ap (file_of fs) e ∙ no_file));
+    }
     | inr apart ↦ record { behind = []; is = file-insert_else fs log bytes id apart.1 ∙ sym (append-nil (file_of fs id)) }
-    ]
+  ]
 
   pub made_no_new : (place : Place) (b : List ℕ) → HasRecord (finite.insert fs log bytes) place b → HasRecord fs place b
   made_no_new place b there = elim (key_cases nat_cmp_total nat_cmp-IsAntisymmetric place.log log) as (λ _. HasRecord fs place b) [
@@ -43,7 +46,7 @@ module _ (fs : Files) (log : ℕ) (none : finite.get fs log ≡ None) (bytes : L
         (ap (λ (x : ℕ). records_of (file_of (finite.insert fs log bytes) x)) e ∙ ap records_of (file-insert_here fs log bytes) ∙ records_of-short bytes short)
         (record-has _ place b there))
     | inr apart ↦ has-record fs place b (subst (λ (f : List ℕ). In (place.at, b) (records_of f)) (file-insert_else fs log bytes place.log apart.1) (record-has _ place b there))
-    ]
+  ]
 
 -- what grows keeps its records
 pub grows_stands : (fs gs : Files) → ((id : ℕ) → IsPrefix (file_of fs id) (file_of gs id)) → (place : Place) (b : List ℕ) → HasRecord fs place b → HasRecord gs place b
@@ -71,32 +74,35 @@ module _ (fs : Files) (log : ℕ) (file : List ℕ) (stands : IsFile fs log file
   fresh_grown id none = elim (key_cases nat_cmp_total nat_cmp-IsAntisymmetric id log) as (λ _. finite.get (grown fs log more) id ≡ None) [
     | inl e ↦ absurd (let both : None ≡ Some file = sym none ∙ ap (finite.get fs) e ∙ stands in cc)
     | inr apart ↦ ap (λ gs. finite.get gs id) grown-is ∙ get-insert_else nat_cmp_total nat_cmp-IsAntisymmetric fs log (file ++ more) id apart.1 ∙ none
-    ]
+  ]
 
   -- what had a file has one
   pub stand_grown : (id : ℕ) → IsSome (finite.get fs id) → IsSome (finite.get (grown fs log more) id)
   stand_grown id is = elim (key_cases nat_cmp_total nat_cmp-IsAntisymmetric id log) as (λ _. IsSome (finite.get (grown fs log more) id)) [
     | inl e ↦ ap is_some (ap (finite.get (grown fs log more)) e ∙ stands_grown)
     | inr apart ↦ ap is_some (ap (λ gs. finite.get gs id) grown-is ∙ get-insert_else nat_cmp_total nat_cmp-IsAntisymmetric fs log (file ++ more) id apart.1) ∙ is
-    ]
+  ]
 
   pub grown_grows : (id : ℕ) → IsPrefix (file_of fs id) (file_of (grown fs log more) id)
   grown_grows id = elim (key_cases nat_cmp_total nat_cmp-IsAntisymmetric id log) as (λ _. IsPrefix (file_of fs id) (file_of (grown fs log more) id)) [
-    | inl e ↦ record { behind = more; is = ap (λ (x : ℕ). file_of (grown fs log more) x) e ∙ file-grown_here
-        ∙ ap (λ (l : List ℕ). l ++ more) (sym (ap (file_of fs) e ∙ file-of_log)) }
+    | inl e ↦ record {
+      behind = more;
+      is = ap (λ (x : ℕ). file_of (grown fs log more) x) e ∙ file-grown_here
+          ∙ ap (λ (l : List ℕ). l ++ more) (sym (ap (file_of fs) e ∙ file-of_log));
+    }
     | inr apart ↦ record { behind = []; is = file-grown_else id apart.1 ∙ sym (append-nil (file_of fs id)) }
-    ]
+  ]
 
   -- a record of the grown files is one of before, or one of those that came
   pub grown_records : (others : List (ℕ × List ℕ)) → records_of (file ++ more) ≡ records_of file ++ others → (place : Place) (b : List ℕ)
       → HasRecord (grown fs log more) place b → HasRecord fs place b ⊎ In (place.at, b) others
   grown_records others came place b there = elim (key_cases nat_cmp_total nat_cmp-IsAntisymmetric place.log log) as (λ _. HasRecord fs place b ⊎ In (place.at, b) others) [
     | inl e ↦
-      let now : In (place.at, b) (records_of file ++ others) = subst (λ (l : List (ℕ × List ℕ)). In (place.at, b) l)
-          (ap (λ (x : ℕ). records_of (file_of (grown fs log more) x)) e ∙ ap records_of file-grown_here ∙ came) (record-has _ place b there) in
-      elim (In-append_cases (place.at, b) (records_of file) others now) as (λ _. HasRecord fs place b ⊎ In (place.at, b) others) [
-        | inl old ↦ inl (has-record fs place b (subst (λ (f : List ℕ). In (place.at, b) (records_of f)) (sym (ap (file_of fs) e ∙ file-of_log)) old))
-        | inr new ↦ inr new
-      ]
+        let now : In (place.at, b) (records_of file ++ others) = subst (λ (l : List (ℕ × List ℕ)). In (place.at, b) l)
+        (ap (λ (x : ℕ). records_of (file_of (grown fs log more) x)) e ∙ ap records_of file-grown_here ∙ came) (record-has _ place b there) in
+        elim (In-append_cases (place.at, b) (records_of file) others now) as (λ _. HasRecord fs place b ⊎ In (place.at, b) others) [
+          | inl old ↦ inl (has-record fs place b (subst (λ (f : List ℕ). In (place.at, b) (records_of f)) (sym (ap (file_of fs) e ∙ file-of_log)) old))
+          | inr new ↦ inr new
+        ]
     | inr apart ↦ inl (has-record fs place b (subst (λ (f : List ℕ). In (place.at, b) (records_of f)) (file-grown_else place.log apart.1) (record-has _ place b there)))
-    ]
+  ]

@@ -71,7 +71,7 @@ module _ {X : Type 0} (id : ℕ) where
   find_later e es other = elim (eq_by_cmp nat_cmp id e.0) as (λ b. eq_by_cmp nat_cmp id e.0 ≡ b → cond b (Some e.1) (find nat_cmp id es) ≡ find nat_cmp id es) [
     | true ↦ λ tied. absurd (other (sym (tells_apart nat_cmp-IsAntisymmetric id e.0 tied)))
     | false ↦ λ _. refl
-    ] refl
+  ] refl
 
 -- what is looked for among these is looked for behind them
 abbrev pub StillSought : {X Y : Type 0} → (X → ℕ × Y) → List X → ℕ → ℕ → Type 0

@@ -26,15 +26,15 @@ not_held s key is =
       | None ↦ elim (finite.get s.index key) as (λ o. is_some o ≡ false → (◌≡◌ {A = Option (List ℕ)} None None) × (o ≡ None)) [
         | Some b ↦ λ wrong. cc
         | None ↦ λ _. (refl, refl)
-        ]
+      ]
     ] is
 
 module _ (p : Plain) (s : State) (kept : Kept p s) (key : EntryKey) (payload : List ℕ) (read : read_added payload ≡ Ok key) where
   asks : Asks p payload key
   asks = record {
-      keyed = read;
-      lives = ap (λ d. set.contains d key.ledger) (kept.same_dead ∙ kept.no_dead) ∙ set.contains-empty nat_cmp key.ledger
-    }
+    keyed = read;
+    lives = ap (λ d. set.contains d key.ledger) (kept.same_dead ∙ kept.no_dead) ∙ set.contains-empty nat_cmp key.ledger;
+  }
 
   abbrev new_plain : Plain
   new_plain = record p { map = finite.insert p.map key payload; active = finite.insert p.active key payload }
@@ -65,40 +65,44 @@ module _ (p : Plain) (s : State) (kept : Kept p s) (key : EntryKey) (payload : L
 
     added_kept : Kept new_plain new_state
     added_kept = record {
-        no_dead = kept.no_dead;
-        same_dead = kept.same_dead;
-        active = ap (λ a. finite.insert a key payload) kept.active;
-        flush = kept.flush;
-        cached_is = λ k b is. elim (key_cases key_cmp_total key_cmp_antisymmetric k key) [
-          | inl e ↦ ap (λ x. finite.get new_plain.map x) e ∙ map_here ∙ ap Some (same_bytes k b e is)
-          | inr apart ↦ map_else k apart.1 ∙ kept.cached_is k b (sym (cached_else k apart.1) ∙ is)
-          ];
-        keyed = λ k b is. elim (key_cases key_cmp_total key_cmp_antisymmetric k key) [
-          | inl e ↦ ap read_added (sym (same_bytes k b e is)) ∙ read ∙ ap Ok (sym e)
-          | inr apart ↦ kept.keyed k b (sym (cached_else k apart.1) ∙ is)
-          ];
-        recorded = λ place b k there is. let old = kept.recorded place b k there is in map_else k (other k b old) ∙ old;
-        covered = λ k b is none. elim (key_cases key_cmp_total key_cmp_antisymmetric k key) [
-          | inl e ↦ absurd (let both : Some payload ≡ None = sym cached_here ∙ ap (λ x. cached new_state x) (sym e) ∙ none in cc)
-          | inr apart ↦ kept.covered k b (sym (map_else k apart.1) ∙ is) (sym (cached_else k apart.1) ∙ none)
-          ];
-        indexed = λ k place is. let i = kept.indexed k place is in record { payload = i.payload; log = i.log; held = i.held; shown = i.shown; keyed = i.keyed };
-        flush_is = λ f k b is there. let old = kept.flush_is f k b is there in cached_else k (other k b (kept.cached_is k b old)) ∙ old;
-        placed = λ f i e place is at place_is. let old = kept.placed f i e place is at place_is in record { log = old.log; held = old.held; stands = old.stands };
-        parts = kept.parts;
-        writes = kept.writes;
-        held = kept.held;
-        below = kept.below;
-        fresh = kept.fresh
-      }
+      no_dead = kept.no_dead;
+      same_dead = kept.same_dead;
+      active = ap (λ a. finite.insert a key payload) kept.active;
+      flush = kept.flush;
+      cached_is = λ k b is. elim (key_cases key_cmp_total key_cmp_antisymmetric k key) [
+        | inl e ↦ ap (λ x. finite.get new_plain.map x) e ∙ map_here ∙ ap Some (same_bytes k b e is)
+        | inr apart ↦ map_else k apart.1 ∙ kept.cached_is k b (sym (cached_else k apart.1) ∙ is)
+      ];
+      keyed = λ k b is. elim (key_cases key_cmp_total key_cmp_antisymmetric k key) [
+        | inl e ↦ ap read_added (sym (same_bytes k b e is)) ∙ read ∙ ap Ok (sym e)
+        | inr apart ↦ kept.keyed k b (sym (cached_else k apart.1) ∙ is)
+      ];
+      recorded = λ place b k there is. let old = kept.recorded place b k there is in map_else k (other k b old) ∙ old;
+      covered = λ k b is none. elim (key_cases key_cmp_total key_cmp_antisymmetric k key) [
+        | inl e ↦ absurd (let both : Some payload ≡ None = sym cached_here ∙ ap (λ x. cached new_state x) (sym e) ∙ none in cc)
+        | inr apart ↦ kept.covered k b (sym (map_else k apart.1) ∙ is) (sym (cached_else k apart.1) ∙ none)
+      ];
+      indexed = λ k place is. let i = kept.indexed k place is in record { payload = i.payload; log = i.log; held = i.held; shown = i.shown; keyed = i.keyed };
+      flush_is = λ f k b is there. let old = kept.flush_is f k b is there in cached_else k (other k b (kept.cached_is k b old)) ∙ old;
+      placed = λ f i e place is at place_is. let old = kept.placed f i e place is at place_is in record { log = old.log; held = old.held; stands = old.stands };
+      parts = kept.parts;
+      writes = kept.writes;
+      held = kept.held;
+      below = kept.below;
+      fresh = kept.fresh;
+    }
 
 pub kept_add : (p : Plain) (s t : State) (payload : List ℕ) (r : Result Added AddFault) → Kept p s → AddTurn s payload r t
     → (q : Plain) × (PlainAdd p payload r q × Kept q t)
 kept_add p s t payload (Err (add_faults.Bad fault)) kept turn = (p, ((turn.0, refl), subst (λ (x : State). Kept p x) (sym turn.1) kept))
 kept_add p s t payload (Ok Held) kept turn =
     (p, ((turn.0, asks p s kept turn.0 payload turn.1, held_map p s kept turn.0 turn.2, refl), subst (λ (x : State). Kept p x) (sym turn.3) kept))
-kept_add p s t payload (Ok Accepted) kept turn =
-    (new_plain p s kept turn.0 payload turn.1, ((turn.0, asks p s kept turn.0 payload turn.1, unheld_map p s kept turn.0 turn.2, refl),
-        subst (λ (x : State). Kept (new_plain p s kept turn.0 payload turn.1) x) (sym turn.3) (added_kept p s kept turn.0 payload turn.1 turn.2)))
+kept_add p s t payload (Ok Accepted) kept turn = (
+  new_plain p s kept turn.0 payload turn.1,
+  (
+    (turn.0, asks p s kept turn.0 payload turn.1, unheld_map p s kept turn.0 turn.2, refl),
+    subst (λ (x : State). Kept (new_plain p s kept turn.0 payload turn.1) x) (sym turn.3) (added_kept p s kept turn.0 payload turn.1 turn.2),
+  ),
+)
 kept_add p s t payload (Err add_faults.Memory) kept turn =
     (p, ((turn.0, asks p s kept turn.0 payload turn.1, unheld_map p s kept turn.0 turn.2, refl), subst (λ (x : State). Kept p x) (sym turn.3) kept))

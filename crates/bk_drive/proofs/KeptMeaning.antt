@@ -22,7 +22,7 @@ module _ (p : Plain) (s : State) (kept : Kept p s) where
   pub indexed_map : (k : EntryKey) (place : Place) (i : IsIndexed s k place) → finite.get p.map k ≡ Some i.payload
   indexed_map k place i =
       kept.recorded place i.payload k
-        (has-record s.files place i.payload (records-prefix (published_part i.log) _ _ (kept.parts place.log i.log i.held) i.shown)) i.keyed
+      (has-record s.files place i.payload (records-prefix (published_part i.log) _ _ (kept.parts place.log i.log i.held) i.shown)) i.keyed
 
   pub held_map : (k : EntryKey) → holds s k ≡ true → IsSome (finite.get p.map k)
   held_map k is =
@@ -31,7 +31,7 @@ module _ (p : Plain) (s : State) (kept : Kept p s) where
         | None ↦ λ _. elim (finite.get s.index k) as (λ o. finite.get s.index k ≡ o → is_some o ≡ true → IsSome (finite.get p.map k)) [
           | Some place ↦ λ e _. ap is_some (indexed_map k place (kept.indexed k place e))
           | None ↦ λ _ no_key. cc
-          ] refl
+        ] refl
       ] refl is
 
   pub unheld_map : (k : EntryKey) → holds s k ≡ false → IsNone (finite.get p.map k)
@@ -41,7 +41,7 @@ module _ (p : Plain) (s : State) (kept : Kept p s) where
         | Some b ↦ λ there. absurd (elim (cached s k) as (λ o. cached s k ≡ o → (is_some o || is_some (finite.get s.index k)) ≡ false → ⊥) [
           | Some c ↦ λ _ wrong. cc
           | None ↦ λ e wrong. let index : is_some (finite.get s.index k) ≡ true = kept.covered k b there e in cc
-          ] refl is)
+        ] refl is)
       ] refl
 
   caches : (k : EntryKey) → cached_at p.active p.flush k ≡ cached s k
@@ -58,14 +58,14 @@ module _ (p : Plain) (s : State) (kept : Kept p s) where
           | None ↦ λ _ wrong. cc
           | Some place ↦ λ named _. let i = kept.indexed k place named in scan-none s.files k place i.payload is
               (has-record s.files place i.payload (records-prefix (published_part i.log) _ _ (kept.parts place.log i.log i.held) i.shown)) i.keyed
-          ] refl (kept.covered k b there e))
-        ] refl
+        ] refl (kept.covered k b there e))
       ] refl
     ] refl
+  ] refl
 
   -- the plain map is the meaning of the files and the caches
   pub kept_meaning : IsMeaning p.map s.files p.active p.flush p.dead
   kept_meaning k =
       let lives : set.contains p.dead k.ledger ≡ false = ap (λ d. set.contains d k.ledger) (kept.same_dead ∙ kept.no_dead) ∙ set.contains-empty nat_cmp k.ledger in
       sym (ap (λ (b : Bool). cond b None (option_or (cached_at p.active p.flush k) (finite.get (scan_of s.files) k))) lives
-          ∙ ap (λ o. option_or o (finite.get (scan_of s.files) k)) (caches k) ∙ found k)
+      ∙ ap (λ o. option_or o (finite.get (scan_of s.files) k)) (caches k) ∙ found k)

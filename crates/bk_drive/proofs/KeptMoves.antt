@@ -37,9 +37,9 @@ pub record Moves (p : Plain) (s : State) (files : Files) (logs : Logs) (writing 
 
 prefix_of : (front middle whole : List ℕ) → IsPrefix front middle → IsPrefix middle whole → IsPrefix front whole
 prefix_of front middle whole a b = record {
-    behind = a.behind ++ b.behind;
-    is = b.is ∙ ap (λ (l : List ℕ). l ++ b.behind) a.is ∙ append_assoc front a.behind b.behind
-  }
+  behind = a.behind ++ b.behind;
+  is = b.is ∙ ap (λ (l : List ℕ). l ++ b.behind) a.is ∙ append_assoc front a.behind b.behind;
+}
 
 module _ (p : Plain) (s : State) (kept : Kept p s) (files : Files) (failures : ℕ) (logs : Logs) (writing : Option writers.Writing) (flush : Option Flush) (next : ℕ) (moves : Moves p s files logs writing flush next) where
   abbrev moved : State
@@ -52,44 +52,46 @@ module _ (p : Plain) (s : State) (kept : Kept p s) (files : Files) (failures : �
   moved_part id log is = elim (moves.logs_were id log is) as (λ _. IsPrefix (published_part log) (file_of files id)) [
     | inl (old, (was, same)) ↦ subst (λ (l : List ℕ). IsPrefix l (file_of files id)) (sym same) (prefix_of _ _ _ (kept.parts id old was) (moves.grows id))
     | inr none ↦ subst (λ (l : List ℕ). IsPrefix l (file_of files id)) (sym none) (record { behind = file_of files id; is = refl })
-    ]
+  ]
 
   moved_indexed : (k : EntryKey) (place : Place) → IsIndexed s k place → IsIndexed moved k place
   moved_indexed k place i = let now = moves.logs_stay place.log i.log i.held in record {
-      payload = i.payload;
-      log = now.0;
-      held = now.1.0;
-      shown = subst (λ (l : List ℕ). In (place.at, i.payload) (records_of l)) (sym now.1.1) i.shown;
-      keyed = i.keyed
-    }
+    payload = i.payload;
+    log = now.0;
+    held = now.1.0;
+    shown = subst (λ (l : List ℕ). In (place.at, i.payload) (records_of l)) (sym now.1.1) i.shown;
+    keyed = i.keyed;
+  }
 
   moved_placed : (place : Place) (b : List ℕ) → IsPlaced s place b → IsPlaced moved place b
   moved_placed place b old = let now = moves.logs_stay place.log old.log old.held in record {
-      log = now.0; held = now.1.0; stands = moves.stands place b old.stands
-    }
+    log = now.0;
+    held = now.1.0;
+    stands = moves.stands place b old.stands;
+  }
 
   pub kept_moves : Kept p moved
   kept_moves = record {
-      no_dead = kept.no_dead;
-      same_dead = kept.same_dead;
-      active = kept.active;
-      flush = kept.flush ∙ sym moves.pairs;
-      cached_is = λ k b is. kept.cached_is k b (sym (same_cached k) ∙ is);
-      keyed = λ k b is. kept.keyed k b (sym (same_cached k) ∙ is);
-      recorded = λ place b k there is. elim (moves.no_new place b k there is) as (λ _. finite.get p.map k ≡ Some b) [
-        | inl old ↦ kept.recorded place b k old is
-        | inr held ↦ held
-        ];
-      covered = λ k b is none. kept.covered k b is (sym (same_cached k) ∙ none);
-      indexed = λ k place is. moved_indexed k place (kept.indexed k place is);
-      flush_is = λ f k b is there. same_cached k ∙ kept.flush_is f k b (sym moves.pairs ∙ is) there;
-      placed = λ f i e place is at place_is. elim (moves.places f i e place is at place_is) as (λ _. IsPlaced moved place e.1) [
-        | inl old ↦ moved_placed place e.1 old
-        | inr new ↦ record { log = new.log; held = new.held; stands = new.record_is }
-        ];
-      parts = moved_part;
-      writes = moves.writes;
-      held = moves.held;
-      below = moves.below;
-      fresh = moves.fresh
-    }
+    no_dead = kept.no_dead;
+    same_dead = kept.same_dead;
+    active = kept.active;
+    flush = kept.flush ∙ sym moves.pairs;
+    cached_is = λ k b is. kept.cached_is k b (sym (same_cached k) ∙ is);
+    keyed = λ k b is. kept.keyed k b (sym (same_cached k) ∙ is);
+    recorded = λ place b k there is. elim (moves.no_new place b k there is) as (λ _. finite.get p.map k ≡ Some b) [
+      | inl old ↦ kept.recorded place b k old is
+      | inr held ↦ held
+    ];
+    covered = λ k b is none. kept.covered k b is (sym (same_cached k) ∙ none);
+    indexed = λ k place is. moved_indexed k place (kept.indexed k place is);
+    flush_is = λ f k b is there. same_cached k ∙ kept.flush_is f k b (sym moves.pairs ∙ is) there;
+    placed = λ f i e place is at place_is. elim (moves.places f i e place is at place_is) as (λ _. IsPlaced moved place e.1) [
+      | inl old ↦ moved_placed place e.1 old
+      | inr new ↦ record { log = new.log; held = new.held; stands = new.record_is }
+    ];
+    parts = moved_part;
+    writes = moves.writes;
+    held = moves.held;
+    below = moves.below;
+    fresh = moves.fresh;
+  }

@@ -57,8 +57,8 @@ module _ (p : Plain) (s : State) (kept : Kept p s) (flush : Flush) (runs : s.flu
         shown = elim now.1.1 as (λ _. In (place.at, i.payload) (records_of (published_part now.0))) [
           | inl same ↦ subst (λ (l : List ℕ). In (place.at, i.payload) (records_of l)) (sym same) i.shown
           | inr whole ↦ subst (λ (l : List ℕ). In (place.at, i.payload) (records_of l)) (sym whole) (records-prefix _ _ _ (kept.parts place.log i.log i.held) i.shown)
-          ];
-        keyed = i.keyed
+        ];
+        keyed = i.keyed;
       }
 
   -- an entry of the flush is shown at its place
@@ -76,36 +76,41 @@ module _ (p : Plain) (s : State) (kept : Kept p s) (flush : Flush) (runs : s.flu
         log = now.0;
         held = now.1.0;
         shown = subst (λ (l : List ℕ). In (place.at, e.0.1) (records_of l)) (sym whole) (record-has s.files place e.0.1 placed.stands);
-        keyed = (addable e.0.1 e.0.0 (kept.keyed e.0.0 e.0.1 had)).keyed ∙ ap Some e.1.1
+        keyed = (addable e.0.1 e.0.0 (kept.keyed e.0.0 e.0.1 had)).keyed ∙ ap Some e.1.1;
       }
 
   pub shown_kept : Kept p shown_state
   shown_kept = record {
-      no_dead = kept.no_dead; same_dead = kept.same_dead; active = kept.active; flush = kept.flush;
-      cached_is = kept.cached_is; keyed = kept.keyed; recorded = kept.recorded;
-      covered = λ k b is none. named_keeps s.index (take done (finite.keys flush.pairs)) (take done flush.places) k (kept.covered k b is none);
-      indexed = λ k place is. elim (named_from s.index (take done (finite.keys flush.pairs)) (take done flush.places) k place is) as (λ _. IsIndexed shown_state k place) [
-        | inl old ↦ old_indexed k place (kept.indexed k place old)
-        | inr new ↦ new_indexed k place new
-        ];
-      flush_is = kept.flush_is;
-      placed = λ f i e place is here place_is.
+    no_dead = kept.no_dead;
+    same_dead = kept.same_dead;
+    active = kept.active;
+    flush = kept.flush;
+    cached_is = kept.cached_is;
+    keyed = kept.keyed;
+    recorded = kept.recorded;
+    covered = λ k b is none. named_keeps s.index (take done (finite.keys flush.pairs)) (take done flush.places) k (kept.covered k b is none);
+    indexed = λ k place is. elim (named_from s.index (take done (finite.keys flush.pairs)) (take done flush.places) k place is) as (λ _. IsIndexed shown_state k place) [
+      | inl old ↦ old_indexed k place (kept.indexed k place old)
+      | inr new ↦ new_indexed k place new
+    ];
+    flush_is = kept.flush_is;
+    placed = λ f i e place is here place_is.
         let old = kept.placed f i e place is here place_is in
         let now = shown_is s.files flush.places s.logs shown place.log old.log some old.held in
         record { log = now.0; held = now.1.0; stands = old.stands };
-      parts = λ id log is.
+    parts = λ id log is.
         let old = shown_was s.files flush.places s.logs shown id log some is in
         elim old.1.1 as (λ _. IsPrefix (published_part log) (file_of s.files id)) [
           | inl same ↦ subst (λ (l : List ℕ). IsPrefix l (file_of s.files id)) (sym same) (kept.parts id old.0 old.1.0)
           | inr whole ↦ record { behind = []; is = sym (append-nil (file_of s.files id)) ∙ ap (λ (l : List ℕ). l ++ []) (sym whole) }
         ];
-      writes = kept.writes;
-      held = λ w is.
+    writes = kept.writes;
+    held = λ w is.
         let old = some_value (log_at s.logs w.log) (kept.held w is) in
         ap is_some (shown_is s.files flush.places s.logs shown w.log old.0 some old.1).1.0;
-      below = λ id log is. let old = shown_was s.files flush.places s.logs shown id log some is in kept.below id old.0 old.1.0;
-      fresh = kept.fresh
-    }
+    below = λ id log is. let old = shown_was s.files flush.places s.logs shown id log some is in kept.below id old.0 old.1.0;
+    fresh = kept.fresh;
+  }
 
 -- ---- the flush ends
 
@@ -121,37 +126,40 @@ module _ (p : Plain) (s : State) (kept : Kept p s) (flush : Flush) (runs : s.flu
 
   ended_kept : Kept (published p) ended
   ended_kept = record {
-      no_dead = kept.no_dead; same_dead = kept.same_dead; active = kept.active; flush = refl;
-      cached_is = λ k b is. kept.cached_is k b (still_cached k b is);
-      keyed = λ k b is. kept.keyed k b (still_cached k b is);
-      recorded = kept.recorded;
-      covered = λ k b is none. elim (flushing_at (flushing s) k) as (λ o. flushing_at (flushing s) k ≡ o → IsSome (finite.get s.index k)) [
-        | Some c ↦ λ there. named_all k c (ap (λ (o : Option Payloads). flushing_at o k) (sym (ap (λ o. option_map (λ f. f.pairs) o) runs)) ∙ there)
-        | None ↦ λ there. kept.covered k b is (ap (λ o. option_or o (flushing_at (flushing s) k)) (sym (or_none (finite.get s.active k)) ∙ none) ∙ there)
-        ] refl;
-      indexed = λ k place is.
+    no_dead = kept.no_dead;
+    same_dead = kept.same_dead;
+    active = kept.active;
+    flush = refl;
+    cached_is = λ k b is. kept.cached_is k b (still_cached k b is);
+    keyed = λ k b is. kept.keyed k b (still_cached k b is);
+    recorded = kept.recorded;
+    covered = λ k b is none. elim (flushing_at (flushing s) k) as (λ o. flushing_at (flushing s) k ≡ o → IsSome (finite.get s.index k)) [
+      | Some c ↦ λ there. named_all k c (ap (λ (o : Option Payloads). flushing_at o k) (sym (ap (λ o. option_map (λ f. f.pairs) o) runs)) ∙ there)
+      | None ↦ λ there. kept.covered k b is (ap (λ o. option_or o (flushing_at (flushing s) k)) (sym (or_none (finite.get s.active k)) ∙ none) ∙ there)
+    ] refl;
+    indexed = λ k place is.
         let i = kept.indexed k place is in
         record {
           payload = i.payload;
           log = in_state (unfilled i.log.state) i.log;
           held = log_at-with_states unfilled s.logs place.log ∙ some_log (log_at s.logs place.log) (λ l. in_state (unfilled l.state) l) i.log i.held;
           shown = i.shown;
-          keyed = i.keyed
+          keyed = i.keyed;
         };
-      flush_is = λ pairs k b is there. cc;
-      placed = λ f i e place is here place_is. cc;
-      parts = λ id log is.
+    flush_is = λ pairs k b is there. cc;
+    placed = λ f i e place is here place_is. cc;
+    parts = λ id log is.
         let was = log_some (log_at s.logs id) (λ l. in_state (unfilled l.state) l) log (sym (log_at-with_states unfilled s.logs id) ∙ is) in
         subst (λ (l : List ℕ). IsPrefix l (file_of s.files id)) (ap (λ (l : Log). (published_part l)) was.1.1) (kept.parts id was.0 was.1.0);
-      writes = kept.writes;
-      held = λ w is.
+    writes = kept.writes;
+    held = λ w is.
         let old = some_value (log_at s.logs w.log) (kept.held w is) in
         ap is_some (log_at-with_states unfilled s.logs w.log ∙ some_log (log_at s.logs w.log) (λ l. in_state (unfilled l.state) l) old.0 old.1);
-      below = λ id log is.
+    below = λ id log is.
         let was = log_some (log_at s.logs id) (λ l. in_state (unfilled l.state) l) log (sym (log_at-with_states unfilled s.logs id) ∙ is) in
         kept.below id was.0 was.1.0;
-      fresh = kept.fresh
-    }
+    fresh = kept.fresh;
+  }
 
 pub kept_publish : (p : Plain) (s t : State) (r : Result PublishAnswer FlushFault) → Kept p s → PublishTurn s r t → Kept (after_publish r p) t
 kept_publish p s t (Ok publishes.NoFlush) kept turn = subst (λ (x : State). Kept p x) (sym turn.1) kept
@@ -160,14 +168,14 @@ kept_publish p s t (Ok (publishes.Published n)) kept (flush, written, count, (sh
     let keys = finite.keys flush.pairs in
     let size : length keys ≡ finite.len flush.pairs = length-map (finite.entries flush.pairs) (λ (e : EntryKey × List ℕ). e.0) ∙ sym (finite.len-entries flush.pairs) in
     let index : named s.index (take n keys) (take n flush.places) ≡ named s.index keys flush.places =
-        ap (λ (l : List EntryKey). named s.index l (take n flush.places)) (take_all n keys (omega (arith, count)))
-        ∙ ap (λ (l : List Place). named s.index keys l) (take_all n flush.places (omega (arith, count, written.written))) in
+    ap (λ (l : List EntryKey). named s.index l (take n flush.places)) (take_all n keys (omega (arith, count)))
+    ∙ ap (λ (l : List Place). named s.index keys l) (take_all n flush.places (omega (arith, count, written.written))) in
     let now = shown_kept p s kept flush written.runs shown (shows_some s.files flush.places s.logs shown all) n (λ _. all) t.failures in
     let each : (k : EntryKey) (b : List ℕ) → finite.get flush.pairs k ≡ Some b → IsSome (finite.get (named s.index (take n keys) (take n flush.places)) k) =
-        λ k b there. subst (λ (i : Places). IsSome (finite.get i k)) (sym index) (named_has s.index keys flush.places k (get-key flush.pairs k b there) (omega (arith, written.written))) in
+    λ k b there. subst (λ (i : Places). IsSome (finite.get i k)) (sym index) (named_has s.index keys flush.places k (get-key flush.pairs k b there) (omega (arith, written.written))) in
     subst (λ (x : State). Kept (published p) x)
-        (sym (is ∙ ap (λ (i : Places). record s { failures = t.failures; flush = None; logs = with_states unfilled shown; index = i }) (sym index)))
-        (ended_kept p _ now flush written.runs each)
+    (sym (is ∙ ap (λ (i : Places). record s { failures = t.failures; flush = None; logs = with_states unfilled shown; index = i }) (sym index)))
+    (ended_kept p _ now flush written.runs each)
 kept_publish p s t (Err Disk) kept (flush, written, (shown, some, is)) =
     subst (λ (x : State). Kept p x) (sym is) (shown_kept p s kept flush written.runs shown some 0 (λ none. absurd (omega arith)) t.failures)
 kept_publish p s t (Err (Memory done)) kept (flush, written, (shown, some, all, is)) =

@@ -35,27 +35,27 @@ module _ (p : Plain) (s : State) (kept : Kept p s) (idle : s.flush ≡ None) whe
 
   swapped_kept : Kept (swapped p) state_now
   swapped_kept = record {
-      no_dead = kept.no_dead;
-      same_dead = kept.same_dead;
-      active = refl;
-      flush = ap Some kept.active;
-      cached_is = λ k b is. kept.cached_is k b (sym (same_cached k) ∙ is);
-      keyed = λ k b is. kept.keyed k b (sym (same_cached k) ∙ is);
-      recorded = kept.recorded;
-      covered = λ k b is none. kept.covered k b is (sym (same_cached k) ∙ none);
-      indexed = λ k place is. let i = kept.indexed k place is in record { payload = i.payload; log = i.log; held = i.held; shown = i.shown; keyed = i.keyed };
-      flush_is = λ f k b is there.
+    no_dead = kept.no_dead;
+    same_dead = kept.same_dead;
+    active = refl;
+    flush = ap Some kept.active;
+    cached_is = λ k b is. kept.cached_is k b (sym (same_cached k) ∙ is);
+    keyed = λ k b is. kept.keyed k b (sym (same_cached k) ∙ is);
+    recorded = kept.recorded;
+    covered = λ k b is none. kept.covered k b is (sym (same_cached k) ∙ none);
+    indexed = λ k place is. let i = kept.indexed k place is in record { payload = i.payload; log = i.log; held = i.held; shown = i.shown; keyed = i.keyed };
+    flush_is = λ f k b is there.
         let same : s.active ≡ f = cc in
         ap (λ o. option_or o (finite.get s.active k)) (finite.get-empty key_cmp k) ∙ ap (λ x. finite.get x k) same ∙ there;
-      placed = λ f i e place is at place_is.
+    placed = λ f i e place is at place_is.
         let same : flush_now ≡ f = cc in
         absurd (none-some place (sym (slice_get_past [] i (omega arith)) ∙ ap (λ (x : Flush). slice_get x.places i) same ∙ place_is));
-      parts = kept.parts;
-      writes = kept.writes;
-      held = kept.held;
-      below = kept.below;
-      fresh = kept.fresh
-    }
+    parts = kept.parts;
+    writes = kept.writes;
+    held = kept.held;
+    below = kept.below;
+    fresh = kept.fresh;
+  }
 
 pub kept_swap : (p : Plain) (s t : State) (r : SwapAnswer) → Kept p s → SwapTurn s r t → Kept (after_swap r p) t
 kept_swap p s t Running kept turn = subst (λ (x : State). Kept p x) (sym turn.1) kept

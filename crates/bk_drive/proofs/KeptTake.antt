@@ -71,11 +71,23 @@ with_readers p readers = record p { readers = readers }
 -- what the readers hold is nothing to the store
 pub readers_kept : (p : Plain) (s : State) (readers : List (Option Owed)) → Kept p s → Kept (record p { readers = readers }) s
 readers_kept p s readers kept = record {
-    no_dead = kept.no_dead; same_dead = kept.same_dead; active = kept.active; flush = kept.flush;
-    cached_is = kept.cached_is; keyed = kept.keyed; recorded = kept.recorded; covered = kept.covered;
-    indexed = kept.indexed; flush_is = kept.flush_is; placed = kept.placed; parts = kept.parts;
-    writes = kept.writes; held = kept.held; below = kept.below; fresh = kept.fresh
-  }
+  no_dead = kept.no_dead;
+  same_dead = kept.same_dead;
+  active = kept.active;
+  flush = kept.flush;
+  cached_is = kept.cached_is;
+  keyed = kept.keyed;
+  recorded = kept.recorded;
+  covered = kept.covered;
+  indexed = kept.indexed;
+  flush_is = kept.flush_is;
+  placed = kept.placed;
+  parts = kept.parts;
+  writes = kept.writes;
+  held = kept.held;
+  below = kept.below;
+  fresh = kept.fresh;
+}
 
 module _ (p : Plain) (d : Desk) (kept : KeptDesk p d) (reader : ℕ) (key : EntryKey) where
   stays : (e : Desk) → e ≡ d → KeptDesk p e
@@ -96,8 +108,12 @@ module _ (p : Plain) (d : Desk) (kept : KeptDesk p d) (reader : ℕ) (key : Entr
       let same : at.log ≡ shown.log = let both = sym at.held ∙ shown.held in cc in
       let bytes : published_part at.log ≡ view.bytes = ap published_part same ∙ ap (λ o. option_map_or (λ v. v.bytes) o []) shown.view_is in
       let owed : Owed = record { log = place.log; payload = at.payload } in
-      let is : IsOwed (hold_on place key view) owed = record { log = refl; shown = subst (λ (l : List ℕ). In (place.at, at.payload) (records_of l)) bytes at.shown } in
-      (with_readers p (slice_set p.readers reader (Some owed)), ((free turn.0, (at.payload, indexed_map p d.store kept.store key place at, refl)),
-        subst (λ (x : Desk). KeptDesk (with_readers p (slice_set p.readers reader (Some owed))) x) (sym turn.3.2)
-          (record { store = readers_kept p d.store (slice_set p.readers reader (Some owed)) kept.store; readers = set_owed d.readers p.readers reader _ owed kept.readers is })))
+      let is : IsOwed (hold_on place key view) owed = record { log = refl; shown = subst (λ (l : List ℕ). In (place.at, at.payload) (records_of l)) bytes at.shown } in (
+        with_readers p (slice_set p.readers reader (Some owed)),
+        (
+          (free turn.0, (at.payload, indexed_map p d.store kept.store key place at, refl)),
+          subst (λ (x : Desk). KeptDesk (with_readers p (slice_set p.readers reader (Some owed))) x) (sym turn.3.2)
+              (record { store = readers_kept p d.store (slice_set p.readers reader (Some owed)) kept.store; readers = set_owed d.readers p.readers reader _ owed kept.readers is }),
+        ),
+      )
   kept_take (Err take_faults.Memory) e turn = (p, ((free turn.0, held_map p d.store kept.store key turn.1, refl), stays e turn.2))

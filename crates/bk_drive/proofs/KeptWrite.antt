@@ -43,18 +43,18 @@ same_files s id = record { behind = []; is = sym (append-nil (file_of s.files id
 -- the device failed, and nothing else happened
 pub failed_kept : (p : Plain) (s : State) (failures : ℕ) → Kept p s → Kept p (record s { failures = failures })
 failed_kept p s failures kept = kept_moves p s kept s.files failures s.logs s.writing s.flush s.next (record {
-    no_new = λ place b k there is. inl there;
-    stands = λ place b there. there;
-    grows = same_files s;
-    logs_stay = λ id old is. (old, (is, refl));
-    logs_were = λ id log is. inl (log, (is, refl));
-    pairs = refl;
-    places = λ f i e place is here place_is. inl (kept.placed f i e place is here place_is);
-    writes = kept.writes;
-    held = kept.held;
-    below = kept.below;
-    fresh = kept.fresh
-  })
+  no_new = λ place b k there is. inl there;
+  stands = λ place b there. there;
+  grows = same_files s;
+  logs_stay = λ id old is. (old, (is, refl));
+  logs_were = λ id log is. inl (log, (is, refl));
+  pairs = refl;
+  places = λ f i e place is here place_is. inl (kept.placed f i e place is here place_is);
+  writes = kept.writes;
+  held = kept.held;
+  below = kept.below;
+  fresh = kept.fresh;
+})
 
 -- ---- starting again
 
@@ -82,15 +82,15 @@ restarted_moves p s kept =
       grows = same_files s;
       logs_stay = λ id old is. (settle old, (log_at-with_states settled s.logs id ∙ some_log _ settle old is, refl));
       logs_were = λ id log is.
-        let was = log_some (log_at s.logs id) settle log (sym (log_at-with_states settled s.logs id) ∙ is) in
-        inl (was.0, (was.1.0, sym (ap (λ (l : Log). (published_part l)) was.1.1)));
+          let was = log_some (log_at s.logs id) settle log (sym (log_at-with_states settled s.logs id) ∙ is) in
+          inl (was.0, (was.1.0, sym (ap (λ (l : Log). (published_part l)) was.1.1)));
       pairs = unwritten-pairs s.flush;
       places = λ f i e place is at place_is.
-        absurd (none-some place (sym (slice_get_past [] i (omega arith)) ∙ ap (λ (l : List Place). slice_get l i) (sym (unwritten-places s.flush f is)) ∙ place_is));
+          absurd (none-some place (sym (slice_get_past [] i (omega arith)) ∙ ap (λ (l : List Place). slice_get l i) (sym (unwritten-places s.flush f is)) ∙ place_is));
       writes = λ w is. cc;
       held = λ w is. cc;
       below = λ id log is. let was = log_some (log_at s.logs id) settle log (sym (log_at-with_states settled s.logs id) ∙ is) in kept.below id was.0 was.1.0;
-      fresh = kept.fresh
+      fresh = kept.fresh;
     }
 
 pub kept_restarted : (p : Plain) (s : State) → Kept p s → Kept p (restarted s)
@@ -107,7 +107,7 @@ next_unheld : (p : Plain) (s : State) → Kept p s → log_at s.logs s.next ≡ 
 next_unheld p s kept = elim (log_at s.logs s.next) as (λ o. log_at s.logs s.next ≡ o → o ≡ None) [
   | None ↦ λ _. refl
   | Some log ↦ λ is. absurd (omega (arith, kept.below s.next log is))
-  ] refl
+] refl
 
 -- a new file that has at most a header, held under the next id
 made_moves : (p : Plain) (s : State) (bytes : List ℕ) (state : LogState) (writing : Option writers.Writing) → Kept p s → length bytes ≤ header_length
@@ -125,47 +125,47 @@ made_moves p s bytes state writing kept short written =
       logs_were = λ id log is. elim (log_at-push s.logs s.next id (made_log state) log is) as (λ _. ((old : Log) × ((log_at s.logs id ≡ Some old) × ((published_part log) ≡ (published_part old)))) ⊎ ((published_part log) ≡ [])) [
         | inl old ↦ inl (log, (old, refl))
         | inr new ↦ inr (sym (ap (λ (l : Log). (published_part l)) new.1))
-        ];
+      ];
       pairs = refl;
       places = λ f i e place is at place_is. inl (kept.placed f i e place is at place_is);
       writes = λ w is. let told = written w is in record {
         file = bytes;
         stands = ap (λ (x : ℕ). finite.get (finite.insert s.files s.next bytes) x) told.0 ∙ here;
         long = told.1 ∙ sym told.2;
-        whole = whole_header bytes told.2
+        whole = whole_header bytes told.2;
       };
       held = λ w is. ap (λ (x : ℕ). is_some (log_at (s.logs ++ (s.next, made_log state) ∷ []) x)) (written w is).0 ∙ ap is_some (log_at-push_new s.logs s.next (made_log state) (next_unheld p s kept));
       below = λ id log is. elim (log_at-push s.logs s.next id (made_log state) log is) as (λ _. id < s.next + 1) [
         | inl old ↦ omega (arith, kept.below id log old)
         | inr new ↦ omega (arith, tells_apart nat_cmp-IsAntisymmetric id s.next new.0)
-        ];
-      fresh = λ id later. get-insert_else nat_cmp_total nat_cmp-IsAntisymmetric s.files s.next bytes id (λ e. omega (arith, e)) ∙ kept.fresh id (omega arith)
+      ];
+      fresh = λ id later. get-insert_else nat_cmp_total nat_cmp-IsAntisymmetric s.files s.next bytes id (λ e. omega (arith, e)) ∙ kept.fresh id (omega arith);
     }
 
 -- an id is used up, and nothing else
 idle_moves : (p : Plain) (s : State) → Kept p s → Moves p s s.files s.logs None s.flush (s.next + 1)
 idle_moves p s kept = record {
-    no_new = λ place b k there is. inl there;
-    stands = λ place b there. there;
-    grows = same_files s;
-    logs_stay = λ id old is. (old, (is, refl));
-    logs_were = λ id log is. inl (log, (is, refl));
-    pairs = refl;
-    places = λ f i e place is at place_is. inl (kept.placed f i e place is at place_is);
-    writes = λ w is. cc;
-    held = λ w is. cc;
-    below = λ id log is. omega (arith, kept.below id log is);
-    fresh = λ id later. kept.fresh id (omega arith)
-  }
+  no_new = λ place b k there is. inl there;
+  stands = λ place b there. there;
+  grows = same_files s;
+  logs_stay = λ id old is. (old, (is, refl));
+  logs_were = λ id log is. inl (log, (is, refl));
+  pairs = refl;
+  places = λ f i e place is at place_is. inl (kept.placed f i e place is at place_is);
+  writes = λ w is. cc;
+  held = λ w is. cc;
+  below = λ id log is. omega (arith, kept.below id log is);
+  fresh = λ id later. kept.fresh id (omega arith);
+}
 
 -- ---- a try to make a log
 
 kept_made : (p : Plain) (s t : State) → Kept p s → Makes {W = Unit {0}} s (Ok tt) t → Kept p t
 kept_made p s t kept made =
     let is : t ≡ record s { files = finite.insert s.files s.next empty_header; failures = t.failures; logs = s.logs ++ (s.next, made_log Writing) ∷ []; writing = Some (new_writing s.next); next = s.next + 1 } =
-        made.left ∙ ap (λ (fs : Files). record s { files = fs; failures = t.failures; logs = s.logs ++ (s.next, made_log Writing) ∷ []; writing = Some (new_writing s.next); next = s.next + 1 }) made.created.1 in
+    made.left ∙ ap (λ (fs : Files). record s { files = fs; failures = t.failures; logs = s.logs ++ (s.next, made_log Writing) ∷ []; writing = Some (new_writing s.next); next = s.next + 1 }) made.created.1 in
     let moves = made_moves p s empty_header Writing (Some (new_writing s.next)) kept (omega (arith, length-empty_header))
-        (λ w e. let same : new_writing s.next ≡ w = cc in (sym (ap (λ (x : writers.Writing). x.log) same), sym (ap (λ (x : writers.Writing). x.end) same), length-empty_header)) in
+    (λ w e. let same : new_writing s.next ≡ w = cc in (sym (ap (λ (x : writers.Writing). x.log) same), sym (ap (λ (x : writers.Writing). x.end) same), length-empty_header)) in
     subst (λ (x : State). Kept p x) (sym is) (kept_moves p s kept _ t.failures _ _ s.flush (s.next + 1) moves)
 
 -- a file that was made and has a part of the header
@@ -237,48 +237,48 @@ module _ (p : Plain) (s : State) (kept : Kept p s) (flush : Flush) (entry : Entr
           held = log.1;
           record_is = has-record grown_now (next_place w) entry.1
               (subst (λ (l : List (ℕ × List ℕ)). In (w.end + 4, entry.1) l)
-                (sym (ap records_of (file-grown_here s.files w.log at.file at.stands (record_of entry.1)) ∙ came))
-                (In-append_right (w.end + 4, entry.1) (records_of at.file) _ (inl (let e = sym at.long in λ i. (e i + 4, entry.1)))))
+              (sym (ap records_of (file-grown_here s.files w.log at.file at.stands (record_of entry.1)) ∙ came))
+              (In-append_right (w.end + 4, entry.1) (records_of at.file) _ (inl (let e = sym at.long in λ i. (e i + 4, entry.1)))));
         }
 
     put_moves : Moves p s grown_now s.logs (Some (with_put w entry.1)) (Some flush_now) s.next
     put_moves = record {
-        no_new = λ place b k there is. elim (grown_records s.files w.log at.file at.stands (record_of entry.1) _ came place b there) as (λ _. HasRecord s.files place b ⊎ (finite.get p.map k ≡ Some b)) [
-          | inl old ↦ inl old
-          | inr new ↦ elim new as (λ _. HasRecord s.files place b ⊎ (finite.get p.map k ≡ Some b)) [
-            | inl e ↦ inr (record_map b k (λ i. (e i).1) is)
-            | inr never ↦ absurd never
-            ]
-          ];
-        stands = grows_stands s.files grown_now (grown_grows s.files w.log at.file at.stands (record_of entry.1));
-        grows = grown_grows s.files w.log at.file at.stands (record_of entry.1);
-        logs_stay = λ id old is. (old, (is, refl));
-        logs_were = λ id log is. inl (log, (is, refl));
-        pairs = sym in_flush;
-        places = λ f i e place is here place_is.
+      no_new = λ place b k there is. elim (grown_records s.files w.log at.file at.stands (record_of entry.1) _ came place b there) as (λ _. HasRecord s.files place b ⊎ (finite.get p.map k ≡ Some b)) [
+        | inl old ↦ inl old
+        | inr new ↦ elim new as (λ _. HasRecord s.files place b ⊎ (finite.get p.map k ≡ Some b)) [
+          | inl e ↦ inr (record_map b k (λ i. (e i).1) is)
+          | inr never ↦ absurd never
+        ]
+      ];
+      stands = grows_stands s.files grown_now (grown_grows s.files w.log at.file at.stands (record_of entry.1));
+      grows = grown_grows s.files w.log at.file at.stands (record_of entry.1);
+      logs_stay = λ id old is. (old, (is, refl));
+      logs_were = λ id log is. inl (log, (is, refl));
+      pairs = sym in_flush;
+      places = λ f i e place is here place_is.
           let same : flush_now ≡ f = cc in
           let here_is : slice_get (finite.entries flush.pairs) i ≡ Some e = ap (λ (x : Flush). slice_get (finite.entries x.pairs) i) same ∙ here in
           let there : slice_get (flush.places ++ next_place w ∷ []) i ≡ Some place = ap (λ (x : Flush). slice_get x.places i) same ∙ place_is in
           elim (slice_get-push flush.places (next_place w) i place there) as (λ _. IsPlaced s place e.1 ⊎ Stands grown_now s.logs place e.1) [
             | inl old ↦ inl (kept.placed flush i e place next.runs here_is old)
             | inr new ↦
-              let both : Some entry ≡ Some e = sym next.next ∙ ap (λ j. slice_get (finite.entries flush.pairs) j) (sym new.0) ∙ here_is in
-              let same_entry : entry ≡ e = cc in
-              inr (subst (λ (x : Place). Stands grown_now s.logs x e.1) new.1
+                let both : Some entry ≡ Some e = sym next.next ∙ ap (λ j. slice_get (finite.entries flush.pairs) j) (sym new.0) ∙ here_is in
+                let same_entry : entry ≡ e = cc in
+                inr (subst (λ (x : Place). Stands grown_now s.logs x e.1) new.1
                 (subst (λ (b : EntryKey × List ℕ). Stands grown_now s.logs (next_place w) b.1) same_entry stands_now))
           ];
-        writes = λ v is.
+      writes = λ v is.
           let same : with_put w entry.1 ≡ v = cc in
           subst (λ (x : writers.Writing). IsWriterOf grown_now x) same (record {
             file = at.file ++ record_of entry.1;
             stands = stands_grown s.files w.log at.file at.stands (record_of entry.1);
             long = omega (arith, at.long, length-append at.file (record_of entry.1), length-record_of entry.1);
-            whole = whole_record at.file entry.1 at.whole (addable_payload entry.1 entry.0 entry_read)
+            whole = whole_record at.file entry.1 at.whole (addable_payload entry.1 entry.0 entry_read);
           });
-        held = λ v is. let same : with_put w entry.1 ≡ v = cc in subst (λ (x : writers.Writing). IsSome (log_at s.logs x.log)) same (kept.held w written);
-        below = kept.below;
-        fresh = λ id later. fresh_grown s.files w.log at.file at.stands (record_of entry.1) id (kept.fresh id later)
-      }
+      held = λ v is. let same : with_put w entry.1 ≡ v = cc in subst (λ (x : writers.Writing). IsSome (log_at s.logs x.log)) same (kept.held w written);
+      below = kept.below;
+      fresh = λ id later. fresh_grown s.files w.log at.file at.stands (record_of entry.1) id (kept.fresh id later);
+    }
 
     -- a part of the record, by whose failure the flush starts again
     torn_moves : (n : ℕ) → Moves p (restarted s) (grown s.files w.log (take n (record_of entry.1))) (with_states settled s.logs) None (option_map unwritten s.flush) s.next
@@ -288,19 +288,19 @@ module _ (p : Plain) (s : State) (kept : Kept p s) (flush : Flush) (entry : Entr
         let kept_again = kept_restarted p s kept in
         record {
           no_new = λ place b k there is.
-            elim (records_of-prefix at.file entry.1 n at.whole (addable_payload entry.1 entry.0 entry_read)) as (λ _. HasRecord s.files place b ⊎ (finite.get p.map k ≡ Some b)) [
-              | inl none ↦ elim (grown_records s.files w.log at.file at.stands more [] (none ∙ sym (append-nil (records_of at.file))) place b there) as (λ _. HasRecord s.files place b ⊎ (finite.get p.map k ≡ Some b)) [
-                | inl old ↦ inl old
-                | inr never ↦ absurd never
-                ]
-              | inr one ↦ elim (grown_records s.files w.log at.file at.stands more _ one place b there) as (λ _. HasRecord s.files place b ⊎ (finite.get p.map k ≡ Some b)) [
-                | inl old ↦ inl old
-                | inr new ↦ elim new as (λ _. HasRecord s.files place b ⊎ (finite.get p.map k ≡ Some b)) [
-                  | inl e ↦ inr (record_map b k (λ i. (e i).1) is)
+              elim (records_of-prefix at.file entry.1 n at.whole (addable_payload entry.1 entry.0 entry_read)) as (λ _. HasRecord s.files place b ⊎ (finite.get p.map k ≡ Some b)) [
+                | inl none ↦ elim (grown_records s.files w.log at.file at.stands more [] (none ∙ sym (append-nil (records_of at.file))) place b there) as (λ _. HasRecord s.files place b ⊎ (finite.get p.map k ≡ Some b)) [
+                  | inl old ↦ inl old
                   | inr never ↦ absurd never
+                ]
+                | inr one ↦ elim (grown_records s.files w.log at.file at.stands more _ one place b there) as (λ _. HasRecord s.files place b ⊎ (finite.get p.map k ≡ Some b)) [
+                  | inl old ↦ inl old
+                  | inr new ↦ elim new as (λ _. HasRecord s.files place b ⊎ (finite.get p.map k ≡ Some b)) [
+                    | inl e ↦ inr (record_map b k (λ i. (e i).1) is)
+                    | inr never ↦ absurd never
                   ]
                 ]
-            ];
+              ];
           stands = grows_stands s.files (grown s.files w.log more) (grown_grows s.files w.log at.file at.stands more);
           grows = grown_grows s.files w.log at.file at.stands more;
           logs_stay = λ id old is. (old, (is, refl));
@@ -310,16 +310,16 @@ module _ (p : Plain) (s : State) (kept : Kept p s) (flush : Flush) (entry : Entr
           writes = λ v is. cc;
           held = λ v is. cc;
           below = kept_again.below;
-          fresh = λ id later. fresh_grown s.files w.log at.file at.stands more id (kept.fresh id later)
+          fresh = λ id later. fresh_grown s.files w.log at.file at.stands more id (kept.fresh id later);
         }
 
     pub kept_put : (r : Result Place FlushFault) (t : State) → PutTurn s flush entry.1 w r t → Kept p t
     kept_put (Ok place) t turn =
         subst (λ (x : State). Kept p x) (sym (turn.1 ∙ ap (λ (pl : Place). record s { files = grown_now; failures = t.failures; writing = Some (with_put w entry.1); flush = Some (record flush { places = flush.places ++ pl ∷ [] }) }) turn.0))
-            (kept_moves p s kept grown_now t.failures s.logs (Some (with_put w entry.1)) (Some flush_now) s.next put_moves)
+        (kept_moves p s kept grown_now t.failures s.logs (Some (with_put w entry.1)) (Some flush_now) s.next put_moves)
     kept_put (Err Disk) t turn =
         subst (λ (x : State). Kept p x) (sym turn.1)
-            (kept_moves p (restarted s) (kept_restarted p s kept) (grown s.files w.log (take turn.0 (record_of entry.1))) t.failures (with_states settled s.logs) None (option_map unwritten s.flush) s.next (torn_moves turn.0))
+        (kept_moves p (restarted s) (kept_restarted p s kept) (grown s.files w.log (take turn.0 (record_of entry.1))) t.failures (with_states settled s.logs) None (option_map unwritten s.flush) s.next (torn_moves turn.0))
     kept_put (Err (Memory done)) t turn = subst (λ (x : State). Kept p x) (sym turn.1) (failed_kept p s t.failures kept)
     kept_put (Err LogsFull) t turn = absurd turn
     kept_put (Err NoMoreIds) t turn = absurd turn
@@ -332,7 +332,7 @@ kept_make p s t Disk kept (made, (mid, makes, is)) = subst (λ (x : State). Kept
 kept_make p s t (Memory done) kept (none, what) = elim what as (λ _. Kept p t) [
   | inl same ↦ subst (λ (x : State). Kept p x) (sym same) kept
   | inr (made, makes) ↦ kept_make_memory p s t made kept makes
-  ]
+]
 kept_make p s t LogsFull kept turn = absurd turn
 kept_make p s t NoMoreIds kept turn = absurd turn
 kept_make p s t Odd kept turn = absurd turn
@@ -363,6 +363,6 @@ kept_write p s t (Ok (writes.Wrote place)) kept (flush, (entry, next, (mid, (w, 
 kept_write p s t (Err fault) kept (flush, (entry, next, what)) = elim what as (λ _. Kept p t) [
   | inl unready ↦ kept_unready p s t entry.1 fault kept unready
   | inr (mid, (w, ready, written, put)) ↦
-    let k = kept_ready p s mid entry.1 kept ready in
-    kept_put p mid k.0 flush entry (moved_next s mid flush entry next k.1) w written (Err fault) t put
-  ]
+      let k = kept_ready p s mid entry.1 kept ready in
+      kept_put p mid k.0 flush entry (moved_next s mid flush entry next k.1) w written (Err fault) t put
+]

@@ -35,20 +35,20 @@ pieces-longer (suc m) (suc n) from bytes more x le there =
     elim (starts_with_record bytes) as (λ b. starts_with_record bytes ≡ b → In x (cond b ((from + 4, take (length_field bytes) (drop 4 bytes)) ∷ pieces m (from + 4 + length_field bytes) (drop (4 + length_field bytes) bytes)) []) → In x (pieces (suc n) from (bytes ++ more))) [
       | false ↦ λ _ none. absurd none
       | true ↦ λ is found.
-        let s = starts_only bytes is in
-        let field = field_longer bytes more s.field in
-        let first : take (length_field bytes) (drop 4 (bytes ++ more)) ≡ take (length_field bytes) (drop 4 bytes) =
-            ap (take (length_field bytes)) (drop-append-le 4 bytes more s.field)
-            ∙ take-append-le (length_field bytes) (drop 4 bytes) more (omega (arith, s.whole, length-drop 4 bytes)) in
-        let behind : drop (4 + length_field bytes) (bytes ++ more) ≡ drop (4 + length_field bytes) bytes ++ more = drop-append-le (4 + length_field bytes) bytes more s.whole in
-        let list : pieces (suc n) from (bytes ++ more) ≡ (from + 4, take (length_field bytes) (drop 4 bytes)) ∷ pieces n (from + 4 + length_field bytes) (drop (4 + length_field bytes) bytes ++ more) =
-            pieces-starts n from (bytes ++ more) (starts_longer bytes more s)
-            ∙ ap (λ (k : ℕ). (from + 4, take k (drop 4 (bytes ++ more))) ∷ pieces n (from + 4 + k) (drop (4 + k) (bytes ++ more))) field
-            ∙ ap (λ (p : List ℕ). (from + 4, p) ∷ pieces n (from + 4 + length_field bytes) (drop (4 + length_field bytes) (bytes ++ more))) first
-            ∙ ap (λ (b : List ℕ). (from + 4, take (length_field bytes) (drop 4 bytes)) ∷ pieces n (from + 4 + length_field bytes) b) behind in
-        subst (λ (l : List (ℕ × List ℕ)). In x l) (sym list) (elim found as (λ _. In x ((from + 4, take (length_field bytes) (drop 4 bytes)) ∷ pieces n (from + 4 + length_field bytes) (drop (4 + length_field bytes) bytes ++ more))) [
-          | inl e ↦ inl e
-          | inr later ↦ inr (pieces-longer m n _ _ more x (omega arith) later)
+          let s = starts_only bytes is in
+          let field = field_longer bytes more s.field in
+          let first : take (length_field bytes) (drop 4 (bytes ++ more)) ≡ take (length_field bytes) (drop 4 bytes) =
+          ap (take (length_field bytes)) (drop-append-le 4 bytes more s.field)
+          ∙ take-append-le (length_field bytes) (drop 4 bytes) more (omega (arith, s.whole, length-drop 4 bytes)) in
+          let behind : drop (4 + length_field bytes) (bytes ++ more) ≡ drop (4 + length_field bytes) bytes ++ more = drop-append-le (4 + length_field bytes) bytes more s.whole in
+          let list : pieces (suc n) from (bytes ++ more) ≡ (from + 4, take (length_field bytes) (drop 4 bytes)) ∷ pieces n (from + 4 + length_field bytes) (drop (4 + length_field bytes) bytes ++ more) =
+          pieces-starts n from (bytes ++ more) (starts_longer bytes more s)
+          ∙ ap (λ (k : ℕ). (from + 4, take k (drop 4 (bytes ++ more))) ∷ pieces n (from + 4 + k) (drop (4 + k) (bytes ++ more))) field
+          ∙ ap (λ (p : List ℕ). (from + 4, p) ∷ pieces n (from + 4 + length_field bytes) (drop (4 + length_field bytes) (bytes ++ more))) first
+          ∙ ap (λ (b : List ℕ). (from + 4, take (length_field bytes) (drop 4 bytes)) ∷ pieces n (from + 4 + length_field bytes) b) behind in
+          subst (λ (l : List (ℕ × List ℕ)). In x l) (sym list) (elim found as (λ _. In x ((from + 4, take (length_field bytes) (drop 4 bytes)) ∷ pieces n (from + 4 + length_field bytes) (drop (4 + length_field bytes) bytes ++ more))) [
+            | inl e ↦ inl e
+            | inr later ↦ inr (pieces-longer m n _ _ more x (omega arith) later)
           ])
     ] refl there
 
@@ -58,7 +58,7 @@ records-longer file more x there = elim (dec_le header_length (length file)) [
   | yes headed ↦ subst (λ (b : List ℕ). In x (pieces (length (file ++ more)) header_length b)) (sym (drop-append-le header_length file more headed))
       (pieces-longer (length file) (length (file ++ more)) header_length (drop header_length file) more x (omega (arith, length-append file more)) there)
   | no short ↦ absurd (subst (λ (l : List (ℕ × List ℕ)). In x l) (records_of-short file (omega arith)) there)
-  ]
+]
 
 pub records-prefix : (front whole : List ℕ) (x : ℕ × List ℕ) → IsPrefix front whole → In x (records_of front) → In x (records_of whole)
 records-prefix front whole x part there = subst (λ (f : List ℕ). In x (records_of f)) (sym part.is) (records-longer front part.behind x there)

@@ -19,11 +19,13 @@ use Rattle.bk_drive.specs.declared.answer.FlushFault.TheVariants.{Disk, Memory, 
 -- a refused making, as the flush tells it
 pub make_fault : (s mid t : State) (fault : LogFault) (told : FlushFault) → Creates {T = Unit {0}} s (Err fault) mid → FaultTurn mid fault told t → MakeTurn {T = Unit {0}} s (Err told) t
 make_fault s mid t logs.Disk told (made, makes) (is, after) = subst (λ (f : FlushFault). MakeTurn {T = Unit {0}} s (Err f) t) (sym is) (made, (mid, makes, after))
-make_fault s mid t logs.Memory told what (is, after) = subst (λ (f : FlushFault). MakeTurn {T = Unit {0}} s (Err f) t) (sym is)
-    (refl, elim what as (λ _. (t ≡ s) ⊎ ((made : Bool) × Makes {W = Unit {0}} s (Err (record { made = made; fault = logs.Memory })) t)) [
-      | inl same ↦ inl (after ∙ same)
-      | inr (made, makes) ↦ inr (made, subst (λ (x : State). Makes {W = Unit {0}} s (Err (record { made = made; fault = logs.Memory })) x) (sym after) makes)
-      ])
+make_fault s mid t logs.Memory told what (is, after) = subst (λ (f : FlushFault). MakeTurn {T = Unit {0}} s (Err f) t) (sym is) (
+  refl,
+  elim what as (λ _. (t ≡ s) ⊎ ((made : Bool) × Makes {W = Unit {0}} s (Err (record { made = made; fault = logs.Memory })) t)) [
+    | inl same ↦ inl (after ∙ same)
+    | inr (made, makes) ↦ inr (made, subst (λ (x : State). Makes {W = Unit {0}} s (Err (record { made = made; fault = logs.Memory })) x) (sym after) makes)
+  ],
+)
 make_fault s mid t logs.Failed told never (is, after) = absurd never
 make_fault s mid t logs.Odd told never (is, after) = absurd never
 
@@ -32,9 +34,9 @@ pub makes_ok : (s : State) (files : Files) (honest : Bool) (failures : ℕ) (now
     → CreateTurn {W = Unit {0}} s.files s.next (Ok tt) files
     → Makes {W = Unit {0}} s (Ok tt) (record s { files = files; honest = honest; failures = failures; logs = now; writing = Some w; next = s.next + 1 })
 makes_ok s files honest failures now w same pushed is created = record {
-    created = created;
-    left = λ i. record s { files = files; honest = same i; failures = failures; logs = pushed i; writing = Some (is i); next = s.next + 1 }
-  }
+  created = created;
+  left = λ i. record s { files = files; honest = same i; failures = failures; logs = pushed i; writing = Some (is i); next = s.next + 1 };
+}
 
 pub makes_from : (s old : State) {t : State} → s ≡ old → Makes {W = Unit {0}} s (Ok tt) t → Makes {W = Unit {0}} old (Ok tt) t
 makes_from s old {t = t} same makes = subst (λ (x : State). Makes {W = Unit {0}} x (Ok tt) t) same makes
@@ -69,8 +71,8 @@ ready_now settings honest files flush index ls writing next payload fits short i
         takes = elim (and_cases (nat_lt 0 w.count) (nat_lt settings.log_limit (w.end + 4 + length payload)) full) as (λ _. w.end + 4 + length payload < 2 ^ 32) [
           | inl empty ↦ omega (arith, (fits.going w written).empty (omega (arith, ltb-false 0 w.count empty)))
           | inr less ↦ omega (arith, ltb-false settings.log_limit (w.end + 4 + length payload) less, fits.limit)
-          ]
-        }
+        ];
+      }
     ] refl is
 
 pub made_ready : (s t : State) (size : ℕ) → IsMade s t → size ≤ 1048576 → IsReady t.writing size

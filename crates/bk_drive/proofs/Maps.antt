@@ -14,7 +14,7 @@ module _ {K : Type 0} {R : K → K → Ordering} (total : IsTotalOrder R) (same 
   key_cases q k = elim (eq_by_cmp R q k) as (λ b. eq_by_cmp R q k ≡ b → (q ≡ k) ⊎ ((b ≡ false) × (q ≢ k))) [
     | true ↦ λ tied. inl (tells_apart same q k tied)
     | false ↦ λ apart. inr (refl, λ e. let t : eq_by_cmp R q k ≡ true = ap (λ (x : K). eq_by_cmp R q x) (sym e) ∙ ap is_eq (tied_itself total q) in cc)
-    ] refl
+  ] refl
 
 module _ {K X : Type 0} {R : K → K → Ordering} (total : IsTotalOrder R) (same : IsAntisymmetric R) where
   pub get-insert_here : (m : finite.FinMap R X) (k : K) (v : X) → finite.get (finite.insert m k v) k ≡ Some v
@@ -24,7 +24,7 @@ module _ {K X : Type 0} {R : K → K → Ordering} (total : IsTotalOrder R) (sam
   get-insert_else m k v q apart = elim (key_cases total same q k) [
     | inl e ↦ absurd (apart e)
     | inr other ↦ finite.get-insert total m k v q ∙ ap (λ (b : Bool). cond b (Some v) (finite.get m q)) other.0
-    ]
+  ]
 
   -- what an insertion has is what was put or what was there
   pub get-insert_cases : (m : finite.FinMap R X) (k : K) (v : X) (q : K) (w : X) → finite.get (finite.insert m k v) q ≡ Some w
@@ -32,4 +32,4 @@ module _ {K X : Type 0} {R : K → K → Ordering} (total : IsTotalOrder R) (sam
   get-insert_cases m k v q w is = elim (key_cases total same q k) [
     | inl e ↦ inl (e, let here = ap (λ (x : K). finite.get (finite.insert m k v) x) e ∙ get-insert_here m k v in cc)
     | inr other ↦ inr (other.1, sym (get-insert_else m k v q other.1) ∙ is)
-    ]
+  ]

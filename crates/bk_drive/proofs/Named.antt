@@ -28,7 +28,7 @@ named_has index [] places k there long = absurd there
 named_has index (key ∷ keys) [] k there long = absurd (omega arith)
 named_has index (key ∷ keys) (place ∷ places) k (inl e) long =
     named_keeps (finite.insert index key place) keys places k
-        (ap is_some (ap (λ x. finite.get (finite.insert index key place) x) (sym e) ∙ get-insert_here key_cmp_total key_cmp_antisymmetric index key place))
+    (ap is_some (ap (λ x. finite.get (finite.insert index key place) x) (sym e) ∙ get-insert_here key_cmp_total key_cmp_antisymmetric index key place))
 named_has index (key ∷ keys) (place ∷ places) k (inr later) long = named_has (finite.insert index key place) keys places k later (omega arith)
 
 -- a key stands at a number of a list, and the place at the same number of another
@@ -48,7 +48,7 @@ named_from index (key ∷ keys) (new ∷ places) k place is =
       | inl now ↦ elim (get-insert_cases key_cmp_total key_cmp_antisymmetric index key new k place now) as (λ _. (finite.get index k ≡ Some place) ⊎ IsBeside (key ∷ keys) (new ∷ places) k place) [
         | inl (e, same) ↦ inr (record { number = 0; key_is = ap Some (sym e); place_is = ap Some same })
         | inr (apart, old) ↦ inl old
-        ]
+      ]
     ]
 
 pub slice_get-take : {X : Type 0} (n : ℕ) (xs : List X) (i : ℕ) (x : X) → slice_get (take n xs) i ≡ Some x → (slice_get xs i ≡ Some x) × (i < n)

@@ -67,7 +67,7 @@ slice_get-push (z ∷ xs) x zero y is = inl is
 slice_get-push (z ∷ xs) x (suc i) y is = elim (slice_get-push xs x i y is) [
   | inl old ↦ inl old
   | inr new ↦ inr (omega (arith, new.0), new.1)
-  ]
+]
 
 pub some_value : {X : Type 0} (o : Option X) → IsSome o → (x : X) × (o ≡ Some x)
 some_value None is = cc

@@ -43,24 +43,27 @@ module _ (settings : Settings) (honest honest' : Bool) (files files' : Files) (f
         limit = fits.limit;
         one = fits.one;
         written = λ f at. let mine : record flush { places = flush.places ++ place ∷ [] } ≡ f = cc in
-          subst (λ (x : Flush). length x.places ≤ finite.len x.pairs) mine (omega (arith, next_within flush e is, length-append flush.places (place ∷ [])));
+            subst (λ (x : Flush). length x.places ≤ finite.len x.pairs) mine (omega (arith, next_within flush e is, length-append flush.places (place ∷ [])));
         placed = λ f i at_place at there.
-          let mine : record flush { places = flush.places ++ place ∷ [] } ≡ f = cc in
-          elim (slice_get-push flush.places place i at_place (ap (λ (x : Flush). slice_get x.places i) mine ∙ there)) as (λ _. IsSome (log_at ls at_place.log)) [
-            | inl old ↦ fits.placed flush i at_place refl old
-            | inr new ↦ subst (λ (x : Place). IsSome (log_at ls x.log)) (sym puts.1 ∙ new.1) going.held
-          ];
+            let mine : record flush { places = flush.places ++ place ∷ [] } ≡ f = cc in
+            elim (slice_get-push flush.places place i at_place (ap (λ (x : Flush). slice_get x.places i) mine ∙ there)) as (λ _. IsSome (log_at ls at_place.log)) [
+              | inl old ↦ fits.placed flush i at_place refl old
+              | inr new ↦ subst (λ (x : Place). IsSome (log_at ls x.log)) (sym puts.1 ∙ new.1) going.held
+            ];
         viewed = fits.viewed;
         going = λ v at. let mine : w' ≡ v = cc in subst (λ (x : writers.Writing). IsGoing ls next x) (sym puts.2 ∙ mine) (record {
-          whole = going.whole; below = going.below; held = going.held; empty = λ none. absurd (omega (arith, none))
+          whole = going.whole;
+          below = going.below;
+          held = going.held;
+          empty = λ none. absurd (omega (arith, none));
         });
         ids = fits.ids;
         backed = λ h. let b = fits.backed h in let at = b.writes w refl in record {
           fresh = λ id later. ap (λ (fs : Files). finite.get fs id) (turn h) ∙ fresh_grown files w.log at.file at.stands (record_of e.1) id (b.fresh id later);
           stand = λ id is. ap is_some (ap (λ (fs : Files). finite.get fs id) (turn h)) ∙ stand_grown files w.log at.file at.stands (record_of e.1) id (b.stand id is);
           writes = λ v is_v. let mine : w' ≡ v = cc in subst (λ (x : writers.Writing). writers.Writes files' x) mine (wrote h (ap (λ (x : writers.Writing). x.failed) puts.2 ∙ going.whole));
-          views = b.views
-        }
+          views = b.views;
+        };
       }))
 
   -- nothing was written, for want of memory
@@ -71,7 +74,7 @@ module _ (settings : Settings) (honest honest' : Bool) (files files' : Files) (f
       (subst (λ (f : Flush). Fits settings honest files' (Some f) index ls (Some w') next) (sym notes)
       (subst (λ (v : writers.Writing). Fits settings honest files' (Some flush) index ls (Some v) next) (sym puts.1)
       (fits_moved settings honest files files' (Some flush) (Some flush) index ls ls (Some w) (Some w) next next fits (logs_same ls) (flush_same (Some flush)) fits.going fits.ids
-        (λ h b. subst (λ (fs : Files). IsBacked fs ls (Some w) next) (sym (turn h)) b))))
+      (λ h b. subst (λ (fs : Files). IsBacked fs ls (Some w) next) (sym (turn h)) b))))
 
   pub fits_wanting : (fault : LogFault) → fault ≡ logs.Memory → NotesPlace flush (Err fault) flush' → Puts w e.1 (Err fault) w' → (IsTrue honest → LogPutTurn files w e.1 (Err fault) files')
       → Fits settings honest' files' (Some flush') index ls (Some w') next
@@ -101,7 +104,7 @@ module _ (settings : Settings) (honest honest' : Bool) (files files' : Files) (f
       subst (λ (h : Bool). Fits settings h files' (Some flush') index ls None next) (sym same)
       (subst (λ (f : Flush). Fits settings honest files' (Some f) index ls None next) (sym notes)
       (fits_moved settings honest files files' (Some flush) (Some flush) index ls ls (Some w) None next next fits (logs_same ls) (flush_same (Some flush)) (λ v none. cc) fits.ids
-        (λ h b. record { fresh = still_fresh fault b (turn h); stand = still_stand fault b (turn h); writes = λ v none. cc; views = b.views })))
+      (λ h b. record { fresh = still_fresh fault b (turn h); stand = still_stand fault b (turn h); writes = λ v none. cc; views = b.views })))
 
 -- ---- what the store is then
 
@@ -113,16 +116,21 @@ module _ (s : State) (flush flush' : Flush) (e : EntryKey × List ℕ) (w w' : w
 
   pub put_memory : NotesPlace flush (Err logs.Memory) flush' → Puts w e.1 (Err logs.Memory) w' → LogPutTurn s.files w e.1 (Err logs.Memory) files'
       → PutTurn s flush e.1 w (Err (flush_faults.Memory 0)) (record s { files = files'; honest = honest'; failures = failures'; flush = Some flush'; writing = Some w' })
-  put_memory notes puts turn = (refl, (λ i. record s { files = turn i; honest = same i; failures = failures'; flush = Some (notes i); writing = Some (puts.1 i) })
-      ∙ (λ i. record s { failures = failures'; flush = sym runs i; writing = sym writing i }))
+  put_memory notes puts turn = (
+    refl,
+    (λ i. record s { files = turn i; honest = same i; failures = failures'; flush = Some (notes i); writing = Some (puts.1 i) })
+        ∙ (λ i. record s { failures = failures'; flush = sym runs i; writing = sym writing i }),
+  )
 
   pub put_fault : (fault : LogFault) (told : FlushFault) (t : State) → (fault ≡ logs.Memory → ⊥) → NotesPlace flush (Err fault) flush' → Puts w e.1 (Err fault) w' → w.failed ≡ false
       → LogPutTurn s.files w e.1 (Err fault) files'
       → FaultTurn (record s { files = files'; honest = honest'; failures = failures'; flush = Some flush'; writing = None }) fault told t → PutTurn s flush e.1 w (Err told) t
-  put_fault logs.Disk told t other notes puts whole (n, grew) (is, after) = subst (λ (f : FlushFault). PutTurn s flush e.1 w (Err f) t) (sym is)
-      (n, after ∙ (let failed = sym (ap (λ (x : State). x.failures) after) in
+  put_fault logs.Disk told t other notes puts whole (n, grew) (is, after) = subst (λ (f : FlushFault). PutTurn s flush e.1 w (Err f) t) (sym is) (
+    n,
+    after ∙ (let failed = sym (ap (λ (x : State). x.failures) after) in
         (λ i. restarted (record s { files = grew i; honest = same i; failures = failed i; flush = Some (notes i); writing = None }))
-        ∙ (λ i. restarted (record s { files = grown s.files w.log (take n (record_of e.1)); failures = t.failures; flush = sym runs i }))))
+        ∙ (λ i. restarted (record s { files = grown s.files w.log (take n (record_of e.1)); failures = t.failures; flush = sym runs i }))),
+  )
   put_fault logs.Failed told t other notes puts whole turn after = absurd (let e = sym whole ∙ puts.0 in cc)
   put_fault logs.Memory told t other notes puts whole turn after = absurd (other refl)
   put_fault logs.Odd told t other notes puts whole turn after = absurd turn
@@ -159,17 +167,17 @@ module _ (s old : State) (flush f f' : Flush) (e : EntryKey × List ℕ) (w v v'
     (turn : (x : EntryKey × List ℕ) → IsNextOf f x → IsTrue s.honest → LogPutTurn s.files v x.1 r files') where
   here : (told : FlushFault) (t : State) → HasNext old flush e → old.writing ≡ Some w → (IsNextOf f e → PutTurn s f e.1 v (Err told) t) → PutTurn old flush e.1 w (Err told) t
   here told t next writing put =
-    let at = next_of s old flush f e same next runs in
-    let both : Some w ≡ Some v = sym writing ∙ sym (ap (λ (x : State). x.writing) same) ∙ written in
-    let is : w ≡ v = cc in
-    subst (λ (x : State). PutTurn x flush e.1 w (Err told) t) same
-    (subst (λ (x : Flush). PutTurn s x e.1 w (Err told) t) (sym at.0)
-    (subst (λ (x : writers.Writing). PutTurn s f e.1 x (Err told) t) (sym is) (put at.1)))
+      let at = next_of s old flush f e same next runs in
+      let both : Some w ≡ Some v = sym writing ∙ sym (ap (λ (x : State). x.writing) same) ∙ written in
+      let is : w ≡ v = cc in
+      subst (λ (x : State). PutTurn x flush e.1 w (Err told) t) same
+      (subst (λ (x : Flush). PutTurn s x e.1 w (Err told) t) (sym at.0)
+      (subst (λ (x : writers.Writing). PutTurn s f e.1 x (Err told) t) (sym is) (put at.1)))
 
   pub memory_here : r ≡ Err logs.Memory → HasNext old flush e → old.writing ≡ Some w → IsTrue old.honest
       → PutTurn old flush e.1 w (Err (flush_faults.Memory 0)) (record s { files = files'; honest = honest'; failures = failures'; flush = Some f'; writing = Some v' })
   memory_here is next writing honest = here (flush_faults.Memory 0) (record s { files = files'; honest = honest'; failures = failures'; flush = Some f'; writing = Some v' }) next writing
-    (λ at. put_memory s f f' e v v' files' honest' failures' runs written kept (subst (λ (x : Result Place LogFault). NotesPlace f x f') is notes)
+      (λ at. put_memory s f f' e v v' files' honest' failures' runs written kept (subst (λ (x : Result Place LogFault). NotesPlace f x f') is notes)
       (subst (λ (x : Result Place LogFault). Puts v e.1 x v') is (puts e at))
       (subst (λ (x : Result Place LogFault). LogPutTurn s.files v e.1 x files') is (turn e at (subst (λ (x : State). IsTrue x.honest) (sym same) honest))))
 
@@ -177,7 +185,7 @@ module _ (s old : State) (flush f f' : Flush) (e : EntryKey × List ℕ) (w v v'
       → FaultTurn (record s { files = files'; honest = honest'; failures = failures'; flush = Some f'; writing = left }) fault told t
       → HasNext old flush e → old.writing ≡ Some w → IsTrue old.honest → PutTurn old flush e.1 w (Err told) t
   fault_here fault told t left is other whole none after next writing honest = here told t next writing
-    (λ at. put_fault s f f' e v v' files' honest' failures' runs written kept fault told t other (subst (λ (x : Result Place LogFault). NotesPlace f x f') is notes)
+      (λ at. put_fault s f f' e v v' files' honest' failures' runs written kept fault told t other (subst (λ (x : Result Place LogFault). NotesPlace f x f') is notes)
       (subst (λ (x : Result Place LogFault). Puts v e.1 x v') is (puts e at)) whole
       (subst (λ (x : Result Place LogFault). LogPutTurn s.files v e.1 x files') is (turn e at (subst (λ (x : State). IsTrue x.honest) (sym same) honest)))
       (subst (λ (x : Option writers.Writing). FaultTurn (record s { files = files'; honest = honest'; failures = failures'; flush = Some f'; writing = x }) fault told t) none after))
@@ -214,5 +222,5 @@ module _ (s old : State) (files' : Files) (honest' : Bool) (failures' : ℕ) (f'
   fault_cause cause = fault_caused old (record s { files = files'; honest = honest'; failures = failures'; flush = Some f'; writing = left }) t fault told
       (record {
         later = subst (λ (x : State). x.failures ≤ failures') same cause.later;
-        failed = λ is. subst (λ (x : State). x.failures < failures') same (cause.failed (ap Err is))
+        failed = λ is. subst (λ (x : State). x.failures < failures') same (cause.failed (ap Err is));
       }) after

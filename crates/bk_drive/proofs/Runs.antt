@@ -119,10 +119,13 @@ first_kept : (settings : Settings) (fs : Files) (failures : ℕ) → ((log : ℕ
     → KeptDesk (first_plain fs set.empty) (first_desk (opened settings fs failures))
 first_kept settings fs failures none =
     let nothing : (k : EntryKey) (b : List ℕ) → option_or (finite.get {X = List ℕ} {R = key_cmp} finite.empty k) None ≡ Some b → ⊥ =
-        λ k b is. none-some b (sym (ap (λ o. option_or o None) (finite.get-empty key_cmp k)) ∙ is) in
+    λ k b is. none-some b (sym (ap (λ o. option_or o None) (finite.get-empty key_cmp k)) ∙ is) in
     record {
       store = record {
-        no_dead = refl; same_dead = refl; active = refl; flush = refl;
+        no_dead = refl;
+        same_dead = refl;
+        active = refl;
+        flush = refl;
         cached_is = λ k b is. absurd (nothing k b is);
         keyed = λ k b is. absurd (nothing k b is);
         recorded = λ place b k there is. absurd (no_record fs none place b there);
@@ -134,9 +137,9 @@ first_kept settings fs failures none =
         writes = λ w is. cc;
         held = λ w is. cc;
         below = λ id log is. cc;
-        fresh = λ id _. none id
+        fresh = λ id _. none id;
       };
-      readers = tt
+      readers = tt;
     }
 
 pub goes_first : (settings : Settings) (fs : Files) (failures : ℕ) → ((log : ℕ) → finite.get fs log ≡ None)

@@ -30,11 +30,11 @@ shown_was files places (o ∷ os) (n ∷ ns) id new (inr same) is = (new, (ap (�
 shown_was files places (o ∷ os) (n ∷ ns) id new (inl (first, rest)) is =
     let more = shows_more files places o n first in
     elim (eq_by_cmp nat_cmp id o.0) as (λ b. eq_by_cmp nat_cmp id o.0 ≡ b → cond b (Some n.1) (find nat_cmp id ns) ≡ Some new
-        → (old : Log) × ((cond b (Some o.1) (find nat_cmp id os) ≡ Some old) × ShowsMore files id old new)) [
+    → (old : Log) × ((cond b (Some o.1) (find nat_cmp id os) ≡ Some old) × ShowsMore files id old new)) [
       | true ↦ λ tied here.
-        let at = tells_apart nat_cmp-IsAntisymmetric id o.0 tied in
-        let same : n.1 ≡ new = cc in
-        (o.1, (refl, subst (λ (x : ℕ). ShowsMore files x o.1 new) (sym at) (subst (λ (x : Log). ShowsMore files o.0 o.1 x) same more.1)))
+          let at = tells_apart nat_cmp-IsAntisymmetric id o.0 tied in
+          let same : n.1 ≡ new = cc in
+          (o.1, (refl, subst (λ (x : ℕ). ShowsMore files x o.1 new) (sym at) (subst (λ (x : Log). ShowsMore files o.0 o.1 x) same more.1)))
       | false ↦ λ _ later. shown_was files places os ns id new rest later
     ] refl (ap (λ (x : ℕ). cond (eq_by_cmp nat_cmp id x) (Some n.1) (find nat_cmp id ns)) (sym more.0) ∙ is)
 
@@ -48,15 +48,15 @@ shown_is files places (o ∷ os) (n ∷ ns) id old (inr same) is = (old, (ap (λ
 shown_is files places (o ∷ os) (n ∷ ns) id old (inl (first, rest)) is =
     let more = shows_more files places o n first in
     let now : (b : Bool) → eq_by_cmp nat_cmp id o.0 ≡ b → cond b (Some o.1) (find nat_cmp id os) ≡ Some old
-        → (new : Log) × ((cond b (Some n.1) (find nat_cmp id ns) ≡ Some new) × ShowsMore files id old new) =
-        λ b. elim b as (λ b. eq_by_cmp nat_cmp id o.0 ≡ b → cond b (Some o.1) (find nat_cmp id os) ≡ Some old
-            → (new : Log) × ((cond b (Some n.1) (find nat_cmp id ns) ≡ Some new) × ShowsMore files id old new)) [
-          | true ↦ λ tied here.
-            let at = tells_apart nat_cmp-IsAntisymmetric id o.0 tied in
-            let same : o.1 ≡ old = cc in
-            (n.1, (refl, subst (λ (x : ℕ). ShowsMore files x old n.1) (sym at) (subst (λ (x : Log). ShowsMore files o.0 x n.1) same more.1)))
-          | false ↦ λ _ later. shown_is files places os ns id old rest later
-        ] in
+    → (new : Log) × ((cond b (Some n.1) (find nat_cmp id ns) ≡ Some new) × ShowsMore files id old new) =
+    λ b. elim b as (λ b. eq_by_cmp nat_cmp id o.0 ≡ b → cond b (Some o.1) (find nat_cmp id os) ≡ Some old
+    → (new : Log) × ((cond b (Some n.1) (find nat_cmp id ns) ≡ Some new) × ShowsMore files id old new)) [
+      | true ↦ λ tied here.
+          let at = tells_apart nat_cmp-IsAntisymmetric id o.0 tied in
+          let same : o.1 ≡ old = cc in
+          (n.1, (refl, subst (λ (x : ℕ). ShowsMore files x old n.1) (sym at) (subst (λ (x : Log). ShowsMore files o.0 x n.1) same more.1)))
+      | false ↦ λ _ later. shown_is files places os ns id old rest later
+    ] in
     let found = now (eq_by_cmp nat_cmp id o.0) refl is in
     (found.0, (ap (λ (x : ℕ). cond (eq_by_cmp nat_cmp id x) (Some n.1) (find nat_cmp id ns)) more.0 ∙ found.1.0, found.1.1))
 
@@ -77,9 +77,9 @@ shown_file files places (o ∷ os) (n ∷ ns) id new all has is =
     let more = shows_more files places o n all.0 in
     elim (eq_by_cmp nat_cmp id o.0) as (λ b. eq_by_cmp nat_cmp id o.0 ≡ b → cond b (Some n.1) (find nat_cmp id ns) ≡ Some new → (published_part new) ≡ file_of files id) [
       | true ↦ λ tied here.
-        let at = tells_apart nat_cmp-IsAntisymmetric id o.0 tied in
-        let same : n.1 ≡ new = cc in
-        let shows = subst (λ (b : Bool). MatchBool b ((n.0 ≡ o.0) × (n.1.state ≡ o.1.state) × (published_part n.1 ≡ file_of files o.0) × HasHonestView n.1) (n ≡ o)) (ap (has_place places) (sym at) ∙ has) all.0 in
-        ap (λ (x : Log). (published_part x)) (sym same) ∙ shows.2 ∙ ap (file_of files) (sym at)
+          let at = tells_apart nat_cmp-IsAntisymmetric id o.0 tied in
+          let same : n.1 ≡ new = cc in
+          let shows = subst (λ (b : Bool). MatchBool b ((n.0 ≡ o.0) × (n.1.state ≡ o.1.state) × (published_part n.1 ≡ file_of files o.0) × HasHonestView n.1) (n ≡ o)) (ap (has_place places) (sym at) ∙ has) all.0 in
+          ap (λ (x : Log). (published_part x)) (sym same) ∙ shows.2 ∙ ap (file_of files) (sym at)
       | false ↦ λ _ later. shown_file files places os ns id new all.1 has later
     ] refl (ap (λ (x : ℕ). cond (eq_by_cmp nat_cmp id x) (Some n.1) (find nat_cmp id ns)) (sym more.0) ∙ is)

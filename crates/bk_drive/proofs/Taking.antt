@@ -25,4 +25,4 @@ module _ {V : Type 0} (bytes : V → List ℕ) (honest sound : V → Bool) where
       → IsViewOf t id (view_of bytes honest sound given)
   view_given s t id n found given same seen at is =
       subst (λ (x : State). IsViewOf x id (view_of bytes honest sound given)) same
-          (view_of_log s id (view_of bytes honest sound given) (ap (last_view s.logs) (sym at) ∙ sym seen ∙ ap (λ v. Some (view_of bytes honest sound v)) (sym is)))
+      (view_of_log s id (view_of bytes honest sound given) (ap (last_view s.logs) (sym at) ∙ sym seen ∙ ap (λ v. Some (view_of bytes honest sound v)) (sym is)))

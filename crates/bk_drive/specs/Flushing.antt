@@ -70,9 +70,12 @@ writing_made s (Err f) = None
 pub record Makes {W : Type 0} (s : State) (result : Result W CreateFault) (t : State) : Type 0 where
   pub created : CreateTurn s.files s.next result t.files
   pub left : t ≡ record s {
-      files = t.files; failures = t.failures;
-      logs = logs_made s result; writing = writing_made s result; next = s.next + 1
-    }
+    files = t.files;
+    failures = t.failures;
+    logs = logs_made s result;
+    writing = writing_made s result;
+    next = s.next + 1;
+  }
 
 -- The next log is made; a failing device makes the flush start again.
 abbrev pub MakeTurn : {T : Type 0} → State → Result T FlushFault → State → Type 0
@@ -104,9 +107,11 @@ next_place w = record { log = w.log; at = w.end + 4 }
 -- The flush's next entry is written at the end of the log that is written.
 abbrev pub PutTurn : State → Flush → List ℕ → writers.Writing → Result Place FlushFault → State → Type 0
 PutTurn s flush payload w (Ok place) t = (place ≡ next_place w) × (t ≡ record s {
-    files = grown s.files w.log (record_of payload); failures = t.failures; writing = Some (with_put w payload);
-    flush = Some (record flush { places = flush.places ++ place ∷ [] })
-  })
+  files = grown s.files w.log (record_of payload);
+  failures = t.failures;
+  writing = Some (with_put w payload);
+  flush = Some (record flush { places = flush.places ++ place ∷ [] });
+})
 PutTurn s flush payload w (Err Disk) t = (n : ℕ) × (t ≡ restarted (record s { files = grown s.files w.log (take n (record_of payload)); failures = t.failures }))
 PutTurn s flush payload w (Err (Memory done)) t = (done ≡ 0) × (t ≡ record s { failures = t.failures })
 PutTurn s flush payload w (Err LogsFull) t = ⊥
@@ -117,7 +122,7 @@ PutTurn s flush payload w (Err Odd) t = ⊥
 abbrev pub WriteFails : State → FlushFault → State → Type 0
 WriteFails s fault t = (flush : Flush) × ((entry : EntryKey × List ℕ) × HasNext s flush entry
     × (ReadyTurn {T = Unit {0}} s entry.1 (Err fault) t
-      ⊎ ((mid : State) × ((w : writers.Writing) × ReadyTurn {T = Unit {0}} s entry.1 (Ok tt) mid × (mid.writing ≡ Some w) × PutTurn mid flush entry.1 w (Err fault) t))))
+    ⊎ ((mid : State) × ((w : writers.Writing) × ReadyTurn {T = Unit {0}} s entry.1 (Ok tt) mid × (mid.writing ≡ Some w) × PutTurn mid flush entry.1 w (Err fault) t))))
 
 -- One step of a flush writes its first entry without a place.
 abbrev pub WriteTurn : State → Result WriteAnswer FlushFault → State → Type 0
@@ -171,18 +176,21 @@ PublishTurn s (Ok publishes.NoFlush) t = IsNone s.flush × (t ≡ s)
 PublishTurn s (Ok publishes.NotAllWritten) t = (flush : Flush) × (s.flush ≡ Some flush) × (length flush.places < finite.len flush.pairs) × (t ≡ s)
 PublishTurn s (Ok (publishes.Published n)) t = (flush : Flush) × IsWritten s flush × (n ≡ finite.len flush.pairs)
     × ((shown : Logs) × ShowsAll s.files flush.places s.logs shown
-      × (t ≡ record s {
-        failures = t.failures; flush = None; logs = with_states unfilled shown;
-        index = named s.index (finite.keys flush.pairs) flush.places
-      }))
+    × (t ≡ record s {
+      failures = t.failures;
+      flush = None;
+      logs = with_states unfilled shown;
+      index = named s.index (finite.keys flush.pairs) flush.places;
+    }))
 PublishTurn s (Err Disk) t = (flush : Flush) × IsWritten s flush
     × ((shown : Logs) × ShowsSome s.files flush.places s.logs shown × (t ≡ record s { failures = t.failures; logs = shown }))
 PublishTurn s (Err (Memory done)) t = (flush : Flush) × IsWritten s flush
     × ((shown : Logs) × ShowsSome s.files flush.places s.logs shown × (0 < done → ShowsAll s.files flush.places s.logs shown)
-      × (t ≡ record s {
-        failures = t.failures; logs = shown;
-        index = named s.index (take done (finite.keys flush.pairs)) (take done flush.places)
-      }))
+    × (t ≡ record s {
+      failures = t.failures;
+      logs = shown;
+      index = named s.index (take done (finite.keys flush.pairs)) (take done flush.places);
+    }))
 PublishTurn s (Err LogsFull) t = ⊥
 PublishTurn s (Err NoMoreIds) t = ⊥
 PublishTurn s (Err Odd) t = ⊥

@@ -48,9 +48,18 @@ reader_count = 4
 -- a store that was opened on a disk without files
 abbrev pub opened : Settings → Files → ℕ → State
 opened settings files failures = record {
-    settings = settings; files = files; honest = true; failures = failures; active = finite.empty; flush = None;
-    index = finite.empty; logs = []; writing = None; next = 0; dead = set.empty
-  }
+  settings = settings;
+  files = files;
+  honest = true;
+  failures = failures;
+  active = finite.empty;
+  flush = None;
+  index = finite.empty;
+  logs = [];
+  writing = None;
+  next = 0;
+  dead = set.empty;
+}
 
 -- where the machine and the plain map begin: the entries of the files, of ledgers that live, and readers without a lease
 abbrev pub first_desk : State → Desk

@@ -50,7 +50,7 @@ ReaderTake d reader key (Ok NotHeld) e = IsFree d.readers reader × (holds d.sto
 ReaderTake d reader key (Ok (Cached payload)) e = IsFree d.readers reader × (cached d.store key ≡ Some payload.value.items) × (e ≡ d)
 ReaderTake d reader key (Ok (Leased place)) e = IsFree d.readers reader × (cached d.store key ≡ None) × (finite.get d.store.index key ≡ Some place)
     × ((view : View) × IsViewOf d.store place.log view
-      × (e ≡ record d { readers = slice_set d.readers reader (Some (hold_on place key view)) }))
+    × (e ≡ record d { readers = slice_set d.readers reader (Some (hold_on place key view)) }))
 ReaderTake d reader key (Err take_faults.Memory) e = IsFree d.readers reader × (holds d.store key ≡ true) × (e ≡ d)
 
 -- One step of the machine, with its answer.

@@ -108,12 +108,20 @@ abbrev pub state_code : Coded State
 state_code = code_by
     (Settings × (Files × (Bool × (ℕ × (Payloads × (Option Flush × (Places × (Logs × (Option log_writing.Writing × (ℕ × Ledgers))))))))))
     (coded× settings_code (coded× files_code (coded× coded_bool (coded× coded_ℕ (coded× payloads_code (coded× (coded_option flush_code)
-        (coded× (finite.code key_code place_code) (coded× logs_code (coded× (coded_option log_writing.writing_code)
-        (coded× coded_ℕ (set.code coded_ℕ)))))))))))
+    (coded× (finite.code key_code place_code) (coded× logs_code (coded× (coded_option log_writing.writing_code)
+    (coded× coded_ℕ (set.code coded_ℕ)))))))))))
     (λ s. (s.settings, (s.files, (s.honest, (s.failures, (s.active, (s.flush, (s.index, (s.logs, (s.writing, (s.next, s.dead)))))))))))
     (λ p. record {
-      settings = p.0; files = p.1.0; honest = p.1.1.0; failures = p.1.1.1.0; active = p.1.1.1.1.0; flush = p.1.1.1.1.1.0;
-      index = p.1.1.1.1.1.1.0; logs = p.1.1.1.1.1.1.1.0; writing = p.1.1.1.1.1.1.1.1.0; next = p.1.1.1.1.1.1.1.1.1.0;
-      dead = p.1.1.1.1.1.1.1.1.1.1
+      settings = p.0;
+      files = p.1.0;
+      honest = p.1.1.0;
+      failures = p.1.1.1.0;
+      active = p.1.1.1.1.0;
+      flush = p.1.1.1.1.1.0;
+      index = p.1.1.1.1.1.1.0;
+      logs = p.1.1.1.1.1.1.1.0;
+      writing = p.1.1.1.1.1.1.1.1.0;
+      next = p.1.1.1.1.1.1.1.1.1.0;
+      dead = p.1.1.1.1.1.1.1.1.1.1;
     })
     (λ _. refl)

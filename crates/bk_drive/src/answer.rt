@@ -1,11 +1,9 @@
 //! What the calls of a store answer: an enum for each call, and why a call is refused.
 
-use std::sync::Arc;
-
-use bk_record::{Location, RecordFault};
-use thiserror::Error;
-
 use crate::Lease;
+use bk_record::{Location, RecordFault};
+use std::sync::Arc;
+use thiserror::Error;
 
 /// What became of an add.
 #[derive(Clone, Copy, Debug, PartialEq, Eq)]

@@ -6,11 +6,10 @@ ghost use Rattle.bk_record.specs.Key.{key_cmp};
 ghost use Rattle.bk_record.specs.Record.{read_added};
 ghost use Rattle.bk_index.specs.Sorted.{IsAt, IsGapFor};
 
+use bk_record::Key;
 use std::alloc::{AllocError, Global};
 use std::marker::Model;
 use std::sync::Arc;
-
-use bk_record::Key;
 
 /// The payloads that came in since the last swap, or those that a flush writes.
 #[derive(Drop)]

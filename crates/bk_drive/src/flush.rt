@@ -13,15 +13,13 @@ ghost use Rattle.bk_record.specs.Key.{EntryKey};
 ghost use Rattle.bk_log.specs.Writing.{Writing, Writes, Puts, PutTurn as LogPutTurn};
 ghost use Rattle.std.specs.FinMap as map;
 
-use std::alloc::Global;
-
-use bk_disk::LogDisk;
-use bk_log::{LogFault, LogWriter};
-use bk_record::Location;
-
 use crate::log::LogState;
 use crate::store::Flushing;
 use crate::{FlushFault, Store, WriteAnswer};
+use bk_disk::LogDisk;
+use bk_log::{LogFault, LogWriter};
+use bk_record::Location;
+use std::alloc::Global;
 
 /// The greatest id that a log may have (this project's rule).
 const LAST_LOG: u32 = (1 << 31) - 1;

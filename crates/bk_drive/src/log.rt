@@ -2,11 +2,10 @@
 
 ghost use Rattle.std.specs.Prelude.{◌≡◌, ◌<◌, ◌++◌, [], ◌∷◌, ℕ, List, Some, IsSome, OnOk, OnErr, IfSome, length, slice_get, slice_set, option_map};
 
+use bk_disk::LogView;
 use std::alloc::{AllocError, Global};
 use std::marker::Model;
 use std::sync::Arc;
-
-use bk_disk::LogView;
 
 /// What a log is to the store that holds it (this project's rule).
 #[derive(Clone, Copy, Debug, PartialEq, Eq)]

@@ -1,10 +1,8 @@
 //! The steps of a script and their answers.
 
-use std::sync::Arc;
-
-use bk_record::{Key, Location};
-
 use crate::{AddFault, Added, FlushFault, PublishAnswer, SwapAnswer, TakeFault, WriteAnswer};
+use bk_record::{Key, Location};
+use std::sync::Arc;
 
 /// A step of the store alone: one call of its flush.
 #[derive(Clone, Copy, Debug, PartialEq, Eq)]

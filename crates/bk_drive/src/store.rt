@@ -7,19 +7,17 @@ ghost use Rattle.std.specs.Prelude.{◌≡◌, option_map};
 ghost use Rattle.bk_drive.specs.Meaning.{cached_at};
 ghost use Rattle.bk_drive.specs.Holding.{cached, holds, AddTurn, TakeTurn, SwapTurn};
 
-use std::alloc::Global;
-use std::marker::Model;
-use std::mem;
-use std::sync::Arc;
-
+use crate::cache::Cache;
+use crate::log::LogTable;
+use crate::{AddFault, Added, Lease, Settings, SwapAnswer, TakeFault, Taken};
 use bk_disk::LogDisk;
 use bk_index::Index;
 use bk_log::LogWriter;
 use bk_record::{Key, Location, check_add};
-
-use crate::cache::Cache;
-use crate::log::LogTable;
-use crate::{AddFault, Added, Lease, Settings, SwapAnswer, TakeFault, Taken};
+use std::alloc::Global;
+use std::marker::Model;
+use std::mem;
+use std::sync::Arc;
 
 /// A flush: the cache that it writes, and the places of the first of its entries, in the order of the keys.
 #[derive(Drop)]
@@ -55,9 +53,17 @@ impl<D: LogDisk> Model for Store<D> {
     ghost use Rattle.bk_drive.specs.Fits.{Fits};
 
     ghost view = { λ s. record {
-        settings = s.settings; files = D.files s.disk; honest = D.honest s.disk; failures = D.failures s.disk;
-        active = s.active; flush = option_map flush_of s.flush; index = s.index; logs = s.logs; writing = s.writer;
-        next = s.next; dead = set.empty
+      settings = s.settings;
+      files = D.files s.disk;
+      honest = D.honest s.disk;
+      failures = D.failures s.disk;
+      active = s.active;
+      flush = option_map flush_of s.flush;
+      index = s.index;
+      logs = s.logs;
+      writing = s.writer;
+      next = s.next;
+      dead = set.empty;
     } };
 
     ghost invariant = { λ s. Fits s.settings (D.honest s.disk) (D.files s.disk) (option_map flush_of s.flush)

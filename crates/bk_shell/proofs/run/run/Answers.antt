@@ -12,16 +12,16 @@ drive-requires-after_bounds g c κs = (omega arith, ((λ log. ap (λ files. fini
 
 pub returns-in-Ok-write_answers-clause-ok : goal.returns-in-Ok-write_answers-clause-ok
 returns-in-Ok-write_answers-clause-ok g c = record {
-    input = c.in_ok-input.input.items;
-    steps = c.in_ok-steps.steps.items;
-    answers = c.in-Ok.ran.answers.items;
-    store = c.in-Ok.ran.store;
-    readers = c.in-Ok.ran.readers;
-    taken = c.in_ok-input.ensures.bytes;
-    ended = c.in_ok-input.ensures.end;
-    spelled = subst (λ bytes. IsScript bytes c.in_ok-steps.steps.items) c.deref.ensures.value c.in_ok-steps.ensures.ok;
-    answered =
+  input = c.in_ok-input.input.items;
+  steps = c.in_ok-steps.steps.items;
+  answers = c.in-Ok.ran.answers.items;
+  store = c.in-Ok.ran.store;
+  readers = c.in-Ok.ran.readers;
+  taken = c.in_ok-input.ensures.bytes;
+  ended = c.in_ok-input.ensures.end;
+  spelled = subst (λ bytes. IsScript bytes c.in_ok-steps.steps.items) c.deref.ensures.value c.in_ok-steps.ensures.ok;
+  answered =
       subst (λ steps. Headline c.args.settings finite.empty steps c.in-Ok.ran.answers.items c.in-Ok.ran.store c.in-Ok.ran.readers) c.deref-2.ensures.value
       (subst (λ files. Headline c.args.settings files c.deref-2.result.now c.in-Ok.ran.answers.items c.in-Ok.ran.store c.in-Ok.ran.readers) c.new.ensures (c.in-Ok.ensures.headline refl));
-    printed = subst (λ answers. Appends (g.W.Write.contents c.args.writer.now) (g.W.Write.contents c.write_answers.new.writer) (lines_of answers)) c.deref-3.ensures.value c.in-Ok-write_answers.ensures
-  }
+  printed = subst (λ answers. Appends (g.W.Write.contents c.args.writer.now) (g.W.Write.contents c.write_answers.new.writer) (lines_of answers)) c.deref-3.ensures.value c.in-Ok-write_answers.ensures;
+}

@@ -14,8 +14,10 @@ pub invariant_of-self-then-fault : goal.invariant_of-self-then-fault
 invariant_of-self-then-fault g c =
     fits_half_made _ _ _ _ _ _ _ _ _ _ _ c.self.invariant c.create-made.ensures.honest (c.set_last.ensures _ _ c.in-Ok.ensures.ok)
     (subst (λ s. s.next < 2 ^ 31) (sym c.self.view_is) c.requires.may.id) (subst (λ s. IsNone s.writing) (sym c.self.view_is) c.requires.none)
-    (λ honest none. (created_files _ _ _ c.in-Err.fault.made c.in-Err.fault.fault none (c.in-Err.ensures.turn honest),
-        half_file _ _ _ c.in-Err.fault.made c.in-Err.fault.fault c.if-fault.true (c.in-Err.ensures.turn honest)))
+    (λ honest none. (
+      created_files _ _ _ c.in-Err.fault.made c.in-Err.fault.fault none (c.in-Err.ensures.turn honest),
+      half_file _ _ _ c.in-Err.fault.made c.in-Err.fault.fault c.if-fault.true (c.in-Err.ensures.turn honest),
+    ))
 
 pub returns-in-Ok-made-clause-turn : goal.returns-in-Ok-made-clause-turn
 returns-in-Ok-made-clause-turn g c = λ honest.

@@ -39,7 +39,7 @@ returns-in_err-location-clause-turn g c = λ honest.
     let next = found_next _ _ (flush_of c.in-Some.flush) _ _ c.self.view_is (ap (option_map flush_of) c.in-Some.is) count c.pair.ensures.stands in
     let going = ready_of _ _ _ size c.in_ok-ready.ensures.going in
     put_failed _ _ _ next _ _ c.in_ok-ready.ensures.honest (c.in_ok-ready.ensures.turn _ size honest) going c.in_ok-ready.ensures.flush
-        c.put_next.result c.put_next.ensures.turn honest _ c.in_err-location.field-0.0 c.in_err-location.was (told_on _ c.in_err-location.field-0.0 c.from_residual-in_err-location.ensures)
+    c.put_next.result c.put_next.ensures.turn honest _ c.in_err-location.field-0.0 c.in_err-location.was (told_on _ c.in_err-location.field-0.0 c.from_residual-in_err-location.ensures)
 
 pub returns-clause-turn : goal.returns-clause-turn
 returns-clause-turn g c = λ honest.
@@ -48,4 +48,4 @@ returns-clause-turn g c = λ honest.
     let next = found_next _ _ (flush_of c.in-Some.flush) _ _ c.self.view_is (ap (option_map flush_of) c.in-Some.is) count c.pair.ensures.stands in
     let going = ready_of _ _ _ size c.in_ok-ready.ensures.going in
     entry_put _ _ _ next _ _ c.in_ok-ready.ensures.honest (c.in_ok-ready.ensures.turn _ size honest) going c.in_ok-ready.ensures.flush
-        c.put_next.result c.put_next.ensures.turn honest c.in_ok-location.location c.in_ok-location.was
+    c.put_next.result c.put_next.ensures.turn honest c.in_ok-location.location c.in_ok-location.was

@@ -1,0 +1,69 @@
+-- What a caller's proof cites of the caches' words.
+use Rattle.std.proofs.Common.{◌≡◌, ℕ, zero, suc, ◌+◌, ◌-◌, Bool, true, false, cond, not, eqb, List, [], ◌∷◌, take, drop, Option, Some, None, IfSome, slice_get, is_some, ◌⊎◌, inl, inr, refl, sym, ap, ◌∙◌, add-one}
+use Rattle.std.specs.Map.{lookup, remove_entry}
+use Rattle.std.specs.FinMap as entries
+use Rattle.std.specs.FinMap.{entries_sorted}
+use Rattle.std.proofs.lemmas.Map.Entries.{lookup-filter-keys}
+use Rattle.bk_record.specs.Key.{EntryKey}
+use Rattle.bk_record.specs.Scan.{Payloads}
+use Rattle.bk_index.proofs.KeyOrder.{key_cmp_total}
+use Rattle.bk_index.proofs.SortedPairs.{is_true, Some-same, filter-behind}
+use Rattle.bk_cache.specs.Recents.{Recents, Entry, same_key, recent_of, remembered, without_recent, IsOldOrRemembered}
+use Rattle.bk_cache.specs.Caches.{first_after}
+use Rattle.bk_cache.proofs.RecentPuts.{same_key_exact}
+
+slice_get-drop : {A : Type 0} (xs : List A) (i : ℕ) → slice_get (drop i xs) 0 ≡ slice_get xs i
+slice_get-drop xs zero = refl
+slice_get-drop [] (suc i) = refl
+slice_get-drop (x ∷ xs) (suc i) = slice_get-drop xs i
+
+-- the first pair behind the key of the i-th is the next one
+pub first_after-place : (m : Payloads) (i : ℕ) (e : Entry) → slice_get (entries.entries m) i ≡ Some e → first_after (Some e.0) m ≡ slice_get (entries.entries m) (i + 1)
+first_after-place m i e at =
+    ap (λ pairs. slice_get pairs 0) (filter-behind key_cmp_total e.0 e.1 (entries.entries m) i (is_true _ (entries_sorted m)) at)
+    ∙ slice_get-drop (entries.entries m) (suc i) ∙ ap (slice_get (entries.entries m)) (sym (add-one i))
+
+-- a ledger's recent entries are gone, the others stay
+pub recent_of-without_recent : (r : Recents) (ledger : ℕ) (key : EntryKey) → recent_of (without_recent r ledger) key ≡ cond (not (eqb key.ledger ledger)) (recent_of r key) None
+recent_of-without_recent r ledger key =
+    lookup-filter-keys (same_key key) (λ k. not (eqb k.ledger ledger)) (not (eqb key.ledger ledger)) (λ k same. ap (λ (q : EntryKey). not (eqb q.ledger ledger)) (sym (same_key_exact key k same))) r.entries
+
+-- what a look-up finds in the first so many pairs it finds in all
+lookup-take : {X : Type 0} (test : EntryKey → Bool) (n : ℕ) (es : List (EntryKey × X)) (v : X) → lookup test (take n es) ≡ Some v → lookup test es ≡ Some v
+lookup-take test zero es v found = cc
+lookup-take test (suc n) [] v found = found
+lookup-take test (suc n) (e ∷ es) v found =
+    elim (test e.0) as (λ b. cond b (Some e.1) (lookup test (take n es)) ≡ Some v → cond b (Some e.1) (lookup test es) ≡ Some v) [
+      | true ↦ λ is. is
+      | false ↦ λ is. lookup-take test n es v is
+    ] found
+
+-- an entry of another key goes, and a look-up finds what it found
+lookup-remove_other : {X : Type 0} (key q : EntryKey) (es : List (EntryKey × X)) → same_key q key ≡ false → lookup (same_key q) (remove_entry (same_key key) es) ≡ lookup (same_key q) es
+lookup-remove_other key q [] other = refl
+lookup-remove_other key q (e ∷ es) other =
+    elim (same_key key e.0) as (λ b. same_key key e.0 ≡ b → lookup (same_key q) (cond b es (e ∷ remove_entry (same_key key) es)) ≡ cond (same_key q e.0) (Some e.1) (lookup (same_key q) es)) [
+      | true ↦ λ is. rw (ap (same_key q) (sym (same_key_exact key e.0 is)) ∙ other)
+      | false ↦ λ _. ap (cond (same_key q e.0) (Some e.1)) (lookup-remove_other key q es other)
+    ] refl
+
+-- a recent entry was there, or is the one that was remembered
+pub recent_of-remembered : (r : Recents) (key : EntryKey) (payload : List ℕ) (q : EntryKey) (p : List ℕ) → recent_of (remembered r key payload) q ≡ Some p → IsOldOrRemembered r key payload q p
+recent_of-remembered r key payload q p =
+    elim (same_key q key) as (λ b. same_key q key ≡ b → cond b (Some payload) (lookup (same_key q) (cond (is_some (recent_of r key)) (remove_entry (same_key key) r.entries) (take (r.most - 1) r.entries))) ≡ Some p → IsOldOrRemembered r key payload q p) [
+      | true ↦ λ is found. inr (same_key_exact q key is, sym (Some-same found))
+      | false ↦ λ other. elim (is_some (recent_of r key)) as (λ b. lookup (same_key q) (cond b (remove_entry (same_key key) r.entries) (take (r.most - 1) r.entries)) ≡ Some p → IsOldOrRemembered r key payload q p) [
+        | true ↦ λ found. inl (sym (lookup-remove_other key q r.entries other) ∙ found)
+        | false ↦ λ found. inl (lookup-take (same_key q) (r.most - 1) r.entries p found)
+      ]
+    ] refl
+
+pub IfSome-recent_of_changed : (old new : Recents) (key : EntryKey) (payload : List ℕ) → (new ≡ old) ⊎ (new ≡ remembered old key payload) → (q : EntryKey) → IfSome (recent_of new q) (IsOldOrRemembered old key payload q)
+IfSome-recent_of_changed old new key payload changed q = each (recent_of new q) refl
+  where
+    each : (o : Option (List ℕ)) → recent_of new q ≡ o → IfSome o (IsOldOrRemembered old key payload q)
+    each None is = tt
+    each (Some p) is = elim changed [
+      | inl same ↦ inl (ap (λ r. recent_of r q) (sym same) ∙ is)
+      | inr put ↦ recent_of-remembered old key payload q p (ap (λ r. recent_of r q) (sym put) ∙ is)
+    ]

@@ -1,0 +1,11 @@
+pub mod Options
+pub mod Seen
+pub mod KeptPairs
+pub mod CachePairs
+pub mod FirstAfter
+pub mod RecentTurns
+pub mod RecentPuts
+pub mod Used
+pub mod Sound
+pub mod AddedKeys
+pub mod CallerLaws

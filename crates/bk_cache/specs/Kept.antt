@@ -1,0 +1,20 @@
+-- What the fields of the caches keep.
+use Rattle.std.specs.Prelude.{◌≡◌, ℕ, ◌≤◌, List, length, sum_by, Some, Ok, IsTrue}
+use Rattle.std.specs.Map.{values_of}
+use Rattle.std.specs.FinMap.{find, is_sorted}
+use Rattle.bk_record.specs.Key.{EntryKey, key_cmp}
+use Rattle.bk_record.specs.Record.{read_added}
+use Rattle.bk_cache.specs.Recents.{Entry}
+use Rattle.bk_cache.specs.Caches.{CacheState, used_of, AreApart}
+
+-- the pairs are in the order of their keys, each payload stands under the key that it gives, and these are their bytes
+pub record IsKept (pairs : List Entry) (used : ℕ) : Type 0 where
+  pub sorted : IsTrue (is_sorted key_cmp pairs)
+  pub keyed : (key : EntryKey) (payload : List ℕ) → find key_cmp key pairs ≡ Some payload → read_added payload ≡ Ok key
+  pub counted : used ≡ sum_by length (values_of pairs)
+
+-- what the two write caches keep together
+pub record IsSound (s : CacheState) : Type 0 where
+  pub within : used_of s.active ≤ s.limit
+  pub limited : s.limit ≤ 1073741824
+  pub apart : AreApart s

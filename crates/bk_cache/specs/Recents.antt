@@ -1,0 +1,46 @@
+-- The entries that were flushed last: pairs of a key and its payload, the one remembered last first.
+use Rattle.std.specs.Prelude.{◌≡◌, ◌⊎◌, ℕ, ◌-◌, Bool, not, ◌==◌, ◌&&◌, if◌then◌else◌, List, [], ◌∷◌, take, filter, Option, Some, is_some, refl}
+use Rattle.std.specs.Coded.{Coded, code_by, coded×, coded_list, coded_ℕ}
+use Rattle.std.specs.Map.{lookup, remove_entry}
+use Rattle.bk_record.specs.Key.{EntryKey}
+use Rattle.bk_index.specs.Keyed.{key_code}
+
+-- a key and the payload that it stands for
+abbrev pub Entry : Type 0
+Entry = EntryKey × List ℕ
+
+-- the recent entries, the one remembered last first, and how many there may be
+pub record Recents : Type 0 where
+  pub entries : List Entry
+  pub most : ℕ
+
+-- there may be none
+abbrev pub no_recents : Recents
+no_recents = record { entries = []; most = 0 }
+
+abbrev pub recents_code : Coded Recents
+recents_code =
+    code_by (List Entry × ℕ) (coded× (coded_list (coded× key_code (coded_list coded_ℕ))) coded_ℕ) (λ r. (r.entries, r.most)) (λ p. record { entries = p.0; most = p.1 }) (λ _. refl)
+
+-- whether two keys are the same
+abbrev pub same_key : EntryKey → EntryKey → Bool
+same_key a b = (a.ledger == b.ledger) && (a.entry == b.entry)
+
+-- the payload that a recent entry has for the key, if there is one
+abbrev pub recent_of : Recents → EntryKey → Option (List ℕ)
+recent_of r key = lookup (same_key key) r.entries
+
+-- The key with its payload goes first. An earlier entry of the key goes; else, of too many, the one remembered first.
+abbrev pub remembered : Recents → EntryKey → List ℕ → Recents
+remembered r key payload = record r {
+  entries = (key, payload) ∷ (if is_some (recent_of r key) then remove_entry (same_key key) r.entries else take (r.most - 1) r.entries);
+}
+
+-- the recent entries of other ledgers
+abbrev pub without_recent : Recents → ℕ → Recents
+without_recent r ledger = record r { entries = filter (λ e. not (e.0.ledger == ledger)) r.entries }
+
+-- a payload that the key had, or the one that is remembered for it
+abbrev pub IsOldOrRemembered : Recents → EntryKey → List ℕ → EntryKey → List ℕ → Type 0
+IsOldOrRemembered r remembered_key remembered_payload key payload =
+    (recent_of r key ≡ Some payload) ⊎ ((key ≡ remembered_key) × (payload ≡ remembered_payload))

@@ -1,0 +1,138 @@
+//! One write cache: the payload of each key, shared, and how many bytes the payloads have together.
+
+ghost use Rattle.std.specs.Prelude.{◌≡◌, ◌↔◌, ◌+◌, ◌<◌, ◌^◌, Ok, None, length, option_map, sum_by, IfSome, OnOk, OnErr, IsTrue};
+ghost use Rattle.std.specs.BTreeMap.{values};
+ghost use Rattle.std.specs.FinMap as map;
+ghost use Rattle.bk_record.specs.Record.{read_added};
+ghost use Rattle.bk_index.specs.Keyed.{without_ledger, ledger_count};
+ghost use Rattle.bk_cache.specs.Caches.{used_of, AllKeyed, first_after};
+
+use crate::Flushing;
+use bk_record::Key;
+use std::alloc::{AllocError, Global};
+use std::collections::BTreeMap;
+use std::marker::Model;
+use std::ops::Bound;
+use std::sync::Arc;
+
+/// Payloads by key. Each stands under the key that it gives.
+#[derive(Drop)]
+pub(crate) struct Cache {
+    pairs: BTreeMap<Key, Arc<Vec<u8>>>,
+    used: u64,
+}
+
+impl Model for Cache {
+    ghost use Rattle.std.specs.Prelude.{map};
+    ghost use Rattle.std.specs.FinMap as entries;
+    ghost use Rattle.bk_record.specs.Scan.{Payloads};
+    ghost use Rattle.bk_cache.specs.Caches.{payloads_code};
+    ghost use Rattle.bk_cache.specs.Kept.{IsKept};
+
+    ghost Value = { Payloads };
+
+    ghost coded = { payloads_code };
+
+    ghost view = { λ cache. entries.from_sorted (map (λ e. (e.0, e.1.value.items)) cache.pairs.entries) };
+
+    ghost invariant = { λ cache. IsKept (map (λ e. (e.0, e.1.value.items)) cache.pairs.entries) cache.used };
+}
+
+impl Cache {
+    /// A cache without an entry. It takes no memory yet.
+    pub(crate) fn new(alloc: Global) -> Cache
+        ensures { result ≡ map.empty }
+    {
+        Cache {
+            pairs: BTreeMap::new(alloc),
+            used: 0,
+        }
+    }
+
+    /// How many entries the cache has.
+    pub(crate) fn len(&self) -> u64
+        ensures count { result ≡ map.len self.now }
+        ensures bound { result < 2 ^ 63 }
+    {
+        self.pairs.len() as u64
+    }
+
+    /// How many bytes the payloads have together.
+    pub(crate) fn used(&self) -> u64
+        ensures { result ≡ used_of self.now }
+    {
+        self.used
+    }
+
+    /// The payload of a key.
+    pub(crate) fn get(&self, key: &Key) -> Option<&Arc<Vec<u8>>>
+        ensures value { option_map (λ payload. payload.now.value.items) result ≡ map.get self.now key.now }
+        ensures keyed { IfSome result (λ payload. read_added payload.now.value.items ≡ Ok key.now) }
+    {
+        self.pairs.get(key)
+    }
+
+    /// Adds a payload under its own key, which the cache has not. Where memory is refused the cache stays as it was.
+    pub(crate) fn insert(&mut self, key: Key, payload: Arc<Vec<u8>>) -> Result<(), AllocError>
+        requires keyed { read_added payload.value.items ≡ Ok key }
+        requires absent { map.get self.old key ≡ None }
+        requires fits { used_of self.old + length payload.value.items < 2 ^ 64 }
+        ensures ok { OnOk result (self.new ≡ map.insert self.old key payload.value.items) }
+        ensures err { OnErr result (self.new ≡ self.old) }
+    {
+        let size = payload.len() as u64;
+        self.pairs.insert(key, payload)?;
+        self.used += size;
+        Ok(())
+    }
+
+    /// Takes the entries of a ledger out, and answers how many there were.
+    pub(crate) fn drop_ledger(&mut self, ledger: u64) -> u64
+        ensures left { self.new ≡ without_ledger self.old ledger }
+        ensures count { result ≡ ledger_count self.old ledger }
+        ensures bound { result < 2 ^ 63 }
+    {
+        let before = self.len();
+        self.pairs.retain(|key, _| key.ledger() != ledger);
+        self.used = payload_bytes(&self.pairs);
+        before - self.len()
+    }
+
+    /// The entries in key order.
+    pub(crate) fn walk(&self) -> Flushing<'_>
+        ensures items { result ≡ map.entries self.now }
+        ensures keyed { AllKeyed self.now }
+    {
+        Flushing {
+            rest: Some(self.pairs.iter()),
+        }
+    }
+
+    /// The first entry behind a key, or of all where no key is given.
+    pub(crate) fn first_after(&self, key: Option<Key>) -> Option<(Key, &Arc<Vec<u8>>)>
+        ensures value { option_map (λ e. (e.0, e.1.now.value.items)) result ≡ first_after key self.now }
+        ensures keyed { IfSome result (λ e. read_added e.1.now.value.items ≡ Ok e.0) }
+    {
+        let Some(key) = key else {
+            let (first, payload) = self.pairs.first_key_value()?;
+            return Some((*first, payload));
+        };
+        let (next, payload) = self
+            .pairs
+            .range((Bound::Excluded(key), Bound::Unbounded))
+            .next()?;
+        Some((*next, payload))
+    }
+}
+
+// How many bytes the payloads have together.
+fn payload_bytes(pairs: &BTreeMap<Key, Arc<Vec<u8>>>) -> u64
+    requires { sum_by (λ payload. length payload.value.items) (values pairs.now) < 2 ^ 64 }
+    ensures { result ≡ sum_by (λ payload. length payload.value.items) (values pairs.now) }
+{
+    let mut bytes = 0;
+    for payload in pairs.values() {
+        bytes += payload.len() as u64;
+    }
+    bytes
+}

@@ -1,0 +1,17 @@
+//! What a bookie holds in memory: the entries that came in, those that a flush writes, and those flushed last.
+#![tactic(auto)]
+
+mod cache;
+mod caches;
+mod fault;
+mod flushing;
+mod recent;
+mod swap;
+
+pub use caches::Caches;
+pub use fault::CacheFault;
+pub use flushing::Flushing;
+pub use swap::Swap;
+
+#[cfg(test)]
+mod tests;
