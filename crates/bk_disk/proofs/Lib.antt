@@ -2,3 +2,4 @@ pub mod Cuts
 pub mod FileMaps
 pub mod Listings
 pub mod Answered
+pub mod Failures

@@ -1,3 +1,4 @@
 pub mod Disk
 pub mod Blocks
 pub mod Logs
+pub mod Failing

@@ -2,8 +2,11 @@
 #![tactic(auto)]
 
 mod blocks;
+mod countdown;
 mod disk;
 mod fault;
+mod fault_disk;
+mod fault_view;
 mod mem_disk;
 mod mem_view;
 #[cfg(test)]
@@ -11,5 +14,7 @@ mod tests;
 
 pub use disk::{LogDisk, LogView};
 pub use fault::DiskFault;
+pub use fault_disk::FaultDisk;
+pub use fault_view::FaultView;
 pub use mem_disk::MemDisk;
 pub use mem_view::MemView;

@@ -8,7 +8,7 @@ use std::alloc::Global;
 use std::test::Fail;
 
 // Makes a log, and reads its first piece behind the header through a view that is made before the second piece.
-fn view_between<D: LogDisk>(
+pub(super) fn view_between<D: LogDisk>(
     alloc: Global,
     disk: &mut D,
     log: u32,

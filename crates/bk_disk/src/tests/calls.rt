@@ -7,7 +7,7 @@ use std::process::Abort;
 use std::test::Fail;
 
 // A disk of one log.
-fn disk_with(alloc: Global, log: u32, bytes: &[u8]) -> Result<MemDisk, DiskFault> {
+pub(super) fn disk_with(alloc: Global, log: u32, bytes: &[u8]) -> Result<MemDisk, DiskFault> {
     let mut disk = MemDisk::new(alloc);
     disk.create(alloc, log)?;
     disk.append(alloc, log, bytes)?;

@@ -1,0 +1,226 @@
+//! A disk over another one, for tests: one call that is chosen beforehand fails, or one view is broken.
+
+ghost use Rattle.std.specs.Prelude.{◌≡◌, false, IsTrue};
+ghost use Rattle.bk_disk.specs.Disk.{HasCause, Lists, Measures, Creates, Appends, Patches, Syncs, Reads, Views, Removes};
+ghost use Rattle.bk_disk.specs.Failing.{failure_count, Counts, FailsUntouched, FailsKeeping, CountsView};
+
+use crate::countdown::Countdown;
+use crate::{DiskFault, FaultView, LogDisk};
+use std::alloc::Global;
+use std::marker::Model;
+
+/// A disk that fails once, where it is told to, and is otherwise the disk underneath.
+#[derive(Drop)]
+pub struct FaultDisk<D: LogDisk> {
+    inner: D,
+    calls: Countdown,
+    views: Countdown,
+    kept: usize,
+}
+
+impl<D: LogDisk> Model for FaultDisk<D> {
+    ghost use Rattle.bk_disk.specs.Failing.{Failing, failing_code};
+
+    ghost Value = { Failing };
+
+    ghost coded = { failing_code };
+
+    ghost view = { λ disk. record {
+      files = D.files disk.inner;
+      honest = D.honest disk.inner;
+      failures = D.failures disk.inner;
+      calls = disk.calls;
+      views = disk.views;
+      kept = disk.kept;
+    } };
+}
+
+impl<D: LogDisk> FaultDisk<D> {
+    /// A disk whose call number `k` fails, counted from 1; with `k` 0 none does. Every call of `LogDisk` counts. A failing
+    /// append leaves the first `kept` bytes of its piece at the log's end, or all where the piece has fewer; every other
+    /// failing call leaves the files as they were.
+    pub fn new(inner: D, k: u64, kept: usize) -> Self
+        ensures { result ≡ record {
+          files = D.files inner;
+          honest = D.honest inner;
+          failures = D.failures inner;
+          calls = record { left = k; reached = false };
+          views = record { left = 0; reached = false };
+          kept = kept;
+        } }
+    {
+        FaultDisk {
+            inner,
+            calls: Countdown::new(k),
+            views: Countdown::new(0),
+            kept,
+        }
+    }
+
+    /// A disk whose calls are those of the disk underneath, and whose view number `j`, counted from 1, is broken; with `j`
+    /// 0 none is. A view counts where it was made.
+    pub fn broken_view(inner: D, j: u64) -> Self
+        ensures { result ≡ record {
+          files = D.files inner;
+          honest = D.honest inner;
+          failures = D.failures inner;
+          calls = record { left = 0; reached = false };
+          views = record { left = j; reached = false };
+          kept = 0;
+        } }
+    {
+        FaultDisk {
+            inner,
+            calls: Countdown::new(0),
+            views: Countdown::new(j),
+            kept: 0,
+        }
+    }
+
+    /// Whether the failing call has come.
+    pub fn has_failed(&self) -> bool
+        ensures { result ≡ self.now.calls.reached }
+    {
+        self.calls.is_reached()
+    }
+}
+
+impl<D: LogDisk> LogDisk for FaultDisk<D> {
+    type View = FaultView<D::View>;
+
+    ghost files = { λ disk. disk.files };
+
+    ghost honest = { λ disk. disk.honest };
+
+    ghost failures = { λ disk. failure_count disk };
+
+    fn list(&mut self, alloc: Global) -> Result<Vec<u32>, DiskFault>
+        ensures honest { self.new.honest ≡ self.old.honest }
+        ensures cause { HasCause (failure_count self.old) (failure_count self.new) result }
+        ensures turn { IsTrue self.old.honest → Lists (λ v. v.items) self.old.files result self.new.files }
+        ensures counts { Counts self.old self.new result }
+        ensures untouched { FailsUntouched self.old self.new }
+        ensures views { self.new.views ≡ self.old.views }
+    {
+        if self.calls.count() {
+            return Err(DiskFault::Disk);
+        }
+        self.inner.list(alloc)
+    }
+
+    fn length(&mut self, alloc: Global, log: u32) -> Result<u64, DiskFault>
+        ensures honest { self.new.honest ≡ self.old.honest }
+        ensures cause { HasCause (failure_count self.old) (failure_count self.new) result }
+        ensures turn { IsTrue self.old.honest → Measures self.old.files log result self.new.files }
+        ensures counts { Counts self.old self.new result }
+        ensures untouched { FailsUntouched self.old self.new }
+        ensures views { self.new.views ≡ self.old.views }
+    {
+        if self.calls.count() {
+            return Err(DiskFault::Disk);
+        }
+        self.inner.length(alloc, log)
+    }
+
+    fn create(&mut self, alloc: Global, log: u32) -> Result<(), DiskFault>
+        ensures honest { self.new.honest ≡ self.old.honest }
+        ensures cause { HasCause (failure_count self.old) (failure_count self.new) result }
+        ensures turn { IsTrue self.old.honest → Creates self.old.files log result self.new.files }
+        ensures counts { Counts self.old self.new result }
+        ensures untouched { FailsUntouched self.old self.new }
+        ensures views { self.new.views ≡ self.old.views }
+    {
+        if self.calls.count() {
+            return Err(DiskFault::Disk);
+        }
+        self.inner.create(alloc, log)
+    }
+
+    fn append(&mut self, alloc: Global, log: u32, bytes: &[u8]) -> Result<(), DiskFault>
+        ensures honest { self.new.honest ≡ self.old.honest }
+        ensures cause { HasCause (failure_count self.old) (failure_count self.new) result }
+        ensures turn { IsTrue self.old.honest → Appends self.old.files log bytes.now result self.new.files }
+        ensures counts { Counts self.old self.new result }
+        ensures keeping { FailsKeeping self.old log bytes.now self.new }
+        ensures views { self.new.views ≡ self.old.views }
+    {
+        if self.calls.count() {
+            let kept = self.kept.min(bytes.len());
+            let _ = self.inner.append(alloc, log, &bytes[..kept]);
+            return Err(DiskFault::Disk);
+        }
+        self.inner.append(alloc, log, bytes)
+    }
+
+    fn patch(&mut self, alloc: Global, log: u32, bytes: &[u8; 12]) -> Result<(), DiskFault>
+        ensures honest { self.new.honest ≡ self.old.honest }
+        ensures cause { HasCause (failure_count self.old) (failure_count self.new) result }
+        ensures turn { IsTrue self.old.honest → Patches self.old.files log bytes.now result self.new.files }
+        ensures counts { Counts self.old self.new result }
+        ensures untouched { FailsUntouched self.old self.new }
+        ensures views { self.new.views ≡ self.old.views }
+    {
+        if self.calls.count() {
+            return Err(DiskFault::Disk);
+        }
+        self.inner.patch(alloc, log, bytes)
+    }
+
+    fn sync(&mut self, alloc: Global, log: u32) -> Result<(), DiskFault>
+        ensures honest { self.new.honest ≡ self.old.honest }
+        ensures cause { HasCause (failure_count self.old) (failure_count self.new) result }
+        ensures turn { IsTrue self.old.honest → Syncs self.old.files log result self.new.files }
+        ensures counts { Counts self.old self.new result }
+        ensures untouched { FailsUntouched self.old self.new }
+        ensures views { self.new.views ≡ self.old.views }
+    {
+        if self.calls.count() {
+            return Err(DiskFault::Disk);
+        }
+        self.inner.sync(alloc, log)
+    }
+
+    fn read_at(&mut self, alloc: Global, log: u32, at: u64, n: u64) -> Result<Vec<u8>, DiskFault>
+        ensures honest { self.new.honest ≡ self.old.honest }
+        ensures cause { HasCause (failure_count self.old) (failure_count self.new) result }
+        ensures turn { IsTrue self.old.honest → Reads (λ v. v.items) self.old.files log at n result self.new.files }
+        ensures counts { Counts self.old self.new result }
+        ensures untouched { FailsUntouched self.old self.new }
+        ensures views { self.new.views ≡ self.old.views }
+    {
+        if self.calls.count() {
+            return Err(DiskFault::Disk);
+        }
+        self.inner.read_at(alloc, log, at, n)
+    }
+
+    fn view(&mut self, alloc: Global, log: u32) -> Result<FaultView<D::View>, DiskFault>
+        ensures honest { self.new.honest ≡ self.old.honest }
+        ensures cause { HasCause (failure_count self.old) (failure_count self.new) result }
+        ensures turn { IsTrue self.old.honest → Views (λ v. v.bytes) (λ v. v.honest) self.old.files log result self.new.files }
+        ensures counts { Counts self.old self.new result }
+        ensures untouched { FailsUntouched self.old self.new }
+        ensures views { CountsView self.old result self.new }
+    {
+        if self.calls.count() {
+            return Err(DiskFault::Disk);
+        }
+        let inner = self.inner.view(alloc, log)?;
+        let broken = self.views.count();
+        Ok(FaultView { inner, broken })
+    }
+
+    fn remove(&mut self, alloc: Global, log: u32) -> Result<(), DiskFault>
+        ensures honest { self.new.honest ≡ self.old.honest }
+        ensures cause { HasCause (failure_count self.old) (failure_count self.new) result }
+        ensures turn { IsTrue self.old.honest → Removes self.old.files log result self.new.files }
+        ensures counts { Counts self.old self.new result }
+        ensures untouched { FailsUntouched self.old self.new }
+        ensures views { self.new.views ≡ self.old.views }
+    {
+        if self.calls.count() {
+            return Err(DiskFault::Disk);
+        }
+        self.inner.remove(alloc, log)
+    }
+}

@@ -1,0 +1,53 @@
+//! A view whose every read may answer `Disk`.
+
+ghost use Rattle.std.specs.Prelude.{◌≡◌, false, ◌&&◌, not, IsTrue, IsErrOf};
+ghost use Rattle.bk_disk.specs.Disk.{ReadsView};
+
+use crate::{DiskFault, LogView};
+use std::alloc::Global;
+use std::marker::Model;
+
+/// A view of a `FaultDisk`: the view underneath, unless it is broken. Then every read answers `Disk`.
+#[derive(Drop)]
+pub struct FaultView<V: LogView> {
+    pub(crate) inner: V,
+    pub(crate) broken: bool,
+}
+
+impl<V: LogView> Model for FaultView<V> {
+    ghost use Rattle.bk_disk.specs.Failing.{FailingView, failing_view_code};
+
+    ghost Value = { FailingView };
+
+    ghost coded = { failing_view_code };
+
+    ghost view = { λ view. record {
+      bytes = V.bytes view.inner;
+      honest = V.honest view.inner;
+      sound = V.sound view.inner;
+      broken = view.broken;
+    } };
+}
+
+impl<V: LogView> LogView for FaultView<V> {
+    ghost bytes = { λ view. view.bytes };
+
+    ghost honest = { λ view. view.honest };
+
+    ghost sound = { λ view. view.sound && not view.broken };
+
+    fn end(&self) -> u64 {
+        self.inner.end()
+    }
+
+    fn read_at(&self, alloc: Global, at: u64, n: u64) -> Result<Vec<u8>, DiskFault>
+        ensures cause { IsErrOf result DiskFault.Disk → (self.now.sound && not self.now.broken) ≡ false }
+        ensures turn { IsTrue self.now.honest → ReadsView (λ v. v.items) self.now.bytes at n result }
+        ensures broken { IsTrue self.now.broken → IsErrOf result DiskFault.Disk }
+    {
+        if self.broken {
+            return Err(DiskFault::Disk);
+        }
+        self.inner.read_at(alloc, at, n)
+    }
+}
