@@ -1,5 +1,5 @@
 -- The pairs of a cache, each payload as its bytes: in order as the pairs are, and with the same keys at the same places.
-use Rattle.std.proofs.Common.{◌≡◌, ◌⊎◌, inl, inr, ℕ, zero, suc, ◌+◌, ◌<◌, ◌≤◌, ◌&&◌, List, [], ◌∷◌, ◌++◌, length, take, drop, map, get_or, Bool, true, false, Option, Some, None, Result, Ok, refl, sym, ap, ◌∙◌, subst, slice_get, option_map, arith, rules}
+use Rattle.std.proofs.Common.{◌≡◌, ◌⊎◌, inl, inr, ℕ, zero, suc, ◌<◌, ◌&&◌, List, [], ◌∷◌, length, get_or, Bool, Option, Some, None, Ok, refl, sym, ap, ◌∙◌, subst, slice_get, option_map, arith}
 use Rattle.std.specs.Bool.{IsTrue}
 use Rattle.std.specs.List.{insert}
 use Rattle.std.specs.Ordering.{is_lt}
@@ -13,7 +13,7 @@ use Rattle.bk_record.specs.Record.{read_added}
 use Rattle.bk_record.specs.Scan.{Payloads}
 use Rattle.bk_index.specs.Sorted.{IsAt, IsGapFor}
 use Rattle.bk_index.proofs.SortedMaps.{entries-sorted, len-sorted}
-use Rattle.bk_index.proofs.KeyPlaces.{get_gap, insert_gap, is_sorted_gap, get_held}
+use Rattle.bk_index.proofs.KeyPlaces.{get_gap, insert_gap, is_sorted_gap}
 use Rattle.bk_drive.proofs.Payloads.{entry-get}
 use Rattle.bk_drive.specs.Caches.{Shared, seen_pairs, IsCache}
 

@@ -1,11 +1,11 @@
 -- The run that a machine has made so far.
-use Rattle.std.proofs.Common.{◌≡◌, ℕ, ◌<◌, List, [], ◌∷◌, ◌++◌, length, take, replicate, Option, Some, None, IsTrue, get_or, ◌+◌, add-one, refl, sym, ap, ◌∙◌, subst}
+use Rattle.std.proofs.Common.{◌≡◌, ℕ, ◌<◌, List, [], ◌∷◌, ◌++◌, length, take, replicate, Option, None, IsTrue, get_or, ◌+◌, add-one, refl, sym, ap, ◌∙◌, subst}
 use Rattle.std.proofs.Math.Seq.{take-suc}
 use Rattle.std.specs.FinMap as finite
 use Rattle.std.specs.FinSet as set
 use Rattle.bk_record.specs.Files.{Files}
 use Rattle.bk_drive.specs.State.{State}
-use Rattle.bk_drive.specs.Machine.{Hold, Desk, Turn}
+use Rattle.bk_drive.specs.Machine.{Hold, Turn}
 use Rattle.bk_drive.specs.Headline.{opened, first_desk, first_plain, reader_count, Headline}
 use Rattle.bk_drive.specs.declared.settings.Settings.{Settings}
 use Rattle.bk_drive.specs.declared.step.Step.{Step}

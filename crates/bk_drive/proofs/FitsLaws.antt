@@ -1,13 +1,13 @@
 -- What the fields of a store keep, kept through the steps of a flush.
-use Rattle.std.proofs.Common.{◌≡◌, ◌⊎◌, inl, inr, ℕ, zero, suc, ◌+◌, ◌<◌, ◌≤◌, ◌^◌, List, [], ◌∷◌, ◌++◌, length, take, Bool, true, false, Option, Some, None, IsSome, IsNone, is_some, IsTrue, refl, sym, ap, ◌∙◌, subst, slice_get, option_map, arith}
+use Rattle.std.proofs.Common.{◌≡◌, ◌⊎◌, inl, inr, ℕ, ◌+◌, ◌<◌, ◌≤◌, ◌^◌, List, [], ◌∷◌, ◌++◌, length, take, Bool, true, false, Option, Some, None, IsSome, IsNone, is_some, IsTrue, Result, refl, sym, ap, ◌∙◌, subst, slice_get, option_map, arith}
 use Rattle.std.specs.Option.{option_and_then}
 use Rattle.std.specs.FinMap as finite
 use Rattle.std.proofs.lemmas.Option.{slice_get_past, none-some}
-use Rattle.bk_record.specs.Key.{EntryKey}
 use Rattle.bk_record.specs.Location.{Place}
-use Rattle.bk_record.specs.Files.{Files, header_length}
+use Rattle.bk_record.specs.Files.{Files}
 use Rattle.bk_log.specs.Writing as writers
 use Rattle.bk_log.specs.Writing.{new_writing, CreateFails}
+use Rattle.bk_log.specs.Sealing.{SealTurn}
 use Rattle.bk_log.specs.declared.fault.LogFault.{LogFault}
 use Rattle.bk_log.specs.declared.fault.LogFault.TheVariants as logs
 use Rattle.bk_head.specs.Header.{empty_header}
@@ -15,16 +15,18 @@ use Rattle.std.specs.FinMap.{nat_cmp-IsAntisymmetric}
 use Rattle.std.proofs.lemmas.Cmp.{nat_cmp_total}
 use Rattle.bk_drive.specs.declared.log.LogState.TheVariants.{Writing, Readable}
 use Rattle.std.proofs.lemmas.Map.Views.{tells_apart}
-use Rattle.bk_drive.proofs.Maps.{key_cases, get-insert_here, get-insert_else}
+use Rattle.bk_drive.proofs.Maps.{get-insert_here}
 use Rattle.bk_drive.proofs.Growing.{no_value}
-use Rattle.bk_drive.specs.Logs.{View, Log, Logs, log_at, last_view, made_log, in_state, with_states, settled}
+use Rattle.bk_drive.specs.Logs.{View, Log, Logs, log_at, last_view, made_log, in_state, with_states, closed_as, settled}
 use Rattle.bk_drive.specs.State.{Flush, Places}
 use Rattle.bk_drive.specs.Fits.{IsGoing, IsBacked, Fits}
 use Rattle.bk_drive.specs.Flushing.{unwritten}
 use Rattle.bk_drive.specs.declared.log.LogState.{LogState}
 use Rattle.bk_drive.specs.declared.settings.Settings.{Settings}
 use Rattle.bk_drive.proofs.LogLists.{log_at-push, log_at-push_old, log_at-push_new, log_at-with_states}
-use Rattle.bk_drive.proofs.KeptWrite.{some_log, log_some, unwritten-places}
+use Rattle.bk_drive.proofs.LogStates.{some_log, log_some}
+use Rattle.bk_drive.proofs.KeptRestart.{unwritten-places}
+use Rattle.bk_drive.proofs.OneFile.{OneFile, still_stands, still_none, seal_one}
 use Rattle.bk_drive.proofs.Payloads.{some_value}
 use Rattle.bk_drive.proofs.Taking.{viewed_log}
 
@@ -87,7 +89,6 @@ pub fits_moved : (settings : Settings) (honest : Bool) (files files' : Files) (f
     → Fits settings honest files' flush' index logs' writing' next'
 fits_moved settings honest files files' flush flush' index logs logs' writing writing' next next' fits grow stays going ids backed = record {
   limit = fits.limit;
-  one = fits.one;
   written = λ f is. elim (stays.written f is) as (λ _. length f.places ≤ finite.len f.pairs) [
     | inl old ↦ fits.written f old
     | inr none ↦ omega (arith, ap length none)
@@ -128,10 +129,6 @@ fits_restarted settings honest files flush index logs writing next fits =
 
 -- ---- a log is made, or half made
 
--- a file came under this id, or none did
-abbrev pub OneFile : Files → ℕ → Files → Type 0
-OneFile files id files' = (files' ≡ files) ⊎ ((bytes : List ℕ) × (files' ≡ finite.insert files id bytes))
-
 pub created_files : (files files' : Files) (id : ℕ) (made : Bool) (fault : LogFault) → finite.get files id ≡ None → CreateFails files id made fault files' → OneFile files id files'
 created_files files files' id false logs.Disk none fails = inl fails
 created_files files files' id true logs.Disk none fails = inr (take fails.1.0 empty_header, fails.1.1)
@@ -143,9 +140,7 @@ created_files files files' id false logs.Failed none fails = absurd fails
 created_files files files' id true logs.Failed none fails = absurd fails
 
 fresh_still : (files files' : Files) (next : ℕ) → ((id : ℕ) → next ≤ id → finite.get files id ≡ None) → OneFile files next files' → (id : ℕ) → next + 1 ≤ id → finite.get files' id ≡ None
-fresh_still files files' next fresh (inl same) id later = ap (λ (fs : Files). finite.get fs id) same ∙ fresh id (omega arith)
-fresh_still files files' next fresh (inr (bytes, is)) id later =
-    ap (λ (fs : Files). finite.get fs id) is ∙ get-insert_else nat_cmp_total nat_cmp-IsAntisymmetric files next bytes id (λ e. omega (arith, e)) ∙ fresh id (omega arith)
+fresh_still files files' next fresh one id later = still_none files files' next id one (λ e. omega (arith, e)) (fresh id (omega arith))
 
 -- the file of a log that was made in part stands
 pub half_file : (files files' : Files) (id : ℕ) (made : Bool) (fault : LogFault) → made ≡ true → CreateFails files id made fault files' → IsSome (finite.get files' id)
@@ -154,16 +149,6 @@ half_file files files' id true logs.Disk is fails = ap is_some (ap (λ (fs : Fil
 half_file files files' id true logs.Memory is fails = ap is_some (ap (λ (fs : Files). finite.get fs id) fails.1 ∙ get-insert_here nat_cmp_total nat_cmp-IsAntisymmetric files id [])
 half_file files files' id true logs.Odd is fails = ap is_some (ap (λ (fs : Files). finite.get fs id) fails.1) ∙ fails.0
 half_file files files' id true logs.Failed is fails = absurd fails
-
--- what had a file has one
-still_stands : (files files' : Files) (next id : ℕ) → OneFile files next files' → IsSome (finite.get files id) → IsSome (finite.get files' id)
-still_stands files files' next id (inl same) is = ap is_some (ap (λ (fs : Files). finite.get fs id) same) ∙ is
-still_stands files files' next id (inr (bytes, same)) is =
-    ap is_some (ap (λ (fs : Files). finite.get fs id) same)
-    ∙ elim (key_cases nat_cmp_total nat_cmp-IsAntisymmetric id next) as (λ _. IsSome (finite.get (finite.insert files next bytes) id)) [
-      | inl e ↦ ap is_some (ap (λ (x : ℕ). finite.get (finite.insert files next bytes) x) e ∙ get-insert_here nat_cmp_total nat_cmp-IsAntisymmetric files next bytes)
-      | inr apart ↦ ap is_some (get-insert_else nat_cmp_total nat_cmp-IsAntisymmetric files next bytes id apart.1) ∙ is
-    ]
 
 -- each log has its file, when one more is held
 stand_pushed : (files files' : Files) (logs : Logs) (next : ℕ) (new : Log) → ((id : ℕ) → IsSome (log_at logs id) → IsSome (finite.get files id)) → OneFile files next files'
@@ -219,3 +204,31 @@ fits_half_made settings honest honest' files files' flush index logs logs' writi
       writes = λ v e. absurd (none-some v (sym none_is ∙ e));
       views = λ id view there. backed.views id view ((logs_pushed logs next Readable).views id view there);
     })))
+
+-- ---- the log that is written is sealed
+
+pub fits_sealed : (settings : Settings) (honest honest' : Bool) (files files' : Files) (flush : Option Flush) (index : Places) (ls : Logs) (w : writers.Writing) (next : ℕ) (state : LogState) (r : Result (Unit {0}) LogFault)
+    → Fits settings honest files flush index ls (Some w) next → honest' ≡ honest → (IsTrue honest → SealTurn files w r files')
+    → Fits settings honest' files' flush index (with_states (closed_as state) ls) None next
+fits_sealed settings honest honest' files files' flush index ls w next state r fits same turn =
+    subst (λ (h : Bool). Fits settings h files' flush index (with_states (closed_as state) ls) None next) (sym same)
+    (fits_moved settings honest files files' flush flush index ls (with_states (closed_as state) ls) (Some w) None next next fits
+    (logs_in_states (closed_as state) ls) (flush_same flush) (λ v none. cc) fits.ids
+    (λ h b.
+    let at = b.writes w refl in
+    let one = seal_one files w at.file at.stands files' r (turn h) in
+    record {
+      fresh = λ id later. still_none files files' w.log id one (λ e. omega (arith, e, (fits.going w refl).below)) (b.fresh id later);
+      stand = λ id is. still_stands files files' w.log id one (b.stand id (held_before (closed_as state) ls id is));
+      writes = λ v none. cc;
+      views = λ id view is. b.views id view ((logs_in_states (closed_as state) ls).views id view is);
+    }))
+
+pub fits_sealed_from : (settings : Settings) (honest honest' : Bool) (files files' : Files) (flush : Option Flush) (index : Places) (ls ls' : Logs) (w : writers.Writing) (writing left : Option writers.Writing) {next : ℕ} (state : LogState) (r : Result (Unit {0}) LogFault)
+    → Fits settings honest files flush index ls writing next → writing ≡ Some w → left ≡ None → ls' ≡ with_states (closed_as state) ls → honest' ≡ honest → (IsTrue honest → SealTurn files w r files')
+    → Fits settings honest' files' flush index ls' left next
+fits_sealed_from settings honest honest' files files' flush index ls ls' w writing left {next = next} state r fits written none closed same turn =
+    subst (λ (o : Option writers.Writing). Fits settings honest' files' flush index ls' o next) (sym none)
+    (subst (λ (l : Logs). Fits settings honest' files' flush index l None next) (sym closed)
+    (fits_sealed settings honest honest' files files' flush index ls w next state r
+    (subst (λ (o : Option writers.Writing). Fits settings honest files flush index ls o next) written fits) same turn))

@@ -1,27 +1,25 @@
 -- Files that grow: what a log's file is then, and which records stand in it.
-use Rattle.std.proofs.Common.{◌≡◌, ◌≢◌, ◌⊎◌, inl, inr, ℕ, ◌+◌, ◌≤◌, List, [], ◌∷◌, ◌++◌, length, take, Option, Some, None, IsSome, is_some, IsNone, refl, sym, ap, ◌∙◌, subst, unwrap_or}
-use Rattle.std.specs.Ordering.{nat_cmp}
+use Rattle.std.proofs.Common.{◌≡◌, ◌≢◌, ◌⊎◌, inl, inr, ℕ, ◌≤◌, List, [], ◌++◌, length, Option, Some, None, IsSome, is_some, IsNone, refl, sym, ap, ◌∙◌, subst, unwrap_or}
 use Rattle.std.specs.Option.{option_map_or}
 use Rattle.std.specs.FinMap as finite
 use Rattle.std.specs.FinMap.{nat_cmp-IsAntisymmetric}
 use Rattle.std.proofs.lemmas.Cmp.{nat_cmp_total}
-use Rattle.std.proofs.lemmas.List.{append-nil}
 use Rattle.bk_record.specs.Location.{Place}
 use Rattle.bk_record.specs.Files.{Files, file_of, records_of, HasRecord, In, header_length}
 use Rattle.bk_record.proofs.Growth.{records_of-short, In-append_cases}
 use Rattle.bk_disk.specs.Disk.{IsFile, grown}
-use Rattle.bk_drive.proofs.Kept.{IsPrefix}
-use Rattle.bk_drive.proofs.Longer.{records-prefix, has-record, record-has}
+use Rattle.bk_drive.proofs.Kept.{IsLonger}
+use Rattle.bk_drive.proofs.Longer.{records-longer, longer_same, longer_append, longer_empty, has-record, record-has}
 use Rattle.bk_drive.proofs.Maps.{key_cases, get-insert_here, get-insert_else}
 
 pub no_value : {X : Type 0} (o : Option X) → IsNone o → o ≡ None
 no_value None is = refl
 no_value (Some x) is = cc
 
-file-insert_here : (fs : Files) (log : ℕ) (bytes : List ℕ) → file_of (finite.insert fs log bytes) log ≡ bytes
+pub file-insert_here : (fs : Files) (log : ℕ) (bytes : List ℕ) → file_of (finite.insert fs log bytes) log ≡ bytes
 file-insert_here fs log bytes = ap (λ o. unwrap_or o []) (get-insert_here nat_cmp_total nat_cmp-IsAntisymmetric fs log bytes)
 
-file-insert_else : (fs : Files) (log : ℕ) (bytes : List ℕ) (id : ℕ) → id ≢ log → file_of (finite.insert fs log bytes) id ≡ file_of fs id
+pub file-insert_else : (fs : Files) (log : ℕ) (bytes : List ℕ) (id : ℕ) → id ≢ log → file_of (finite.insert fs log bytes) id ≡ file_of fs id
 file-insert_else fs log bytes id apart = ap (λ o. unwrap_or o []) (get-insert_else nat_cmp_total nat_cmp-IsAntisymmetric fs log bytes id apart)
 
 -- ---- a new file without a record
@@ -30,14 +28,10 @@ module _ (fs : Files) (log : ℕ) (none : finite.get fs log ≡ None) (bytes : L
   no_file : file_of fs log ≡ []
   no_file = ap (λ o. unwrap_or o []) none
 
-  pub made_grows : (id : ℕ) → IsPrefix (file_of fs id) (file_of (finite.insert fs log bytes) id)
-  made_grows id = elim (key_cases nat_cmp_total nat_cmp-IsAntisymmetric id log) as (λ _. IsPrefix (file_of fs id) (file_of (finite.insert fs log bytes) id)) [
-    | inl e ↦ record {
-      behind = bytes;
-      is = ap (λ (x : ℕ). file_of (finite.insert fs log bytes) x) e ∙ file-insert_here fs log bytes
-          ∙ ap (λ (l : List ℕ). l ++ bytes) (sym (ap (file_of fs) e ∙ no_file));
-    }
-    | inr apart ↦ record { behind = []; is = file-insert_else fs log bytes id apart.1 ∙ sym (append-nil (file_of fs id)) }
+  pub made_grows : (id : ℕ) → IsLonger (file_of fs id) (file_of (finite.insert fs log bytes) id)
+  made_grows id = elim (key_cases nat_cmp_total nat_cmp-IsAntisymmetric id log) as (λ _. IsLonger (file_of fs id) (file_of (finite.insert fs log bytes) id)) [
+    | inl e ↦ subst (λ (l : List ℕ). IsLonger l (file_of (finite.insert fs log bytes) id)) (sym (ap (file_of fs) e ∙ no_file)) (longer_empty _)
+    | inr apart ↦ subst (λ (l : List ℕ). IsLonger (file_of fs id) l) (sym (file-insert_else fs log bytes id apart.1)) (longer_same (file_of fs id))
   ]
 
   pub made_no_new : (place : Place) (b : List ℕ) → HasRecord (finite.insert fs log bytes) place b → HasRecord fs place b
@@ -49,8 +43,8 @@ module _ (fs : Files) (log : ℕ) (none : finite.get fs log ≡ None) (bytes : L
   ]
 
 -- what grows keeps its records
-pub grows_stands : (fs gs : Files) → ((id : ℕ) → IsPrefix (file_of fs id) (file_of gs id)) → (place : Place) (b : List ℕ) → HasRecord fs place b → HasRecord gs place b
-grows_stands fs gs grows place b there = has-record gs place b (records-prefix _ _ _ (grows place.log) (record-has fs place b there))
+pub grows_stands : (fs gs : Files) → ((id : ℕ) → IsLonger (file_of fs id) (file_of gs id)) → (place : Place) (b : List ℕ) → HasRecord fs place b → HasRecord gs place b
+grows_stands fs gs grows place b there = has-record gs place b (records-longer _ _ _ (grows place.log) (record-has fs place b there))
 
 -- ---- more bytes at the end of a log
 
@@ -83,14 +77,12 @@ module _ (fs : Files) (log : ℕ) (file : List ℕ) (stands : IsFile fs log file
     | inr apart ↦ ap is_some (ap (λ gs. finite.get gs id) grown-is ∙ get-insert_else nat_cmp_total nat_cmp-IsAntisymmetric fs log (file ++ more) id apart.1) ∙ is
   ]
 
-  pub grown_grows : (id : ℕ) → IsPrefix (file_of fs id) (file_of (grown fs log more) id)
-  grown_grows id = elim (key_cases nat_cmp_total nat_cmp-IsAntisymmetric id log) as (λ _. IsPrefix (file_of fs id) (file_of (grown fs log more) id)) [
-    | inl e ↦ record {
-      behind = more;
-      is = ap (λ (x : ℕ). file_of (grown fs log more) x) e ∙ file-grown_here
-          ∙ ap (λ (l : List ℕ). l ++ more) (sym (ap (file_of fs) e ∙ file-of_log));
-    }
-    | inr apart ↦ record { behind = []; is = file-grown_else id apart.1 ∙ sym (append-nil (file_of fs id)) }
+  pub grown_grows : (id : ℕ) → IsLonger (file_of fs id) (file_of (grown fs log more) id)
+  grown_grows id = elim (key_cases nat_cmp_total nat_cmp-IsAntisymmetric id log) as (λ _. IsLonger (file_of fs id) (file_of (grown fs log more) id)) [
+    | inl e ↦
+        subst (λ (l : List ℕ). IsLonger l (file_of (grown fs log more) id)) (sym (ap (file_of fs) e ∙ file-of_log))
+        (subst (λ (l : List ℕ). IsLonger file l) (sym (ap (λ (x : ℕ). file_of (grown fs log more) x) e ∙ file-grown_here)) (longer_append file more))
+    | inr apart ↦ subst (λ (l : List ℕ). IsLonger (file_of fs id) l) (sym (file-grown_else id apart.1)) (longer_same (file_of fs id))
   ]
 
   -- a record of the grown files is one of before, or one of those that came

@@ -1,5 +1,5 @@
 -- Lists that are worked through in place: each element by a rule, one element, the last element.
-use Rattle.std.proofs.Common.{◌≡◌, ◌≢◌, ℕ, zero, suc, ◌+◌, ◌-◌, ◌<◌, ◌≤◌, cond, List, [], ◌∷◌, ◌++◌, length, take, drop, map, set, get_or, Bool, true, false, Option, Some, None, refl, sym, ap, ◌∙◌, subst, slice_get, option_map, arith, length-append, add-one}
+use Rattle.std.proofs.Common.{◌≡◌, ◌≢◌, ℕ, zero, suc, ◌+◌, ◌-◌, ◌<◌, ◌≤◌, cond, List, [], ◌∷◌, ◌++◌, length, take, drop, map, set, get_or, Bool, true, false, Option, Some, None, refl, sym, ap, ◌∙◌, slice_get, option_map, arith, length-append, add-one}
 use Rattle.std.specs.Ordering.{nat_cmp, eq_by_cmp, is_eq}
 use Rattle.std.specs.FinMap.Entries.{find}
 use Rattle.std.specs.FinMap.{nat_cmp-IsAntisymmetric}

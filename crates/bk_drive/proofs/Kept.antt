@@ -1,25 +1,26 @@
 -- What is kept between two steps, by which the store and the plain map go side by side.
-use Rattle.std.proofs.Common.{◌≡◌, ℕ, ◌+◌, ◌<◌, ◌≤◌, List, ◌++◌, length, Option, Some, None, IsSome, slice_get, Result, Ok}
+use Rattle.std.proofs.Common.{◌≡◌, ℕ, ◌<◌, ◌≤◌, List, ◌++◌, length, drop, Some, None, IsSome, IsTrue, slice_get, Ok}
 use Rattle.std.specs.FinMap as finite
 use Rattle.std.specs.FinSet as set
 use Rattle.bk_record.specs.Key.{EntryKey}
 use Rattle.bk_record.specs.Location.{Place}
 use Rattle.bk_record.specs.Record.{key_of, read_added}
-use Rattle.bk_record.specs.Files.{Files, file_of, records_of, HasRecord, In, IsWhole}
+use Rattle.bk_record.specs.Files.{Files, file_of, header_length, records_of, HasRecord, In, IsWhole}
 use Rattle.bk_disk.specs.Disk.{IsFile}
 use Rattle.bk_record.specs.Scan.{Payloads}
 use Rattle.bk_log.specs.Writing as writers
-use Rattle.bk_drive.specs.Logs.{Log, log_at, published_part}
+use Rattle.bk_log.specs.Places.{HasRecordAt}
+use Rattle.bk_drive.specs.Logs.{View, Log, log_at, published_part}
 use Rattle.bk_drive.specs.State.{Flush, State}
 use Rattle.bk_drive.specs.Plain.{Plain}
 use Rattle.bk_drive.specs.Machine.{Desk}
 use Rattle.bk_drive.specs.Holding.{cached, flushing}
 use Rattle.bk_drive.specs.Headline.{AreOwed}
 
--- the longer list begins with the shorter
-pub record IsPrefix (front whole : List ℕ) : Type 0 where
+-- behind its header the one log begins as the other does
+pub record IsLonger (front whole : List ℕ) : Type 0 where
   pub behind : List ℕ
-  pub is : whole ≡ front ++ behind
+  pub is : drop header_length whole ≡ drop header_length front ++ behind
 
 -- the key is indexed at a record of this payload, in the published part of a log that is held
 pub record IsIndexed (s : State) (key : EntryKey) (place : Place) : Type 0 where
@@ -27,6 +28,7 @@ pub record IsIndexed (s : State) (key : EntryKey) (place : Place) : Type 0 where
   pub log : Log
   pub held : log_at s.logs place.log ≡ Some log
   pub shown : In (place.at, payload) (records_of (published_part log))
+  pub there : HasRecordAt (published_part log) place.at payload
   pub keyed : key_of payload ≡ Some key
 
 -- an entry of the flush that has a place stands there, in a log that is held
@@ -34,6 +36,7 @@ pub record IsPlaced (s : State) (place : Place) (payload : List ℕ) : Type 0 wh
   pub log : Log
   pub held : log_at s.logs place.log ≡ Some log
   pub stands : HasRecord s.files place payload
+  pub there : HasRecordAt (file_of s.files place.log) place.at payload
 
 -- the writer's log is a header and whole records, as long as the writer says
 pub record IsWriterOf (files : Files) (w : writers.Writing) : Type 0 where
@@ -55,7 +58,8 @@ pub record Kept (p : Plain) (s : State) : Type 0 where
   pub flush_is : (pairs : Payloads) (k : EntryKey) (b : List ℕ) → flushing s ≡ Some pairs → finite.get pairs k ≡ Some b → cached s k ≡ Some b
   pub placed : (f : Flush) (i : ℕ) (e : EntryKey × List ℕ) (place : Place) → s.flush ≡ Some f → slice_get (finite.entries f.pairs) i ≡ Some e
       → slice_get f.places i ≡ Some place → IsPlaced s place e.1
-  pub parts : (id : ℕ) (log : Log) → log_at s.logs id ≡ Some log → IsPrefix (published_part log) (file_of s.files id)
+  pub parts : (id : ℕ) (log : Log) → log_at s.logs id ≡ Some log → IsLonger (published_part log) (file_of s.files id)
+  pub views : (id : ℕ) (log : Log) (view : View) → log_at s.logs id ≡ Some log → log.view ≡ Some view → IsTrue view.is_honest
   pub writes : (w : writers.Writing) → s.writing ≡ Some w → IsWriterOf s.files w
   pub held : (w : writers.Writing) → s.writing ≡ Some w → IsSome (log_at s.logs w.log)
   pub below : (id : ℕ) (log : Log) → log_at s.logs id ≡ Some log → id < s.next

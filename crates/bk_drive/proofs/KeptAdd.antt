@@ -1,14 +1,14 @@
 -- An add keeps what is kept, and answers as the plain map does.
-use Rattle.std.proofs.Common.{◌≡◌, ◌≢◌, ◌⊎◌, inl, inr, ℕ, List, Option, Some, None, IsSome, IsNone, Result, Ok, Err, Bool, true, false, cond, refl, sym, ap, ◌∙◌, subst, is_some, ◌||◌}
+use Rattle.std.proofs.Common.{◌≡◌, ◌≢◌, inl, inr, ℕ, List, Option, Some, None, IsNone, Result, Ok, Err, false, refl, sym, ap, ◌∙◌, subst, is_some, ◌||◌}
 use Rattle.std.specs.Option.{option_or}
 use Rattle.std.specs.Ordering.{nat_cmp}
 use Rattle.std.specs.FinMap as finite
 use Rattle.std.specs.FinSet as set
 use Rattle.bk_record.specs.Key.{EntryKey}
-use Rattle.bk_record.specs.Record.{read_added, key_of}
+use Rattle.bk_record.specs.Record.{read_added}
 use Rattle.bk_record.proofs.Keys.{key_cmp_total, key_cmp_antisymmetric}
-use Rattle.bk_drive.specs.State.{State, Flush}
-use Rattle.bk_drive.specs.Meaning.{cached_at, flushing_at}
+use Rattle.bk_drive.specs.State.{State}
+use Rattle.bk_drive.specs.Meaning.{flushing_at}
 use Rattle.bk_drive.specs.Plain.{Plain, PlainAdd, Asks}
 use Rattle.bk_drive.specs.Holding.{cached, flushing, holds, AddTurn}
 use Rattle.bk_drive.specs.declared.answer.Added.{Added}
@@ -82,10 +82,11 @@ module _ (p : Plain) (s : State) (kept : Kept p s) (key : EntryKey) (payload : L
         | inl e ↦ absurd (let both : Some payload ≡ None = sym cached_here ∙ ap (λ x. cached new_state x) (sym e) ∙ none in cc)
         | inr apart ↦ kept.covered k b (sym (map_else k apart.1) ∙ is) (sym (cached_else k apart.1) ∙ none)
       ];
-      indexed = λ k place is. let i = kept.indexed k place is in record { payload = i.payload; log = i.log; held = i.held; shown = i.shown; keyed = i.keyed };
+      indexed = λ k place is. let i = kept.indexed k place is in record { payload = i.payload; log = i.log; held = i.held; shown = i.shown; there = i.there; keyed = i.keyed };
       flush_is = λ f k b is there. let old = kept.flush_is f k b is there in cached_else k (other k b (kept.cached_is k b old)) ∙ old;
-      placed = λ f i e place is at place_is. let old = kept.placed f i e place is at place_is in record { log = old.log; held = old.held; stands = old.stands };
+      placed = λ f i e place is at place_is. let old = kept.placed f i e place is at place_is in record { log = old.log; held = old.held; stands = old.stands; there = old.there };
       parts = kept.parts;
+      views = kept.views;
       writes = kept.writes;
       held = kept.held;
       below = kept.below;

@@ -1,28 +1,27 @@
 -- What is kept makes the files, with the cached pairs, mean the plain map.
-use Rattle.std.proofs.Common.{◌≡◌, ℕ, List, Option, Some, None, IsSome, IsNone, Bool, true, false, cond, refl, sym, ap, ◌∙◌, subst, ◌||◌, is_some}
+use Rattle.std.proofs.Common.{◌≡◌, Some, None, IsSome, IsNone, Bool, true, false, cond, refl, sym, ap, ◌∙◌, ◌||◌, is_some}
 use Rattle.std.specs.Option.{option_or}
 use Rattle.std.specs.Ordering.{nat_cmp}
 use Rattle.std.specs.FinMap as finite
 use Rattle.std.specs.FinSet as set
 use Rattle.bk_record.specs.Key.{EntryKey}
 use Rattle.bk_record.specs.Location.{Place}
-use Rattle.bk_record.specs.Files.{HasRecord}
 use Rattle.bk_record.specs.Scan.{scan_of}
 use Rattle.bk_record.proofs.Scans.{scan-some, scan-none}
 use Rattle.bk_drive.specs.Logs.{published_part}
 use Rattle.bk_drive.specs.State.{State}
-use Rattle.bk_drive.specs.Meaning.{cached_at, meaning_at, IsMeaning}
+use Rattle.bk_drive.specs.Meaning.{cached_at, IsMeaning}
 use Rattle.bk_drive.specs.Plain.{Plain}
-use Rattle.bk_drive.specs.Holding.{cached, flushing, holds}
+use Rattle.bk_drive.specs.Holding.{cached, holds}
 use Rattle.bk_drive.proofs.Kept.{Kept, IsIndexed}
-use Rattle.bk_drive.proofs.Longer.{records-prefix, has-record}
+use Rattle.bk_drive.proofs.Longer.{records-longer, has-record}
 
 module _ (p : Plain) (s : State) (kept : Kept p s) where
   -- an indexed key is the plain map's, with the payload that stands at its place
   pub indexed_map : (k : EntryKey) (place : Place) (i : IsIndexed s k place) → finite.get p.map k ≡ Some i.payload
   indexed_map k place i =
       kept.recorded place i.payload k
-      (has-record s.files place i.payload (records-prefix (published_part i.log) _ _ (kept.parts place.log i.log i.held) i.shown)) i.keyed
+      (has-record s.files place i.payload (records-longer (published_part i.log) _ _ (kept.parts place.log i.log i.held) i.shown)) i.keyed
 
   pub held_map : (k : EntryKey) → holds s k ≡ true → IsSome (finite.get p.map k)
   held_map k is =
@@ -57,7 +56,7 @@ module _ (p : Plain) (s : State) (kept : Kept p s) where
         | Some b ↦ λ there. absurd (elim (finite.get s.index k) as (λ o. finite.get s.index k ≡ o → is_some o ≡ true → ⊥) [
           | None ↦ λ _ wrong. cc
           | Some place ↦ λ named _. let i = kept.indexed k place named in scan-none s.files k place i.payload is
-              (has-record s.files place i.payload (records-prefix (published_part i.log) _ _ (kept.parts place.log i.log i.held) i.shown)) i.keyed
+              (has-record s.files place i.payload (records-longer (published_part i.log) _ _ (kept.parts place.log i.log i.held) i.shown)) i.keyed
         ] refl (kept.covered k b there e))
       ] refl
     ] refl

@@ -1,28 +1,29 @@
 -- A publish keeps what is kept, whatever the disk answers.
-use Rattle.std.proofs.Common.{◌≡◌, ◌⊎◌, inl, inr, ℕ, zero, suc, ◌<◌, ◌≤◌, ◌||◌, List, [], ◌∷◌, ◌++◌, length, take, Bool, true, false, Option, Some, None, IsSome, IsNone, is_some, Result, Ok, Err, refl, sym, ap, ◌∙◌, subst, slice_get, option_map, arith, nat_eq, eq-eqb}
+use Rattle.std.proofs.Common.{◌≡◌, inl, inr, ℕ, zero, suc, ◌<◌, ◌||◌, List, [], ◌∷◌, length, take, Bool, true, false, Option, Some, None, IsSome, IsTrue, is_some, Result, Ok, Err, refl, sym, ap, ◌∙◌, subst, slice_get, option_map, arith, nat_eq, eq-eqb}
 use Rattle.std.specs.Option.{option_or}
 use Rattle.std.specs.FinMap as finite
-use Rattle.std.proofs.lemmas.List.{length-map, append-nil, take_all}
+use Rattle.std.proofs.lemmas.List.{length-map, take_all}
 use Rattle.bk_record.specs.Key.{EntryKey}
 use Rattle.bk_record.specs.Location.{Place}
-use Rattle.bk_record.specs.Record.{key_of}
-use Rattle.bk_record.specs.Files.{Files, file_of, records_of, HasRecord, In}
+use Rattle.bk_record.specs.Files.{file_of, records_of, In}
 use Rattle.bk_record.specs.Scan.{Payloads}
-use Rattle.bk_drive.specs.Logs.{Log, Logs, log_at, in_state, unfilled, with_states, has_place, published_part}
+use Rattle.bk_log.specs.Places.{HasRecordAt}
+use Rattle.bk_drive.specs.Logs.{View, Log, Logs, log_at, in_state, unfilled, with_states, has_place, published_part}
 use Rattle.bk_drive.specs.State.{Flush, Places, State}
 use Rattle.bk_drive.specs.Meaning.{flushing_at}
 use Rattle.bk_drive.specs.Plain.{Plain, published}
 use Rattle.bk_drive.specs.Holding.{cached, flushing}
-use Rattle.bk_drive.specs.Flushing.{ShowsAll, ShowsSome, named, IsWritten, PublishTurn}
+use Rattle.bk_drive.specs.Flushing.{ShowsAll, ShowsSome, named, PublishTurn}
 use Rattle.bk_drive.specs.Machine.{after_publish}
 use Rattle.bk_drive.specs.declared.answer.FlushFault.{FlushFault}
 use Rattle.bk_drive.specs.declared.answer.FlushFault.TheVariants.{Disk, Memory, LogsFull, NoMoreIds, Odd}
 use Rattle.bk_drive.specs.declared.answer.PublishAnswer.{PublishAnswer}
 use Rattle.bk_drive.specs.declared.answer.PublishAnswer.TheVariants as publishes
-use Rattle.bk_drive.proofs.Kept.{Kept, IsPrefix, IsIndexed, IsPlaced}
+use Rattle.bk_drive.proofs.Kept.{Kept, IsLonger, IsIndexed}
+use Rattle.bk_drive.proofs.KeptMoves.{part_of}
 use Rattle.bk_drive.proofs.KeptSwap.{or_none}
-use Rattle.bk_drive.proofs.KeptWrite.{log_some, some_log}
-use Rattle.bk_drive.proofs.Longer.{records-prefix, record-has}
+use Rattle.bk_drive.proofs.LogStates.{log_some, some_log}
+use Rattle.bk_drive.proofs.Longer.{records-longer, record_longer, longer_same, record-has}
 use Rattle.bk_drive.proofs.LogLists.{log_at-with_states}
 use Rattle.bk_drive.proofs.Payloads.{addable, entry-get, some_value}
 use Rattle.bk_drive.proofs.Named.{named_keeps, named_has, named_from, IsBeside, slice_get-take, key_entry, get-key}
@@ -55,8 +56,12 @@ module _ (p : Plain) (s : State) (kept : Kept p s) (flush : Flush) (runs : s.flu
         log = now.0;
         held = now.1.0;
         shown = elim now.1.1 as (λ _. In (place.at, i.payload) (records_of (published_part now.0))) [
-          | inl same ↦ subst (λ (l : List ℕ). In (place.at, i.payload) (records_of l)) (sym same) i.shown
-          | inr whole ↦ subst (λ (l : List ℕ). In (place.at, i.payload) (records_of l)) (sym whole) (records-prefix _ _ _ (kept.parts place.log i.log i.held) i.shown)
+          | inl same ↦ subst (λ (o : Option View). In (place.at, i.payload) (records_of (part_of o))) (sym same) i.shown
+          | inr whole ↦ subst (λ (l : List ℕ). In (place.at, i.payload) (records_of l)) (sym whole.0) (records-longer _ _ _ (kept.parts place.log i.log i.held) i.shown)
+        ];
+        there = elim now.1.1 as (λ _. HasRecordAt (published_part now.0) place.at i.payload) [
+          | inl same ↦ subst (λ (o : Option View). HasRecordAt (part_of o) place.at i.payload) (sym same) i.there
+          | inr whole ↦ subst (λ (l : List ℕ). HasRecordAt l place.at i.payload) (sym whole.0) (record_longer _ _ _ _ (kept.parts place.log i.log i.held) i.there)
         ];
         keyed = i.keyed;
       }
@@ -76,6 +81,7 @@ module _ (p : Plain) (s : State) (kept : Kept p s) (flush : Flush) (runs : s.flu
         log = now.0;
         held = now.1.0;
         shown = subst (λ (l : List ℕ). In (place.at, e.0.1) (records_of l)) (sym whole) (record-has s.files place e.0.1 placed.stands);
+        there = subst (λ (l : List ℕ). HasRecordAt l place.at e.0.1) (sym whole) placed.there;
         keyed = (addable e.0.1 e.0.0 (kept.keyed e.0.0 e.0.1 had)).keyed ∙ ap Some e.1.1;
       }
 
@@ -97,12 +103,21 @@ module _ (p : Plain) (s : State) (kept : Kept p s) (flush : Flush) (runs : s.flu
     placed = λ f i e place is here place_is.
         let old = kept.placed f i e place is here place_is in
         let now = shown_is s.files flush.places s.logs shown place.log old.log some old.held in
-        record { log = now.0; held = now.1.0; stands = old.stands };
+        record { log = now.0; held = now.1.0; stands = old.stands; there = old.there };
     parts = λ id log is.
         let old = shown_was s.files flush.places s.logs shown id log some is in
-        elim old.1.1 as (λ _. IsPrefix (published_part log) (file_of s.files id)) [
-          | inl same ↦ subst (λ (l : List ℕ). IsPrefix l (file_of s.files id)) (sym same) (kept.parts id old.0 old.1.0)
-          | inr whole ↦ record { behind = []; is = sym (append-nil (file_of s.files id)) ∙ ap (λ (l : List ℕ). l ++ []) (sym whole) }
+        elim old.1.1 as (λ _. IsLonger (published_part log) (file_of s.files id)) [
+          | inl same ↦ subst (λ (o : Option View). IsLonger (part_of o) (file_of s.files id)) (sym same) (kept.parts id old.0 old.1.0)
+          | inr whole ↦ subst (λ (l : List ℕ). IsLonger l (file_of s.files id)) (sym whole.0) (longer_same (file_of s.files id))
+        ];
+    views = λ id log view is seen.
+        let old = shown_was s.files flush.places s.logs shown id log some is in
+        elim old.1.1 as (λ _. IsTrue view.is_honest) [
+          | inl same ↦ kept.views id old.0 view old.1.0 (sym same ∙ seen)
+          | inr whole ↦
+              let both : Some whole.1.view ≡ Some view = sym whole.1.view_is ∙ seen in
+              let is_view : whole.1.view ≡ view = cc in
+              subst (λ (v : View). IsTrue v.is_honest) is_view whole.1.honest
         ];
     writes = kept.writes;
     held = λ w is.
@@ -144,13 +159,17 @@ module _ (p : Plain) (s : State) (kept : Kept p s) (flush : Flush) (runs : s.flu
           log = in_state (unfilled i.log.state) i.log;
           held = log_at-with_states unfilled s.logs place.log ∙ some_log (log_at s.logs place.log) (λ l. in_state (unfilled l.state) l) i.log i.held;
           shown = i.shown;
+          there = i.there;
           keyed = i.keyed;
         };
     flush_is = λ pairs k b is there. cc;
     placed = λ f i e place is here place_is. cc;
     parts = λ id log is.
         let was = log_some (log_at s.logs id) (λ l. in_state (unfilled l.state) l) log (sym (log_at-with_states unfilled s.logs id) ∙ is) in
-        subst (λ (l : List ℕ). IsPrefix l (file_of s.files id)) (ap (λ (l : Log). (published_part l)) was.1.1) (kept.parts id was.0 was.1.0);
+        subst (λ (l : List ℕ). IsLonger l (file_of s.files id)) (ap (λ (l : Log). (published_part l)) was.1.1) (kept.parts id was.0 was.1.0);
+    views = λ id log view is seen.
+        let was = log_some (log_at s.logs id) (λ l. in_state (unfilled l.state) l) log (sym (log_at-with_states unfilled s.logs id) ∙ is) in
+        kept.views id was.0 view was.1.0 (ap (λ (l : Log). l.view) was.1.1 ∙ seen);
     writes = kept.writes;
     held = λ w is.
         let old = some_value (log_at s.logs w.log) (kept.held w is) in

@@ -1,17 +1,16 @@
 -- A swap keeps what is kept: what the write caches have stays.
-use Rattle.std.proofs.Common.{◌≡◌, ℕ, ◌<◌, List, [], Option, Some, None, IsSome, IsNone, Result, Ok, refl, sym, ap, ◌∙◌, subst, slice_get, arith}
+use Rattle.std.proofs.Common.{◌≡◌, ℕ, List, [], Option, Some, None, IsNone, refl, sym, ap, ◌∙◌, subst, slice_get, arith}
 use Rattle.std.specs.Option.{option_or}
 use Rattle.std.specs.FinMap as finite
 use Rattle.std.proofs.lemmas.Option.{slice_get_past, none-some}
 use Rattle.bk_record.specs.Key.{EntryKey, key_cmp}
 use Rattle.bk_drive.specs.State.{State, Flush}
-use Rattle.bk_drive.specs.Meaning.{cached_at, flushing_at}
 use Rattle.bk_drive.specs.Plain.{Plain, swapped}
 use Rattle.bk_drive.specs.Machine.{after_swap}
-use Rattle.bk_drive.specs.Holding.{cached, flushing, SwapTurn}
+use Rattle.bk_drive.specs.Holding.{cached, SwapTurn}
 use Rattle.bk_drive.specs.declared.answer.SwapAnswer.{SwapAnswer}
 use Rattle.bk_drive.specs.declared.answer.SwapAnswer.TheVariants.{Running, Nothing, Swapped}
-use Rattle.bk_drive.proofs.Kept.{Kept, IsPlaced}
+use Rattle.bk_drive.proofs.Kept.{Kept}
 
 pub or_none : (o : Option (List ℕ)) → option_or o None ≡ o
 or_none None = refl
@@ -43,7 +42,7 @@ module _ (p : Plain) (s : State) (kept : Kept p s) (idle : s.flush ≡ None) whe
     keyed = λ k b is. kept.keyed k b (sym (same_cached k) ∙ is);
     recorded = kept.recorded;
     covered = λ k b is none. kept.covered k b is (sym (same_cached k) ∙ none);
-    indexed = λ k place is. let i = kept.indexed k place is in record { payload = i.payload; log = i.log; held = i.held; shown = i.shown; keyed = i.keyed };
+    indexed = λ k place is. let i = kept.indexed k place is in record { payload = i.payload; log = i.log; held = i.held; shown = i.shown; there = i.there; keyed = i.keyed };
     flush_is = λ f k b is there.
         let same : s.active ≡ f = cc in
         ap (λ o. option_or o (finite.get s.active k)) (finite.get-empty key_cmp k) ∙ ap (λ x. finite.get x k) same ∙ there;
@@ -51,6 +50,7 @@ module _ (p : Plain) (s : State) (kept : Kept p s) (idle : s.flush ≡ None) whe
         let same : flush_now ≡ f = cc in
         absurd (none-some place (sym (slice_get_past [] i (omega arith)) ∙ ap (λ (x : Flush). slice_get x.places i) same ∙ place_is));
     parts = kept.parts;
+    views = kept.views;
     writes = kept.writes;
     held = kept.held;
     below = kept.below;

@@ -1,20 +1,19 @@
 -- A take by a reader gives it what it is owed from then on.
-use Rattle.std.proofs.Common.{◌≡◌, ℕ, zero, suc, ◌+◌, ◌≤◌, List, [], ◌∷◌, length, Option, Some, None, IsSome, IsNone, Result, Ok, Err, Bool, true, false, refl, sym, ap, ◌∙◌, subst, slice_get, slice_set, arith}
-use Rattle.std.specs.FinMap as finite
+use Rattle.std.proofs.Common.{◌≡◌, ℕ, zero, suc, List, [], ◌∷◌, length, Option, Some, None, Result, Ok, Err, refl, sym, ap, ◌∙◌, subst, slice_set, arith}
 use Rattle.bk_record.specs.Key.{EntryKey}
 use Rattle.bk_record.specs.Files.{records_of, In}
-use Rattle.bk_drive.specs.Logs.{View, Log, log_at, published_part}
+use Rattle.bk_log.specs.Places.{HasRecordAt}
+use Rattle.bk_drive.specs.Logs.{Log, published_part}
 use Rattle.std.specs.Option.{option_map_or}
 use Rattle.bk_drive.specs.State.{State}
 use Rattle.bk_drive.specs.Plain.{Plain, Owed, PlainTake, IsFree, IsBusy}
-use Rattle.bk_drive.specs.Holding.{cached, holds}
 use Rattle.bk_drive.specs.Machine.{Desk, Hold, hold_on, ReaderTake}
 use Rattle.bk_drive.specs.Headline.{IsOwed, AreOwed}
 use Rattle.bk_drive.specs.declared.answer.TakeFault.{TakeFault}
 use Rattle.bk_drive.specs.declared.answer.TakeFault.TheVariants as take_faults
 use Rattle.bk_drive.specs.declared.step.TakeAnswer.{TakeAnswer}
 use Rattle.bk_drive.specs.declared.step.TakeAnswer.TheVariants.{NoReader, ReaderBusy, NotHeld, Cached, Leased}
-use Rattle.bk_drive.proofs.Kept.{Kept, KeptDesk, IsIndexed}
+use Rattle.bk_drive.proofs.Kept.{Kept, KeptDesk}
 use Rattle.bk_drive.proofs.KeptMeaning.{held_map, unheld_map, indexed_map}
 
 pub length_owed : (hs : List (Option Hold)) (os : List (Option Owed)) → AreOwed hs os → length hs ≡ length os
@@ -83,6 +82,7 @@ readers_kept p s readers kept = record {
   flush_is = kept.flush_is;
   placed = kept.placed;
   parts = kept.parts;
+  views = kept.views;
   writes = kept.writes;
   held = kept.held;
   below = kept.below;
@@ -106,9 +106,15 @@ module _ (p : Plain) (d : Desk) (kept : KeptDesk p d) (reader : ℕ) (key : Entr
       let view = turn.3.0 in
       let shown = turn.3.1 in
       let same : at.log ≡ shown.log = let both = sym at.held ∙ shown.held in cc in
-      let bytes : published_part at.log ≡ view.bytes = ap published_part same ∙ ap (λ o. option_map_or (λ v. v.bytes) o []) shown.view_is in
+      let seen : at.log.view ≡ Some view = ap (λ (l : Log). l.view) same ∙ shown.view_is in
+      let bytes : published_part at.log ≡ view.bytes = ap (λ o. option_map_or (λ v. v.bytes) o []) seen in
       let owed : Owed = record { log = place.log; payload = at.payload } in
-      let is : IsOwed (hold_on place key view) owed = record { log = refl; shown = subst (λ (l : List ℕ). In (place.at, at.payload) (records_of l)) bytes at.shown } in (
+      let is : IsOwed (hold_on place key view) owed = record {
+        log = refl;
+        honest = kept.store.views place.log at.log view at.held seen;
+        listed = subst (λ (l : List ℕ). In (place.at, at.payload) (records_of l)) bytes at.shown;
+        shown = record { here = subst (λ (l : List ℕ). HasRecordAt l place.at at.payload) bytes at.there; keyed = at.keyed };
+      } in (
         with_readers p (slice_set p.readers reader (Some owed)),
         (
           (free turn.0, (at.payload, indexed_map p d.store kept.store key place at, refl)),

@@ -5,10 +5,16 @@ pub mod KeptMeaning
 pub mod KeptAdd
 pub mod KeptSwap
 pub mod KeptTake
+pub mod KeptRead
 pub mod Growing
 pub mod LogLists
 pub mod KeptMoves
 pub mod Payloads
+pub mod LogStates
+pub mod OneFile
+pub mod KeptRestart
+pub mod KeptMake
+pub mod KeptSeal
 pub mod KeptWrite
 pub mod Named
 pub mod Shown
@@ -18,6 +24,7 @@ pub mod CachePairs
 pub mod HeldLogs
 pub mod Taking
 pub mod FitsLaws
+pub mod Closing
 pub mod Making
 pub mod Putting
 pub mod Writing

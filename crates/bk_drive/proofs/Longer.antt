@@ -1,14 +1,15 @@
--- A log that grows keeps its records.
-use Rattle.std.proofs.Common.{◌≡◌, ◌⊎◌, inl, inr, ℕ, zero, suc, ◌+◌, ◌-◌, ◌<◌, ◌≤◌, cond, List, [], ◌∷◌, ◌++◌, length, take, drop, Bool, true, false, refl, sym, ap, ◌∙◌, subst, arith, length-append, length-drop}
+-- A log that only grows behind its header keeps its records.
+use Rattle.std.proofs.Common.{◌≡◌, inl, inr, ℕ, zero, suc, ◌+◌, ◌-◌, ◌≤◌, cond, List, [], ◌∷◌, ◌++◌, length, take, drop, Bool, true, false, refl, sym, ap, ◌∙◌, subst, arith, append_assoc, length-append, length-drop}
 use Rattle.std.proofs.Math.Decide.{dec_le}
-use Rattle.std.proofs.lemmas.List.{take-append-le, drop-append-le, take-append-drop, length-take}
-use Rattle.bk_record.specs.Record.{length_field}
+use Rattle.std.proofs.lemmas.List.{take-append-le, drop-append-le, drop-drop, append-nil, nil_from_length}
+use Rattle.bk_record.specs.Record.{length_field, record_of}
 use Rattle.bk_record.specs.Body.{starts_with_record, pieces}
 use Rattle.bk_record.specs.Files.{header_length, records_of, In, Files, file_of, HasRecord}
 use Rattle.bk_record.specs.Location.{Place}
-use Rattle.bk_record.proofs.Records.{Starts, starts_only, starts_when, length_field-take}
+use Rattle.bk_record.proofs.Records.{Starts, starts_only, starts_when, length_field-take, length-record_of}
+use Rattle.bk_log.specs.Places.{HasRecordAt}
 use Rattle.bk_record.proofs.Growth.{records_of-short}
-use Rattle.bk_drive.proofs.Kept.{IsPrefix}
+use Rattle.bk_drive.proofs.Kept.{IsLonger}
 
 field_longer : (bytes more : List ℕ) → 4 ≤ length bytes → length_field (bytes ++ more) ≡ length_field bytes
 field_longer bytes more four =
@@ -52,16 +53,58 @@ pieces-longer (suc m) (suc n) from bytes more x le there =
           ])
     ] refl there
 
-pub records-longer : (file more : List ℕ) (x : ℕ × List ℕ) → In x (records_of file) → In x (records_of (file ++ more))
+pub records-longer : (front whole : List ℕ) (x : ℕ × List ℕ) → IsLonger front whole → In x (records_of front) → In x (records_of whole)
 unfolding records_of
-records-longer file more x there = elim (dec_le header_length (length file)) [
-  | yes headed ↦ subst (λ (b : List ℕ). In x (pieces (length (file ++ more)) header_length b)) (sym (drop-append-le header_length file more headed))
-      (pieces-longer (length file) (length (file ++ more)) header_length (drop header_length file) more x (omega (arith, length-append file more)) there)
-  | no short ↦ absurd (subst (λ (l : List (ℕ × List ℕ)). In x l) (records_of-short file (omega arith)) there)
+records-longer front whole x longer there = elim (dec_le (length front) header_length) [
+  | yes short ↦ absurd (subst (λ (l : List (ℕ × List ℕ)). In x l) (records_of-short front short) there)
+  | no headed ↦
+      let size : length (drop header_length whole) ≡ length (drop header_length front) + length longer.behind = ap length longer.is ∙ length-append (drop header_length front) longer.behind in
+      subst (λ (b : List ℕ). In x (pieces (length whole) header_length b)) (sym longer.is)
+      (pieces-longer (length front) (length whole) header_length (drop header_length front) longer.behind x
+      (omega (arith, size, length-drop header_length whole, length-drop header_length front)) there)
 ]
 
-pub records-prefix : (front whole : List ℕ) (x : ℕ × List ℕ) → IsPrefix front whole → In x (records_of front) → In x (records_of whole)
-records-prefix front whole x part there = subst (λ (f : List ℕ). In x (records_of f)) (sym part.is) (records-longer front part.behind x there)
+-- a log as it is, and a log with more bytes at its end
+pub longer_same : (file : List ℕ) → IsLonger file file
+longer_same file = record { behind = []; is = sym (append-nil (drop header_length file)) }
+
+pub longer_append : (file more : List ℕ) → IsLonger file (file ++ more)
+longer_append file more = elim (dec_le header_length (length file)) [
+  | yes headed ↦ record { behind = more; is = drop-append-le header_length file more headed }
+  | no short ↦ record {
+    behind = drop header_length (file ++ more);
+    is = ap (λ (l : List ℕ). l ++ drop header_length (file ++ more)) (sym (nil_from_length (drop header_length file) (omega (arith, length-drop header_length file))));
+  }
+]
+
+pub longer_trans : (front middle whole : List ℕ) → IsLonger front middle → IsLonger middle whole → IsLonger front whole
+longer_trans front middle whole a b = record {
+  behind = a.behind ++ b.behind;
+  is = b.is ∙ ap (λ (l : List ℕ). l ++ b.behind) a.is ∙ append_assoc (drop header_length front) a.behind b.behind;
+}
+
+-- a log without a byte is the beginning of every log
+pub longer_empty : (whole : List ℕ) → IsLonger [] whole
+longer_empty whole = record { behind = drop header_length whole; is = refl }
+
+-- a record that begins at a position of the log is one of the longer log
+pub record_longer : (front whole : List ℕ) (at : ℕ) (payload : List ℕ) → IsLonger front whole → HasRecordAt front at payload → HasRecordAt whole at payload
+record_longer front whole at payload longer here =
+    let skip = at - 4 - header_length in
+    let count : header_length + skip ≡ at - 4 = omega (arith, here.behind_header) in
+    let split : (file : List ℕ) → drop skip (drop header_length file) ≡ drop (at - 4) file = λ file. drop-drop skip header_length file ∙ ap (λ n. drop n file) count in
+    let size : length (drop (at - 4) front) ≡ 4 + length payload + length here.begins.behind =
+    ap length here.begins.is ∙ length-append (record_of payload) here.begins.behind ∙ ap (λ n. n + length here.begins.behind) (length-record_of payload) in
+    let within : skip ≤ length (drop header_length front) = omega (arith, size, length-drop (at - 4) front, length-drop header_length front, here.behind_header) in
+    record {
+      behind_header = here.behind_header;
+      begins = record {
+        legal = here.begins.legal;
+        behind = here.begins.behind ++ longer.behind;
+        is = sym (split whole) ∙ ap (drop skip) longer.is ∙ drop-append-le skip (drop header_length front) longer.behind within
+            ∙ ap (λ (l : List ℕ). l ++ longer.behind) (split front ∙ here.begins.is) ∙ append_assoc (record_of payload) here.begins.behind longer.behind;
+      };
+    }
 
 pub has-record : (fs : Files) (place : Place) (payload : List ℕ) → In (place.at, payload) (records_of (file_of fs place.log)) → HasRecord fs place payload
 unfolding HasRecord

@@ -1,18 +1,18 @@
 -- Making a log for the flush.
-use Rattle.std.proofs.Common.{◌≡◌, ◌⊎◌, inl, inr, Bool, true, false, ◌&&◌, ℕ, ◌+◌, ◌<◌, ◌≤◌, ◌^◌, List, [], ◌∷◌, ◌++◌, length, nat_lt, arith, Option, None, Some, IsNone, IsSome, OnOk, MatchBool, Result, Ok, Err, refl, sym, ap, ◌∙◌, subst}
+use Rattle.std.proofs.Common.{◌≡◌, ◌⊎◌, inl, inr, Bool, true, false, ◌&&◌, ℕ, ◌+◌, ◌<◌, ◌≤◌, ◌^◌, List, [], ◌∷◌, ◌++◌, length, nat_lt, arith, Option, None, Some, OnOk, MatchBool, Result, Ok, Err, refl, sym, ap, ◌∙◌, subst}
 use Rattle.bk_record.specs.Files.{Files}
 use Rattle.bk_log.specs.Writing as writers
 use Rattle.bk_log.specs.Writing.{CreateTurn, new_writing}
 use Rattle.std.proofs.lemmas.Bool.{ltb-false}
-use Rattle.bk_drive.specs.Logs.{Logs, log_at, made_log}
+use Rattle.bk_drive.specs.Logs.{Logs, made_log}
 use Rattle.bk_drive.specs.Fits.{Fits}
 use Rattle.bk_drive.specs.declared.settings.Settings.{Settings}
 use Rattle.bk_drive.specs.declared.log.LogState.TheVariants.{Writing}
 use Rattle.bk_log.specs.declared.fault.LogFault.{LogFault}
 use Rattle.bk_log.specs.declared.fault.LogFault.TheVariants as logs
 use Rattle.bk_drive.specs.State.{Flush, Places, State}
-use Rattle.bk_drive.specs.Flushing.{Makes, MayMake, MakeTurn, NewLog, ReadyTurn, restarted, needs, needs_log}
-use Rattle.bk_drive.specs.Making.{FaultTurn, Creates, IsMade, IsReady}
+use Rattle.bk_drive.specs.Flushing.{Makes, MayMake, FillTurn, MakeTurn, NewLog, ReadyTurn, needs, needs_log}
+use Rattle.bk_drive.specs.Making.{FaultTurn, Creates, IsClosed, IsMade, IsReady}
 use Rattle.bk_drive.specs.declared.answer.FlushFault.{FlushFault}
 use Rattle.bk_drive.specs.declared.answer.FlushFault.TheVariants.{Disk, Memory, LogsFull, NoMoreIds, Odd}
 
@@ -47,19 +47,6 @@ and_cases : (a b : Bool) → (a && b) ≡ false → (a ≡ false) ⊎ (b ≡ fal
 and_cases false b is = inl refl
 and_cases true b is = inr is
 
-nothing_held : (logs : Logs) (id : ℕ) → length logs < 1 → IsSome (log_at logs id) → ⊥
-nothing_held [] id few held = cc
-nothing_held (l ∷ logs) id few held = absurd (omega arith)
-
--- with one slot, a log is written only where the slot is taken
-pub none_written : (settings : Settings) (honest : Bool) (files : Files) (flush : Option Flush) (index : Places) (ls : Logs) (writing : Option writers.Writing) (next : ℕ)
-    → Fits settings honest files flush index ls writing next → length ls < settings.slots → IsNone writing
-none_written settings honest files flush index ls writing next fits few =
-    elim writing as (λ o. writing ≡ o → IsNone o) [
-      | None ↦ λ _. refl
-      | Some w ↦ λ is. absurd (nothing_held ls w.log (omega (arith, fits.one)) (fits.going w is).held)
-    ] refl
-
 pub ready_now : (settings : Settings) (honest : Bool) (files : Files) (flush : Option Flush) (index : Places) (ls : Logs) (writing : Option writers.Writing) (next : ℕ) (payload : List ℕ)
     → Fits settings honest files flush index ls writing next → length payload ≤ 1048576 → needs settings.log_limit writing payload ≡ false → IsReady writing (length payload)
 ready_now settings honest files flush index ls writing next payload fits short is =
@@ -78,14 +65,29 @@ ready_now settings honest files flush index ls writing next payload fits short i
 pub made_ready : (s t : State) (size : ℕ) → IsMade s t → size ≤ 1048576 → IsReady t.writing size
 made_ready s t size made short = record { writer = new_writing s.next; is = made.writing; takes = omega arith }
 
--- where a log is needed and one may be made, to make it is to make one ready
-pub ready_turn : (s t : State) (payload : List ℕ) (r : Result (Unit {0}) FlushFault) → needs_log s payload ≡ true → MayMake s → IsNone s.writing → MakeTurn s r t → ReadyTurn s payload r t
-ready_turn s t payload (Ok x) needed may none turn = subst (λ (b : Bool). MatchBool b (NewLog s (Ok x) t) (t ≡ s)) (sym needed) (may, none, turn)
-ready_turn s t payload (Err Disk) needed may none turn = (needed, (may, none, turn))
-ready_turn s t payload (Err (Memory done)) needed may none turn = (needed, (may, none, turn))
-ready_turn s t payload (Err LogsFull) needed may none turn = absurd turn
-ready_turn s t payload (Err NoMoreIds) needed may none turn = absurd turn
-ready_turn s t payload (Err Odd) needed may none turn = absurd turn
+-- where a log is needed and one may be made, to fill the one that is written and to make the next is to make one ready
+pub ready_made : (s mid t : State) (payload : List ℕ) (r : Result (Unit {0}) FlushFault) → needs_log s payload ≡ true → MayMake s → FillTurn {T = Unit {0}} s (Ok tt) mid → MakeTurn mid r t → ReadyTurn s payload r t
+ready_made s mid t payload (Ok x) needed may filled turn = subst (λ (b : Bool). MatchBool b (NewLog s (Ok x) t) (t ≡ s)) (sym needed) (may, (mid, filled, turn))
+ready_made s mid t payload (Err Disk) needed may filled turn = (needed, (may, inr (mid, filled, turn)))
+ready_made s mid t payload (Err (Memory done)) needed may filled turn = (needed, (may, inr (mid, filled, turn)))
+ready_made s mid t payload (Err LogsFull) needed may filled turn = absurd turn
+ready_made s mid t payload (Err NoMoreIds) needed may filled turn = absurd turn
+ready_made s mid t payload (Err Odd) needed may filled turn = absurd turn
+
+-- where it could not be filled, none is ready
+pub ready_unfilled : (s t : State) (payload : List ℕ) (fault : FlushFault) → needs_log s payload ≡ true → MayMake s → FillTurn {T = Unit {0}} s (Err fault) t → ReadyTurn {T = Unit {0}} s payload (Err fault) t
+ready_unfilled s t payload Disk needed may turn = (needed, (may, inl turn))
+ready_unfilled s t payload (Memory done) needed may turn = (needed, (may, inl turn))
+ready_unfilled s t payload LogsFull needed may turn = absurd turn
+ready_unfilled s t payload NoMoreIds needed may turn = absurd turn
+ready_unfilled s t payload Odd needed may turn = absurd turn
+
+-- closing the log that is written takes no room and no id
+pub may_still : (s t : State) → IsClosed s t → MayMake s → MayMake t
+may_still s t closed may = record {
+  room = omega (arith, may.room, closed.logs, ap (λ (x : Settings). x.slots) closed.settings);
+  id = omega (arith, may.id, closed.next);
+}
 
 pub on_ready : (s t : State) (size : ℕ) (r : Result (Unit {0}) FlushFault) → OnOk r (IsMade s t) → size ≤ 1048576 → OnOk r (IsReady t.writing size)
 on_ready s t size (Ok x) made short = made_ready s t size made short

@@ -1,8 +1,8 @@
 -- The index with keys sent to the places beside them.
-use Rattle.std.proofs.Common.{◌≡◌, ◌⊎◌, inl, inr, ℕ, zero, suc, ◌<◌, ◌≤◌, List, [], ◌∷◌, length, take, map, Option, Some, None, IsSome, is_some, refl, sym, ap, ◌∙◌, arith, slice_get, option_map}
+use Rattle.std.proofs.Common.{◌≡◌, ◌⊎◌, inl, inr, ℕ, zero, suc, ◌<◌, ◌≤◌, List, [], ◌∷◌, length, take, Some, None, IsSome, is_some, refl, sym, ap, ◌∙◌, arith, slice_get, option_map}
 use Rattle.std.specs.FinMap as finite
 use Rattle.std.proofs.lemmas.Option.{slice_get-map}
-use Rattle.bk_record.specs.Key.{EntryKey, key_cmp}
+use Rattle.bk_record.specs.Key.{EntryKey}
 use Rattle.bk_record.specs.Location.{Place}
 use Rattle.bk_record.specs.Files.{In}
 use Rattle.bk_record.specs.Scan.{Payloads}

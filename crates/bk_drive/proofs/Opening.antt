@@ -1,25 +1,23 @@
 -- A store that was just opened.
-use Rattle.std.proofs.Common.{◌≡◌, ℕ, nat_eq, true, false, length, ◌≤◌, ◌^◌, List, [], Bool, IsTrue, Option, Some, None, IsSome, refl, sym, ap, ◌∙◌, subst, arith}
+use Rattle.std.proofs.Common.{◌≡◌, ℕ, nat_eq, true, false, length, ◌≤◌, ◌^◌, List, [], Bool, IsTrue, None, IsSome, sym, ap, ◌∙◌, subst, arith}
 use Rattle.std.specs.Ordering.{nat_cmp}
 use Rattle.std.specs.FinMap as finite
 use Rattle.std.specs.FinMap.{same_map, nat_cmp-IsAntisymmetric}
 use Rattle.std.proofs.lemmas.Cmp.{nat_cmp_total}
 use Rattle.bk_record.specs.Files.{Files}
-use Rattle.bk_record.specs.Key.{EntryKey, key_cmp}
-use Rattle.bk_record.specs.Location.{Place}
-use Rattle.bk_drive.specs.State.{Flush, Places}
+use Rattle.bk_record.specs.Key.{key_cmp}
+use Rattle.bk_drive.specs.State.{Places}
 use Rattle.bk_drive.specs.Logs.{Logs, log_at, last_view}
-use Rattle.bk_drive.specs.Fits.{IsBacked, Fits}
+use Rattle.bk_drive.specs.Fits.{Fits}
 use Rattle.bk_drive.specs.declared.settings.Settings.{Settings}
 use Rattle.std.proofs.lemmas.Option.{none-some}
 use Rattle.std.proofs.lemmas.List.{length-map}
 
 -- what the fields of a new store keep
-pub first_fits : (settings : Settings) (honest : Bool) (files : Files) (index : Places) (logs : Logs) → settings.log_limit ≤ 2 ^ 30 → settings.slots ≡ 1 → index ≡ finite.empty → logs ≡ []
+pub first_fits : (settings : Settings) (honest : Bool) (files : Files) (index : Places) (logs : Logs) → settings.log_limit ≤ 2 ^ 30 → index ≡ finite.empty → logs ≡ []
     → (IsTrue honest → (log : ℕ) → finite.get files log ≡ None) → Fits settings honest files None index logs None 0
-first_fits settings honest files index logs limit one empty no_logs none = record {
+first_fits settings honest files index logs limit empty no_logs none = record {
   limit = limit;
-  one = one;
   written = λ f is. cc;
   placed = λ f i place is here. cc;
   viewed = λ key place is. absurd (none-some place (sym (ap (λ (m : Places). finite.get m key) empty ∙ finite.get-empty key_cmp key) ∙ is));

@@ -1,10 +1,10 @@
 -- The payloads of adds, and entries of finite maps by their number.
-use Rattle.std.proofs.Common.{◌≡◌, ◌⊎◌, ℕ, zero, suc, ◌++◌, IsSome, ◌<◌, ◌≤◌, ◌^◌, cond, List, [], ◌∷◌, length, Option, Some, None, Result, Ok, Err, Bool, true, false, inl, inr, refl, sym, ap, ◌∙◌, subst, is_some, arith, slice_get}
+use Rattle.std.proofs.Common.{◌≡◌, ◌⊎◌, ℕ, zero, suc, ◌++◌, IsSome, ◌≤◌, cond, List, [], ◌∷◌, length, Option, Some, None, Result, Ok, Err, true, false, inl, inr, refl, sym, ap, subst, is_some, arith, slice_get}
 use Rattle.std.specs.Option.{ok_or}
 use Rattle.std.specs.Bool.{nat_lt}
 use Rattle.std.proofs.lemmas.Bool.{ltb-false}
 use Rattle.std.specs.FinMap as finite
-use Rattle.bk_record.specs.Key.{EntryKey, key_cmp}
+use Rattle.bk_record.specs.Key.{EntryKey}
 use Rattle.bk_record.specs.Record.{IsPayload, key_of, read_key, read_added, max_added, unless_too_long}
 use Rattle.bk_record.specs.Files.{In}
 use Rattle.bk_record.specs.Scan.{Payloads}

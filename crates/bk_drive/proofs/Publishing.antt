@@ -30,7 +30,6 @@ fits_shown settings honest honest' files files' flush places index ls ls' writin
     let both : (id : ℕ) → BothKept honest (log_at ls id) (log_at ls' id) = shown_both honest files places are.0 ls ls' are.1 in
     subst (λ (b : Bool). Fits settings b files' flush index ls' writing next) (sym stays) (record {
       limit = fits.limit;
-      one = fits.one;
       written = fits.written;
       placed = λ f i place is there. both_held honest _ _ (both place.log) (fits.placed f i place is there);
       viewed = λ key place is. both_viewed honest _ _ (both place.log) (fits.viewed key place is);
@@ -57,7 +56,6 @@ fits_named : (settings : Settings) (honest : Bool) (files : Files) (flush : Opti
     → Fits settings honest files flush index' ls writing next
 fits_named settings honest files flush index index' ls writing next fits viewed = record {
   limit = fits.limit;
-  one = fits.one;
   written = fits.written;
   placed = fits.placed;
   viewed = viewed;
@@ -72,7 +70,6 @@ fits_ended settings honest files flush index ls writing next fits =
     let grow = logs_in_states unfilled ls in
     record {
       limit = fits.limit;
-      one = fits.one;
       written = λ f is. cc;
       placed = λ f i place is there. cc;
       viewed = λ key place is. grow.viewed place.log (fits.viewed key place is);

@@ -1,11 +1,11 @@
 -- Putting the flush's next entry: what the fields keep, and what the store is then.
-use Rattle.std.proofs.Common.{◌≡◌, ◌⊎◌, inl, inr, ℕ, ◌+◌, ◌<◌, ◌≤◌, ◌^◌, List, [], ◌∷◌, ◌++◌, length, take, Bool, false, Option, Some, None, IsSome, is_some, IsTrue, Result, Ok, Err, IsErrOf, true, refl, sym, ap, ◌∙◌, subst, slice_get, arith, length-append}
+use Rattle.std.proofs.Common.{◌≡◌, inl, inr, ℕ, ◌<◌, ◌≤◌, List, [], ◌∷◌, ◌++◌, length, take, Bool, false, Option, Some, None, IsSome, is_some, IsTrue, Result, Ok, Err, IsErrOf, true, refl, sym, ap, ◌∙◌, subst, slice_get, arith, length-append}
 use Rattle.std.specs.FinMap as finite
 use Rattle.std.proofs.lemmas.Option.{slice_get_within}
 use Rattle.bk_record.specs.Key.{EntryKey}
 use Rattle.bk_record.specs.Location.{Place}
 use Rattle.bk_record.specs.Record.{record_of}
-use Rattle.bk_record.specs.Files.{Files, header_length}
+use Rattle.bk_record.specs.Files.{Files}
 use Rattle.bk_disk.specs.Disk.{grown}
 use Rattle.bk_log.specs.Writing as writers
 use Rattle.bk_log.specs.Writing.{Puts, with_put}
@@ -16,7 +16,7 @@ use Rattle.bk_drive.specs.Logs.{Logs, log_at}
 use Rattle.bk_drive.specs.State.{Flush, Places, State}
 use Rattle.bk_drive.specs.Fits.{IsGoing, IsBacked, Fits}
 use Rattle.bk_log.specs.Faults.{IsCaused as IsLogCaused, is_lasting}
-use Rattle.bk_drive.specs.Flushing.{IsCaused, HasNext, PutTurn, next_place, restarted}
+use Rattle.bk_drive.specs.Flushing.{IsCaused, HasNext, PutTurn, restarted}
 use Rattle.bk_drive.specs.Making.{IsNextOf, IsReady, NotesPlace, FaultTurn}
 use Rattle.bk_drive.specs.declared.settings.Settings.{Settings}
 use Rattle.bk_drive.specs.declared.answer.FlushFault.{FlushFault}
@@ -41,7 +41,6 @@ module _ (settings : Settings) (honest honest' : Bool) (files files' : Files) (f
       (subst (λ (f : Flush). Fits settings honest files' (Some f) index ls (Some w') next) (sym notes)
       (record {
         limit = fits.limit;
-        one = fits.one;
         written = λ f at. let mine : record flush { places = flush.places ++ place ∷ [] } ≡ f = cc in
             subst (λ (x : Flush). length x.places ≤ finite.len x.pairs) mine (omega (arith, next_within flush e is, length-append flush.places (place ∷ [])));
         placed = λ f i at_place at there.

@@ -1,11 +1,9 @@
 -- Runs of the machine beside the plain map: each turn goes on, and a run is made longer by one turn.
-use Rattle.std.proofs.Common.{◌≡◌, ℕ, zero, suc, ◌+◌, ◌<◌, ◌≤◌, List, [], ◌∷◌, ◌++◌, length, take, replicate, Option, Some, None, Bool, true, false, Result, Ok, Err, cond, refl, sym, ap, ◌∙◌, subst, arith, unwrap_or, not}
-use Rattle.std.specs.Ordering.{nat_cmp}
+use Rattle.std.proofs.Common.{◌≡◌, ℕ, List, [], ◌∷◌, ◌++◌, Some, None, Bool, true, false, Result, Ok, Err, cond, refl, sym, ap, ◌∙◌, subst, arith, unwrap_or, not}
 use Rattle.std.specs.FinMap as finite
 use Rattle.std.specs.FinSet as set
 use Rattle.bk_record.specs.Key.{EntryKey, key_cmp}
 use Rattle.bk_record.specs.Location.{Place}
-use Rattle.bk_record.specs.Record.{key_of}
 use Rattle.std.specs.Option.{option_or}
 use Rattle.std.proofs.lemmas.Option.{none-some}
 use Rattle.bk_record.specs.Files.{Files, HasRecord, In, records_of}
@@ -14,12 +12,11 @@ use Rattle.bk_record.proofs.Growth.{records_of-short}
 use Rattle.bk_record.proofs.Scans.{scan-some}
 use Rattle.bk_drive.proofs.Longer.{record-has}
 use Rattle.bk_record.specs.Scan.{Payloads, Ledgers, scan_of, live}
-use Rattle.bk_drive.specs.State.{State}
 use Rattle.bk_drive.specs.Plain.{Plain, PlainAdd}
 use Rattle.bk_drive.specs.Machine.{Desk, Turn, PlainTurn, after_swap, after_publish}
-use Rattle.bk_drive.specs.Machine.Turn.{added, taken, swapped_caches, wrote, published_flush}
-use Rattle.bk_drive.specs.Machine.PlainTurn.{added as plain_added, taken as plain_taken, swapped_caches as plain_swapped, wrote as plain_wrote, published_flush as plain_published}
-use Rattle.bk_drive.specs.Headline.{Agrees, AreOwed, Run, opened, first_desk, first_plain, reader_count, Headline}
+use Rattle.bk_drive.specs.Machine.Turn.{added, taken, fetched, released, swapped_caches, wrote, published_flush, rolled}
+use Rattle.bk_drive.specs.Machine.PlainTurn.{added as plain_added, taken as plain_taken, fetched as plain_fetched, released as plain_released, rolled as plain_rolled, swapped_caches as plain_swapped, wrote as plain_wrote, published_flush as plain_published}
+use Rattle.bk_drive.specs.Headline.{Agrees, AreOwed, Run, opened, first_desk, first_plain}
 use Rattle.bk_drive.specs.Headline.Run.{stop, step}
 use Rattle.bk_drive.specs.declared.answer.Added.{Added}
 use Rattle.bk_drive.specs.declared.answer.Added.TheVariants.{Accepted, Held}
@@ -33,11 +30,13 @@ use Rattle.bk_drive.specs.declared.answer.FlushFault.{FlushFault}
 use Rattle.bk_drive.specs.declared.settings.Settings.{Settings}
 use Rattle.bk_drive.specs.declared.step.Step.{Step}
 use Rattle.bk_drive.specs.declared.step.Answer.{Answer}
-use Rattle.bk_drive.proofs.Kept.{Kept, KeptDesk}
+use Rattle.bk_drive.proofs.Kept.{KeptDesk}
 use Rattle.bk_drive.proofs.KeptMeaning.{kept_meaning}
 use Rattle.bk_drive.proofs.KeptAdd.{kept_add}
 use Rattle.bk_drive.proofs.KeptSwap.{kept_swap}
 use Rattle.bk_drive.proofs.KeptTake.{kept_take}
+use Rattle.bk_drive.proofs.KeptRead.{kept_fetch, kept_release}
+use Rattle.bk_drive.proofs.KeptSeal.{kept_roll}
 use Rattle.bk_drive.proofs.KeptWrite.{kept_write}
 use Rattle.bk_drive.proofs.KeptPublish.{kept_publish}
 
@@ -70,12 +69,18 @@ kept_turn p kept (added {d = d} {t = t} {payload = payload} {r = r} turn) =
 kept_turn p kept (taken {d = d} {e = e} {reader = reader} {key = key} {r = r} turn) =
     let k = kept_take p d kept reader key r e turn in
     (k.0, (plain_taken k.1.0, k.1.1))
+kept_turn p kept (fetched {d = d} {reader = reader} {r = r} turn) = (p, (plain_fetched (kept_fetch p d kept reader r turn), kept))
+kept_turn p kept (released {d = d} {readers = readers} {reader = reader} {r = r} turn) =
+    let k = kept_release p d kept reader r readers turn in
+    (k.0, (plain_released k.1.0, k.1.1))
 kept_turn p kept (swapped_caches {d = d} {t = t} {r = r} turn) =
     (after_swap r p, (plain_swapped, record { store = kept_swap p d.store t r kept.store turn; readers = owed_still d p (after_swap r p) (swap_readers p r) kept.readers }))
 kept_turn p kept (wrote {d = d} {t = t} {r = r} turn cause) =
     (p, (plain_wrote, record { store = kept_write p d.store t r kept.store turn; readers = kept.readers }))
 kept_turn p kept (published_flush {d = d} {t = t} {r = r} turn cause) =
     (after_publish r p, (plain_published, record { store = kept_publish p d.store t r kept.store turn; readers = owed_still d p (after_publish r p) (publish_readers p r) kept.readers }))
+kept_turn p kept (rolled {d = d} {t = t} {r = r} turn cause) =
+    (p, (plain_rolled, record { store = kept_roll p d.store t r kept.store turn; readers = kept.readers }))
 
 -- what is kept makes the machine and the plain map agree
 pub kept_agrees : (p : Plain) (d : Desk) → KeptDesk p d → Agrees d p
@@ -134,6 +139,7 @@ first_kept settings fs failures none =
         flush_is = λ pairs k b is there. cc;
         placed = λ f i e place is here place_is. cc;
         parts = λ id log is. cc;
+        views = λ id log view is. cc;
         writes = λ w is. cc;
         held = λ w is. cc;
         below = λ id log is. cc;

@@ -1,5 +1,5 @@
 -- Logs of which some show their whole file.
-use Rattle.std.proofs.Common.{◌≡◌, ◌⊎◌, inl, inr, ℕ, cond, List, [], ◌∷◌, Option, Some, None, Bool, true, false, refl, sym, ap, ◌∙◌, subst, MatchBool}
+use Rattle.std.proofs.Common.{◌≡◌, ◌⊎◌, inl, inr, ℕ, cond, List, [], ◌∷◌, Some, Bool, true, false, refl, sym, ap, ◌∙◌, subst, MatchBool}
 use Rattle.std.specs.Ordering.{nat_cmp, eq_by_cmp}
 use Rattle.std.specs.FinMap.Entries.{find}
 use Rattle.std.specs.FinMap.{nat_cmp-IsAntisymmetric}
@@ -11,13 +11,13 @@ use Rattle.bk_drive.specs.Flushing.{HasHonestView, ShowsLog, ShowsAll, ShowsSome
 
 -- a log that shows what it showed, or its whole file
 abbrev pub ShowsMore : Files → ℕ → Log → Log → Type 0
-ShowsMore files id old new = ((published_part new) ≡ (published_part old)) ⊎ ((published_part new) ≡ file_of files id)
+ShowsMore files id old new = (new.view ≡ old.view) ⊎ ((published_part new ≡ file_of files id) × HasHonestView new)
 
 shows_more : (files : Files) (places : List Place) (o n : ℕ × Log) → ShowsLog files places o n → (n.0 ≡ o.0) × ShowsMore files o.0 o.1 n.1
 shows_more files places o n shows =
     elim (has_place places o.0) as (λ b. MatchBool b ((n.0 ≡ o.0) × (n.1.state ≡ o.1.state) × (published_part n.1 ≡ file_of files o.0) × HasHonestView n.1) (n ≡ o) → (n.0 ≡ o.0) × ShowsMore files o.0 o.1 n.1) [
-      | true ↦ λ m. (m.0, inr m.2)
-      | false ↦ λ same. (ap (λ (x : ℕ × Log). x.0) same, inl (ap (λ (x : ℕ × Log). (published_part x.1)) same))
+      | true ↦ λ m. (m.0, inr (m.2, m.3))
+      | false ↦ λ same. (ap (λ (x : ℕ × Log). x.0) same, inl (ap (λ (x : ℕ × Log). x.1.view) same))
     ] shows
 
 -- a log that is held now was held before

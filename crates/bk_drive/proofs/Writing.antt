@@ -1,14 +1,13 @@
 -- One step of a flush: the log is made ready, then the entry is put.
-use Rattle.std.proofs.Common.{◌≡◌, ◌⊎◌, inl, inr, ℕ, ◌+◌, ◌<◌, ◌≤◌, ◌^◌, List, length, slice_get, Option, Some, None, IsErr, IsErrAnd, IsTrue, Result, Ok, Err, OnOk, refl, sym, ap, ◌∙◌, subst, arith}
+use Rattle.std.proofs.Common.{◌≡◌, inl, inr, ℕ, List, length, slice_get, Option, Some, IsErr, IsErrAnd, IsTrue, Result, Ok, Err, sym, ap, ◌∙◌, subst}
 use Rattle.std.specs.FinMap as finite
 use Rattle.bk_record.specs.Key.{EntryKey}
 use Rattle.bk_record.specs.Location.{Place}
 use Rattle.bk_log.specs.Writing as writers
 use Rattle.bk_drive.specs.State.{Flush, State}
-use Rattle.bk_drive.specs.Flushing.{IsCaused, HasNext, ReadyTurn, PutTurn, WriteTurn}
+use Rattle.bk_drive.specs.Flushing.{HasNext, ReadyTurn, PutTurn, WriteTurn}
 use Rattle.bk_drive.specs.Making.{IsReady}
 use Rattle.bk_drive.specs.declared.answer.FlushFault.{FlushFault}
-use Rattle.bk_drive.specs.declared.answer.FlushFault.TheVariants as flush_faults
 use Rattle.bk_drive.specs.declared.answer.WriteAnswer.{WriteAnswer}
 use Rattle.bk_drive.specs.declared.answer.WriteAnswer.TheVariants as writes
 

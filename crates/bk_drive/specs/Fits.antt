@@ -25,7 +25,6 @@ pub record IsBacked (files : Files) (logs : Logs) (writing : Option writers.Writ
 
 pub record Fits (settings : Settings) (honest : Bool) (files : Files) (flush : Option Flush) (index : Places) (logs : Logs) (writing : Option writers.Writing) (next : ℕ) : Type 0 where
   pub limit : settings.log_limit ≤ 2 ^ 30
-  pub one : settings.slots ≡ 1
   pub written : (f : Flush) → flush ≡ Some f → length f.places ≤ finite.len f.pairs
   pub placed : (f : Flush) (i : ℕ) (place : Place) → flush ≡ Some f → slice_get f.places i ≡ Some place → IsSome (log_at logs place.log)
   pub viewed : (key : EntryKey) (place : Place) → finite.get index key ≡ Some place → IsSome (last_view logs place.log)

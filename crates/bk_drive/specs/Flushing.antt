@@ -1,20 +1,19 @@
 -- Turns of a flush: writing its next entry, and publishing it.
-use Rattle.std.specs.Prelude.{◌≡◌, ◌⊎◌, ℕ, ◌+◌, ◌<◌, ◌≤◌, ◌^◌, Bool, true, false, ◌&&◌, nat_lt, if◌then◌else◌, MatchBool, List, [], ◌∷◌, ◌++◌, length, map, take, slice_get, Option, Some, None, IsSome, IsNone, option_map, Result, Ok, Err, IsErrOf, IsTrue}
+use Rattle.std.specs.Prelude.{◌≡◌, ◌⊎◌, ℕ, ◌+◌, ◌<◌, ◌≤◌, ◌^◌, Bool, true, ◌&&◌, nat_lt, if◌then◌else◌, MatchBool, List, [], ◌∷◌, ◌++◌, length, take, slice_get, Option, Some, None, IsNone, option_map, Result, Ok, Err, IsErrOf, IsTrue, MatchOption}
 use Rattle.std.specs.FinMap as finite
 use Rattle.bk_record.specs.Key.{EntryKey}
 use Rattle.bk_record.specs.Location.{Place}
 use Rattle.bk_record.specs.Record.{record_of}
 use Rattle.bk_record.specs.Files.{Files, file_of}
-use Rattle.bk_head.specs.Header.{empty_header}
 use Rattle.bk_disk.specs.Disk.{grown}
 use Rattle.bk_log.specs.Writing as writers
 use Rattle.bk_log.specs.Writing.{CreateTurn, new_writing, with_put}
-use Rattle.bk_log.specs.declared.fault.LogFault.{LogFault}
 use Rattle.bk_log.specs.declared.fault.LogFault.TheVariants as log_faults
 use Rattle.bk_log.specs.declared.fault.CreateFault.{CreateFault}
-use Rattle.bk_drive.specs.Logs.{View, Log, Logs, log_at, made_log, settled, unfilled, with_states, has_place, published_part}
+use Rattle.bk_drive.specs.Logs.{View, Log, Logs, made_log, settled, unfilled, with_states, has_place, published_part}
 use Rattle.bk_drive.specs.State.{Flush, Places, State}
-use Rattle.bk_drive.specs.declared.log.LogState.TheVariants.{Writing, Readable}
+use Rattle.bk_drive.specs.Closing.{Seals}
+use Rattle.bk_drive.specs.declared.log.LogState.TheVariants.{Writing, Filled, Readable}
 use Rattle.bk_drive.specs.declared.answer.WriteAnswer.{WriteAnswer}
 use Rattle.bk_drive.specs.declared.answer.WriteAnswer.TheVariants as writes
 use Rattle.bk_drive.specs.declared.answer.PublishAnswer.{PublishAnswer}
@@ -87,9 +86,20 @@ MakeTurn s (Err LogsFull) t = ⊥
 MakeTurn s (Err NoMoreIds) t = ⊥
 MakeTurn s (Err Odd) t = ⊥
 
--- a log is made, where none is written
+-- The log that is written, where one is, is filled: it is sealed. A failing device makes the flush start again.
+abbrev pub FillTurn : {T : Type 0} → State → Result T FlushFault → State → Type 0
+FillTurn s (Ok _) t = MatchOption s.writing (t ≡ s) (λ w. Seals s w Filled (Ok tt) t)
+FillTurn s (Err Disk) t = (w : writers.Writing) × ((mid : State) × Seals s w Filled (Err log_faults.Disk) mid × (t ≡ restarted mid))
+FillTurn s (Err (Memory done)) t = (done ≡ 0) × ((w : writers.Writing) × Seals s w Filled (Err log_faults.Memory) t)
+FillTurn s (Err LogsFull) t = ⊥
+FillTurn s (Err NoMoreIds) t = ⊥
+FillTurn s (Err Odd) t = ⊥
+
+-- The next log is made in the place of the one that is written, which is filled first.
 abbrev pub NewLog : {T : Type 0} → State → Result T FlushFault → State → Type 0
-NewLog s result t = MayMake s × IsNone s.writing × MakeTurn s result t
+NewLog s (Ok x) t = MayMake s × ((mid : State) × FillTurn {T = Unit {0}} s (Ok tt) mid × MakeTurn mid (Ok x) t)
+NewLog {T} s (Err fault) t = MayMake s
+    × (FillTurn {T = T} s (Err fault) t ⊎ ((mid : State) × FillTurn {T = Unit {0}} s (Ok tt) mid × MakeTurn {T = T} mid (Err fault) t))
 
 -- A log that can take this payload is made ready, where the one that is written can't.
 abbrev pub ReadyTurn : {T : Type 0} → State → List ℕ → Result T FlushFault → State → Type 0

@@ -1,10 +1,11 @@
 -- The headline: whatever steps come, the store answers as the plain map does, its leases read what their entries held
 -- when they were taken, and its files, with the cached pairs, mean the plain map.
-use Rattle.std.specs.Prelude.{◌≡◌, ℕ, ◌≤◌, Bool, true, List, [], ◌∷◌, length, map, replicate, Option, Some, None}
+use Rattle.std.specs.Prelude.{◌≡◌, ℕ, true, List, [], ◌∷◌, replicate, Option, Some, None, IsTrue}
 use Rattle.std.specs.FinMap as finite
 use Rattle.std.specs.FinSet as set
 use Rattle.bk_record.specs.Files.{Files, records_of, In}
 use Rattle.bk_record.specs.Scan.{Ledgers, scan_of, live}
+use Rattle.bk_log.specs.Places.{HasEntryAt}
 use Rattle.bk_drive.specs.State.{State}
 use Rattle.bk_drive.specs.Meaning.{IsMeaning}
 use Rattle.bk_drive.specs.Plain.{Owed, Plain}
@@ -13,10 +14,13 @@ use Rattle.bk_drive.specs.declared.step.Step.{Step}
 use Rattle.bk_drive.specs.declared.step.Answer.{Answer}
 use Rattle.bk_drive.specs.declared.settings.Settings.{Settings}
 
--- The reader holds what it is owed: its log is the one that it keeps, and its view shows the payload at its place.
+-- The reader holds what it is owed: its log is the one that it keeps, and its view, which shows what that log held, has
+-- the entry of its key at its place, among the log's records.
 pub record IsOwed (hold : Hold) (owed : Owed) : Type 0 where
   pub log : hold.place.log ≡ owed.log
-  pub shown : In (hold.place.at, owed.payload) (records_of hold.view.bytes)
+  pub honest : IsTrue hold.view.is_honest
+  pub listed : In (hold.place.at, owed.payload) (records_of hold.view.bytes)
+  pub shown : HasEntryAt hold.view.bytes hold.place.at hold.key owed.payload
 
 -- the same of each reader: it holds a lease exactly where it is owed something
 abbrev pub AreOwed : List (Option Hold) → List (Option Owed) → Type 0

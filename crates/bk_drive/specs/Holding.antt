@@ -1,11 +1,11 @@
 -- Turns of a store that ask no device: an add, a take, a swap.
-use Rattle.std.specs.Prelude.{◌≡◌, ℕ, ◌<◌, Bool, true, false, ◌||◌, List, [], length, Option, Some, None, IsSome, IsNone, is_some, option_map, Result, Ok, Err, Vec, IsTrue}
+use Rattle.std.specs.Prelude.{◌≡◌, ℕ, ◌<◌, Bool, true, false, ◌||◌, List, [], Option, Some, None, IsSome, IsNone, is_some, option_map, Result, Ok, Err}
 use Rattle.std.specs.FinMap as finite
 use Rattle.bk_record.specs.Key.{EntryKey}
 use Rattle.bk_record.specs.Record.{read_added}
 use Rattle.bk_record.specs.Scan.{Payloads}
 use Rattle.bk_drive.specs.Logs.{View, Log, log_at, view_of}
-use Rattle.bk_drive.specs.State.{Flush, State}
+use Rattle.bk_drive.specs.State.{State}
 use Rattle.bk_drive.specs.Meaning.{cached_at}
 use Rattle.bk_drive.specs.declared.answer.Added.{Added}
 use Rattle.bk_drive.specs.declared.answer.Added.TheVariants.{Accepted, Held}

@@ -6,6 +6,7 @@ pub mod Stored
 pub mod Meaning
 pub mod Plain
 pub mod Holding
+pub mod Closing
 pub mod Flushing
 pub mod Making
 pub mod Machine

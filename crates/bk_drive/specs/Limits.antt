@@ -1,5 +1,5 @@
 -- The limits that a store may be opened with (this project's rule).
-use Rattle.std.specs.Prelude.{ℕ, ◌≤◌, ◌^◌}
+use Rattle.std.specs.Prelude.{◌≤◌, ◌^◌}
 use Rattle.bk_drive.specs.declared.settings.Settings.{Settings}
 
 -- each number lies in its range

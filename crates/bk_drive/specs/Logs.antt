@@ -75,6 +75,15 @@ unfilled Readable = Readable
 unfilled Retired = Retired
 unfilled Closed = Closed
 
+-- when the log that is written is closed for writing, it goes into a state; the others stay
+abbrev pub closed_as : LogState → LogState → LogState
+closed_as state Writing = state
+closed_as state Filled = Filled
+closed_as state Copying = Copying
+closed_as state Readable = Readable
+closed_as state Retired = Retired
+closed_as state Closed = Closed
+
 -- each log in the state that a rule gives it
 abbrev pub with_states : (LogState → LogState) → Logs → Logs
 with_states rule = map (λ e. (e.0, in_state (rule e.1.state) e.1))

@@ -1,5 +1,5 @@
--- Making a log, and what a fault of a log means for the flush that writes it.
-use Rattle.std.specs.Prelude.{◌≡◌, ◌⊎◌, ℕ, ◌+◌, ◌<◌, ◌^◌, Bool, true, false, List, [], ◌∷◌, ◌++◌, length, slice_get, Option, Some, Result, Ok, Err}
+-- Making a log and closing one, and what a fault of a log means for the flush that writes it.
+use Rattle.std.specs.Prelude.{◌≡◌, ◌⊎◌, ℕ, ◌+◌, ◌<◌, ◌^◌, Bool, List, [], ◌∷◌, ◌++◌, length, slice_get, Option, Some, None, Result, Ok, Err}
 use Rattle.std.specs.FinMap as finite
 use Rattle.bk_record.specs.Key.{EntryKey}
 use Rattle.bk_record.specs.Location.{Place}
@@ -19,6 +19,13 @@ FaultTurn s logs.Disk told t = (told ≡ Disk) × (t ≡ restarted s)
 FaultTurn s logs.Failed told t = (told ≡ Odd) × (t ≡ restarted s)
 FaultTurn s logs.Odd told t = (told ≡ Odd) × (t ≡ restarted s)
 
+-- what a roll tells: want of memory and a failing device as they are; beside an honest disk there is no other fault
+abbrev pub roll_told : LogFault → FlushFault
+roll_told logs.Memory = Memory 0
+roll_told logs.Disk = Disk
+roll_told logs.Failed = Odd
+roll_told logs.Odd = Odd
+
 -- The next log is made, or its making failed; where no slot could be had, nothing was tried.
 abbrev pub Creates : {T : Type 0} → State → Result T LogFault → State → Type 0
 Creates s (Ok _) t = Makes {W = Unit {0}} s (Ok tt) t
@@ -36,6 +43,14 @@ pub record IsReady (writing : Option writers.Writing) (size : ℕ) : Type 0 wher
 -- the log that was made is written, and the flush is as it was
 pub record IsMade (s t : State) : Type 0 where
   pub writing : t.writing ≡ Some (new_writing s.next)
+  pub flush : t.flush ≡ s.flush
+
+-- the log that was written is written no more; the flush, the settings, the next id and the number of logs are as they were
+pub record IsClosed (s t : State) : Type 0 where
+  pub written : t.writing ≡ None
+  pub logs : length t.logs ≡ length s.logs
+  pub settings : t.settings ≡ s.settings
+  pub next : t.next ≡ s.next
   pub flush : t.flush ≡ s.flush
 
 -- the entry is the flush's first without a place

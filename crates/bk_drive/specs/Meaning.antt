@@ -1,5 +1,5 @@
 -- What a store means: the files' entries and the cached ones, of ledgers that live.
-use Rattle.std.specs.Prelude.{◌≡◌, Option, Some, None, List, ℕ, if◌then◌else◌}
+use Rattle.std.specs.Prelude.{◌≡◌, Option, None, List, ℕ, if◌then◌else◌}
 use Rattle.std.specs.Option.{option_or, option_and_then}
 use Rattle.std.specs.FinMap as finite
 use Rattle.std.specs.FinSet as set

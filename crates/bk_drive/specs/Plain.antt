@@ -1,5 +1,5 @@
 -- The plain map: what a store of entries answers that knows no log, no flush and no place.
-use Rattle.std.specs.Prelude.{◌≡◌, ℕ, ◌<◌, ◌≤◌, Bool, true, false, List, [], length, slice_get, slice_set, Option, Some, None, IsSome, IsNone, Result, Ok, Err}
+use Rattle.std.specs.Prelude.{◌≡◌, ℕ, ◌≤◌, false, List, length, slice_get, slice_set, Option, Some, None, IsSome, IsNone, Result, Ok, Err}
 use Rattle.std.specs.FinMap as finite
 use Rattle.std.specs.FinSet as set
 use Rattle.bk_record.specs.Key.{EntryKey}
@@ -13,6 +13,12 @@ use Rattle.bk_drive.specs.declared.answer.TakeFault.{TakeFault}
 use Rattle.bk_drive.specs.declared.answer.TakeFault.TheVariants as take_faults
 use Rattle.bk_drive.specs.declared.step.TakeAnswer.{TakeAnswer}
 use Rattle.bk_drive.specs.declared.step.TakeAnswer.TheVariants.{NoReader, ReaderBusy, NotHeld, Cached, Leased}
+use Rattle.bk_drive.specs.declared.step.FetchAnswer.{FetchAnswer}
+use Rattle.bk_drive.specs.declared.step.FetchAnswer.TheVariants as fetches
+use Rattle.bk_drive.specs.declared.step.ReleaseAnswer.{ReleaseAnswer}
+use Rattle.bk_drive.specs.declared.step.ReleaseAnswer.TheVariants as releases
+use Rattle.bk_log.specs.declared.fault.FetchFault.{FetchFault}
+use Rattle.bk_log.specs.declared.fault.FetchFault.TheVariants as fetch_faults
 
 -- what a reader that holds a lease is owed: the log that it keeps, and what its entry held when the lease was taken
 pub record Owed : Type 0 where
@@ -50,9 +56,13 @@ PlainAdd p payload (Err add_faults.Memory) q = (key : EntryKey) × Asks p payloa
 abbrev pub IsFree : {X : Type 0} → List (Option X) → ℕ → Type 0
 IsFree readers reader = slice_get readers reader ≡ Some None
 
+-- the reader of this number has this
+abbrev pub HasAt : {X : Type 0} → List (Option X) → ℕ → X → Type 0
+HasAt readers reader held = slice_get readers reader ≡ Some (Some held)
+
 -- there is one, and it holds a lease
 abbrev pub IsBusy : {X : Type 0} → List (Option X) → ℕ → Type 0
-IsBusy {X} readers reader = (held : X) × (slice_get readers reader ≡ Some (Some held))
+IsBusy {X} readers reader = (held : X) × HasAt readers reader held
 
 -- A take gives the payload that the map has, as bytes or as a lease on it, or says that there is none. Want of memory may
 -- come in place of a payload.
@@ -64,6 +74,22 @@ PlainTake p reader key (Ok (Cached payload)) q = IsFree p.readers reader × (fin
 PlainTake p reader key (Ok (Leased place)) q = IsFree p.readers reader × ((payload : List ℕ) × (finite.get p.map key ≡ Some payload)
     × (q ≡ record p { readers = slice_set p.readers reader (Some (record { log = place.log; payload = payload })) }))
 PlainTake p reader key (Err take_faults.Memory) q = IsFree p.readers reader × IsSome (finite.get p.map key) × (q ≡ p)
+
+-- A fetch gives the reader what it is owed: the payload that its entry held when the lease was taken.
+abbrev pub PlainFetch : Plain → ℕ → Result FetchAnswer FetchFault → Type 0
+PlainFetch p reader (Ok fetches.NoReader) = length p.readers ≤ reader
+PlainFetch p reader (Ok fetches.NoLease) = IsFree p.readers reader
+PlainFetch p reader (Ok (fetches.Bytes payload)) = (owed : Owed) × HasAt p.readers reader owed × (payload.items ≡ owed.payload)
+PlainFetch p reader (Err fetch_faults.Disk) = IsBusy p.readers reader
+PlainFetch p reader (Err fetch_faults.Memory) = IsBusy p.readers reader
+PlainFetch p reader (Err fetch_faults.NotThere) = ⊥
+PlainFetch p reader (Err fetch_faults.Odd) = ⊥
+
+-- A release ends the reader's lease.
+abbrev pub PlainRelease : Plain → ℕ → ReleaseAnswer → Plain → Type 0
+PlainRelease p reader releases.NoReader q = (length p.readers ≤ reader) × (q ≡ p)
+PlainRelease p reader releases.NoLease q = IsFree p.readers reader × (q ≡ p)
+PlainRelease p reader releases.Released q = IsBusy p.readers reader × (q ≡ record p { readers = slice_set p.readers reader None })
 
 -- the active cache becomes the flushing one
 abbrev pub swapped : Plain → Plain

@@ -77,7 +77,18 @@ pub enum PublishAnswer {
     Published(u64),
 }
 
-/// Why a call of a flush was refused.
+/// What became of a roll.
+#[derive(Clone, Copy, Debug, PartialEq, Eq)]
+pub enum RollAnswer {
+    /// A flush runs.
+    FlushRunning,
+    /// No log is written.
+    NothingOpen,
+    /// The log of this id was the one that is written. It is sealed now, and written no more.
+    Sealed(u32),
+}
+
+/// Why a call of a flush, or a roll, was refused.
 #[derive(Clone, Copy, Debug, PartialEq, Eq, Error)]
 pub enum FlushFault {
     /// The device failed.

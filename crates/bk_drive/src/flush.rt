@@ -35,7 +35,7 @@ impl<D: LogDisk> Store<D> {
     }
 
     /// What a fault of the log that is written means for the flush.
-    fn flush_fault(&mut self, fault: LogFault) -> FlushFault
+    pub(crate) fn flush_fault(&mut self, fault: LogFault) -> FlushFault
         ensures { FaultTurn self.old fault result self.new }
     {
         match fault {
@@ -117,6 +117,7 @@ impl<D: LogDisk> Store<D> {
         if self.next > LAST_LOG {
             return Err(FlushFault::NoMoreIds);
         }
+        self.fill()?;
         self.make_log()
     }
 
@@ -167,12 +168,13 @@ impl<D: LogDisk> Store<D> {
 
 impl<D: LogDisk> Store<D> {
     /// One step of a flush: writes the first entry without a place. A log is made where none is written, or where the
-    /// one that is written is filled.
+    /// one that is written has no room for the record and is sealed.
     ///
     /// # Errors
     /// `Disk` where the device failed, and `Odd` where it behaved as no sound one does: the flush starts again in
-    /// another log. `Memory` where an allocation was refused: the step may be taken again. `LogsFull` where no slot is
-    /// free for another log, `NoMoreIds` where the last id is used up: nothing is changed.
+    /// another log. `Memory` where an allocation was refused: the step may be taken again, and a log that was sealed
+    /// for it, or made, stays so. `LogsFull` where no slot is free for another log, `NoMoreIds` where the last id is
+    /// used up: nothing is changed.
     pub fn write_one(&mut self) -> Result<WriteAnswer, FlushFault>
         ensures honest { self.new.honest ≡ self.old.honest }
         ensures cause { IsCaused self.old result self.new }

@@ -9,6 +9,7 @@ mod log;
 mod open;
 mod publish;
 mod readers;
+mod roll;
 mod run;
 mod settings;
 mod step;
@@ -17,13 +18,13 @@ mod store;
 mod tests;
 
 pub use answer::{
-    AddFault, Added, FlushFault, OpenFault, PublishAnswer, SwapAnswer, TakeFault, Taken,
-    WriteAnswer,
+    AddFault, Added, FlushFault, OpenFault, PublishAnswer, RollAnswer, SwapAnswer, TakeFault,
+    Taken, WriteAnswer,
 };
 pub use lease::Lease;
 pub use log::LogState;
 pub use readers::{Readers, Reading};
 pub use run::{Ran, apply, drive};
 pub use settings::Settings;
-pub use step::{Answer, Step, TakeAnswer, Work};
+pub use step::{Answer, FetchAnswer, ReleaseAnswer, Step, TakeAnswer, Work};
 pub use store::Store;

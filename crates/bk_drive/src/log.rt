@@ -25,7 +25,17 @@ pub enum LogState {
 }
 
 impl LogState {
-    ghost use Rattle.bk_drive.specs.Logs.{settled, unfilled};
+    ghost use Rattle.bk_drive.specs.Logs.{closed_as, settled, unfilled};
+
+    /// The state when the log that is written is closed for writing, and goes into this one.
+    pub(crate) fn closed_as(self, state: LogState) -> LogState
+        ensures { result ≡ closed_as state self }
+    {
+        match self {
+            LogState::Writing => state,
+            other => other,
+        }
+    }
 
     /// The state when the flush ends for a fault: what it wrote is written no more.
     pub(crate) fn settled(self) -> LogState
@@ -75,7 +85,7 @@ impl<V: LogView> Model for LogTable<V> {
 }
 
 impl<V: LogView> LogTable<V> {
-    ghost use Rattle.bk_drive.specs.Logs.{Log, made_log, in_state, settled, unfilled, with_states, last_view, view_of, with_view};
+    ghost use Rattle.bk_drive.specs.Logs.{Log, made_log, in_state, closed_as, settled, unfilled, with_states, last_view, view_of, with_view};
     ghost use Rattle.bk_drive.specs.declared.log.LogState.TheVariants.{Writing};
 
     /// No logs. It takes no memory yet.
@@ -122,6 +132,15 @@ impl<V: LogView> LogTable<V> {
     {
         let last = self.logs.len() - 1;
         self.logs[last].state = state;
+    }
+
+    /// The log that is written is closed for writing, and goes into this state.
+    pub fn close(&mut self, state: LogState)
+        ensures { self.new ≡ with_states (closed_as state) self.old }
+    {
+        for log in self.logs.iter_mut() {
+            log.state = log.state.closed_as(state);
+        }
     }
 
     /// The logs that a flush wrote are written no more.

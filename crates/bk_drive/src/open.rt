@@ -20,7 +20,6 @@ impl<D: LogDisk> Store<D> {
     pub fn open(mut disk: D, alloc: Global, settings: Settings) -> Result<Store<D>, OpenFault>
         requires none { (log : ℕ) → map.get (D.files disk) log ≡ None }
         requires allowed { IsAllowed settings }
-        requires one { settings.slots ≡ 1 }
         ensures honest { IfOk result (λ store. store.honest ≡ D.honest disk) }
         ensures opened { IsTrue (D.honest disk)
             → IfOk result (λ store. store ≡ opened settings (D.files disk) store.failures) }

@@ -1,8 +1,8 @@
 //! The readers of a machine: four of them, each with the lease that it holds, or none.
 
-ghost use Rattle.std.specs.Prelude.{◌≡◌, ◌<◌, ◌≤◌, Some, None, length, slice_set, replicate};
+ghost use Rattle.std.specs.Prelude.{◌≡◌, ◌<◌, ◌≤◌, Some, None, IfSome, IfNone, length, slice_set, replicate};
 ghost use Rattle.std.specs.Bool.{OnTrue, OnFalse};
-ghost use Rattle.bk_drive.specs.Plain.{IsFree, IsBusy};
+ghost use Rattle.bk_drive.specs.Plain.{IsFree, IsBusy, HasAt};
 ghost use Rattle.bk_drive.specs.Headline.{reader_count};
 ghost use Rattle.bk_drive.specs.Held.{seen_hold};
 
@@ -62,6 +62,23 @@ impl<V: LogView> Readers<V> {
         ensures free { OnFalse result (IsFree self.now reader) }
     {
         self.holds[reader as usize].is_some()
+    }
+
+    /// What the reader of this number holds, `None` where it holds no lease.
+    pub fn reading(&self, reader: u32) -> Option<&Reading<V>>
+        requires { reader < length self.now }
+        ensures held { IfSome result (λ reading. HasAt self.now reader (seen_hold V.bytes V.honest V.sound reading.now)) }
+        ensures free { IfNone result (IsFree self.now reader) }
+    {
+        self.holds[reader as usize].as_ref()
+    }
+
+    /// Ends the lease that the reader of this number holds.
+    pub fn let_go(&mut self, reader: u32)
+        requires { reader < length self.old }
+        ensures { self.new ≡ slice_set self.old reader None }
+    {
+        self.holds[reader as usize] = None;
     }
 
     /// Gives the reader of this number a lease to hold.

@@ -2,15 +2,17 @@
 
 ghost use Rattle.std.specs.Prelude.{◌≡◌, ◌≤◌, ℕ, None, List, Option, IsTrue, IfOk, IsErrOf, length};
 ghost use Rattle.std.specs.FinMap as map;
-ghost use Rattle.bk_drive.specs.Machine.{Hold, ReaderTake, Turn};
+ghost use Rattle.bk_drive.specs.Machine.{Hold, ReaderFetch, ReaderRelease, ReaderTake, Turn};
 ghost use Rattle.bk_drive.specs.Headline.{Headline};
 ghost use Rattle.bk_drive.specs.Limits.{IsAllowed};
 ghost use Rattle.bk_drive.specs.declared.step.Step.TheVariants as steps;
 
 use crate::{
-    Answer, OpenFault, Readers, Reading, Settings, Step, Store, TakeAnswer, TakeFault, Taken, Work,
+    Answer, FetchAnswer, OpenFault, Readers, Reading, ReleaseAnswer, Settings, Step, Store,
+    TakeAnswer, TakeFault, Taken, Work,
 };
-use bk_disk::LogDisk;
+use bk_disk::{LogDisk, LogView};
+use bk_log::{FetchFault, fetch};
 use bk_record::Key;
 use std::alloc::Global;
 
@@ -34,6 +36,7 @@ pub fn apply<D: LogDisk>(store: &mut Store<D>, work: Work) -> Answer
         Work::Swap => Answer::Swap(store.swap()),
         Work::WriteOne => Answer::Write(store.write_one()),
         Work::Publish => Answer::Publish(store.publish()),
+        Work::Roll => Answer::Roll(store.roll()),
     }
 }
 
@@ -48,7 +51,6 @@ pub fn drive<D: LogDisk>(
 ) -> Result<Ran<D>, OpenFault>
     requires none { (log : ℕ) → map.get (D.files disk) log ≡ None }
     requires allowed { IsAllowed settings }
-    requires one { settings.slots ≡ 1 }
     ensures headline { IsTrue (D.honest disk)
         → IfOk result (λ ran. Headline settings (D.files disk) steps.now ran.answers.items ran.store ran.readers) }
     ensures one_answer { IfOk result (λ ran. length ran.answers.items ≡ length steps.now) }
@@ -79,6 +81,8 @@ fn turn<D: LogDisk>(store: &mut Store<D>, readers: &mut Readers<D::View>, step: 
         Step::Work(work) => apply(store, *work),
         Step::Add(payload) => Answer::Add(store.add(payload)),
         Step::Take(reader, key) => Answer::Take(take(store, readers, *reader, *key)),
+        Step::Fetch(reader) => Answer::Fetch(fetch_by(store.alloc, readers, *reader)),
+        Step::Release(reader) => Answer::Release(release(readers, *reader)),
     }
 }
 
@@ -113,4 +117,36 @@ fn take<D: LogDisk>(
             Ok(TakeAnswer::Leased(location))
         }
     }
+}
+
+/// A fetch by a reader: the entry on which it holds a lease, read from the view that it holds.
+fn fetch_by<V: LogView>(
+    alloc: Global,
+    readers: &Readers<V>,
+    reader: u32,
+) -> Result<FetchAnswer, FetchFault>
+    ensures { ReaderFetch readers.now reader result }
+{
+    if !readers.has(reader) {
+        return Ok(FetchAnswer::NoReader);
+    }
+    let Some(reading) = readers.reading(reader) else {
+        return Ok(FetchAnswer::NoLease);
+    };
+    let payload = fetch(&*reading.lease.view, alloc, reading.location, reading.key)?;
+    Ok(FetchAnswer::Bytes(payload))
+}
+
+/// A release by a reader, which then holds no lease.
+fn release<V: LogView>(readers: &mut Readers<V>, reader: u32) -> ReleaseAnswer
+    ensures { ReaderRelease readers.old reader result readers.new }
+{
+    if !readers.has(reader) {
+        return ReleaseAnswer::NoReader;
+    }
+    if !readers.is_busy(reader) {
+        return ReleaseAnswer::NoLease;
+    }
+    readers.let_go(reader);
+    ReleaseAnswer::Released
 }

@@ -1,10 +1,13 @@
 //! The steps of a script and their answers.
 
-use crate::{AddFault, Added, FlushFault, PublishAnswer, SwapAnswer, TakeFault, WriteAnswer};
+use crate::{
+    AddFault, Added, FlushFault, PublishAnswer, RollAnswer, SwapAnswer, TakeFault, WriteAnswer,
+};
+use bk_log::FetchFault;
 use bk_record::{Key, Location};
 use std::sync::Arc;
 
-/// A step of the store alone: one call of its flush.
+/// A step of the store alone.
 #[derive(Clone, Copy, Debug, PartialEq, Eq)]
 pub enum Work {
     /// Makes the active cache the flushing one.
@@ -13,6 +16,8 @@ pub enum Work {
     WriteOne,
     /// Ends the flush: its entries are read from their logs from now on.
     Publish,
+    /// Seals the log that is written, so that the next flush begins another.
+    Roll,
 }
 
 /// One step. Readers are numbered from 0 to 3.
@@ -24,6 +29,10 @@ pub enum Step {
     Add(Vec<u8>),
     /// A take of this key by a reader, which then holds the lease if it gets one.
     Take(u32, Key),
+    /// A read of the entry that the reader of this number holds a lease on. It keeps the lease.
+    Fetch(u32),
+    /// The end of the lease that the reader of this number holds.
+    Release(u32),
 }
 
 /// What a take answered.
@@ -41,12 +50,37 @@ pub enum TakeAnswer {
     Leased(Location),
 }
 
+/// What a fetch answered.
+#[derive(Debug, Drop)]
+pub enum FetchAnswer {
+    /// There is no reader of that number.
+    NoReader,
+    /// The reader holds no lease.
+    NoLease,
+    /// The payload that the entry had when the lease was taken.
+    Bytes(Vec<u8>),
+}
+
+/// What a release answered.
+#[derive(Clone, Copy, Debug, PartialEq, Eq)]
+pub enum ReleaseAnswer {
+    /// There is no reader of that number.
+    NoReader,
+    /// The reader holds no lease.
+    NoLease,
+    /// The reader holds no lease any more.
+    Released,
+}
+
 /// The answer of a step, by the call that it made.
 #[derive(Debug, Drop)]
 pub enum Answer {
     Add(Result<Added, AddFault>),
     Take(Result<TakeAnswer, TakeFault>),
+    Fetch(Result<FetchAnswer, FetchFault>),
+    Release(ReleaseAnswer),
     Swap(SwapAnswer),
     Write(Result<WriteAnswer, FlushFault>),
     Publish(Result<PublishAnswer, FlushFault>),
+    Roll(Result<RollAnswer, FlushFault>),
 }

@@ -15,8 +15,8 @@ use Rattle.std.proofs.lemmas.List.Sums.{AllPass-from_list_all}
 use Rattle.std.proofs.lemmas.Bool.Decides.{nat_tests}
 use Rattle.bk_drive.specs.declared.step.Step.{Step}
 use Rattle.bk_drive.specs.declared.step.Work.{Work}
-use Rattle.bk_drive.specs.declared.step.Work.TheVariants.{Swap, WriteOne, Publish}
-use Rattle.bk_shell.specs.Line.{IsPrintable, word_of, Spells, work, add, add_text, take}
+use Rattle.bk_drive.specs.declared.step.Work.TheVariants.{Swap, WriteOne, Publish, Roll}
+use Rattle.bk_shell.specs.Line.{IsPrintable, word_of, words, Spells, work, add, add_text, pad, take, fetch, release}
 
 pub printable_behind : (name rest : List ℕ) → All IsPrintable (name ++ 32 ∷ rest) → All IsPrintable rest
 printable_behind [] rest h = All-tail IsPrintable 32 rest h
@@ -44,9 +44,13 @@ printable_word : (call : Work) → All IsPrintable (word_of call)
 printable_word Swap = printable_test (word_of Swap) refl
 printable_word WriteOne = printable_test (word_of WriteOne) refl
 printable_word Publish = printable_test (word_of Publish) refl
+printable_word Roll = printable_test (word_of Roll) refl
 
 followed_by : (word rest : List ℕ) → All IsPrintable word → All IsPrintable rest → All IsPrintable (word ++ 32 ∷ rest)
 followed_by word rest h k = All-append IsPrintable word (32 ∷ rest) h (All-cons IsPrintable 32 rest (omega arith, omega arith) k)
+
+printable_three : (a b c : ℕ) → a < 2 ^ 63 → b < 2 ^ 63 → c < 2 ^ 63 → All IsPrintable (words (decimal a ∷ decimal b ∷ decimal c ∷ []))
+printable_three a b c first second third = followed_by (decimal a) _ (printable_decimal a first) (followed_by (decimal b) _ (printable_decimal b second) (printable_decimal c third))
 
 pub printable_line : {line : List ℕ} {step : Step} → Spells line step → All IsPrintable line
 printable_line (work {call = call}) = printable_word call
@@ -54,6 +58,11 @@ printable_line (add {ledger = ledger} {entry = entry} low high is) =
     followed_by (codes "add") _ (printable_test (codes "add") refl) (followed_by (decimal ledger) _ (printable_decimal ledger low) (printable_decimal entry high))
 printable_line (add_text {ledger = ledger} {entry = entry} {text = text} low high some all is) =
     followed_by (codes "add") _ (printable_test (codes "add") refl) (followed_by (decimal ledger) _ (printable_decimal ledger low) (followed_by (decimal entry) text (printable_decimal entry high) all))
+printable_line (pad {ledger = ledger} {entry = entry} {size = size} low high small is) =
+    followed_by (codes "pad") _ (printable_test (codes "pad") refl) (printable_three ledger entry size low high (omega arith))
 printable_line (take {reader = reader} {ledger = ledger} {entry = entry} few low high) =
-    followed_by (codes "take") _ (printable_test (codes "take") refl) (followed_by (decimal reader) _ (printable_decimal reader (omega arith))
-    (followed_by (decimal ledger) _ (printable_decimal ledger low) (printable_decimal entry high)))
+    followed_by (codes "take") _ (printable_test (codes "take") refl) (printable_three reader ledger entry (omega arith) low high)
+printable_line (fetch {reader = reader} few) =
+    followed_by (codes "fetch") _ (printable_test (codes "fetch") refl) (printable_decimal reader (omega arith))
+printable_line (release {reader = reader} few) =
+    followed_by (codes "release") _ (printable_test (codes "release") refl) (printable_decimal reader (omega arith))

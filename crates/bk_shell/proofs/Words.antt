@@ -10,7 +10,7 @@ use Rattle.std.proofs.Math.Dec.{eqb-suc-zero}
 use Rattle.std.proofs.lemmas.List.Sums.{AllPass-from_list_all}
 use Rattle.std.proofs.lemmas.Bool.{ne_eqb, false≢true}
 use Rattle.bk_drive.specs.declared.step.Work.{Work}
-use Rattle.bk_drive.specs.declared.step.Work.TheVariants.{Swap, WriteOne, Publish}
+use Rattle.bk_drive.specs.declared.step.Work.TheVariants.{Swap, WriteOne, Publish, Roll}
 use Rattle.bk_shell.specs.Line.{IsWord, followed, word_of}
 use Rattle.bk_shell.proofs.Numbers.{own}
 
@@ -46,6 +46,7 @@ pub IsWord-word_of : (call : Work) → IsWord (word_of call)
 IsWord-word_of Swap = IsWord-from_test (word_of Swap) refl
 IsWord-word_of WriteOne = IsWord-from_test (word_of WriteOne) refl
 IsWord-word_of Publish = IsWord-from_test (word_of Publish) refl
+IsWord-word_of Roll = IsWord-from_test (word_of Roll) refl
 
 -- and numbers too are read in one way
 pub numbers-injective : (m n : ℕ) (x y : Option (List ℕ)) → m < 2 ^ 64 → n < 2 ^ 64
@@ -53,6 +54,12 @@ pub numbers-injective : (m n : ℕ) (x y : Option (List ℕ)) → m < 2 ^ 64 →
 numbers-injective m n x y h k e =
     let same = followed-injective _ _ x y (IsWord-decimal m h) (IsWord-decimal n k) e in
     (decimal_injective m n h k same.0, same.1)
+
+-- what stands behind a number and a space
+pub behind_number : (text behind : List ℕ) (m n : ℕ) (rest : List ℕ) → m < 2 ^ 64 → n < 2 ^ 64 → text ≡ decimal m ++ 32 ∷ behind
+    → text ≡ decimal n ++ 32 ∷ rest → behind ≡ rest
+behind_number text behind m n rest h k is then =
+    let e = (numbers-injective m n (Some behind) (Some rest) h k (sym is ∙ then)).1 in cc
 
 -- what `split_once` at a space leaves before it, and a text without a space
 pub word_before : (text : List ℕ) (r : Option (Bor (List ℕ) × Bor (List ℕ))) (p : Bor (List ℕ) × Bor (List ℕ))

@@ -3,3 +3,4 @@ pub mod Line
 pub mod Text
 pub mod Script
 pub mod Run
+pub mod CommandLine

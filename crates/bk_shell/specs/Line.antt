@@ -1,5 +1,5 @@
 -- A line of a script, and the step that it spells: words with one space between.
-use Rattle.std.specs.Prelude.{◌≡◌, ◌≢◌, ℕ, ◌<◌, ◌≤◌, ◌^◌, List, [], ◌∷◌, ◌++◌, codes, Option, Some, None}
+use Rattle.std.specs.Prelude.{◌≡◌, ◌≢◌, ℕ, ◌<◌, ◌≤◌, ◌^◌, List, [], ◌∷◌, ◌++◌, replicate, codes, Option, Some, None}
 use Rattle.std.specs.List.{All, join_with_byte}
 use Rattle.std.specs.Fmt.{decimal}
 use Rattle.std.specs.Int.{w64, to_be_bytes, IsInRange}
@@ -7,7 +7,7 @@ use Rattle.std.specs.Global.{Vec}
 use Rattle.bk_drive.specs.declared.step.Step.{Step}
 use Rattle.bk_drive.specs.declared.step.Step.TheVariants as steps
 use Rattle.bk_drive.specs.declared.step.Work.{Work}
-use Rattle.bk_drive.specs.declared.step.Work.TheVariants.{Swap, WriteOne, Publish}
+use Rattle.bk_drive.specs.declared.step.Work.TheVariants.{Swap, WriteOne, Publish, Roll}
 
 -- words with one space between
 abbrev pub words : List (List ℕ) → List ℕ
@@ -28,19 +28,21 @@ IsPrintable = IsInRange 32 126
 
 -- the payload of an add: the ledger id and the entry id, eight bytes each, big-endian, then the data
 unfoldable pub payload_of : ℕ → ℕ → List ℕ → List ℕ
-payload_of ledger entry text = to_be_bytes w64 ledger ++ to_be_bytes w64 entry ++ text
+payload_of ledger entry bytes = to_be_bytes w64 ledger ++ to_be_bytes w64 entry ++ bytes
 
 -- the step adds that payload
 abbrev pub IsAdd : ℕ → ℕ → List ℕ → Step → Type 0
-IsAdd ledger entry text step = (payload : Vec ℕ) × (step ≡ steps.Add payload) × (payload.items ≡ payload_of ledger entry text)
+IsAdd ledger entry bytes step = (payload : Vec ℕ) × (step ≡ steps.Add payload) × (payload.items ≡ payload_of ledger entry bytes)
 
--- the word that asks for a call of the flush
+-- the word that asks for a call of the store
 abbrev pub word_of : Work → List ℕ
 word_of Swap = codes "swap"
 word_of WriteOne = codes "write"
 word_of Publish = codes "publish"
+word_of Roll = codes "roll"
 
--- The line spells the step (this project's rule). Ids are below 2 ^ 63, readers are numbered from 0 to 3.
+-- The line spells the step (this project's rule). Ids are below 2 ^ 63, readers are numbered from 0 to 3, and a pad has
+-- up to 2097152 zero bytes.
 pub data Spells : List ℕ → Step → Type 0 where
   work : {call : Work} → Spells (word_of call) (steps.Work call)
   add : {ledger entry : ℕ} {step : Step} → ledger < 2 ^ 63 → entry < 2 ^ 63 → IsAdd ledger entry [] step
@@ -48,6 +50,11 @@ pub data Spells : List ℕ → Step → Type 0 where
   add_text : {ledger entry : ℕ} {text : List ℕ} {step : Step} → ledger < 2 ^ 63 → entry < 2 ^ 63
       → text ≢ [] → All IsPrintable text → IsAdd ledger entry text step
       → Spells (words (codes "add" ∷ decimal ledger ∷ decimal entry ∷ text ∷ [])) step
+  pad : {ledger entry size : ℕ} {step : Step} → ledger < 2 ^ 63 → entry < 2 ^ 63 → size ≤ 2097152
+      → IsAdd ledger entry (replicate size 0) step
+      → Spells (words (codes "pad" ∷ decimal ledger ∷ decimal entry ∷ decimal size ∷ [])) step
   take : {reader ledger entry : ℕ} → reader ≤ 3 → ledger < 2 ^ 63 → entry < 2 ^ 63
       → Spells (words (codes "take" ∷ decimal reader ∷ decimal ledger ∷ decimal entry ∷ []))
       (steps.Take reader (record { ledger = ledger; entry = entry }))
+  fetch : {reader : ℕ} → reader ≤ 3 → Spells (words (codes "fetch" ∷ decimal reader ∷ [])) (steps.Fetch reader)
+  release : {reader : ℕ} → reader ≤ 3 → Spells (words (codes "release" ∷ decimal reader ∷ [])) (steps.Release reader)

@@ -5,6 +5,8 @@ use Rattle.std.specs.Fmt.{decimal, digit_glyph}
 use Rattle.bk_record.specs.Location.{packed}
 use Rattle.bk_record.specs.declared.fault.RecordFault.{RecordFault}
 use Rattle.bk_record.specs.declared.fault.RecordFault.TheVariants as record_faults
+use Rattle.bk_log.specs.declared.fault.FetchFault.{FetchFault}
+use Rattle.bk_log.specs.declared.fault.FetchFault.TheVariants as fetch_faults
 use Rattle.bk_drive.specs.declared.answer.Added.{Added}
 use Rattle.bk_drive.specs.declared.answer.Added.TheVariants.{Accepted, Held}
 use Rattle.bk_drive.specs.declared.answer.AddFault.{AddFault}
@@ -17,10 +19,16 @@ use Rattle.bk_drive.specs.declared.answer.WriteAnswer.{WriteAnswer}
 use Rattle.bk_drive.specs.declared.answer.WriteAnswer.TheVariants as writes
 use Rattle.bk_drive.specs.declared.answer.PublishAnswer.{PublishAnswer}
 use Rattle.bk_drive.specs.declared.answer.PublishAnswer.TheVariants as publishes
+use Rattle.bk_drive.specs.declared.answer.RollAnswer.{RollAnswer}
+use Rattle.bk_drive.specs.declared.answer.RollAnswer.TheVariants as rolls
 use Rattle.bk_drive.specs.declared.answer.FlushFault.{FlushFault}
 use Rattle.bk_drive.specs.declared.answer.FlushFault.TheVariants as flush_faults
 use Rattle.bk_drive.specs.declared.step.TakeAnswer.{TakeAnswer}
 use Rattle.bk_drive.specs.declared.step.TakeAnswer.TheVariants as takes
+use Rattle.bk_drive.specs.declared.step.FetchAnswer.{FetchAnswer}
+use Rattle.bk_drive.specs.declared.step.FetchAnswer.TheVariants as fetches
+use Rattle.bk_drive.specs.declared.step.ReleaseAnswer.{ReleaseAnswer}
+use Rattle.bk_drive.specs.declared.step.ReleaseAnswer.TheVariants as releases
 use Rattle.bk_drive.specs.declared.step.Answer.{Answer}
 use Rattle.bk_drive.specs.declared.step.Answer.TheVariants as answers
 
@@ -36,6 +44,10 @@ abbrev pub data_text : List ℕ → List ℕ
 data_text [] = codes "-"
 data_text (byte ∷ bytes) = hex_of (byte ∷ bytes)
 
+-- the data of a payload, which stands behind its two ids
+abbrev pub shown_data : List ℕ → List ℕ
+shown_data payload = data_text (drop 16 payload)
+
 abbrev pub record_fault_text : RecordFault → List ℕ
 record_fault_text (record_faults.Short n) = codes "short " ++ decimal n
 record_fault_text record_faults.Negative = codes "negative number"
@@ -48,14 +60,30 @@ add_text (Ok Held) = codes "held"
 add_text (Err (add_faults.Bad fault)) = codes "fault " ++ record_fault_text fault
 add_text (Err add_faults.Memory) = codes "fault memory"
 
--- the data of a payload stands behind its two ids
 abbrev pub take_text : Result TakeAnswer TakeFault → List ℕ
 take_text (Ok takes.NoReader) = codes "no reader"
 take_text (Ok takes.ReaderBusy) = codes "reader busy"
 take_text (Ok takes.NotHeld) = codes "not held"
-take_text (Ok (takes.Cached payload)) = codes "cached " ++ data_text (drop 16 payload.value.items)
+take_text (Ok (takes.Cached payload)) = codes "cached " ++ shown_data payload.value.items
 take_text (Ok (takes.Leased place)) = codes "leased " ++ decimal (packed place)
 take_text (Err take_faults.Memory) = codes "fault memory"
+
+abbrev pub fetch_fault_text : FetchFault → List ℕ
+fetch_fault_text fetch_faults.Disk = codes "disk"
+fetch_fault_text fetch_faults.NotThere = codes "not there"
+fetch_fault_text fetch_faults.Memory = codes "memory"
+fetch_fault_text fetch_faults.Odd = codes "odd disk"
+
+abbrev pub fetch_text : Result FetchAnswer FetchFault → List ℕ
+fetch_text (Ok fetches.NoReader) = codes "no reader"
+fetch_text (Ok fetches.NoLease) = codes "no lease"
+fetch_text (Ok (fetches.Bytes payload)) = codes "bytes " ++ shown_data payload.items
+fetch_text (Err fault) = codes "fault " ++ fetch_fault_text fault
+
+abbrev pub release_text : ReleaseAnswer → List ℕ
+release_text releases.NoReader = codes "no reader"
+release_text releases.NoLease = codes "no lease"
+release_text releases.Released = codes "released"
 
 abbrev pub swap_text : SwapAnswer → List ℕ
 swap_text swaps.Running = codes "running"
@@ -81,13 +109,22 @@ publish_text (Ok publishes.NotAllWritten) = codes "not all written"
 publish_text (Ok (publishes.Published n)) = codes "published " ++ decimal n
 publish_text (Err fault) = codes "fault " ++ flush_fault_text fault
 
+abbrev pub roll_text : Result RollAnswer FlushFault → List ℕ
+roll_text (Ok rolls.FlushRunning) = codes "flush running"
+roll_text (Ok rolls.NothingOpen) = codes "nothing open"
+roll_text (Ok (rolls.Sealed log)) = codes "sealed " ++ decimal log
+roll_text (Err fault) = codes "fault " ++ flush_fault_text fault
+
 -- the text of an answer
 abbrev pub text_of : Answer → List ℕ
 text_of (answers.Add answer) = add_text answer
 text_of (answers.Take answer) = take_text answer
+text_of (answers.Fetch answer) = fetch_text answer
+text_of (answers.Release answer) = release_text answer
 text_of (answers.Swap answer) = swap_text answer
 text_of (answers.Write answer) = write_text answer
 text_of (answers.Publish answer) = publish_text answer
+text_of (answers.Roll answer) = roll_text answer
 
 -- one line for each answer
 abbrev pub lines_of : List Answer → List ℕ

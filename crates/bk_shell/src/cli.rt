@@ -1,99 +1,104 @@
 //! The command line: what the program is called with, and what it tells of itself.
 
-ghost use Rattle.std.specs.Prelude.{◌≡◌, IfOk};
+ghost use Rattle.std.specs.Prelude.{◌≡◌, map, IfOk, IfErr, OnErr};
+ghost use Rattle.clap.specs.Matches.{found_of};
+ghost use Rattle.clap.specs.Simple.{app_of};
+ghost use Rattle.clap.specs.Values.{kind_of};
+ghost use Rattle.clap.specs.Walk.{rows_of};
 ghost use Rattle.bk_drive.specs.Limits.{IsAllowed};
+ghost use Rattle.bk_drive.specs.declared.settings.Settings.{Settings};
+ghost use Rattle.bk_shell.specs.CommandLine.{program, Asks, AsksSettings};
+
+mod help;
+mod number_option;
+#[cfg(test)]
+mod tests;
 
 use bk_drive::Settings;
-use clap::{Command, Error};
+use clap::error::ErrorKind;
+use clap::{ArgMatches, Command, Error};
+use help::{ABOUT_SCRIPT, SCRIPT_HELP};
+use number_option::{BadValue, NumberOption};
 use std::alloc::{AllocError, Global};
 use std::convert::AsStr;
-
-/// What the program tells of its scripts.
-const SCRIPT_HELP: &str = "\
-`script` reads steps from standard input, one a line. The steps and their answers:
-  add LEDGER ENTRY [TEXT]   accepted | held
-                            adds an entry; the rest of the line is its data
-  take READER LEDGER ENTRY  cached DATA | leased LOCATION | not held | reader busy
-                            reads an entry, from a cache or by a lease on its log
-  swap                      swapped N | nothing | running
-                            begins a flush of the N cached entries
-  write                     wrote LOCATION | all written | no flush
-                            writes the flush's next entry to a log
-  publish                   published N | not all written | no flush
-                            ends the flush
-A step that is refused answers `fault TEXT`.
-
-LEDGER and ENTRY are 0 to 9223372036854775807, READER is 0 to 3. DATA is in hexadecimal, `-` where there is none. A
-LOCATION is the log's id times 2^32, and the position in it. Empty lines are passed over.
-
-The status is 0 where every step was answered, 1 where the input could not be read or spells no script, and 2 where
-the command line is wrong.
-
-Example:
-  $ printf 'add 1 0 hello\\ntake 0 1 0\\nswap\\n' | bk_shell script
-  accepted
-  cached 68656c6c6f
-  swapped 1
-";
 
 /// The settings of a store that a command line without options asks for.
 pub(crate) const DEFAULTS: Settings = Settings {
     log_limit: 1_073_741_824,
     cache_limit: 16_777_216,
     recent: 0,
-    slots: 1,
+    slots: 1024,
     leases: 1024,
     minor: 200,
     major: 800,
 };
 
-/// The settings that a command line gives, its first word being the program's name. An error is a wrong command line,
-/// help that was asked for, or want of memory, as its kind says.
+/// A log with a record is sealed before one that would take it past this many bytes.
+const LOG_LIMIT: NumberOption = NumberOption {
+    name: "log-limit",
+    least: 2048,
+    most: 1_073_741_824,
+    default: DEFAULTS.log_limit,
+    help: "Seals a log before a record would take it past this many bytes: 2048 to 1073741824 [default: 1073741824]",
+};
+
+/// How many logs are held at once.
+const SLOTS: NumberOption = NumberOption {
+    name: "slots",
+    least: 1,
+    most: 65_536,
+    default: DEFAULTS.slots,
+    help: "Holds at most this many logs at once: 1 to 65536 [default: 1024]",
+};
+
+/// The settings that a command line asks for, its first word being the program's name. An error is a wrong command
+/// line, help that was asked for, or want of memory, as its kind says.
 pub(crate) fn settings_of<'a, S: AsStr>(alloc: Global, words: &'a [S]) -> Result<Settings, Error>
     ensures allowed { IfOk result IsAllowed }
-    ensures one { IfOk result (λ settings. settings.slots ≡ 1) }
+    ensures asked { IfOk result (Asks (map S.text words.now)) }
+    ensures refused { IfErr result (λ error. (settings : Settings) → Asks (map S.text words.now) settings
+        → kind_of error ≡ ErrorKind.OutOfMemory) }
 {
-    command(alloc)?.try_get_matches_from(words)?;
-    Ok(DEFAULTS)
+    let mut command = command(alloc)?;
+    let matches = command.try_get_matches_from_mut(words)?;
+    let Some(script) = matches.subcommand_matches("script") else {
+        return Err(command.error(ErrorKind::MissingSubcommand, "a command is asked for")?);
+    };
+    match read_options(script) {
+        Ok(settings) => Ok(settings),
+        Err(bad) => {
+            let told = format!(in alloc; "{bad}")?;
+            Err(command.error(ErrorKind::ValueValidation, told.as_str())?)
+        }
+    }
+}
+
+/// The settings that the options of `script` ask for.
+fn read_options<'a>(script: &ArgMatches<'a>) -> Result<Settings, BadValue<'a>>
+    ensures ok { IfOk result (AsksSettings (rows_of (found_of script.now))) }
+    ensures err { OnErr result ((settings : Settings) → ¬ (AsksSettings (rows_of (found_of script.now)) settings)) }
+{
+    let log_limit = LOG_LIMIT.read(script)?;
+    let slots = SLOTS.read(script)?;
+    Ok(Settings {
+        log_limit,
+        slots,
+        ..DEFAULTS
+    })
 }
 
 /// The program's command line.
-fn command<'a>(alloc: Global) -> Result<Command<'a>, AllocError> {
+fn command<'a>(alloc: Global) -> Result<Command<'a>, AllocError>
+    ensures { IfOk result (λ command. app_of command ≡ program) }
+{
     let script = Command::new(alloc, "script")
-        .about(
-            "Runs steps from standard input on a new store in memory, and prints an answer for each",
-        )
-        .after_help(SCRIPT_HELP);
+        .about(ABOUT_SCRIPT)
+        .after_help(SCRIPT_HELP)
+        .arg(LOG_LIMIT.arg(alloc))?
+        .arg(SLOTS.arg(alloc))?;
     Command::new(alloc, "bk_shell")
         .about("Entry log storage of a bookie")
         .after_help(SCRIPT_HELP)
         .subcommand_required(true)
         .subcommand(script)
-}
-
-#[cfg(test)]
-mod tests {
-    use super::settings_of;
-
-    #[test]
-    fn a_wrong_command_line_has_status_2_and_help_has_0(rt: HostRuntime) {
-        let lines: [(&[&str], i32); 9] = [
-            (&["bk_shell"], 2),
-            (&["bk_shell", "frob"], 2),
-            (&["bk_shell", "script", "5"], 2),
-            (&["bk_shell", "script", "--slots", "5"], 2),
-            (&["bk_shell", "--log-limit=2048", "script"], 2),
-            (&["bk_shell", "help"], 0),
-            (&["bk_shell", "--help"], 0),
-            (&["bk_shell", "help", "script"], 0),
-            (&["bk_shell", "script", "--help"], 0),
-        ];
-        for (words, status) in lines {
-            match settings_of(rt.alloc(), words) {
-                Ok(_) => assert!(rt; false, "{words:?} is no call of the program"),
-                Err(error) => assert_eq!(rt; error.exit_code(), status, "the status of {words:?}"),
-            }
-        }
-        assert!(rt; settings_of(rt.alloc(), &["bk_shell", "script"]).is_ok());
-    }
 }

@@ -19,9 +19,8 @@ use std::alloc::Global;
 use std::io;
 use std::io::{Read, Write};
 
-/// Runs the script that a reader gives, on a new disk in memory, and writes one line for each step. Settings in their ranges
-/// with one slot are the caller's condition. Returns the
-/// program's status: 0, also where a step answered a fault, or 1.
+/// Runs the script that a reader gives, on a new disk in memory, and writes one line for each step. Settings in
+/// their ranges are the caller's condition. Returns the program's status: 0, also where a step answered a fault, or 1.
 ///
 /// 1 comes with a line on the error stream: `read fault` where a read fails or the input is past its bounds,
 /// `line N: bad command` where a line spells no step, `fault TEXT` where the store is not opened, and `fault memory`
@@ -35,7 +34,6 @@ pub fn run_script<R: Read, W: Write, E: Write>(
     errors: &mut E,
 ) -> u8
     requires allowed { IsAllowed settings }
-    requires one { settings.slots ≡ 1 }
     ensures status { result ≤ 1 }
     ensures done { result ≡ 0 → RunsScript settings (R.remaining reader.old) (R.remaining reader.new)
         (W.contents writer.old) (W.contents writer.new) }
@@ -61,7 +59,6 @@ fn run<R: Read, W: Write>(
     writer: &mut W,
 ) -> Result<(), ScriptFault>
     requires allowed { IsAllowed settings }
-    requires one { settings.slots ≡ 1 }
     ensures ok { OnOk result (RunsScript settings (R.remaining reader.old) (R.remaining reader.new)
         (W.contents writer.old) (W.contents writer.new)) }
     ensures bad { IfSome (R.remaining reader.old) (λ input. ((steps : List Step) → ¬ (IsScript input steps))

@@ -2,12 +2,13 @@
 
 ghost use Rattle.std.specs.Prelude.{◌≡◌, Some, drop};
 ghost use Rattle.std.specs.Fmt.{WritesOnOk};
-ghost use Rattle.bk_shell.specs.Text.{add_text, data_text, flush_fault_text, publish_text, record_fault_text, swap_text, take_text, text_of, write_text};
+ghost use Rattle.bk_shell.specs.Text.{add_text, data_text, fetch_fault_text, fetch_text, flush_fault_text, publish_text, record_fault_text, release_text, roll_text, swap_text, take_text, text_of, write_text};
 
 use bk_drive::{
-    AddFault, Added, Answer, FlushFault, PublishAnswer, SwapAnswer, TakeAnswer, TakeFault,
-    WriteAnswer,
+    AddFault, Added, Answer, FetchAnswer, FlushFault, PublishAnswer, ReleaseAnswer, RollAnswer,
+    SwapAnswer, TakeAnswer, TakeFault, WriteAnswer,
 };
+use bk_log::FetchFault;
 use bk_record::RecordFault;
 use std::fmt;
 use std::fmt::{Display, Formatter};
@@ -23,9 +24,12 @@ impl Display for Text<'_, Answer> {
         match self.0 {
             Answer::Add(answer) => write!(f, "{}", Text(answer)),
             Answer::Take(answer) => write!(f, "{}", Text(answer)),
+            Answer::Fetch(answer) => write!(f, "{}", Text(answer)),
+            Answer::Release(answer) => write!(f, "{}", Text(answer)),
             Answer::Swap(answer) => write!(f, "{}", Text(answer)),
             Answer::Write(answer) => write!(f, "{}", Text(answer)),
             Answer::Publish(answer) => write!(f, "{}", Text(answer)),
+            Answer::Roll(answer) => write!(f, "{}", Text(answer)),
         }
     }
 }
@@ -74,6 +78,47 @@ impl Display for Text<'_, Result<TakeAnswer, TakeFault>> {
     }
 }
 
+impl Display for Text<'_, Result<FetchAnswer, FetchFault>> {
+    ghost output = { λ text. Some (fetch_text text.0.now) };
+
+    fn fmt<W: fmt::Write>(&self, f: &mut Formatter<W>) -> fmt::Result {
+        match self.0 {
+            Ok(FetchAnswer::NoReader) => write!(f, "no reader"),
+            Ok(FetchAnswer::NoLease) => write!(f, "no lease"),
+            Ok(FetchAnswer::Bytes(bytes)) => {
+                write!(f, "bytes ")?;
+                write_data(f, data_of(bytes))
+            }
+            Err(fault) => write!(f, "fault {}", Text(fault)),
+        }
+    }
+}
+
+impl Display for Text<'_, FetchFault> {
+    ghost output = { λ text. Some (fetch_fault_text text.0.now) };
+
+    fn fmt<W: fmt::Write>(&self, f: &mut Formatter<W>) -> fmt::Result {
+        match self.0 {
+            FetchFault::Disk => write!(f, "disk"),
+            FetchFault::NotThere => write!(f, "not there"),
+            FetchFault::Memory => write!(f, "memory"),
+            FetchFault::Odd => write!(f, "odd disk"),
+        }
+    }
+}
+
+impl Display for Text<'_, ReleaseAnswer> {
+    ghost output = { λ text. Some (release_text text.0.now) };
+
+    fn fmt<W: fmt::Write>(&self, f: &mut Formatter<W>) -> fmt::Result {
+        match self.0 {
+            ReleaseAnswer::NoReader => write!(f, "no reader"),
+            ReleaseAnswer::NoLease => write!(f, "no lease"),
+            ReleaseAnswer::Released => write!(f, "released"),
+        }
+    }
+}
+
 impl Display for Text<'_, SwapAnswer> {
     ghost output = { λ text. Some (swap_text text.0.now) };
 
@@ -107,6 +152,19 @@ impl Display for Text<'_, Result<PublishAnswer, FlushFault>> {
             Ok(PublishAnswer::NoFlush) => write!(f, "no flush"),
             Ok(PublishAnswer::NotAllWritten) => write!(f, "not all written"),
             Ok(PublishAnswer::Published(count)) => write!(f, "published {count}"),
+            Err(fault) => write!(f, "fault {}", Text(fault)),
+        }
+    }
+}
+
+impl Display for Text<'_, Result<RollAnswer, FlushFault>> {
+    ghost output = { λ text. Some (roll_text text.0.now) };
+
+    fn fmt<W: fmt::Write>(&self, f: &mut Formatter<W>) -> fmt::Result {
+        match self.0 {
+            Ok(RollAnswer::FlushRunning) => write!(f, "flush running"),
+            Ok(RollAnswer::NothingOpen) => write!(f, "nothing open"),
+            Ok(RollAnswer::Sealed(log)) => write!(f, "sealed {log}"),
             Err(fault) => write!(f, "fault {}", Text(fault)),
         }
     }

@@ -1,4 +1,4 @@
-use Rattle.std.proofs.Common.{◌<◌, ◌+◌, ◌^◌, List, ℕ, length, sym, ap, subst, ◌∙◌, slice_get}
+use Rattle.std.proofs.Common.{◌<◌, ◌+◌, ◌^◌, length, sym, ap, subst, ◌∙◌, slice_get}
 use Rattle.std.specs.FinMap.{entries}
 use Rattle.bk_drive.proofs.Payloads.{addable_bytes}
 use Rattle.bk_drive.proofs.flush.put_entry.Goals as goal

@@ -1,4 +1,4 @@
-use Rattle.std.proofs.Common.{◌≡◌, ◌≤◌, ℕ, IsTrue, List, length, take, vec_len, vec_capacity}
+use Rattle.std.proofs.Common.{◌≡◌, ◌≤◌, IsTrue, length, take, vec_len, vec_capacity}
 use Rattle.bk_drive.proofs.Driving.{IsDriven}
 use Rattle.bk_drive.proofs.run.drive.Given as goal
 

@@ -1,6 +1,7 @@
 use Rattle.std.proofs.Common.{◌≡◌, sym, ◌∙◌}
 use Rattle.bk_shell.proofs.Printable.{printable_line, printable_behind}
-use Rattle.bk_shell.proofs.Lines.{call_of, spelled_work}
+use Rattle.bk_shell.proofs.Parts.{call_of}
+use Rattle.bk_shell.proofs.Lines.{spelled_work}
 use Rattle.bk_shell.proofs.line.read_step.Goals as goal
 
 pub returns-in_default-clause-bad : goal.returns-in_default-clause-bad

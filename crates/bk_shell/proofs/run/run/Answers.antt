@@ -1,4 +1,4 @@
-use Rattle.std.proofs.Common.{arith, ap, ◌∙◌, refl, subst}
+use Rattle.std.proofs.Common.{ap, ◌∙◌, arith, refl, subst}
 use Rattle.std.specs.FinMap as finite
 use Rattle.std.specs.Ordering.{nat_cmp}
 use Rattle.std.specs.Io.KnownBytes.{Appends}
@@ -8,7 +8,8 @@ use Rattle.bk_shell.specs.Text.{lines_of}
 use Rattle.bk_shell.proofs.run.run.Goals as goal
 
 pub drive-requires-after_bounds : goal.drive-requires-after_bounds
-drive-requires-after_bounds g c κs = (omega arith, ((λ log. ap (λ files. finite.get files log) c.new.ensures ∙ finite.get-empty nat_cmp log), (c.requires.allowed, c.requires.one)))
+drive-requires-after_bounds g c κs =
+    (omega arith, (λ log. ap (λ files. finite.get files log) c.new.ensures ∙ finite.get-empty nat_cmp log, c.requires.allowed))
 
 pub returns-in-Ok-write_answers-clause-ok : goal.returns-in-Ok-write_answers-clause-ok
 returns-in-Ok-write_answers-clause-ok g c = record {

@@ -1,4 +1,4 @@
-use Rattle.std.proofs.Common.{refl, ap, sym, ◌∙◌, arith, slice_index_or, map, length}
+use Rattle.std.proofs.Common.{refl, ap, sym, ◌∙◌, slice_index_or, map, length}
 use Rattle.bk_drive.specs.Logs.{settled}
 use Rattle.bk_drive.proofs.HeldLogs.{worked_on, all_states, shown}
 use Rattle.bk_drive.proofs.log.LogTable.settle.Goals as goal

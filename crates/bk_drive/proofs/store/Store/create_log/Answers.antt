@@ -1,4 +1,4 @@
-use Rattle.std.proofs.Common.{◌<◌, ◌^◌, refl, inr, sym, subst, IsNone, IsTrue}
+use Rattle.std.proofs.Common.{◌<◌, ◌^◌, inr, sym, subst, IsNone, IsTrue}
 use Rattle.bk_head.specs.Header.{empty_header}
 use Rattle.bk_drive.proofs.FitsLaws.{fits_made, fits_half_made, created_files, half_file}
 use Rattle.bk_drive.proofs.Making.{makes_ok, makes_from}

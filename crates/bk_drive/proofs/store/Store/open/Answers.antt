@@ -9,7 +9,7 @@ returns-then-not-is_empty-clause-never_odd g c = λ honest odd.
 
 pub invariant_of-result : goal.invariant_of-result
 invariant_of-result g c =
-    first_fits c.args.settings _ _ _ _ c.requires.allowed.log_most c.requires.one c.new-2.ensures c.new-3.ensures
+    first_fits c.args.settings _ _ _ _ c.requires.allowed.log_most c.new-2.ensures c.new-3.ensures
     (λ honest log.
     let stays = (c.in-Ok.ensures.turn (subst (λ b. IsTrue b) c.list.ensures.honest honest)).1 in
     ap (λ files. finite.get files log) stays ∙ c.requires.none log)

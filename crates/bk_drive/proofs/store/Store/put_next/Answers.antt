@@ -1,8 +1,4 @@
-use Rattle.std.proofs.Common.{◌≡◌, Some, Ok, Err, ap, sym, subst, ◌∙◌, option_map, length, refl}
-use Rattle.bk_log.specs.Writing.{Puts}
-use Rattle.bk_log.specs.Writing.{PutTurn as LogPutTurn}
-use Rattle.bk_log.specs.declared.fault.LogFault.TheVariants.{Memory}
-use Rattle.bk_drive.specs.Making.{NotesPlace}
+use Rattle.std.proofs.Common.{Err, ap, sym, ◌∙◌, option_map, refl}
 use Rattle.bk_drive.specs.Stored.{flush_of}
 use Rattle.bk_drive.proofs.Putting.{next_within, next_here, fits_with, fits_without, fits_put, fits_wanting, fits_dropped, memory_here, fault_here, fault_honest, fault_cause, other_fault, wants_memory}
 use Rattle.bk_drive.proofs.store.Store.put_next.Goals as goal

@@ -1,4 +1,3 @@
-use Rattle.bk_drive.specs.Logs.{settled}
 use Rattle.bk_drive.proofs.FitsLaws.{fits_restarted}
 use Rattle.bk_drive.proofs.store.Store.restart.Goals as goal
 

@@ -1,4 +1,4 @@
-use Rattle.std.proofs.Common.{◌≡◌, ◌≤◌, ℕ, Some, ap, sym, subst, refl, ◌∙◌, option_map, arith, length}
+use Rattle.std.proofs.Common.{◌≡◌, ◌≤◌, ap, sym, subst, refl, ◌∙◌, option_map, arith, length}
 use Rattle.std.specs.Vec.{vec_len}
 use Rattle.bk_drive.specs.Stored.{flush_of}
 use Rattle.bk_drive.proofs.Payloads.{addable}

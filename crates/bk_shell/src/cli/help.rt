@@ -1,0 +1,50 @@
+//! What the program tells of itself.
+
+/// What `script` does, in a line.
+pub(crate) const ABOUT_SCRIPT: &str =
+    "Runs steps from standard input on a new store in memory, and prints an answer for each";
+
+/// What the program tells of its scripts.
+pub(crate) const SCRIPT_HELP: &str = "\
+`script` reads steps from standard input, one a line. The steps and their answers:
+  add LEDGER ENTRY [TEXT]   accepted | held
+                            adds an entry; the rest of the line is its data
+  pad LEDGER ENTRY SIZE     accepted | held
+                            adds an entry of SIZE zero bytes, at most 2097152
+  take READER LEDGER ENTRY  cached DATA | leased LOCATION | not held | reader busy
+                            reads an entry, from a cache or by a lease on its log
+  fetch READER              bytes DATA | no lease
+                            reads the leased entry from its log; the lease stays
+  release READER            released | no lease
+                            gives the reader's lease back
+  swap                      swapped N | nothing | running
+                            begins a flush of the N cached entries
+  write                     wrote LOCATION | all written | no flush
+                            writes the flush's next entry to a log
+  publish                   published N | not all written | no flush
+                            ends the flush
+  roll                      sealed LOG | nothing open | flush running
+                            ends the log that is written, with a map of its ledgers
+A step that is refused answers `fault TEXT`.
+
+LEDGER and ENTRY are 0 to 9223372036854775807, READER is 0 to 3. DATA is in hexadecimal, `-` where there is none. A
+LOCATION is the log's id times 2^32, and the position in it. Empty lines are passed over.
+
+A flush goes on in the log that is written. A record that would take that log past --log-limit goes to the next log; a
+log's first record goes in whatever its length. With as many logs as --slots says, a write that needs a new log answers
+`fault logs full`.
+
+The status is 0 where every step was answered, 1 where the input could not be read or spells no script, and 2 where
+the command line is wrong.
+
+Example:
+  $ printf 'add 1 0 hello\\nswap\\nwrite\\npublish\\ntake 0 1 0\\nfetch 0\\nrelease 0\\nroll\\n' | bk_shell script
+  accepted
+  swapped 1
+  wrote 1028
+  published 1
+  leased 1028
+  bytes 68656c6c6f
+  released
+  sealed 0
+";

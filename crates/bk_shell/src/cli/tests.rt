@@ -1,0 +1,134 @@
+use super::{DEFAULTS, settings_of};
+use bk_drive::Settings;
+use std::alloc::Global;
+use std::process::Abort;
+
+#[test]
+fn a_wrong_command_line_has_status_2_and_help_has_0(rt: HostRuntime) {
+    let lines: [(&[&str], i32); 28] = [
+        (&["bk_shell"], 2),
+        (&["bk_shell", "frob"], 2),
+        (&["bk_shell", "--slots", "5"], 2),
+        (&["bk_shell", "--log-limit=2048", "script"], 2),
+        (&["bk_shell", "script", "5"], 2),
+        (&["bk_shell", "script", "--slots", "5", "1"], 2),
+        (&["bk_shell", "script", "script"], 2),
+        (&["bk_shell", "script", "--slot", "5"], 2),
+        (&["bk_shell", "script", "-s", "5"], 2),
+        (&["bk_shell", "script", "--cache-limit", "100"], 2),
+        (&["bk_shell", "script", "--slots"], 2),
+        (&["bk_shell", "script", "--slots="], 2),
+        (&["bk_shell", "script", "--slots", ""], 2),
+        (&["bk_shell", "script", "--slots", "0"], 2),
+        (&["bk_shell", "script", "--slots", "65537"], 2),
+        (
+            &["bk_shell", "script", "--slots", "18446744073709551617"],
+            2,
+        ),
+        (&["bk_shell", "script", "--slots", "+5"], 2),
+        (&["bk_shell", "script", "--slots", "-5"], 2),
+        (&["bk_shell", "script", "--slots", "05"], 2),
+        (&["bk_shell", "script", "--slots", "5 "], 2),
+        (&["bk_shell", "script", "--slots", "5", "--slots", "5"], 2),
+        (&["bk_shell", "script", "--log-limit", "2047"], 2),
+        (&["bk_shell", "script", "--log-limit", "1073741825"], 2),
+        (
+            &["bk_shell", "script", "--log-limit=2048", "--log-limit=2048"],
+            2,
+        ),
+        (&["bk_shell", "help"], 0),
+        (&["bk_shell", "--help"], 0),
+        (&["bk_shell", "help", "script"], 0),
+        (&["bk_shell", "script", "--help"], 0),
+    ];
+    for (words, status) in lines {
+        match settings_of(rt.alloc(), words) {
+            Ok(_) => assert!(rt; false, "{words:?} is no call of the program"),
+            Err(error) => assert_eq!(rt; error.exit_code(), status, "the status of {words:?}"),
+        }
+    }
+}
+
+#[test]
+fn options_give_the_settings(rt: HostRuntime) {
+    let lines: [(&[&str], u32, u32); 9] = [
+        (&["bk_shell", "script"], 1_073_741_824, 1024),
+        (&["bk_shell", "script", "--slots", "1"], 1_073_741_824, 1),
+        (
+            &["bk_shell", "script", "--slots=65536"],
+            1_073_741_824,
+            65_536,
+        ),
+        (&["bk_shell", "script", "--log-limit", "2048"], 2048, 1024),
+        (&["bk_shell", "script", "--log-limit=2049"], 2049, 1024),
+        (
+            &["bk_shell", "script", "--log-limit", "1073741824"],
+            1_073_741_824,
+            1024,
+        ),
+        (
+            &["bk_shell", "script", "--log-limit", "4096", "--slots", "7"],
+            4096,
+            7,
+        ),
+        (
+            &["bk_shell", "script", "--slots", "7", "--log-limit", "4096"],
+            4096,
+            7,
+        ),
+        (&["another name", "script"], 1_073_741_824, 1024),
+    ];
+    for (words, log_limit, slots) in lines {
+        match settings_of(rt.alloc(), words) {
+            Ok(settings) => assert_eq!(rt;
+                settings,
+                Settings {
+                    log_limit,
+                    slots,
+                    ..DEFAULTS
+                },
+                "the settings of {words:?}"
+            ),
+            Err(error) => assert!(rt; false, "{words:?}: {error}"),
+        }
+    }
+}
+
+/// What the program tells of these words, which are no call of it.
+fn told(rt: &impl Abort, alloc: Global, words: &[&str]) -> String {
+    match settings_of(alloc, words) {
+        Ok(_) => {
+            assert!(rt; false, "{words:?} is a call of the program");
+            String::new(alloc)
+        }
+        Err(error) => format!(in alloc; "{error}").expect(rt, "memory"),
+    }
+}
+
+#[test]
+fn a_bad_value_is_told_with_its_option_and_range(rt: HostRuntime) {
+    let text = told(&rt, rt.alloc(), &["bk_shell", "script", "--slots", "0"]);
+    assert!(rt; text.contains("'0' for '--slots <NUMBER>'"), "{text}");
+    assert!(rt; text.contains("from 1 to 65536"), "{text}");
+}
+
+#[test]
+fn help_shows_each_step_and_option(rt: HostRuntime) {
+    let text = told(&rt, rt.alloc(), &["bk_shell", "help", "script"]);
+    let shown = [
+        "add LEDGER ENTRY [TEXT]",
+        "pad LEDGER ENTRY SIZE",
+        "take READER LEDGER ENTRY",
+        "fetch READER",
+        "release READER",
+        "swap ",
+        "write ",
+        "publish ",
+        "roll ",
+        "--log-limit <NUMBER>",
+        "--slots <NUMBER>",
+    ];
+    for part in shown {
+        assert!(rt; text.contains(part), "{part:?} in the help");
+    }
+}

@@ -1,0 +1,126 @@
+use super::{assert_shown, run};
+
+#[test]
+fn lines_are_read_to_the_letter(rt: HostRuntime) {
+    let scripts = [
+        ("", ""),
+        ("\n\n", ""),
+        ("swap", "nothing\n"),
+        ("\nswap\n\n\nwrite", "nothing\nno flush\n"),
+        ("add 0 0\ntake 0 0 0", "accepted\ncached -\n"),
+        ("add 1 0  \ntake 0 1 0", "accepted\ncached 20\n"),
+        (
+            "add 1 0 a  b ~\ntake 0 1 0",
+            "accepted\ncached 61202062207e\n",
+        ),
+        ("pad 1 0 0\ntake 0 1 0", "accepted\ncached -\n"),
+        ("pad 1 0 3\ntake 0 1 0", "accepted\ncached 000000\n"),
+        (
+            "pad 9223372036854775807 9223372036854775807 1\ntake 3 9223372036854775807 9223372036854775807",
+            "accepted\ncached 00\n",
+        ),
+        ("pad 1 0 2097152", "fault too long 2097168\n"),
+        (
+            "fetch 3\nrelease 3\nroll",
+            "no lease\nno lease\nnothing open\n",
+        ),
+        (
+            "add 9223372036854775807 9223372036854775807 x\ntake 3 9223372036854775807 9223372036854775807",
+            "accepted\ncached 78\n",
+        ),
+    ];
+    for (script, output) in scripts {
+        assert_shown(&rt, &run(rt.alloc(), script), 0, output, "", script);
+    }
+}
+
+#[test]
+fn a_line_that_is_no_step_refuses_the_script(rt: HostRuntime) {
+    let lines = [
+        "add 1 0 ",
+        "add 1",
+        "add",
+        "add ",
+        "add 1 ",
+        "add  1 0",
+        "add 01 0 x",
+        "add +1 0 x",
+        "add -1 0 x",
+        "add 1 00 x",
+        "add x 0 x",
+        "add 9223372036854775808 0 x",
+        "add 1 18446744073709551616 x",
+        "add 1 0 \u{e9}",
+        "add 1 0 \u{7f}",
+        "pad",
+        "pad ",
+        "pad 1",
+        "pad 1 0",
+        "pad 1 0 ",
+        "pad 1 0  3",
+        "pad 1 0 3 ",
+        "pad 1 0 3 4",
+        "pad 1 0 x",
+        "pad 1 0 03",
+        "pad 1 0 +3",
+        "pad 1 0 -3",
+        "pad 1 0 2097153",
+        "pad 1 0 18446744073709551619",
+        "pad 9223372036854775808 0 1",
+        "pad 1 9223372036854775808 1",
+        "take 4 1 0",
+        "take 0 1 0 ",
+        "take 0 1",
+        "take 0 1 0 0",
+        "fetch",
+        "fetch ",
+        "fetch 4",
+        "fetch 00",
+        "fetch 0 ",
+        "fetch 0 1 0",
+        "fetch -1",
+        "release",
+        "release ",
+        "release 4",
+        "release 03",
+        "release 0 0",
+        "release  0",
+        "roll ",
+        "roll 0",
+        "Roll",
+        "swap ",
+        " swap",
+        "swap 1",
+        "swap\r",
+        "\tswap",
+        "swap\u{0}",
+        "Swap",
+        "write 1",
+        "publish 0",
+        "frob",
+        " ",
+        "  ",
+    ];
+    for line in lines {
+        assert_shown(
+            &rt,
+            &run(rt.alloc(), line),
+            1,
+            "",
+            "line 1: bad command\n",
+            line,
+        );
+    }
+}
+
+#[test]
+fn the_first_bad_line_is_told_and_no_step_runs(rt: HostRuntime) {
+    let scripts = [
+        ("add 1 0 a\n\nfrob\nfrob\n", "line 3: bad command\n"),
+        ("\n\n\n \n", "line 4: bad command\n"),
+        ("swap\nswap\nswap x", "line 3: bad command\n"),
+    ];
+    for (script, errors) in scripts {
+        assert_shown(&rt, &run(rt.alloc(), script), 1, "", errors, script);
+    }
+}

@@ -1,0 +1,104 @@
+use super::{DEFAULTS, run_from, run_script};
+use std::alloc::Global;
+use std::io;
+use std::io::{Read, Write};
+
+/// Gives line feeds, at most `most` a read, and then ends, or fails where it is to.
+#[derive(Drop)]
+struct Feeds {
+    left: usize,
+    most: usize,
+    fails: bool,
+}
+
+impl Read for Feeds {
+    fn read(&mut self, buf: &mut [u8]) -> io::Result<usize> {
+        if self.left == 0 && self.fails {
+            return Err(io::Error::from(io::ErrorKind::Other));
+        }
+        let count = buf.len().min(self.most).min(self.left);
+        buf[..count].fill(b'\n');
+        self.left -= count;
+        Ok(count)
+    }
+}
+
+#[test]
+fn the_input_has_bounds(rt: HostRuntime) {
+    let inputs = [
+        (16_777_216, 65_536, false, 0),
+        (16_777_217, 65_536, false, 1),
+        (1_048_575, 1, false, 0),
+        (1_048_576, 1, false, 1),
+        (0, 1, true, 1),
+        (100, 7, true, 1),
+    ];
+    for (left, most, fails, status) in inputs {
+        let shown = run_from(rt.alloc(), DEFAULTS, &mut Feeds { left, most, fails });
+        let errors = if status == 0 { "" } else { "read fault\n" };
+        assert_eq!(rt; shown.status, status, "{left} bytes, {most} a read");
+        assert_eq!(rt; shown.output.len(), 0);
+        assert_eq!(rt; shown.errors.as_slice(), errors.as_bytes());
+    }
+}
+
+/// Fails at a write, counted from 0, or at the flush.
+#[derive(Drop)]
+struct FailsAt {
+    write: usize,
+    flush: bool,
+    taken: Vec<u8>,
+}
+
+impl Write for FailsAt {
+    fn write(&mut self, buf: &[u8]) -> io::Result<usize> {
+        if self.write == 0 {
+            return Err(io::Error::from(io::ErrorKind::Other));
+        }
+        self.write -= 1;
+        self.taken.extend_from_slice(buf)?;
+        Ok(buf.len())
+    }
+
+    fn flush(&mut self) -> io::Result<()> {
+        if self.flush {
+            return Err(io::Error::from(io::ErrorKind::Other));
+        }
+        Ok(())
+    }
+}
+
+#[test]
+fn a_write_that_fails_ends_the_program(rt: HostRuntime) {
+    let output = "accepted\nno flush\n";
+    let mut refused = 0;
+    for write in 0..20 {
+        let (status, taken) = run_on(rt.alloc(), write, false);
+        assert!(rt;
+            output.as_bytes().starts_with(taken.as_slice()),
+            "what {write} writes left"
+        );
+        if status == 0 {
+            assert_eq!(rt; taken.as_slice(), output.as_bytes());
+            break;
+        }
+        assert_eq!(rt; status, 1, "with {write} writes");
+        refused = write + 1;
+    }
+    assert!(rt; 0 < refused && refused < 20);
+    let (status, _) = run_on(rt.alloc(), refused, true);
+    assert_eq!(rt; status, 1, "where the flush fails");
+}
+
+/// Runs a script on a writer that takes so many writes, and gives the status and what was written.
+fn run_on(alloc: Global, write: usize, flush: bool) -> (u8, Vec<u8>) {
+    let mut errors = Vec::new(alloc);
+    let mut writer = FailsAt {
+        write,
+        flush,
+        taken: Vec::new(alloc),
+    };
+    let mut script = "add 1 0 a\npublish\n".as_bytes();
+    let status = run_script(alloc, DEFAULTS, &mut script, &mut writer, &mut errors);
+    (status, writer.taken)
+}
