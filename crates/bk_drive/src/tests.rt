@@ -1,11 +1,14 @@
 //! Worked runs over a disk in memory, with bytes and numbers written by hand. Logs are short: two records of 500 bytes
 //! are the most that one has, and there are two of them.
 
+ghost use Rattle.std.specs.Prelude.{◌≡◌, ℕ, None};
+ghost use Rattle.std.specs.FinMap as map;
+
 use crate::{
-    Added, Answer, FetchAnswer, OpenFault, PublishAnswer, Ran, ReleaseAnswer, RollAnswer, Settings,
-    Step, SwapAnswer, TakeAnswer, Work, WriteAnswer, drive,
+    Added, Answer, FetchAnswer, FlushFault, OpenFault, PublishAnswer, Ran, ReleaseAnswer,
+    RollAnswer, Settings, Step, SwapAnswer, TakeAnswer, Work, WriteAnswer, drive,
 };
-use bk_disk::MemDisk;
+use bk_disk::{LogDisk, MemDisk};
 use bk_record::Key;
 use std::alloc::Global;
 use std::test::Fail;
@@ -87,9 +90,16 @@ fn steps_of(alloc: Global, plans: &[Plan]) -> Result<Vec<Step>, Fail> {
     Ok(steps)
 }
 
+/// Takes the steps over a disk that has no log.
+fn run_over<D: LogDisk>(alloc: Global, disk: D, steps: &[Step]) -> Result<Ran<D>, OpenFault>
+    requires { (log : ℕ) → map.get (D.files disk) log ≡ None }
+{
+    drive(alloc, disk, SETTINGS, steps)
+}
+
 /// Takes the steps over a disk in memory that has no log.
 fn run(alloc: Global, steps: &[Step]) -> Result<Ran<MemDisk>, OpenFault> {
-    drive(alloc, MemDisk::new(alloc), SETTINGS, steps)
+    run_over(alloc, MemDisk::new(alloc), steps)
 }
 
 fn told(answer: &Answer) -> Told {
@@ -109,13 +119,14 @@ fn told(answer: &Answer) -> Told {
         Answer::Write(Ok(WriteAnswer::NoFlush)) => ("no flush", 0),
         Answer::Write(Ok(WriteAnswer::AllWritten)) => ("all written", 0),
         Answer::Write(Ok(WriteAnswer::Wrote(location))) => ("wrote", location.value()),
+        Answer::Write(Err(FlushFault::LogsFull)) => ("logs full", 0),
         Answer::Publish(Ok(PublishAnswer::NoFlush)) => ("no flush", 0),
         Answer::Publish(Ok(PublishAnswer::NotAllWritten)) => ("not all written", 0),
         Answer::Publish(Ok(PublishAnswer::Published(entries))) => ("published", *entries),
         Answer::Roll(Ok(RollAnswer::FlushRunning)) => ("flush running", 0),
         Answer::Roll(Ok(RollAnswer::NothingOpen)) => ("nothing open", 0),
         Answer::Roll(Ok(RollAnswer::Sealed(log))) => ("sealed", u64::from(*log)),
-        _ => ("fault", 0),
+        _ => ("another fault", 0),
     }
 }
 

@@ -1,9 +1,10 @@
 //! Each call of the device fails in turn, once: one answer says so, the same step taken again does its work, and no
 //! entry is lost.
 
-use super::{PUBLISH, Plan, ROLL, SETTINGS, SWAP, Told, WRITE, steps_of, told};
-use crate::{Answer, FlushFault, OpenFault, Ran, Step, drive};
+use super::{PUBLISH, Plan, ROLL, SWAP, Told, WRITE, run_over, steps_of, told};
+use crate::{Answer, FlushFault, OpenFault, Ran, Step};
 use bk_disk::{FaultDisk, MemDisk};
+use bk_log::FetchFault;
 use std::alloc::Global;
 use std::test::Fail;
 
@@ -43,7 +44,13 @@ fn run_failing(
     steps: &[Step],
 ) -> Result<Ran<FaultDisk<MemDisk>>, OpenFault> {
     let disk = FaultDisk::new(MemDisk::new(alloc), call, kept);
-    drive(alloc, disk, SETTINGS, steps)
+    run_over(alloc, disk, steps)
+}
+
+/// Takes the steps over a disk whose first view is broken.
+fn run_broken(alloc: Global, steps: &[Step]) -> Result<Ran<FaultDisk<MemDisk>>, OpenFault> {
+    let disk = FaultDisk::broken_view(MemDisk::new(alloc), 1);
+    run_over(alloc, disk, steps)
 }
 
 fn is_disk_fault(answer: &Answer) -> bool {
@@ -96,5 +103,28 @@ fn a_call_that_is_never_made_fails_nothing(rt: HostRuntime) -> Result<(), Fail> 
     let steps = steps_of(rt.alloc(), &TWICE)?;
     let Ran { answers, .. } = run_failing(rt.alloc(), 9, 0, &steps)?;
     assert!(rt; is_done(&answers, answers.len(), 1028));
+    Ok(())
+}
+
+const BROKEN: [Plan; 7] = [
+    Plan::Hello,
+    SWAP,
+    WRITE,
+    PUBLISH,
+    Plan::Take(0, 0),
+    Plan::Fetch(0),
+    Plan::Release(0),
+];
+
+#[test]
+fn a_fetch_from_a_broken_view_says_so_and_keeps_the_lease(rt: HostRuntime) -> Result<(), Fail> {
+    let steps = steps_of(rt.alloc(), &BROKEN)?;
+    let Ran { answers, .. } = run_broken(rt.alloc(), &steps)?;
+    assert!(rt; matches!(answers.get(5), Some(Answer::Fetch(Err(FetchFault::Disk)))));
+    assert!(rt;
+        answers
+            .get(6)
+            .is_some_and(|answer| told(answer) == ("released", 0))
+    );
     Ok(())
 }

@@ -123,7 +123,7 @@ const NO_SLOT_TOLD: [Told; 15] = [
     ("sealed", 1),
     ("accepted", 0),
     ("swapped", 1),
-    ("fault", 0),
+    ("logs full", 0),
     ("cached", 17),
     ("leased", 4_294_968_324),
 ];
