@@ -1,5 +1,5 @@
 -- The rule after each step of the keeper, from the rule before it.
-use Rattle.std.proofs.Common.{◌≡◌, ◌≢◌, ℕ, ◌+◌, ◌^◌, ◌<◌, ◌≤◌, List, [], ◌∷◌, ◌++◌, length, get_or, set, length-set, sym, refl, ap, ◌∙◌, subst, ⊎_elim, arith, get_or-set_same, get_or-set_other, Option, Some, None}
+use Rattle.std.proofs.Common.{◌≡◌, ◌≢◌, ℕ, ◌+◌, ◌^◌, ◌<◌, ◌≤◌, List, [], ◌∷◌, ◌++◌, length, get_or, set, length-set, length-append, sym, refl, ap, ◌∙◌, subst, ⊎_elim, arith, get_or-set_same, get_or-set_other, Option, Some, None}
 use mathlib.Core.Logic.{dite}
 use mathlib.Core.Option.{some}
 use native.Mathlib.Decide.{ℕ_discrete}
@@ -12,7 +12,7 @@ use Rattle.bk_lease.specs.declared.rule.Register.{Register}
 use Rattle.bk_lease.specs.declared.rule.Role.{Role}
 use Rattle.bk_lease.specs.declared.rule.Role.TheVariants.{Keeper, Held}
 use Rattle.bk_lease.specs.Leases.{state_at, hold_of, held_on, pending_on, open_word, closed_word, MayOpen, WordIs, IsWithinMet, SlotRuled, RuledBy}
-use Rattle.bk_lease.specs.Steps.{with_slot, with_pending, pin_on}
+use Rattle.bk_lease.specs.Steps.{with_slot, with_pending, with_granted, pin_on}
 use Rattle.bk_lease.proofs.Views.{some_inside, hold_of-here, hold_of-else, pending_on-here, pending_on-else, held_on-set, held_on-snoc}
 use Rattle.bk_lease.proofs.Words.{one_more, one_less, counted_none, WordIs-one_less}
 use Rattle.bk_lease.proofs.Ruled.{inside_slots, each_after, SlotRuled-equal, SlotRuled-by}
@@ -33,12 +33,13 @@ module _ (p q : Register) (words : List ℕ) (views : List Role) (kept : RuledBy
   held_on-keeping slot = let change = held_on-set slot views 0 (Keeper p) (Keeper q) kept.keeper in omega arith
 
   -- with it the word i was written
-  RuledBy-set : (i word : ℕ) → i < length p.slots → length q.slots ≡ length p.slots → q.most ≡ p.most → SlotRuled q i word (held_on i views)
+  RuledBy-set : (i word : ℕ) → i < length p.slots → length q.slots ≡ length p.slots → q.most ≡ p.most → q.given ≡ p.given → SlotRuled q i word (held_on i views)
       → ((slot : ℕ) → slot ≢ i → SlotRuled q slot (get_or words slot 0) (held_on slot views)) → RuledBy q (set words i word) (keeping q views)
-  RuledBy-set i word inside sized most here others = record {
+  RuledBy-set i word inside sized most given here others = record {
     keeper = first_view;
     alone = still_alone;
     sized = sized ∙ kept.sized ∙ sym (length-set words i word);
+    counted = let same = length-set views 0 (Keeper q) in let counted = kept.counted in omega arith;
     bounded = let bounded = kept.bounded in omega arith;
     each_slot = let wide = kept.sized in each_after q words (keeping q views) i word (omega arith)
         (SlotRuled-equal q i _ _ _ _ refl (held_on-keeping i) here)
@@ -57,7 +58,7 @@ module _ (p : Register) (words : List ℕ) (views : List Role) (kept : RuledBy p
   RuledBy-with_slot : (state : Slot) (word : ℕ) → i < length p.slots → WordIs state count word
       → let q : Register = with_slot p i state in RuledBy q (set words i word) (keeping q views)
   RuledBy-with_slot state word inside is = let q : Register = with_slot p i state in let ok = kept.each_slot i in
-      RuledBy-set p q words views kept i word inside (length-set p.slots i state) refl
+      RuledBy-set p q words views kept i word inside (length-set p.slots i state) refl refl
       record {
         word_is = subst (λ (s : Slot). WordIs s count word) (sym (get_or-set_same p.slots i state Free inside)) is;
         within = ok.within;
@@ -90,7 +91,7 @@ module _ (p : Register) (words : List ℕ) (views : List Role) (kept : RuledBy p
       let fits : log < 2 ^ 31 = (its_word (Open log) is).0 in let found = word-open log is idle in
       let within : held ≤ p.most = (kept.each_slot i).within in let bounded = kept.bounded in
       let one : pending_on i q.pending ≡ 1 = pending_on-here i held in
-      RuledBy-set p q words views kept i word (inside_slots p.slots i (Open log) is (λ e. cc)) refl refl
+      RuledBy-set p q words views kept i word (inside_slots p.slots i (Open log) is (λ e. cc)) refl refl refl
       record {
         word_is = subst (λ (s : Slot). WordIs s (held + pending_on i q.pending) word) (sym is) (fits, omega arith);
         within = within;
@@ -114,7 +115,7 @@ module _ (p : Register) (words : List ℕ) (views : List Role) (kept : RuledBy p
 
   pub RuledBy-undone : i < length p.slots → get_or words i 0 < 2 ^ 64 → RuledBy q (set words i (one_less (get_or words i 0))) (keeping q views)
   RuledBy-undone inside small = let held : ℕ = held_on i views in let as_it_is : held ≡ held + 0 = omega arith in let word : ℕ = one_less (get_or words i 0) in
-      RuledBy-set p q words views kept i word inside refl refl
+      RuledBy-set p q words views kept i word inside refl refl refl
       record {
         word_is = subst (λ (n : ℕ). WordIs (state_at p.slots i) n word) as_it_is (WordIs-one_less (state_at p.slots i) held (get_or words i 0) counts small);
         within = (kept.each_slot i).within;
@@ -123,13 +124,16 @@ module _ (p : Register) (words : List ℕ) (views : List Role) (kept : RuledBy p
       (λ slot other. SlotRuled-by p q slot _ _ refl (none_else slot other) refl tt (kept.each_slot slot))
 
   -- the pin becomes a seat, which comes last
+  abbrev g : Register
+  g = with_granted p
+
   abbrev lent : List Role
-  lent = keeping q views ++ Held i ∷ []
+  lent = keeping g views ++ Held i ∷ []
 
   held_on-lent : (slot : ℕ) → held_on slot lent ≡ held_on slot views + hold_of slot (Held i)
-  held_on-lent slot = let more = held_on-snoc slot (keeping q views) (Held i) in let same = held_on-keeping p q words views kept slot in omega arith
+  held_on-lent slot = let more = held_on-snoc slot (keeping g views) (Held i) in let same = held_on-keeping p g words views kept slot in omega arith
 
-  granted_here : met < p.most → SlotRuled q i (get_or words i 0) (held_on i lent)
+  granted_here : met < p.most → SlotRuled g i (get_or words i 0) (held_on i lent)
   granted_here room = let held : ℕ = held_on i views in let count = held_on-lent i in let one = hold_of-here i in
       let as_it_is : held + 1 ≡ held_on i lent + 0 = omega arith in
       let all : held ≤ met = subst (λ (o : Option Pin). IsWithinMet i o held) on (kept.each_slot i).met refl in
@@ -139,17 +143,18 @@ module _ (p : Register) (words : List ℕ) (views : List Role) (kept : RuledBy p
         met = tt;
       }
 
-  granted_else : (slot : ℕ) → slot ≢ i → SlotRuled q slot (get_or words slot 0) (held_on slot lent)
+  granted_else : (slot : ℕ) → slot ≢ i → SlotRuled g slot (get_or words slot 0) (held_on slot lent)
   granted_else slot other = let count = held_on-lent slot in let none = hold_of-else slot i other in
-      SlotRuled-equal q slot _ _ _ _ refl (omega arith) (SlotRuled-by p q slot _ _ refl (none_else slot other) refl tt (kept.each_slot slot))
+      SlotRuled-equal g slot _ _ _ _ refl (omega arith) (SlotRuled-by p g slot _ _ refl (none_else slot other) refl tt (kept.each_slot slot))
 
-  pub RuledBy-granted : met < p.most → RuledBy q words lent
+  pub RuledBy-granted : met < p.most → RuledBy g words lent
   RuledBy-granted room = record {
-    keeper = at_longer (keeping q views) (Held i ∷ []) 0 (Keeper q) (first_view p q words views kept);
-    alone = λ seat other e. ⊎_elim (still_alone p q words views kept seat other)
-        (λ last. let same : Held i ≡ Keeper other = last in absurd cc) (at_snoc (keeping q views) (Held i) (Keeper other) seat e);
+    keeper = at_longer (keeping g views) (Held i ∷ []) 0 (Keeper g) (first_view p g words views kept);
+    alone = λ seat other e. ⊎_elim (still_alone p g words views kept seat other)
+        (λ last. let same : Held i ≡ Keeper other = last in absurd cc) (at_snoc (keeping g views) (Held i) (Keeper other) seat e);
     sized = kept.sized;
+    counted = let more = length-append (keeping g views) (Held i ∷ []) in let same = length-set views 0 (Keeper g) in let counted = kept.counted in omega arith;
     bounded = kept.bounded;
     each_slot = λ slot. dite (ℕ_discrete slot i)
-        (λ same. subst (λ (k : ℕ). SlotRuled q k (get_or words k 0) (held_on k lent)) (sym same) (granted_here room)) (granted_else slot);
+        (λ same. subst (λ (k : ℕ). SlotRuled g k (get_or words k 0) (held_on k lent)) (sym same) (granted_here room)) (granted_else slot);
   }

@@ -16,7 +16,7 @@ use Rattle.bk_lease.specs.declared.rule.Role.{Role}
 use Rattle.bk_lease.specs.declared.rule.Role.TheVariants.{Keeper, Held}
 use Rattle.bk_lease.specs.declared.rule.Room.{Room}
 use Rattle.bk_lease.specs.Leases.{state_at, held_on, open_word, closed_word, MayOpen, WordIs, RuledBy, IsRuled, first_register, first_role}
-use Rattle.bk_lease.specs.Steps.{Sitter, with_slot, with_pending, pin_on, GoesOn, Meets, Counts, opened, pinned, undone, role_by, settled, granted, closed, freed}
+use Rattle.bk_lease.specs.Steps.{Sitter, with_slot, with_pending, with_granted, pin_on, GoesOn, Meets, Counts, opened, pinned, undone, role_by, settled, granted, closed, freed}
 use Rattle.bk_lease.proofs.Views.{some_inside}
 use Rattle.bk_lease.proofs.Words.{one_more, one_less}
 use Rattle.bk_lease.proofs.Ruled.{Rule, the_keeper}
@@ -133,7 +133,7 @@ module _ (slots id i : ℕ) (me : Sitter) (p : Register) (knows : me.0 ≡ Keepe
 
 -- the pin that is under way becomes a seat
 pub grants : (id i met : ℕ) (v : Role) (p : Register) → v ≡ Keeper p → p.pending ≡ Some (pin_on i met) → met < p.most → Splits Rule id v (settled v) (granted v)
-grants id i met v p knows on room s ruled at = let kept = the_keeper s.words s.views id v p ruled at knows in let q : Register = with_pending p None in
+grants id i met v p knows on room s ruled at = let kept = the_keeper s.words s.views id v p ruled at knows in let q : Register = with_granted p in
     let lent : granted v ≡ Held i = ap granted knows ∙ ap role_by on in
     let same : (0, Keeper q, Held i) ≡ (id, settled v, granted v) = λ j. (sym kept.0 j, sym (ap settled knows) j, sym lent j) in
     (q, subst (λ (z : ℕ × Role × Role). RuledBy q s.words (set s.views z.0 z.1 ++ z.2 ∷ [])) same (RuledBy-granted p s.words s.views kept.1 i met on room))
@@ -152,6 +152,7 @@ starts slots most fits = let room : Room = record { slots = slots; most = most }
     keeper = refl;
     alone = λ seat other e. let inside = some_inside (first_role room ∷ []) seat (Keeper other) e in omega arith;
     sized = length-replicate slots Free ∙ sym (length-replicate slots 0);
+    counted = omega arith;
     bounded = fits;
     each_slot = λ slot. record {
       word_is = subst (λ (z : Slot × ℕ). WordIs z.0 0 z.1) (λ j. (sym (all_alike slots slot Free) j, sym (all_alike slots slot 0) j)) (refl, refl);

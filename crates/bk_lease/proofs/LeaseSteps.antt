@@ -49,6 +49,7 @@ module _ (register : Register) (words : List ℕ) (views : List Role) (kept : Ru
     keeper = set_else views id 0 Spent not_first ∙ kept.keeper;
     alone = λ seat other e. ⊎_elim (λ t. let same : Spent ≡ Keeper other = t.1 in absurd cc) (λ t. kept.alone seat other t.1) (at_set views id seat Spent (Keeper other) e);
     sized = kept.sized ∙ sym (length-set words i _);
+    counted = length-set views id Spent ∙ kept.counted;
     bounded = kept.bounded;
     each_slot = each_after register words after i _ has_word (SlotRuled-one_less register i (get_or words i 0) _ its_slot small)
         (λ slot other. SlotRuled-equal register slot _ _ _ _ refl (held_on-after slot other) (kept.each_slot slot));

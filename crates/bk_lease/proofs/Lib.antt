@@ -4,4 +4,4 @@ pub mod Ruled
 pub mod KeeperRuled
 pub mod KeeperSteps
 pub mod LeaseSteps
-pub mod Desks
+pub mod KeeperSeen

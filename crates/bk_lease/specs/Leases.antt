@@ -88,11 +88,13 @@ pub record SlotRuled (register : Register) (slot word held : ℕ) : Type 0 where
   pub within : held ≤ register.most
   pub met : IsWithinMet slot register.pending held
 
--- the rule of all slots, where the keeper knows this: it has the first seat, and no other seat is a keeper's
+-- the rule of all slots, where the keeper knows this: it has the first seat, no other seat is a keeper's, and beside its own there
+-- are the seats that it gave out. So nobody else makes a seat, and what a seat holds stays its own.
 pub record RuledBy (register : Register) (words : List ℕ) (views : List Role) : Type 0 where
   pub keeper : get_elem? views 0 ≡ some (Keeper register)
   pub alone : (seat : ℕ) (other : Register) → get_elem? views seat ≡ some (Keeper other) → seat ≡ 0
   pub sized : length register.slots ≡ length words
+  pub counted : length views ≡ register.given + 1
   pub bounded : register.most < 2 ^ 16
   pub each_slot : (slot : ℕ) → SlotRuled register slot (slice_index words slot) (held_on slot views)
 
@@ -100,9 +102,9 @@ pub record RuledBy (register : Register) (words : List ℕ) (views : List Role) 
 abbrev pub IsRuled : List ℕ → List Role → Type 0
 IsRuled words views = (register : Register) × RuledBy register words views
 
--- what the keeper knows at the start: all slots are free, and no pin is under way
+-- what the keeper knows at the start: all slots are free, no pin is under way, and no seat was given out
 abbrev pub first_register : Room → Register
-first_register room = record { slots = replicate room.slots Free; pending = None; most = room.most }
+first_register room = record { slots = replicate room.slots Free; pending = None; most = room.most; given = 0 }
 
 -- the view of the first seat
 abbrev pub first_role : Room → Role

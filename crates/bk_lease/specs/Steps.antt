@@ -1,5 +1,5 @@
 -- The atomic steps on a slot's word: what each finds, and what the seat that makes it knows from then on.
-use Rattle.std.specs.Prelude.{◌≡◌, ◌≢◌, ℕ, ◌<◌, ◌≤◌, List, slice_set, Option, Some, None}
+use Rattle.std.specs.Prelude.{◌≡◌, ◌≢◌, ℕ, ◌+◌, ◌<◌, ◌≤◌, List, slice_set, Option, Some, None}
 use Rattle.atomic_table.specs.Table.{Me, Step}
 use Rattle.bk_lease.specs.declared.slot.Slot.{Slot}
 use Rattle.bk_lease.specs.declared.slot.Slot.TheVariants.{Free, Open, Closed}
@@ -24,6 +24,10 @@ with_slot register slot state = record register { slots = slice_set register.slo
 -- the register with this pin under way
 abbrev pub with_pending : Register → Option Pin → Register
 with_pending register pending = record register { pending = pending }
+
+-- the register when its pin has become a seat: no pin is under way, and one seat more was given out
+abbrev pub with_granted : Register → Register
+with_granted register = record register { pending = None; given = register.given + 1 }
 
 -- a pin on this slot, which met so many seats
 abbrev pub pin_on : ℕ → ℕ → Pin
@@ -58,9 +62,9 @@ pinned made me found me' = OnOpen made me (λ register log.
 abbrev pub undone : OneStep → Sitter → ℕ → Sitter → Type 0
 undone made me found me' = GoesOn me me' (λ register. with_pending register None)
 
--- split, on the keeper's side: no pin is under way
+-- split, on the keeper's side: the pin has become a seat
 abbrev pub settled : Role → Role
-settled (Keeper register) = Keeper (with_pending register None)
+settled (Keeper register) = Keeper (with_granted register)
 settled (Held slot) = Held slot
 settled Spent = Spent
 

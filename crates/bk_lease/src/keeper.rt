@@ -30,13 +30,18 @@ pub struct Keeper {
 
 impl Model for Keeper {
     ghost use Rattle.std.specs.Arc.{arc_value};
-    ghost use Rattle.bk_lease.specs.Values.{Desk};
+    ghost use Rattle.bk_lease.specs.Values.{SlotTable};
 
-    ghost Value = { Desk };
+    ghost Value = { SlotTable };
 
-    ghost use Rattle.bk_lease.specs.Values.{IsAtRest};
+    ghost use Rattle.bk_lease.specs.Values.{IsAtRest, given_in};
 
-    ghost view = { λ k. record { table = k.seat.table_id; slots = k.slots.items; most = k.most } };
+    ghost view = { λ k. record {
+      table = k.seat.table_id;
+      slots = k.slots.items;
+      most = k.most;
+      given = given_in k.seat.me.0;
+    } };
 
     ghost invariant = { λ k.
         IsAtRest k.seat (arc_value k.table).shared.table_id k.slots.items k.most };
@@ -44,8 +49,8 @@ impl Model for Keeper {
 
 impl Keeper {
     ghost use Rattle.std.specs.Arc.{arc_value};
-    ghost use Rattle.bk_lease.specs.Values.{Desk, IsAtRest, with_state, with_closed};
-    ghost use Rattle.bk_lease.specs.Values.{new_ticket, MayMeet};
+    ghost use Rattle.bk_lease.specs.Values.{SlotTable, IsAtRest, given_in, with_state, with_closed};
+    ghost use Rattle.bk_lease.specs.Values.{with_given, new_ticket, MayMeet};
 
     pub(crate) fn new(
         table: Arc<Board>,
@@ -54,7 +59,12 @@ impl Keeper {
         most: u64,
     ) -> Keeper
         requires { IsAtRest seat (arc_value table).shared.table_id slots.items most }
-        ensures { result ≡ record { table = seat.table_id; slots = slots.items; most = most } }
+        ensures { result ≡ record {
+          table = seat.table_id;
+          slots = slots.items;
+          most = most;
+          given = given_in seat.me.0;
+        } }
     {
         Keeper {
             table,
@@ -89,8 +99,9 @@ impl Keeper {
     /// table allows were out: the step that found them is then taken back by a second one.
     pub fn pin(&mut self, slot: usize) -> Result<LeaseSeat, PinFault>
         requires { IsOpen self.old.slots slot }
-        ensures keeper { self.new ≡ self.old }
-        ensures ok { IfOk result (λ seat. seat ≡ new_ticket self.old slot) }
+        ensures ok { IfOk result (λ seat. seat ≡ new_ticket self.old slot seat.seat) }
+        ensures given { OnOk result (self.new ≡ with_given self.old) }
+        ensures err { OnErr result (self.new ≡ self.old) }
         ensures room { OnOk result ((met : ℕ) × (met < self.old.most) × MayMeet self.old slot met) }
         ensures too_many { IsErrOf result PinFault.TooMany → MayMeet self.old slot self.old.most }
     {
@@ -148,7 +159,7 @@ impl Keeper {
         requires closed { IsClosed self.old.slots lease.ticket.slot }
         ensures { ⊥ }
     {
-        lease.into_kept().meet(&mut self.seat);
+        lease.into_seat().meet(&mut self.seat);
         let shared = &self.table.shared;
         shared.load::<NeverStep>(&mut self.seat, 0);
     }

@@ -6,7 +6,6 @@ ghost use Rattle.std.specs.Prelude.{◌≡◌, true, false};
 ghost use Rattle.std.specs.Option.{ForSome, option_map};
 ghost use Rattle.bk_lease.specs.Values.{spent};
 
-use crate::kept::KeptSeat;
 use crate::seat::LeaseSeat;
 use std::marker::Model;
 use std::sync::Arc;
@@ -15,15 +14,15 @@ use std::sync::Arc;
 ///
 /// Dropping it gives the lease back, as `release` does: one atomic step, with no lock and no wait.
 pub struct Lease<V: Drop> {
-    seat: Option<KeptSeat>,
+    seat: Option<LeaseSeat>,
     view: Arc<V>,
 }
 
 impl<V: Drop> Model for Lease<V> {
     ghost use Rattle.std.specs.Arc.{arc_value};
-    ghost use Rattle.bk_lease.specs.Values.{Hold};
+    ghost use Rattle.bk_lease.specs.Values.{LeasedView};
 
-    ghost Value = { Hold V };
+    ghost Value = { LeasedView V };
 
     ghost use Rattle.bk_lease.specs.Values.{ticket_in, KeepsHeld};
 
@@ -34,7 +33,7 @@ impl<V: Drop> Model for Lease<V> {
 
 impl<V: Drop> Lease<V> {
     ghost use Rattle.std.specs.Arc.{arc_value};
-    ghost use Rattle.bk_lease.specs.Values.{Ticket, Hold};
+    ghost use Rattle.bk_lease.specs.Values.{Ticket, LeasedView};
 
     /// A lease by a seat that holds its slot, which shows this.
     pub fn of(seat: LeaseSeat, view: Arc<V>) -> Lease<V>
@@ -42,7 +41,7 @@ impl<V: Drop> Lease<V> {
         ensures { result ≡ record { ticket = seat; view = arc_value view } }
     {
         Lease {
-            seat: Some(KeptSeat::of(seat)),
+            seat: Some(seat),
             view,
         }
     }
@@ -68,17 +67,17 @@ impl<V: Drop> Lease<V> {
         self.seat().slot()
     }
 
-    /// Gives the lease back, by one atomic step, and hands out its seat, which is spent.
+    /// Gives the lease back, by one atomic step, and hands out its seat, which is spent: end it.
     pub fn release(self) -> LeaseSeat
         ensures { result ≡ spent self.ticket }
     {
-        let mut kept = self.into_kept();
-        kept.spend();
-        kept.into_spent()
+        let mut seat = self.into_seat();
+        seat.spend();
+        seat
     }
 
     /// The seat, which still holds its slot.
-    pub(crate) fn into_kept(self) -> KeptSeat
+    pub(crate) fn into_seat(self) -> LeaseSeat
         ensures seat { result ≡ self.ticket }
         ensures held { result.is_held ≡ true }
     {
@@ -93,26 +92,26 @@ impl<V: Drop> Lease<V> {
         let Some(seat) = &self.seat else {
             unreachable!()
         };
-        seat.as_seat()
+        seat
     }
 }
 
 /// What the drop does to the seat of a lease: the seat stays in its place, and is spent.
-fn spend_in_place(seat: &mut Option<KeptSeat>)
+fn spend_in_place(seat: &mut Option<LeaseSeat>)
     requires { ForSome seat.old (λ s. s.is_held ≡ true) }
     ensures { seat.new ≡ option_map spent seat.old }
 {
-    if let Some(seat) = seat {
-        seat.spend();
+    if let Some(kept) = seat {
+        kept.spend();
     }
 }
 
 /// Lets a seat go that is spent.
-fn let_go(seat: Option<KeptSeat>)
+fn let_go(seat: Option<LeaseSeat>)
     requires { ForSome seat (λ s. s.is_held ≡ false) }
 {
     if let Some(seat) = seat {
-        drop(seat.into_spent());
+        seat.end();
     }
 }
 

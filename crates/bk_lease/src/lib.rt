@@ -10,7 +10,6 @@
 
 mod answers;
 mod keeper;
-mod kept;
 mod lease;
 mod rule;
 mod seat;

@@ -23,6 +23,8 @@ pub(crate) struct Register {
     pub(crate) pending: Option<Pin>,
     /// How many seats may hold one slot.
     pub(crate) most: u64,
+    /// How many seats were given out, one a pin.
+    pub(crate) given: u64,
 }
 
 /// What a seat at the table knows. No value of it is made.

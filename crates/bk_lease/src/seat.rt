@@ -1,5 +1,5 @@
 //! The seat of a lease at the table: it holds one slot until it is spent, by one atomic step.
-ghost use Rattle.std.specs.Prelude.{◌≡◌, ◌<◌, true, []};
+ghost use Rattle.std.specs.Prelude.{◌≡◌, ◌<◌, true, false, []};
 
 use crate::rule::{Board, Role};
 use crate::steps::{MeetStep, ReleaseStep};
@@ -10,9 +10,8 @@ use std::sync::Arc;
 /// A seat, which holds one slot until it is spent. While it holds the slot the slot's log is
 /// leased.
 ///
-/// The seat is an owner of its table, so it may outlive the keeper and go to any thread. One that
-/// is dropped while it holds its slot leaves the log leased for good: put it into a `Lease`.
-#[derive(Drop)]
+/// The seat is an owner of its table, so it may outlive the keeper and go to any thread. It has no
+/// `Drop`: code that loses a seat does not compile. Put it into a `Lease`, or spend it and end it.
 pub struct LeaseSeat {
     table: Arc<Board>,
     seat: Seat<(), Role>,
@@ -30,6 +29,7 @@ impl Model for LeaseSeat {
 
     ghost view = { λ s. record {
       table = s.seat.table_id;
+      seat = s.seat.id;
       slot = s.slot;
       log = s.log;
       is_held = is_held s.seat.me.0;
@@ -48,7 +48,7 @@ impl LeaseSeat {
         requires seated { seat.table_id ≡ (arc_value table).shared.table_id }
         requires inside { slot < seat.table_id.words }
         requires held { seat.me ≡ (Held slot, []) }
-        ensures { result ≡ held_ticket seat.table_id slot log }
+        ensures { result ≡ held_ticket seat.table_id seat.id slot log }
     {
         LeaseSeat {
             table,
@@ -77,6 +77,18 @@ impl LeaseSeat {
     {
         let shared = &self.table.shared;
         shared.fetch_sub::<ReleaseStep>(&mut self.seat, self.slot, 1);
+    }
+
+    /// Lets a seat go that is spent.
+    pub fn end(self)
+        requires { self.is_held ≡ false }
+    {
+        let Self {
+            table: _,
+            seat: _,
+            slot: _,
+            log: _,
+        } = self;
     }
 
     /// Puts a seat that holds its slot together with that of a keeper which has closed the slot.

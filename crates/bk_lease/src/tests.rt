@@ -1,8 +1,8 @@
 //! What no clause says: that the calls succeed, in the order of a worked example and with threads,
 //! and that the contracts are enough for a caller.
-ghost use Rattle.std.specs.Prelude.{◌≡◌, IfOk};
+ghost use Rattle.std.specs.Prelude.{◌≡◌, IfOk, OnOk, OnErr};
 ghost use Rattle.bk_lease.specs.Leases.{IsOpen};
-ghost use Rattle.bk_lease.specs.Values.{new_ticket};
+ghost use Rattle.bk_lease.specs.Values.{new_ticket, with_given};
 
 mod callers;
 mod rows;
@@ -16,8 +16,9 @@ type Bytes = Vec<u8>;
 
 fn lease(keeper: &mut Keeper, slot: usize, view: &Arc<Bytes>) -> Result<Lease<Bytes>, PinFault>
     requires { IsOpen keeper.old.slots slot }
-    ensures keeper { keeper.new ≡ keeper.old }
-    ensures ticket { IfOk result (λ lease. lease.ticket ≡ new_ticket keeper.old slot) }
+    ensures given { OnOk result (keeper.new ≡ with_given keeper.old) }
+    ensures err { OnErr result (keeper.new ≡ keeper.old) }
+    ensures ticket { IfOk result (λ lease. lease.ticket ≡ new_ticket keeper.old slot lease.ticket.seat) }
 {
     let view = Arc::try_clone(view).map_err(|_| PinFault::NoSeat)?;
     let seat = keeper.pin(slot)?;

@@ -32,7 +32,7 @@ impl Store {
 
     fn take(&mut self, slot: usize, view: &Arc<Bytes>) -> Result<(), PinFault>
         requires { IsOpen self.old.keeper.slots slot }
-        ensures { self.new.keeper ≡ self.old.keeper }
+        ensures { self.new.keeper.slots ≡ self.old.keeper.slots }
     {
         let lease = lease(&mut self.keeper, slot, view)?;
         self.reader = Some(lease);

@@ -14,7 +14,7 @@ fn counts_only_fall_while_two_threads_give_back(rt: HostRuntime) -> Result<(), F
     let released = lease(&mut keeper, 0, &view)?;
     let dropped = lease(&mut keeper, 0, &view)?;
 
-    let first = thread::spawn(&rt, move || drop(released.release()))?;
+    let first = thread::spawn(&rt, move || released.release().end())?;
     let second = thread::spawn(&rt, move || drop(dropped))?;
     let mut least = 2;
     let mut is_closed = false;
