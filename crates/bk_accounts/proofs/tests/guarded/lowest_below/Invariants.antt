@@ -1,7 +1,0 @@
-use Rattle.std.proofs.Common.{ℕ, ◌<◌, get_or}
-use Rattle.bk_accounts.specs.Book.{IsOpen}
-use Rattle.bk_accounts.proofs.tests.guarded.lowest_below.Given as goal
-
--- the logs so far are open
-abbrev pub invariant-loop-log : goal.invariant-loop-log
-invariant-loop-log l = (k d : ℕ) → k < l.log-index → IsOpen l.accounts (get_or l.allowed k d)
