@@ -88,7 +88,8 @@ on_err (Ok x) P holds = tt
 on_err (Err e) P holds = holds
 
 -- no other answer at such a log, and no `NoLog` at an open one
-pub no_log_open : (book : Book) (log : ℕ) (account : Account) (r : Result (Unit {0}) AccountFault) → r ≢ Err NoLog → get book log ≡ Some account → (r ≡ Err NoLog) ↔ IsNone (get book log)
+pub no_log_open : (book : Book) (log : ℕ) (account : Account) (r : Result (Unit {0}) AccountFault) → r ≢ Err NoLog → get book log ≡ Some account
+    → (r ≡ Err NoLog) ↔ IsNone (get book log)
 no_log_open book log account r other found = (λ is. absurd (other is), λ none. let there = ap is_some found in cc)
 
 -- the account of a log after a ledger is forgotten
@@ -96,7 +97,8 @@ pub get-after_forget : (book : Book) (ledger log : ℕ) → get (after_forget bo
 get-after_forget book ledger log = get-mapped (without_ledger ledger) (entries book) log ∙ ap (option_map (without_ledger ledger)) (sym (get-lookup book log))
 
 -- every account in place without the ledger
-pub forgotten : (es fs : List (ℕ × Account)) (book : Book) (ledger : ℕ) → from_entries es ≡ book → fs ≡ map (λ e. (e.0, without_ledger ledger e.1)) es → from_entries fs ≡ after_forget book ledger
+pub forgotten : (es fs : List (ℕ × Account)) (book : Book) (ledger : ℕ) → from_entries es ≡ book → fs ≡ map (λ e. (e.0, without_ledger ledger e.1)) es
+    → from_entries fs ≡ after_forget book ledger
 forgotten es fs book ledger view_is mapped =
     ap (λ l. from_entries l) mapped
     ∙ same_by_get _ _ (λ log.
@@ -109,16 +111,22 @@ map_same None = refl
 map_same (Some account) = refl
 
 -- the account of a log, after that of one log is changed
-pub get-changed : (book : Book) (other log : ℕ) (change : Account → Account) → get (changed book other change) log ≡ option_map (λ account. if log == other then change account else account) (get book log)
+pub get-changed : (book : Book) (other log : ℕ) (change : Account → Account)
+    → get (changed book other change) log ≡ option_map (λ account. if log == other then change account else account) (get book log)
 get-changed book other log change =
-    elim (get book other) as (λ o. get book other ≡ o → get (option_map_or (λ account. insert book other (change account)) o book) log ≡ option_map (λ account. if log == other then change account else account) (get book log)) [
-      | None ↦ λ none. elim (log == other) as (λ b. (log == other) ≡ b → get book log ≡ option_map (λ account. if b then change account else account) (get book log)) [
-        | true ↦ λ same. let absent = ap (get book) (eqb-true log other same) ∙ none in absent ∙ sym (ap (option_map change) absent)
-        | false ↦ λ _. sym (map_same (get book log))
-      ] refl
+    elim (get book other)
+    as (λ o. get book other ≡ o → get (option_map_or (λ account. insert book other (change account)) o book) log
+    ≡ option_map (λ account. if log == other then change account else account) (get book log)) [
+      | None ↦ λ none. elim (log == other)
+          as (λ b. (log == other) ≡ b → get book log ≡ option_map (λ account. if b then change account else account) (get book log)) [
+            | true ↦ λ same. let absent = ap (get book) (eqb-true log other same) ∙ none in absent ∙ sym (ap (option_map change) absent)
+            | false ↦ λ _. sym (map_same (get book log))
+          ] refl
       | Some account ↦ λ found.
           get-insert nat_cmp_total book other (change account) log ∙ ap (λ b. cond b (Some (change account)) (get book log)) (tied_is log other)
-          ∙ elim (log == other) as (λ b. (log == other) ≡ b → cond b (Some (change account)) (get book log) ≡ option_map (λ account. if b then change account else account) (get book log)) [
+          ∙ elim (log == other)
+          as (λ b. (log == other) ≡ b
+          → cond b (Some (change account)) (get book log) ≡ option_map (λ account. if b then change account else account) (get book log)) [
             | true ↦ λ same. sym (ap (option_map change) (ap (get book) (eqb-true log other same) ∙ found))
             | false ↦ λ _. sym (map_same (get book log))
           ] refl
@@ -127,7 +135,8 @@ get-changed book other log change =
 -- room that was made is there
 pub ready_made : (book : Book) (log ledger : ℕ) (account : Account) → get book log ≡ Some account → IsReady (after_ready book log ledger) log ledger
 ready_made book log ledger account found =
-    ap (λ o. option_map_or (λ a. has_room a ledger) o false) (get-changed book log log (with_room ledger) ∙ ap (option_map (λ a. if log == log then with_room ledger a else a)) found)
+    ap (λ o. option_map_or (λ a. has_room a ledger) o false)
+    (get-changed book log log (with_room ledger) ∙ ap (option_map (λ a. if log == log then with_room ledger a else a)) found)
     ∙ ap (λ b. has_room (if b then with_room ledger account else account) ledger) (eq-eqb log log refl)
     ∙ room-with_room account ledger ledger ∙ ap (λ b. has_room account ledger || b) (eq-eqb ledger ledger refl) ∙ top (has_room account ledger)
   where

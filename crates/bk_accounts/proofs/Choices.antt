@@ -37,15 +37,18 @@ spared total remaining threshold seen log (Some usage) (choice, total_is, remain
   record {
     allowed_log = Contains-append_left seen (log ∷ []) usage.log choice.allowed_log;
     below = choice.below;
-    least = λ other contains below. ⊎_elim (λ old. choice.least other old below) (λ same. absurd (not_below other same below)) (seen_more seen log other contains);
-    lowest = λ other contains below tie. ⊎_elim (λ old. choice.lowest other old below tie) (λ same. absurd (not_below other same below)) (seen_more seen log other contains);
+    least = λ other contains below. ⊎_elim (λ old. choice.least other old below) (λ same. absurd (not_below other same below))
+        (seen_more seen log other contains);
+    lowest = λ other contains below tie. ⊎_elim (λ old. choice.lowest other old below tie) (λ same. absurd (not_below other same below))
+        (seen_more seen log other contains);
   },
   total_is,
   remaining_is,
 )
   where
     not_below : (other : ℕ) → log ≡ other → IsBelow threshold (total other) (remaining other) → ⊥
-    not_below other same below = let here : threshold * total other ≤ remaining other * 1000 = subst (λ l. threshold * total l ≤ remaining l * 1000) same above in omega arith
+    not_below other same below = let here : threshold * total other ≤ remaining other * 1000 =
+        subst (λ l. threshold * total l ≤ remaining l * 1000) same above in omega arith
 
 -- the first log below the threshold is the choice
 pub taken_first : (total remaining : ℕ → ℕ) (threshold : ℕ) (seen : List ℕ) (log : ℕ)
@@ -54,7 +57,8 @@ pub taken_first : (total remaining : ℕ → ℕ) (threshold : ℕ) (seen : List
 taken_first total remaining threshold seen log none below = record {
   allowed_log = last_seen seen log;
   below = below;
-  least = λ other contains also. ⊎_elim (λ old. absurd (no_old other old also)) (λ same. subst (λ l. remaining log * total l ≤ remaining l * total log) same (le_refl _)) (seen_more seen log other contains);
+  least = λ other contains also. ⊎_elim (λ old. absurd (no_old other old also))
+      (λ same. subst (λ l. remaining log * total l ≤ remaining l * total log) same (le_refl _)) (seen_more seen log other contains);
   lowest = λ other contains also tie. ⊎_elim (λ old. absurd (no_old other old also)) (λ same. le_of_eq same) (seen_more seen log other contains);
 }
   where
@@ -70,7 +74,8 @@ taken total remaining threshold seen log chosen choice below before = record {
   allowed_log = last_seen seen log;
   below = below;
   least = λ other contains also. ⊎_elim
-      (λ old. ratio_trans (remaining log) (total log) (remaining chosen) (total chosen) (remaining other) (total other) (pos chosen choice.below) at_most (choice.least other old also))
+      (λ old. ratio_trans (remaining log) (total log) (remaining chosen) (total chosen) (remaining other) (total other) (pos chosen choice.below)
+      at_most (choice.least other old also))
       (λ same. subst (λ l. remaining log * total l ≤ remaining l * total log) same (le_refl _)) (seen_more seen log other contains);
   lowest = λ other contains also tie. ⊎_elim (λ old. lower other old also tie before) (λ same. le_of_eq same) (seen_more seen log other contains);
 }
@@ -82,11 +87,22 @@ taken total remaining threshold seen log chosen choice below before = record {
     at_most = ⊎_elim (λ less. le_of_lt less) (λ tie. le_of_eq tie.0) before
 
     lower : (other : ℕ) → Contains seen other → IsBelow threshold (total other) (remaining other) → remaining log * total other ≡ remaining other * total log
-        → (remaining log * total chosen < remaining chosen * total log) ⊎ ((remaining log * total chosen ≡ remaining chosen * total log) × (log < chosen)) → log ≤ other
+        → (remaining log * total chosen < remaining chosen * total log)
+        ⊎ ((remaining log * total chosen ≡ remaining chosen * total log) × (log < chosen)) → log ≤ other
     lower other old also tie (inl less) =
-        absurd (omega (arith, tie, ratio_lt_trans (remaining log) (total log) (remaining chosen) (total chosen) (remaining other) (total other) (pos chosen choice.below) (pos other also) less (choice.least other old also)))
+        absurd (omega (
+          arith,
+          tie,
+          ratio_lt_trans (remaining log) (total log) (remaining chosen) (total chosen) (remaining other) (total other)
+              (pos chosen choice.below) (pos other also) less (choice.least other old also),
+        ))
     lower other old also tie (inr (same, first)) =
-        omega (arith, first, choice.lowest other old also (ratio_same (remaining log) (total log) (remaining chosen) (total chosen) (remaining other) (total other) (pos log below) same tie))
+        omega (
+          arith,
+          first,
+          choice.lowest other old also
+              (ratio_same (remaining log) (total log) (remaining chosen) (total chosen) (remaining other) (total other) (pos log below) same tie),
+        )
 
 -- the choice stays where the log is not before it
 pub kept : (total remaining : ℕ → ℕ) (threshold : ℕ) (seen : List ℕ) (log chosen : ℕ)
@@ -96,7 +112,8 @@ pub kept : (total remaining : ℕ → ℕ) (threshold : ℕ) (seen : List ℕ) (
 kept total remaining threshold seen log chosen choice not_before = record {
   allowed_log = Contains-append_left seen (log ∷ []) chosen choice.allowed_log;
   below = choice.below;
-  least = λ other contains also. ⊎_elim (λ old. choice.least other old also) (λ same. subst (λ l. remaining chosen * total l ≤ remaining l * total chosen) same at_most) (seen_more seen log other contains);
+  least = λ other contains also. ⊎_elim (λ old. choice.least other old also)
+      (λ same. subst (λ l. remaining chosen * total l ≤ remaining l * total chosen) same at_most) (seen_more seen log other contains);
   lowest = λ other contains also tie. ⊎_elim (λ old. choice.lowest other old also tie) (λ same. later other same tie) (seen_more seen log other contains);
 }
   where
@@ -105,7 +122,8 @@ kept total remaining threshold seen log chosen choice not_before = record {
 
     later : (other : ℕ) → log ≡ other → remaining chosen * total other ≡ remaining other * total chosen → chosen ≤ other
     later other same tie =
-        let tie' : remaining log * total chosen ≡ remaining chosen * total log = subst (λ l. remaining l * total chosen ≡ remaining chosen * total l) (sym same) (sym tie) in
+        let tie' : remaining log * total chosen ≡ remaining chosen * total log =
+        subst (λ l. remaining l * total chosen ≡ remaining chosen * total l) (sym same) (sym tie) in
         ⊎_elim (λ less. absurd (not_before (inr (tie', less)))) (λ le. subst (λ l. chosen ≤ l) same le) (cases_lt log chosen)
 
 -- what the test of two usages says, by two products and two ids
@@ -123,7 +141,8 @@ pub lowest_more : (total remaining : ℕ → ℕ) (threshold : ℕ) (seen : List
 lowest_more total remaining threshold seen usage None total_is remaining_is below none =
     (taken_first total remaining threshold seen usage.log none (rw (← total_is, ← remaining_is) below), total_is, remaining_is)
 lowest_more total remaining threshold seen usage (Some other) total_is remaining_is below (choice, total_was, remaining_was) =
-    elim (is_before usage other) as (λ b. is_before usage other ≡ b → IsLowest total remaining threshold (seen ++ usage.log ∷ []) (Some (if b then usage else other))) [
+    elim (is_before usage other)
+    as (λ b. is_before usage other ≡ b → IsLowest total remaining threshold (seen ++ usage.log ∷ []) (Some (if b then usage else other))) [
       | true ↦ λ h. (
         taken total remaining threshold seen usage.log other.log choice (rw (← total_is, ← remaining_is) below)
             (rw (← total_is, ← remaining_is, ← total_was, ← remaining_was) (before_is _ _ _ _ h)),
@@ -132,7 +151,8 @@ lowest_more total remaining threshold seen usage (Some other) total_is remaining
       )
       | false ↦ λ h. (
         kept total remaining threshold seen usage.log other.log choice
-            (λ before. not_before_is (usage.remaining * other.total) (other.remaining * usage.total) usage.log other.log h (rw (total_is, remaining_is, total_was, remaining_was) before)),
+            (λ before. not_before_is (usage.remaining * other.total) (other.remaining * usage.total) usage.log other.log h
+            (rw (total_is, remaining_is, total_was, remaining_was) before)),
         total_was,
         remaining_was,
       )
@@ -140,7 +160,8 @@ lowest_more total remaining threshold seen usage (Some other) total_is remaining
 
 -- the turn of a loop over all the logs, at one below the threshold
 pub turn_below : (total remaining : ℕ → ℕ) (threshold : ℕ) (all : List ℕ) (i : ℕ) (usage first : Usage) (lowest new : Option Usage) → i < length all
-    → usage.log ≡ get_or all i 0 → usage.total ≡ total (get_or all i 0) → usage.remaining ≡ remaining (get_or all i 0) → IsBelow threshold usage.total usage.remaining
+    → usage.log ≡ get_or all i 0 → usage.total ≡ total (get_or all i 0) → usage.remaining ≡ remaining (get_or all i 0)
+    → IsBelow threshold usage.total usage.remaining
     → IsLowest total remaining threshold (take i all) lowest → first ≡ first_of usage lowest → new ≡ Some first
     → IsLowest total remaining threshold (take (i + 1) all) new
 turn_below total remaining threshold all i usage first lowest new within log_is total_is remaining_is below so_far first_is new_is =
@@ -154,7 +175,8 @@ pub turn_above : (total remaining : ℕ → ℕ) (threshold : ℕ) (all : List �
     → IsLowest total remaining threshold (take i all) lowest → new ≡ lowest
     → IsLowest total remaining threshold (take (i + 1) all) new
 turn_above total remaining threshold all i usage lowest new within total_is remaining_is above so_far new_is =
-    let at_least : threshold * usage.total ≤ usage.remaining * 1000 = ⊎_elim (λ less. let wrong = above less in cc) (λ le. le) (cases_lt (usage.remaining * 1000) (threshold * usage.total)) in
+    let at_least : threshold * usage.total ≤ usage.remaining * 1000 =
+    ⊎_elim (λ less. let wrong = above less in cc) (λ le. le) (cases_lt (usage.remaining * 1000) (threshold * usage.total)) in
     rw (take_more all i 0 within, new_is)
     (spared total remaining threshold (take i all) (get_or all i 0) lowest so_far (rw (← total_is, ← remaining_is) at_least))
 

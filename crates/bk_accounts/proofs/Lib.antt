@@ -1,12 +1,14 @@
 pub mod Books
+pub mod CallerLaws
 pub mod Choices
 pub mod Entries
+pub mod EntrySums
 pub mod FromScratch
 pub mod Histories
 pub mod LogAccounts
 pub mod Maps
 pub mod Ratios
 pub mod Rooms
-pub mod Sums
+pub mod ValueSums
 pub mod Tallies
 mod Worked

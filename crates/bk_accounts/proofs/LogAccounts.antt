@@ -4,7 +4,7 @@ use Rattle.std.specs.Option.{is_some}
 use Rattle.std.specs.FinMap.{FinMap, get, insert, remove, empty}
 use Rattle.bk_accounts.specs.Account.{Account, with_room, with_size, without_ledger}
 use Rattle.bk_accounts.specs.Parts.{IsSplit}
-use Rattle.bk_accounts.proofs.Sums.{sum-insert, sum-remove, sum-empty, get-le-sum}
+use Rattle.bk_accounts.proofs.ValueSums.{sum-insert, sum-remove, sum-empty, get-le-sum}
 
 -- the account that the fields are seen as
 abbrev pub account_of : ℕ → ℕ → FinMap nat_cmp ℕ → Account
@@ -19,19 +19,22 @@ pub part-le : {total remaining : ℕ} {parts : FinMap nat_cmp ℕ} → IsSplit t
 part-le {parts = parts} split ledger = omega (arith, split.sum_is, get-le-sum parts ledger)
 
 -- room takes nothing
-pub split_room : {total remaining : ℕ} {parts : FinMap nat_cmp ℕ} → IsSplit total remaining parts → (ledger : ℕ) → get parts ledger ≡ None → IsSplit total remaining (insert parts ledger 0)
+pub split_room : {total remaining : ℕ} {parts : FinMap nat_cmp ℕ} → IsSplit total remaining parts → (ledger : ℕ) → get parts ledger ≡ None
+    → IsSplit total remaining (insert parts ledger 0)
 split_room {parts = parts} split ledger none =
     let gone : unwrap_or (get parts ledger) 0 ≡ 0 = ap (λ o. unwrap_or o 0) none in
     record { sum_is = omega (arith, split.sum_is, sum-insert parts ledger 0); within = split.within }
 
 -- a size counted for a ledger is counted in what remains and in all
-pub split_count : {total remaining : ℕ} {parts : FinMap nat_cmp ℕ} → IsSplit total remaining parts → (ledger part size : ℕ) → get parts ledger ≡ Some part → IsSplit (total + size) (remaining + size) (insert parts ledger (part + size))
+pub split_count : {total remaining : ℕ} {parts : FinMap nat_cmp ℕ} → IsSplit total remaining parts → (ledger part size : ℕ)
+    → get parts ledger ≡ Some part → IsSplit (total + size) (remaining + size) (insert parts ledger (part + size))
 split_count {parts = parts} split ledger part size found =
     let was : unwrap_or (get parts ledger) 0 ≡ part = ap (λ o. unwrap_or o 0) found in
     record { sum_is = omega (arith, split.sum_is, sum-insert parts ledger (part + size)); within = omega (arith, split.within) }
 
 -- a ledger's part taken out
-pub split_forget : {total remaining : ℕ} {parts : FinMap nat_cmp ℕ} → IsSplit total remaining parts → (ledger part : ℕ) → unwrap_or (get parts ledger) 0 ≡ part → IsSplit total (remaining - part) (remove parts ledger)
+pub split_forget : {total remaining : ℕ} {parts : FinMap nat_cmp ℕ} → IsSplit total remaining parts → (ledger part : ℕ)
+    → unwrap_or (get parts ledger) 0 ≡ part → IsSplit total (remaining - part) (remove parts ledger)
 split_forget {parts = parts} split ledger part was =
     record { sum_is = omega (arith, split.sum_is, sum-remove parts ledger); within = omega (arith, split.within) }
 

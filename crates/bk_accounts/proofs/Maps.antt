@@ -51,7 +51,8 @@ pub get-found : {X : Type 0} (es : List (ℕ × X)) (k : ℕ) (o : Option X) →
 get-found es k o is = get-entries es k ∙ sym is
 
 -- a value that is written over the one at a key is inserted there
-pub written : {X : Type 0} (m n : BTreeMap ℕ X) (k : ℕ) (w : X) → WritesThrough nat_cmp (nat_cmp k) m w n → IsSome (get (from_entries {R = nat_cmp} m.entries) k)
+pub written : {X : Type 0} (m n : BTreeMap ℕ X) (k : ℕ) (w : X) → WritesThrough nat_cmp (nat_cmp k) m w n
+    → IsSome (get (from_entries {R = nat_cmp} m.entries) k)
     → from_entries {R = nat_cmp} n.entries ≡ insert (from_entries m.entries) k w
 written m n k w writes there =
     let found : IsSome (lookup (is_at (nat_cmp k)) m.entries) = ap is_some (sym (get-entries m.entries k)) ∙ there in
@@ -80,7 +81,8 @@ insert_same m k v found = same_by_get _ _ (λ q. get-insert nat_cmp_total m k v 
     ] refl)
 
 -- the value at a key, where each value is mapped
-pub get-mapped : {X : Type 0} (f : X → X) (es : List (ℕ × X)) (q : ℕ) → get (from_entries {R = nat_cmp} (map (λ e. (e.0, f e.1)) es)) q ≡ option_map f (lookup (is_at (nat_cmp q)) es)
+pub get-mapped : {X : Type 0} (f : X → X) (es : List (ℕ × X)) (q : ℕ) → get (from_entries {R = nat_cmp} (map (λ e. (e.0, f e.1)) es)) q
+    ≡ option_map f (lookup (is_at (nat_cmp q)) es)
 get-mapped f es q = get-entries (map (λ e. (e.0, f e.1)) es) q ∙ lookup-map_values f (is_at (nat_cmp q)) es
 
 -- what the map has is what a query of its entries finds

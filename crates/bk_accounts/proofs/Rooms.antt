@@ -30,15 +30,19 @@ there_again m k q there =
 
 pub room-with_room : (account : Account) (ledger other : ℕ) → has_room (with_room ledger account) other ≡ (has_room account other || other == ledger)
 room-with_room account ledger other =
-    elim (has_room account ledger) as (λ b. has_room account ledger ≡ b → is_some (get (cond b account.live (insert account.live ledger 0)) other) ≡ (has_room account other || other == ledger)) [
+    elim (has_room account ledger)
+    as (λ b. has_room account ledger ≡ b → is_some (get (cond b account.live (insert account.live ledger 0)) other)
+    ≡ (has_room account other || other == ledger)) [
       | true ↦ λ there. sym (there_again account.live ledger other there)
       | false ↦ λ _. room-insert account.live ledger 0 other
     ] refl
 
-pub room-with_size : (account : Account) (ledger size other : ℕ) → has_room account ledger ≡ true → has_room (with_size ledger size account) other ≡ has_room account other
+pub room-with_size : (account : Account) (ledger size other : ℕ) → has_room account ledger ≡ true
+    → has_room (with_size ledger size account) other ≡ has_room account other
 room-with_size account ledger size other there = room-insert account.live ledger _ other ∙ there_again account.live ledger other there
 
-pub room-without_ledger : (account : Account) (ledger other : ℕ) → has_room (without_ledger ledger account) other ≡ (has_room account other && not (ledger == other))
+pub room-without_ledger : (account : Account) (ledger other : ℕ)
+    → has_room (without_ledger ledger account) other ≡ (has_room account other && not (ledger == other))
 room-without_ledger account ledger other =
     ap is_some (get-remove nat_cmp_total account.live ledger other)
     ∙ ap (λ b. is_some (cond b None (get account.live other))) ((eq_by_cmp_equiv nat_cmp_total).symm other ledger ∙ tied_is ledger other)

@@ -5,9 +5,9 @@ use Rattle.std.specs.Cmp.{nat_cmp_total}
 use Rattle.std.specs.FinMap.{FinMap, get, insert, remove, get-empty, get-insert, get-remove}
 use Rattle.std.proofs.lemmas.List.Sums.{sum_by-cons, sum_by_push}
 use Rattle.std.proofs.lemmas.Bool.Decides.{nat_tests}
-use Rattle.bk_accounts.specs.Account.{Account, fresh, ledger_size, with_room, with_size, without_ledger}
+use Rattle.bk_accounts.specs.Account.{Account, fresh, ledger_size, with_room, with_size, with_dead_size, without_ledger}
 use Rattle.bk_accounts.specs.Rows.{Row, Tallies, total_of, remaining_of, remaining_of_ledger, forget_row}
-use Rattle.bk_accounts.proofs.Sums.{sum-empty, sum-insert, sum-remove}
+use Rattle.bk_accounts.proofs.ValueSums.{sum-empty, sum-insert, sum-remove}
 use Rattle.bk_accounts.proofs.Maps.{tied_is}
 
 -- a size that was inserted is that of its ledger
@@ -41,7 +41,8 @@ tallies_fresh = record {
 -- room changes no sum
 pub tallies_room : (rows : List Row) (account : Account) (ledger : ℕ) → Tallies rows account → Tallies rows (with_room ledger account)
 tallies_room rows account ledger tallies =
-    elim (get account.live ledger) as (λ o. get account.live ledger ≡ o → Tallies rows (record account { live = cond (is_some o) account.live (insert account.live ledger 0) })) [
+    elim (get account.live ledger)
+    as (λ o. get account.live ledger ≡ o → Tallies rows (record account { live = cond (is_some o) account.live (insert account.live ledger 0) })) [
       | Some size ↦ λ _. record { total = tallies.total; remaining = tallies.remaining; by_ledger = tallies.by_ledger }
       | None ↦ λ none.
           let gone : unwrap_or (get account.live ledger) 0 ≡ 0 = ap (λ o. unwrap_or o 0) none in
@@ -52,7 +53,8 @@ tallies_room rows account ledger tallies =
           }
     ] refl
   where
-    same_zero : (other ledger : ℕ) (m : FinMap nat_cmp ℕ) → unwrap_or (get m ledger) 0 ≡ 0 → (if other == ledger then 0 else unwrap_or (get m other) 0) ≡ unwrap_or (get m other) 0
+    same_zero : (other ledger : ℕ) (m : FinMap nat_cmp ℕ) → unwrap_or (get m ledger) 0 ≡ 0
+        → (if other == ledger then 0 else unwrap_or (get m other) 0) ≡ unwrap_or (get m other) 0
     same_zero other ledger m gone =
         elim (other == ledger) as (λ b. (other == ledger) ≡ b → (if b then 0 else unwrap_or (get m other) 0) ≡ unwrap_or (get m other) 0) [
           | true ↦ λ same. sym gone ∙ ap (λ q. unwrap_or (get m q) 0) (sym (eqb-true other ledger same))
@@ -74,12 +76,32 @@ tallies_count rows account ledger size tallies =
           ∙ sym (sum_by_push (λ row. if other == row.ledger && not row.forgotten then row.size else 0) rows row);
     }
   where
-    added : (other : ℕ) → (if other == ledger then ledger_size account ledger + size else ledger_size account other) ≡ remaining_of_ledger other rows + (if other == ledger && true then size else 0)
+    added : (other : ℕ) → (if other == ledger then ledger_size account ledger + size else ledger_size account other)
+        ≡ remaining_of_ledger other rows + (if other == ledger && true then size else 0)
     added other =
-        elim (other == ledger) as (λ b. (other == ledger) ≡ b → (if b then ledger_size account ledger + size else ledger_size account other) ≡ remaining_of_ledger other rows + (if b && true then size else 0)) [
+        elim (other == ledger)
+        as (λ b. (other == ledger) ≡ b → (if b then ledger_size account ledger + size else ledger_size account other)
+        ≡ remaining_of_ledger other rows + (if b && true then size else 0)) [
           | true ↦ λ same. ap (λ q. ledger_size account q + size) (sym (eqb-true other ledger same)) ∙ ap (λ n. n + size) (tallies.by_ledger other)
           | false ↦ λ _. omega (arith, tallies.by_ledger other)
         ] refl
+
+-- a size of a dead ledger counted is a row more of which nothing remains
+pub tallies_dead : (rows : List Row) (account : Account) (ledger size : ℕ) → Tallies rows account
+    → Tallies (rows ++ (record { ledger = ledger; size = size; forgotten = true }) ∷ []) (with_dead_size size account)
+tallies_dead rows account ledger size tallies =
+    let row : Row = record { ledger = ledger; size = size; forgotten = true } in
+    record {
+      total = ap (λ n. n + size) tallies.total ∙ sym (sum_by_push (λ row. row.size) rows row);
+      remaining = omega (arith, tallies.remaining, sum_by_push (λ row. if row.forgotten then 0 else row.size) rows row);
+      by_ledger = λ other.
+          tallies.by_ledger other ∙ zero (other == ledger) (remaining_of_ledger other rows)
+          ∙ sym (sum_by_push (λ row. if other == row.ledger && not row.forgotten then row.size else 0) rows row);
+    }
+  where
+    zero : (b : Bool) (n : ℕ) → n ≡ n + (if b && false then size else 0)
+    zero true n = omega arith
+    zero false n = omega arith
 
 -- what a row adds to what remains
 abbrev kept_size : Row → ℕ
@@ -92,7 +114,8 @@ kept_size_of ledger row = if ledger == row.ledger && not row.forgotten then row.
 total-forget : (ledger : ℕ) (rows : List Row) → total_of (map (forget_row ledger) rows) ≡ total_of rows
 total-forget ledger [] = refl
 total-forget ledger (row ∷ rows) =
-    sum_by-cons (λ r. r.size) (forget_row ledger row) (map (forget_row ledger) rows) ∙ ap (λ n. row.size + n) (total-forget ledger rows) ∙ sym (sum_by-cons (λ r. r.size) row rows)
+    sum_by-cons (λ r. r.size) (forget_row ledger row) (map (forget_row ledger) rows) ∙ ap (λ n. row.size + n) (total-forget ledger rows)
+    ∙ sym (sum_by-cons (λ r. r.size) row rows)
 
 -- of each row what remains and what the ledger loses is what remained
 row-forget : (ledger : ℕ) (row : Row) → kept_size (forget_row ledger row) + kept_size_of ledger row ≡ kept_size row
@@ -107,17 +130,27 @@ row-forget ledger row = bits (ledger == row.ledger) row.forgotten row.size
 remaining-forget : (ledger : ℕ) (rows : List Row) → remaining_of (map (forget_row ledger) rows) + remaining_of_ledger ledger rows ≡ remaining_of rows
 remaining-forget ledger [] = refl
 remaining-forget ledger (row ∷ rows) =
-    omega (arith, row-forget ledger row, remaining-forget ledger rows, sum_by-cons kept_size (forget_row ledger row) (map (forget_row ledger) rows), sum_by-cons kept_size row rows, sum_by-cons (kept_size_of ledger) row rows)
+    omega (
+      arith,
+      row-forget ledger row,
+      remaining-forget ledger rows,
+      sum_by-cons kept_size (forget_row ledger row) (map (forget_row ledger) rows),
+      sum_by-cons kept_size row rows,
+      sum_by-cons (kept_size_of ledger) row rows,
+    )
 
 row_of-forget : (other ledger : ℕ) (row : Row) → kept_size_of other (forget_row ledger row) ≡ (if other == ledger then 0 else kept_size_of other row)
 row_of-forget other ledger row = bits row.ledger row.forgotten row.size
   where
-    bits : (here : ℕ) (gone : Bool) (size : ℕ) → (if other == here && not (gone || ledger == here) then size else 0) ≡ (if other == ledger then 0 else if other == here && not gone then size else 0)
+    bits : (here : ℕ) (gone : Bool) (size : ℕ) → (if other == here && not (gone || ledger == here) then size else 0)
+        ≡ (if other == ledger then 0 else if other == here && not gone then size else 0)
     bits here true size = grind (arith, nat_tests)
     bits here false size = grind (arith, nat_tests)
 
-remaining_of-forget : (other ledger : ℕ) (rows : List Row) → remaining_of_ledger other (map (forget_row ledger) rows) ≡ (if other == ledger then 0 else remaining_of_ledger other rows)
-remaining_of-forget other ledger [] = elim (other == ledger) as (λ b. remaining_of_ledger other [] ≡ (if b then 0 else remaining_of_ledger other [])) [ true ↦ refl | false ↦ refl ]
+remaining_of-forget : (other ledger : ℕ) (rows : List Row)
+    → remaining_of_ledger other (map (forget_row ledger) rows) ≡ (if other == ledger then 0 else remaining_of_ledger other rows)
+remaining_of-forget other ledger [] = elim (other == ledger) as (λ b. remaining_of_ledger other [] ≡ (if b then 0 else remaining_of_ledger other []))
+    [ true ↦ refl | false ↦ refl ]
 remaining_of-forget other ledger (row ∷ rows) =
     sum_by-cons (kept_size_of other) (forget_row ledger row) (map (forget_row ledger) rows)
     ∙ ap (λ n. n + remaining_of_ledger other (map (forget_row ledger) rows)) (row_of-forget other ledger row)
@@ -130,10 +163,12 @@ remaining_of-forget other ledger (row ∷ rows) =
     both false m n = refl
 
 -- a ledger forgotten is forgotten in each row
-pub tallies_forget : (rows : List Row) (account : Account) (ledger : ℕ) → Tallies rows account → Tallies (map (forget_row ledger) rows) (without_ledger ledger account)
+pub tallies_forget : (rows : List Row) (account : Account) (ledger : ℕ) → Tallies rows account
+    → Tallies (map (forget_row ledger) rows) (without_ledger ledger account)
 tallies_forget rows account ledger tallies = record {
   total = tallies.total ∙ sym (total-forget ledger rows);
   remaining = omega (arith, tallies.remaining, tallies.by_ledger ledger, sum-remove account.live ledger, remaining-forget ledger rows);
   by_ledger = λ other.
-      size-remove account.live ledger other ∙ ap (λ n. if other == ledger then 0 else n) (tallies.by_ledger other) ∙ sym (remaining_of-forget other ledger rows);
+      size-remove account.live ledger other ∙ ap (λ n. if other == ledger then 0 else n) (tallies.by_ledger other)
+      ∙ sym (remaining_of-forget other ledger rows);
 }

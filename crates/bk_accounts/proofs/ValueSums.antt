@@ -45,9 +45,12 @@ sum-put : (k v : ℕ) (es : List (ℕ × ℕ)) → T (is_sorted nat_cmp es)
     → sum (values_in (put nat_cmp k v es)) + unwrap_or (find nat_cmp k es) 0 ≡ sum (values_in es) + v
 sum-put k v [] sorted = omega arith
 sum-put k v (e ∷ es) sorted =
-    let rest : sum (values_in (put nat_cmp k v es)) + unwrap_or (find nat_cmp k es) 0 ≡ sum (values_in es) + v = sum-put k v es (second (below_all nat_cmp e.0 es) (is_sorted nat_cmp es) sorted) in
+    let rest : sum (values_in (put nat_cmp k v es)) + unwrap_or (find nat_cmp k es) 0 ≡ sum (values_in es) + v =
+    sum-put k v es (second (below_all nat_cmp e.0 es) (is_sorted nat_cmp es) sorted) in
     let was = sum_by-cons (λ x. x) e.1 (values_in es) in
-    elim (nat_cmp k e.0) as (λ r. nat_cmp k e.0 ≡ r → sum (values_in (by_order r ((k, v) ∷ e ∷ es) ((e.0, v) ∷ es) (e ∷ put nat_cmp k v es))) + unwrap_or (cond (is_eq r) (Some e.1) (find nat_cmp k es)) 0 ≡ sum (values_in (e ∷ es)) + v) [
+    elim (nat_cmp k e.0) as (λ r. nat_cmp k e.0 ≡ r
+    → sum (values_in (by_order r ((k, v) ∷ e ∷ es) ((e.0, v) ∷ es) (e ∷ put nat_cmp k v es))) + unwrap_or
+    (cond (is_eq r) (Some e.1) (find nat_cmp k es)) 0 ≡ sum (values_in (e ∷ es)) + v) [
       | Less ↦ λ lower.
           let none : unwrap_or (find nat_cmp k es) 0 ≡ 0 = ap (λ o. unwrap_or o 0) (find_below k es (below_lower k e.0 es lower (first _ _ sorted))) in
           omega (arith, none, sum_by-cons (λ x. x) v (values_in (e ∷ es)))

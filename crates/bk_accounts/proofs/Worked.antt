@@ -2,10 +2,10 @@
 use Rattle.std.proofs.Common.{◌≡◌, true, false, List, [], ◌∷◌, Some, None, refl}
 use Rattle.std.specs.Option.{option_map, option_map_or}
 use Rattle.bk_accounts.specs.Rows.{total_of, remaining_of}
-use Rattle.bk_accounts.specs.Calls.{Call, opens, readies, counts, names, unnames, forgets, drops, since_open, rows_of, named_of, is_readied}
+use Rattle.bk_accounts.specs.History.{AccountCall, opens, readies, counts, names, unnames, forgets, drops, since_open, rows_of, named_of, is_readied}
 
 -- a ledger that is counted, forgotten and counted again, beside one that stays, in a log that was opened before
-abbrev history : List Call
+abbrev history : List AccountCall
 history =
     opens 0 ∷ readies 0 8 ∷ counts 0 8 1000 ∷ drops 0 ∷ opens 0 ∷ opens 1 ∷ names 1 ∷ readies 0 8 ∷ counts 0 8 25 ∷ readies 0 9 ∷ counts 0 9 7
     ∷ names 0 ∷ names 0 ∷ forgets 8 ∷ unnames 0 ∷ readies 0 8 ∷ counts 0 8 40 ∷ forgets 9 ∷ drops 1 ∷ []

@@ -48,6 +48,10 @@ with_size ledger size account = record account {
   live = finmap.insert account.live ledger (ledger_size account ledger + size);
 }
 
+-- with a size counted for a ledger that is dead: in the total alone
+abbrev pub with_dead_size : ℕ → Account → Account
+with_dead_size size account = record account { total = account.total + size }
+
 -- named by one key more
 abbrev pub with_name : Account → Account
 with_name account = record account { named = account.named + 1 }

@@ -4,7 +4,7 @@ use Rattle.std.specs.Coded.{Coded, coded_ℕ}
 use Rattle.std.specs.FinMap as finmap
 use Rattle.std.specs.Option.{option_map, option_map_or, unwrap_or}
 use Rattle.std.specs.Ordering.{nat_cmp}
-use Rattle.bk_accounts.specs.Account.{Account, account_code, remaining_size, has_room, fresh, with_room, with_size, with_name, without_name, without_ledger}
+use Rattle.bk_accounts.specs.Account.{Account, account_code, remaining_size, has_room, fresh, with_room, with_size, with_dead_size, with_name, without_name, without_ledger}
 
 -- each open log with its account
 abbrev pub Book : Type 0
@@ -65,6 +65,10 @@ after_ready book log ledger = changed book log (with_room ledger)
 -- after `count`
 abbrev pub after_count : Book → ℕ → ℕ → ℕ → Book
 after_count book log ledger size = changed book log (with_size ledger size)
+
+-- after `count_dead`
+abbrev pub after_count_dead : Book → ℕ → ℕ → Book
+after_count_dead book log size = changed book log (with_dead_size size)
 
 -- after `name`
 abbrev pub after_name : Book → ℕ → Book

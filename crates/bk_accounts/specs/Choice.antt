@@ -11,7 +11,8 @@ pub record IsChoice (total remaining : ℕ → ℕ) (threshold : ℕ) (allowed :
   pub allowed_log : Contains allowed chosen
   pub below : IsBelow threshold (total chosen) (remaining chosen)
   pub least : (log : ℕ) → Contains allowed log → IsBelow threshold (total log) (remaining log) → remaining chosen * total log ≤ remaining log * total chosen
-  pub lowest : (log : ℕ) → Contains allowed log → IsBelow threshold (total log) (remaining log) → remaining chosen * total log ≡ remaining log * total chosen → chosen ≤ log
+  pub lowest : (log : ℕ) → Contains allowed log → IsBelow threshold (total log) (remaining log)
+      → remaining chosen * total log ≡ remaining log * total chosen → chosen ≤ log
 
 -- no log is below the threshold
 abbrev pub NoneBelow : (ℕ → ℕ) → (ℕ → ℕ) → ℕ → List ℕ → Type 0

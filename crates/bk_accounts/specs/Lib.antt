@@ -1,7 +1,8 @@
 pub mod Account
 pub mod Book
-pub mod Calls
+pub mod History
 pub mod Choice
 pub mod Rows
+pub mod Sums
 pub mod Parts
 pub mod Usage

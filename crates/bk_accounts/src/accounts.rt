@@ -34,7 +34,7 @@ impl Model for Accounts {
 }
 
 impl Accounts {
-    ghost use Rattle.bk_accounts.specs.Book.{IsOpen, IsNotOpen, IsReady, total_in, remaining_in, named_in, total_at, remaining_at, after_open, after_ready, after_count, after_name, after_unname, after_forget, after_drop};
+    ghost use Rattle.bk_accounts.specs.Book.{IsOpen, IsNotOpen, IsReady, total_in, remaining_in, named_in, total_at, remaining_at, after_open, after_ready, after_count, after_count_dead, after_name, after_unname, after_forget, after_drop};
 
     /// No log is open. It takes no memory; the allocator is for the calls that do.
     pub fn new(alloc: Global) -> Accounts
@@ -91,12 +91,25 @@ impl Accounts {
         self.logs.get_mut(&log).unwrap().count(ledger, size);
     }
 
+    /// Counts an entry whose ledger is dead, as one that an opened file still has: in the total alone. A log that
+    /// is not open stays so. It takes no memory.
+    ///
+    /// A log's total stays within 2^32 - 1.
+    pub fn count_dead(&mut self, log: u32, size: u32)
+        requires { IfSome (total_in self.old log) (λ total. total + size < 2 ^ 32) }
+        ensures { self.new ≡ after_count_dead self.old log size }
+    {
+        if let Some(account) = self.logs.get_mut(&log) {
+            account.count_dead(size);
+        }
+    }
+
     /// Counts one more key that the index sends to the log. A log that is not open stays so. It takes
     /// no memory.
     ///
-    /// A log is named at most 2^32 - 1 times.
+    /// A log is named at most 2^64 - 1 times, and so by all keys of any map that memory holds.
     pub fn name(&mut self, log: u32)
-        requires { IfSome (named_in self.old log) (λ named. named + 1 < 2 ^ 32) }
+        requires { IfSome (named_in self.old log) (λ named. named + 1 < 2 ^ 64) }
         ensures { self.new ≡ after_name self.old log }
     {
         if let Some(account) = self.logs.get_mut(&log) {
@@ -144,7 +157,7 @@ impl Accounts {
     }
 
     /// The number of keys that name a log, or `NoLog`.
-    pub fn named(&self, log: u32) -> Result<u32, AccountFault>
+    pub fn named(&self, log: u32) -> Result<u64, AccountFault>
         ensures { result ≡ ok_or (named_in self.now log) AccountFault.NoLog }
     {
         Ok(self.account(log)?.named())

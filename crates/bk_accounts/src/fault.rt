@@ -9,10 +9,10 @@ use thiserror::Error;
 #[derive(Clone, Copy, Debug, PartialEq, Eq, Error)]
 pub enum AccountFault {
     /// No memory for an account, or for the room of a sum.
-    #[error("out of memory")]
+    #[error("memory")]
     Memory,
     /// The log is not open.
-    #[error("no such log")]
+    #[error("no log")]
     NoLog,
 }
 

@@ -1,5 +1,5 @@
 //! The laws of the accounts: what holds of whole lists of calls, and of every choice.
-ghost use Rattle.bk_accounts.specs.Calls.{CountsFromScratch};
+ghost use Rattle.bk_accounts.specs.History.{CountsFromScratch};
 ghost use Rattle.bk_accounts.specs.Choice.{HasOneChoice};
 
 /// After every list of calls on new accounts, each made where its caller may, the sums of each log are

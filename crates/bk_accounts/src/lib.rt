@@ -5,7 +5,7 @@
 
 mod accounts;
 mod fault;
-mod law;
+mod laws;
 mod log_account;
 #[cfg(test)]
 mod tests;
@@ -13,4 +13,4 @@ mod usage;
 
 pub use accounts::Accounts;
 pub use fault::AccountFault;
-pub use law::{counts_from_scratch, one_choice};
+pub use laws::{counts_from_scratch, one_choice};

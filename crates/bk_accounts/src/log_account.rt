@@ -10,7 +10,7 @@ use std::marker::Model;
 pub(crate) struct LogAccount {
     total: u32,
     remaining: u32,
-    named: u32,
+    named: u64,
     parts: BTreeMap<u64, u32>,
 }
 
@@ -29,7 +29,7 @@ impl Model for LogAccount {
 }
 
 impl LogAccount {
-    ghost use Rattle.bk_accounts.specs.Account.{fresh, has_room, remaining_size, with_room, with_size, with_name, without_name, without_ledger};
+    ghost use Rattle.bk_accounts.specs.Account.{fresh, has_room, remaining_size, with_room, with_size, with_dead_size, with_name, without_name, without_ledger};
 
     /// A log with nothing counted. It takes no memory.
     pub(crate) fn new(alloc: Global) -> LogAccount
@@ -58,7 +58,7 @@ impl LogAccount {
     }
 
     /// The number of keys that name the log.
-    pub(crate) fn named(&self) -> u32
+    pub(crate) fn named(&self) -> u64
         ensures { result ≡ self.now.named }
     {
         self.named
@@ -90,9 +90,17 @@ impl LogAccount {
         self.remaining += size;
     }
 
+    /// Counts bytes of a dead ledger, of which nothing remains.
+    pub(crate) fn count_dead(&mut self, size: u32)
+        requires { self.old.total + size < 2 ^ 32 }
+        ensures { self.new ≡ with_dead_size size self.old }
+    {
+        self.total += size;
+    }
+
     /// Counts a key that names the log.
     pub(crate) fn name(&mut self)
-        requires { self.old.named + 1 < 2 ^ 32 }
+        requires { self.old.named + 1 < 2 ^ 64 }
         ensures { self.new ≡ with_name self.old }
     {
         self.named += 1;

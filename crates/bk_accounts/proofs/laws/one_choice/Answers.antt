@@ -1,5 +1,5 @@
 use Rattle.bk_accounts.proofs.Choices as choices
-use Rattle.bk_accounts.proofs.law.one_choice.Goals as goal
+use Rattle.bk_accounts.proofs.laws.one_choice.Goals as goal
 
 pub returns : goal.returns
 returns c = choices.one_choice

@@ -8,7 +8,7 @@ use Rattle.bk_accounts.proofs.accounts.Accounts.name.Goals.{in-Some, in_default}
 pub name-requires : goal.name-requires
 name-requires c =
     let found = account_lent c.self.inside.logs.entries c.args.self.now c.args.log c.get_mut.result c.in-Some.account c.self.view_is c.get_mut.ensures.value c.in-Some.is in
-    of_account c.args.self.now c.args.log c.in-Some.account.now (λ a. a.named) (λ n. n + 1 < 2 ^ 32) found c.requires
+    of_account c.args.self.now c.args.log c.in-Some.account.now (λ a. a.named) (λ n. n + 1 < 2 ^ 64) found c.requires
 
 pub returns : goal.returns
 returns c =
@@ -16,8 +16,11 @@ returns c =
       | in-Some w ↦
           let found = account_lent c.self.inside.logs.entries c.args.self.now c.args.log c.get_mut.result w.in-Some.account c.self.view_is c.get_mut.ensures.value w.in-Some.is in
           ap (λ s. from_entries s.logs.entries) w.self-inside-is
-          ∙ changed_through c.self.inside.logs (c.get_mut.follows.lender w.name.new.self) c.args.self.now c.args.log w.in-Some.account.now w.name.new.self with_name c.self.view_is found (c.get_mut.follows.holds w.name.new.self) w.name.ensures
+          ∙ changed_through c.self.inside.logs (c.get_mut.follows.lender w.name.new.self)
+          c.args.self.now c.args.log w.in-Some.account.now w.name.new.self with_name c.self.view_is found
+          (c.get_mut.follows.holds w.name.new.self) w.name.ensures
       | in_default w ↦
           ap (λ s. from_entries s.logs.entries) w.self-inside-is ∙ ap (λ m. from_entries m.entries) c.get_mut.follows.holds-at-none ∙ c.self.view_is
-          ∙ unchanged c.args.self.now c.args.log with_name (none_lent c.self.inside.logs.entries c.args.self.now c.args.log c.get_mut.result c.self.view_is c.get_mut.ensures.value w.in_default.is)
+          ∙ unchanged c.args.self.now c.args.log with_name
+          (none_lent c.self.inside.logs.entries c.args.self.now c.args.log c.get_mut.result c.self.view_is c.get_mut.ensures.value w.in_default.is)
     ]

@@ -7,7 +7,8 @@ use Rattle.bk_accounts.proofs.accounts.Accounts.ready.Goals as goal
 
 pub returns-in_default-clause-no_log : goal.returns-in_default-clause-no_log
 returns-in_default-clause-no_log c =
-    no_log_closed c.args.self.now c.args.log (Err NoLog) refl (none_lent c.self.inside.logs.entries c.args.self.now c.args.log c.get_mut.result c.self.view_is c.get_mut.ensures.value c.in_default.is)
+    no_log_closed c.args.self.now c.args.log (Err NoLog) refl
+    (none_lent c.self.inside.logs.entries c.args.self.now c.args.log c.get_mut.result c.self.view_is c.get_mut.ensures.value c.in_default.is)
 
 pub returns-in_default-clause-room : goal.returns-in_default-clause-room
 returns-in_default-clause-room c = λ room.
@@ -48,4 +49,5 @@ returns-clause-no_log c =
 pub returns-clause-ready : goal.returns-clause-ready
 returns-clause-ready c =
     let found = account_lent c.self.inside.logs.entries c.args.self.now c.args.log c.get_mut.result c.in-Some.account c.self.view_is c.get_mut.ensures.value c.in-Some.is in
-    subst (λ b. IsReady b c.args.log c.args.ledger) (sym (returns-clause-ok c)) (ready_made c.args.self.now c.args.log c.args.ledger c.in-Some.account.now found)
+    subst (λ b. IsReady b c.args.log c.args.ledger) (sym (returns-clause-ok c))
+    (ready_made c.args.self.now c.args.log c.args.ledger c.in-Some.account.now found)

@@ -16,8 +16,11 @@ returns c =
       | in-Some w ↦
           let found = account_lent c.self.inside.logs.entries c.args.self.now c.args.log c.get_mut.result w.in-Some.account c.self.view_is c.get_mut.ensures.value w.in-Some.is in
           ap (λ s. from_entries s.logs.entries) w.self-inside-is
-          ∙ changed_through c.self.inside.logs (c.get_mut.follows.lender w.unname.new.self) c.args.self.now c.args.log w.in-Some.account.now w.unname.new.self without_name c.self.view_is found (c.get_mut.follows.holds w.unname.new.self) w.unname.ensures
+          ∙ changed_through c.self.inside.logs (c.get_mut.follows.lender w.unname.new.self)
+          c.args.self.now c.args.log w.in-Some.account.now w.unname.new.self without_name c.self.view_is found
+          (c.get_mut.follows.holds w.unname.new.self) w.unname.ensures
       | in_default w ↦
           ap (λ s. from_entries s.logs.entries) w.self-inside-is ∙ ap (λ m. from_entries m.entries) c.get_mut.follows.holds-at-none ∙ c.self.view_is
-          ∙ unchanged c.args.self.now c.args.log without_name (none_lent c.self.inside.logs.entries c.args.self.now c.args.log c.get_mut.result c.self.view_is c.get_mut.ensures.value w.in_default.is)
+          ∙ unchanged c.args.self.now c.args.log without_name
+          (none_lent c.self.inside.logs.entries c.args.self.now c.args.log c.get_mut.result c.self.view_is c.get_mut.ensures.value w.in_default.is)
     ]

@@ -20,7 +20,8 @@ pub invariant_of-self : goal.invariant_of-self
 invariant_of-self c =
     let found = get-found c.self.inside.parts.entries c.args.ledger _ c.get_mut.ensures.value ∙ ap option_copied_mut c.unwrap-part.ensures in
     let part = c.unwrap-part.result.now in
-    let counted = written c.self.inside.parts (c.get_mut.follows.lender (part + c.args.size)) c.args.ledger (part + c.args.size) (c.get_mut.follows.holds (part + c.args.size)) (ap is_some found) in
+    let counted = written c.self.inside.parts (c.get_mut.follows.lender (part + c.args.size)) c.args.ledger (part + c.args.size)
+    (c.get_mut.follows.holds (part + c.args.size)) (ap is_some found) in
     rw counted (split_count c.self.invariant c.args.ledger part c.args.size found)
 
 pub returns : goal.returns
@@ -28,4 +29,5 @@ returns c =
     let found = get-found c.self.inside.parts.entries c.args.ledger _ c.get_mut.ensures.value ∙ ap option_copied_mut c.unwrap-part.ensures in
     let part = c.unwrap-part.result.now in
     viewed_count _ _ (from_entries c.self.inside.parts.entries) _ _ c.args.ledger part c.args.size c.self.view_is found
-    (written c.self.inside.parts (c.get_mut.follows.lender (part + c.args.size)) c.args.ledger (part + c.args.size) (c.get_mut.follows.holds (part + c.args.size)) (ap is_some found))
+    (written c.self.inside.parts (c.get_mut.follows.lender (part + c.args.size)) c.args.ledger (part + c.args.size)
+    (c.get_mut.follows.holds (part + c.args.size)) (ap is_some found))

@@ -16,7 +16,9 @@ invariant_of-self c =
     rw gone (split_forget c.self.invariant c.args.ledger c.in-Some.part part)
 
 pub returns-in-Some : goal.returns-in-Some
-returns-in-Some c = viewed_forget _ _ (from_entries c.self.inside.parts.entries) _ _ c.args.ledger c.self.view_is (removed c.self.inside.parts.entries c.remove.new.self.entries c.args.ledger c.remove.ensures.updates.0)
+returns-in-Some c = viewed_forget _ _ (from_entries c.self.inside.parts.entries) _ _ c.args.ledger c.self.view_is
+    (removed c.self.inside.parts.entries c.remove.new.self.entries c.args.ledger c.remove.ensures.updates.0)
 
 pub returns-in_default : goal.returns-in_default
-returns-in_default c = viewed_forget _ _ (from_entries c.self.inside.parts.entries) _ _ c.args.ledger c.self.view_is (removed c.self.inside.parts.entries c.remove.new.self.entries c.args.ledger c.remove.ensures.updates.0)
+returns-in_default c = viewed_forget _ _ (from_entries c.self.inside.parts.entries) _ _ c.args.ledger c.self.view_is
+    (removed c.self.inside.parts.entries c.remove.new.self.entries c.args.ledger c.remove.ensures.updates.0)

@@ -1,0 +1,26 @@
+use Rattle.std.proofs.Common.{ap, ◌∙◌, ◌+◌, ◌<◌, ◌^◌}
+use Rattle.std.specs.FinMap.{from_entries}
+use Rattle.bk_accounts.specs.Account.{with_dead_size}
+use Rattle.bk_accounts.proofs.Books.{account_lent, none_lent, changed_through, unchanged, of_account}
+use Rattle.bk_accounts.proofs.accounts.Accounts.count_dead.Goals as goal
+use Rattle.bk_accounts.proofs.accounts.Accounts.count_dead.Goals.{in-Some, in_default}
+
+pub count_dead-requires : goal.count_dead-requires
+count_dead-requires c =
+    let found = account_lent c.self.inside.logs.entries c.args.self.now c.args.log c.get_mut.result c.in-Some.account c.self.view_is c.get_mut.ensures.value c.in-Some.is in
+    of_account c.args.self.now c.args.log c.in-Some.account.now (λ a. a.total) (λ n. n + c.args.size < 2 ^ 32) found c.requires
+
+pub returns : goal.returns
+returns c =
+    elim c.match-get_mut.branch [
+      | in-Some w ↦
+          let found = account_lent c.self.inside.logs.entries c.args.self.now c.args.log c.get_mut.result w.in-Some.account c.self.view_is c.get_mut.ensures.value w.in-Some.is in
+          ap (λ s. from_entries s.logs.entries) w.self-inside-is
+          ∙ changed_through c.self.inside.logs (c.get_mut.follows.lender w.count_dead.new.self)
+          c.args.self.now c.args.log w.in-Some.account.now w.count_dead.new.self (with_dead_size c.args.size) c.self.view_is found
+          (c.get_mut.follows.holds w.count_dead.new.self) w.count_dead.ensures
+      | in_default w ↦
+          ap (λ s. from_entries s.logs.entries) w.self-inside-is ∙ ap (λ m. from_entries m.entries) c.get_mut.follows.holds-at-none ∙ c.self.view_is
+          ∙ unchanged c.args.self.now c.args.log (with_dead_size c.args.size)
+          (none_lent c.self.inside.logs.entries c.args.self.now c.args.log c.get_mut.result c.self.view_is c.get_mut.ensures.value w.in_default.is)
+    ]
