@@ -9,3 +9,7 @@ pub mod Spellings
 pub mod Orders
 pub mod LastRecords
 pub mod OnePiece
+pub mod Maps
+pub mod SortedPairs
+pub mod SortedMaps
+pub mod KeyedLaws

@@ -1,5 +1,6 @@
 pub mod Key
 pub mod Location
+pub mod Keyed
 pub mod Record
 pub mod Body
 pub mod Files

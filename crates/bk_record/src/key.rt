@@ -1,11 +1,18 @@
 //! The key of an entry: two ids, each from 0 to 2^63 - 1.
 
 ghost use Rattle.std.specs.Prelude.{◌≡◌, ◌<◌, ◌^◌};
+ghost use Rattle.std.proofs.Common.{rules};
+ghost use Rattle.std.specs.Cmp.{partial_order_from_own_ties};
+ghost use Rattle.std.specs.Cmp.Rules.{comparing};
+ghost use Rattle.std.specs.Ordering.{as_partial_cmp};
+ghost use Rattle.bk_record.specs.Key.{key_cmp};
 
+use std::cmp::Ordering;
 use std::marker::Model;
 
-/// The ledger and the entry id of an entry, each from 0 to 2^63 - 1. Keys are in order of ledger, then entry.
-#[derive(Clone, Copy, Debug, PartialEq, Eq, PartialOrd, Ord)]
+/// The ledger and the entry id of an entry, each from 0 to 2^63 - 1. Keys are in order of ledger, then entry (this
+/// project's rule).
+#[derive(Clone, Copy, Debug, PartialEq, Eq)]
 pub struct Key {
     ledger: u64,
     entry: u64,
@@ -52,5 +59,31 @@ impl Key {
         ensures bound { result < 2 ^ 63 }
     {
         self.entry
+    }
+}
+
+impl Ord for Key {
+    ghost cmp = { key_cmp };
+
+    ghost total = { Prim.search (comparing, rules) };
+
+    ghost matches_partial_cmp = { Prim.search (comparing, rules) };
+
+    ghost matches_eq = { Prim.search (comparing, rules) };
+
+    fn cmp(&self, other: &Key) -> Ordering {
+        self.ledger
+            .cmp(&other.ledger)
+            .then(self.entry.cmp(&other.entry))
+    }
+}
+
+impl PartialOrd for Key {
+    ghost partial_cmp = { as_partial_cmp key_cmp };
+
+    ghost laws = { partial_order_from_own_ties (Prim.search (comparing, rules)) (Prim.search (comparing, rules)) };
+
+    fn partial_cmp(&self, other: &Key) -> Option<Ordering> {
+        Some(self.cmp(other))
     }
 }

@@ -2,6 +2,7 @@
 #![tactic(auto)]
 
 mod fault;
+mod format;
 mod key;
 mod laws;
 mod location;
@@ -11,6 +12,10 @@ mod record;
 mod tests;
 
 pub use fault::RecordFault;
+pub use format::{
+    HEADER_LENGTH, IDS_LENGTH, LAST_LOG, LENGTH_FIELD, MAX_ADDED, MAX_LOG_LENGTH, MAX_PAYLOAD,
+    RECORD_HEAD,
+};
 pub use key::Key;
 pub use laws::{last_record_wins, one_piece, one_spelling};
 pub use location::Location;

@@ -2,6 +2,7 @@
 
 ghost use Rattle.std.specs.Prelude.{◌≡◌, ◌<◌, ◌≤◌, ◌^◌};
 
+use crate::{HEADER_LENGTH, LENGTH_FIELD};
 use std::marker::Model;
 
 /// The place of an entry's payload: the id of its log, from 0 to 2^31 - 1, and the position of the payload's first
@@ -31,7 +32,7 @@ impl Location {
     ghost use Rattle.bk_record.specs.Location.{packed};
 
     /// The least position that a payload can have: a header of 1024 bytes and a length field stand before it.
-    pub const FIRST: u32 = 1028;
+    pub const FIRST: u32 = (HEADER_LENGTH + LENGTH_FIELD) as u32;
 
     /// The location of a payload at position `at` of log `log`. `None` where the log's id is past 2^31 - 1 or the
     /// position is below 1028, where no payload can stand.

@@ -4,10 +4,8 @@ ghost use Rattle.std.specs.Prelude.{◌≤◌, length};
 ghost use Rattle.bk_record.specs.Piece.{IsPieceAt};
 
 use crate::record::key_of;
+use crate::{IDS_LENGTH, LENGTH_FIELD, MAX_PAYLOAD};
 use byteorder::{BigEndian, ByteOrder};
-
-/// The least length of a payload, that of its two ids.
-const LEAST: u32 = 16;
 
 /// What stands at a position of an entry log's bytes. Positions are counted in the bytes that were read.
 #[derive(Clone, Copy, Debug, PartialEq, Eq)]
@@ -36,25 +34,26 @@ pub fn read_record(bytes: &[u8], pos: usize) -> Piece
     if left.is_empty() {
         return Piece::End;
     }
-    if left.len() < 4 {
+    if left.len() < LENGTH_FIELD {
         return Piece::Torn { rest: left.len() };
     }
     let field = BigEndian::read_u32(left);
-    if field < LEAST || field > i32::MAX as u32 {
+    let size = field as usize;
+    if size < IDS_LENGTH || size > MAX_PAYLOAD {
         return Piece::Bad {
             at: pos,
             length: field.cast_signed(),
         };
     }
-    let size = field as usize;
-    if left.len() - 4 < size {
+    if left.len() - LENGTH_FIELD < size {
         return Piece::Torn { rest: left.len() };
     }
-    match key_of(&left[4..4 + size]) {
+    let from = pos + LENGTH_FIELD;
+    match key_of(&left[LENGTH_FIELD..LENGTH_FIELD + size]) {
         Ok(_) => Piece::Whole {
-            from: pos + 4,
-            to: pos + 4 + size,
+            from,
+            to: from + size,
         },
-        Err(_) => Piece::Foreign { to: pos + 4 + size },
+        Err(_) => Piece::Foreign { to: from + size },
     }
 }

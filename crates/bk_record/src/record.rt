@@ -4,11 +4,8 @@ ghost use Rattle.std.specs.Prelude.{◌≡◌, ◌++◌, OnOk, OnErr, IsOkUnless
 ghost use Rattle.bk_record.specs.Record.{record_of, IsPayload, read_key, read_added};
 ghost use Rattle.bk_record.specs.declared.fault.RecordFault.TheVariants.{Memory};
 
-use crate::{Key, RecordFault};
+use crate::{IDS_LENGTH, Key, LENGTH_FIELD, MAX_ADDED, RecordFault};
 use byteorder::{BigEndian, ByteOrder};
-
-/// The most bytes that the payload of an add may have (this project's rule).
-const MAX_ADDED: usize = 1_048_576;
 
 /// The key of a payload: the ledger id in its first eight bytes, the entry id in the next eight, both big-endian.
 ///
@@ -18,7 +15,7 @@ const MAX_ADDED: usize = 1_048_576;
 pub fn key_of(payload: &[u8]) -> Result<Key, RecordFault>
     ensures { result ≡ read_key payload.now }
 {
-    if payload.len() < 16 {
+    if payload.len() < IDS_LENGTH {
         return Err(RecordFault::Short(payload.len() as u64));
     }
     let ledger = BigEndian::read_u64(payload);
@@ -50,10 +47,10 @@ pub fn write_record(payload: &[u8], out: &mut Vec<u8>) -> Result<(), RecordFault
     ensures only { IsOkUnless result Memory }
     ensures err { OnErr result (out.new.items ≡ out.old.items) }
 {
-    if out.reserve(4 + payload.len()).is_err() {
+    if out.reserve(LENGTH_FIELD + payload.len()).is_err() {
         return Err(RecordFault::Memory);
     }
-    let mut length = [0; 4];
+    let mut length = [0; LENGTH_FIELD];
     BigEndian::write_u32(&mut length, payload.len() as u32);
     out.extend_from_slice(&length).unwrap();
     out.extend_from_slice(payload).unwrap();
