@@ -13,3 +13,5 @@ pub mod Maps
 pub mod SortedPairs
 pub mod SortedMaps
 pub mod KeyedLaws
+pub mod Weights
+pub mod KeyedCounts

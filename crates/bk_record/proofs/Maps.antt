@@ -1,5 +1,5 @@
--- What an insertion into a finite map answers, key by key.
-use Rattle.std.proofs.Common.{◌≡◌, ◌≢◌, ◌⊎◌, inl, inr, Some, Bool, true, false, cond, refl, sym, ap, ◌∙◌}
+-- Finite maps by any key: what they answer once a key was put in or taken out.
+use Rattle.std.proofs.Common.{◌≡◌, ◌≢◌, ◌⊎◌, inl, inr, Some, None, Bool, true, false, cond, refl, sym, ap, ◌∙◌}
 use Rattle.std.specs.declared.cmp.Ordering.{Ordering}
 use Rattle.std.specs.Cmp.{IsTotalOrder}
 use Rattle.std.specs.Ordering.{eq_by_cmp, is_eq}
@@ -33,3 +33,42 @@ module _ {K X : Type 0} {R : K → K → Ordering} (total : IsTotalOrder R) (sam
     | inl e ↦ inl (e, let here = ap (λ (x : K). finite.get (finite.insert m k v) x) e ∙ get-insert_here m k v in cc)
     | inr other ↦ inr (other.1, sym (get-insert_else m k v q other.1) ∙ is)
   ]
+
+  -- a key that is taken out is not there
+  pub get-remove_here : (m : finite.FinMap R X) (k : K) → finite.get (finite.remove m k) k ≡ None
+  get-remove_here m k = finite.get-remove total m k k ∙ ap (λ (b : Bool). cond b None (finite.get m k)) (ap is_eq (tied_itself total k))
+
+  -- all others are
+  pub get-remove_else : (m : finite.FinMap R X) (k q : K) → q ≢ k → finite.get (finite.remove m k) q ≡ finite.get m q
+  get-remove_else m k q apart = elim (key_cases total same q k) [
+    | inl e ↦ absurd (apart e)
+    | inr other ↦ finite.get-remove total m k q ∙ ap (λ (b : Bool). cond b None (finite.get m q)) other.0
+  ]
+
+  -- to take out a key that is not there changes nothing
+  pub remove-none : (m : finite.FinMap R X) (k : K) → finite.get m k ≡ None → finite.remove m k ≡ m
+  remove-none m k none = finite.same_map total same (finite.remove m k) m (λ q. elim (key_cases total same q k) [
+    | inl e ↦ ap (finite.get (finite.remove m k)) e ∙ get-remove_here m k ∙ sym (ap (finite.get m) e ∙ none)
+    | inr other ↦ get-remove_else m k q other.1
+  ])
+
+  -- to put back what was taken out gives the map again
+  pub insert-remove : (m : finite.FinMap R X) (k : K) (v : X) → finite.get m k ≡ Some v → finite.insert (finite.remove m k) k v ≡ m
+  insert-remove m k v there = finite.same_map total same (finite.insert (finite.remove m k) k v) m (λ q. elim (key_cases total same q k) [
+    | inl e ↦ ap (finite.get (finite.insert (finite.remove m k) k v)) e ∙ get-insert_here (finite.remove m k) k v ∙ sym (ap (finite.get m) e ∙ there)
+    | inr other ↦ get-insert_else (finite.remove m k) k v q other.1 ∙ get-remove_else m k q other.1
+  ])
+
+  -- a key that is put in twice, and one that is put in as it was
+  pub insert-insert : (m : finite.FinMap R X) (k : K) (v w : X) → finite.insert (finite.insert m k v) k w ≡ finite.insert m k w
+  insert-insert m k v w = finite.same_map total same (finite.insert (finite.insert m k v) k w) (finite.insert m k w) (λ q. elim (key_cases total same q k) [
+    | inl e ↦ ap (finite.get (finite.insert (finite.insert m k v) k w)) e ∙ get-insert_here (finite.insert m k v) k w
+        ∙ sym (ap (finite.get (finite.insert m k w)) e ∙ get-insert_here m k w)
+    | inr other ↦ get-insert_else (finite.insert m k v) k w q other.1 ∙ get-insert_else m k v q other.1 ∙ sym (get-insert_else m k w q other.1)
+  ])
+
+  pub insert-same : (m : finite.FinMap R X) (k : K) (v : X) → finite.get m k ≡ Some v → finite.insert m k v ≡ m
+  insert-same m k v there = finite.same_map total same (finite.insert m k v) m (λ q. elim (key_cases total same q k) [
+    | inl e ↦ ap (finite.get (finite.insert m k v)) e ∙ get-insert_here m k v ∙ sym (ap (finite.get m) e ∙ there)
+    | inr other ↦ get-insert_else m k v q other.1
+  ])
