@@ -1,5 +1,5 @@
--- The scan of a set of files gives a key the payload of its last record.
-use Rattle.std.proofs.Common.{◌≡◌, ◌≢◌, ◌⊎◌, inl, inr, ℕ, cond, Option, Some, None, List, [], ◌∷◌, ◌++◌, Bool, true, false, refl, sym, ap, ◌∙◌, subst, reverse, append_assoc}
+-- The scan of a set of files gives a key the payload of its last record, in the order in which they stand.
+use Rattle.std.proofs.Common.{◌≡◌, ◌≢◌, ◌⊎◌, inl, inr, ℕ, cond, Option, Some, None, List, [], ◌∷◌, ◌++◌, Bool, true, false, refl, sym, ap, ◌∙◌, reverse, append_assoc}
 use Rattle.std.specs.List.{filter_map, cons_option}
 use Rattle.std.specs.Ordering.{eq_by_cmp, is_eq}
 use Rattle.std.specs.FinMap as finite
@@ -13,21 +13,23 @@ use Rattle.bk_record.specs.Location.{Place}
 use Rattle.bk_record.specs.Record.{key_of}
 use Rattle.bk_record.specs.Files.{Files, all_records, In}
 use Rattle.bk_record.specs.Scan.{scan_of, keyed}
-use Rattle.bk_record.specs.Latest.{NoneOf, IsLast, ScanTakesLast}
 use Rattle.bk_record.proofs.Keys.{key_cmp_total, key_cmp_antisymmetric}
 use Rattle.bk_record.proofs.Entries.{In-reverse, filter_map-In}
-use Rattle.bk_record.proofs.Orders.{all_records_in_order}
-use Rattle.bk_record.proofs.Scans.{scan-found, scan-some, scan-none, keyed-payload, payload-keyed, record-all, all-record}
+use Rattle.bk_record.proofs.Scans.{scan-found, scan-some, keyed-payload, payload-keyed, record-all}
+
+-- no record of the list has the key
+abbrev pub NoneOf : EntryKey → List (Place × List ℕ) → Type 0
+NoneOf key records = (place : Place) (payload : List ℕ) → In (place, payload) records → key_of payload ≢ Some key
 
 -- a key's last record in a list, split off
-record LastIn (key : EntryKey) (records : List (Place × List ℕ)) : Type 0 where
-  place : Place
-  payload : List ℕ
-  before : List (Place × List ℕ)
-  behind : List (Place × List ℕ)
-  records_are : records ≡ before ++ (place, payload) ∷ behind
-  keyed : key_of payload ≡ Some key
-  last : NoneOf key behind
+pub record LastIn (key : EntryKey) (records : List (Place × List ℕ)) : Type 0 where
+  pub place : Place
+  pub payload : List ℕ
+  pub before : List (Place × List ℕ)
+  pub behind : List (Place × List ℕ)
+  pub records_are : records ≡ before ++ (place, payload) ∷ behind
+  pub keyed : key_of payload ≡ Some key
+  pub last : NoneOf key behind
 
 same_key : (o : Option EntryKey) (key : EntryKey) → (o ≡ Some key) ⊎ (o ≢ Some key)
 same_key None key = inr (λ e. cc)
@@ -93,41 +95,14 @@ find-last key before behind place payload has none =
     ∙ find-append key (reverse (keyed_of behind)) (here ++ reverse (keyed_of before)) (none_keyed key behind none)
     ∙ ap (λ (b : Bool). cond b (Some payload) (find key_cmp key (reverse (keyed_of before)))) (ap is_eq (tied_itself key_cmp_total key))
 
-last-scan : (files : Files) (key : EntryKey) (payload : List ℕ) → IsLast files key payload → finite.get (scan_of files) key ≡ Some payload
-last-scan files key payload l =
+last-scan : (files : Files) (key : EntryKey) (l : LastIn key (all_records files)) → finite.get (scan_of files) key ≡ Some l.payload
+last-scan files key l =
     scan-found files key ∙ ap (λ (rs : List (Place × List ℕ)). find key_cmp key (reverse (keyed_of rs))) l.records_are
-    ∙ find-last key l.before l.behind l.place payload l.keyed l.last
+    ∙ find-last key l.before l.behind l.place l.payload l.keyed l.last
 
-scan-last : (files : Files) (key : EntryKey) (payload : List ℕ) → finite.get (scan_of files) key ≡ Some payload → IsLast files key payload
+pub scan-last : (files : Files) (key : EntryKey) (payload : List ℕ) → finite.get (scan_of files) key ≡ Some payload
+    → (l : LastIn key (all_records files)) × (l.payload ≡ payload)
 scan-last files key payload is = elim (last_or_none key (all_records files)) [
-  | inl l ↦
-      let split : IsLast files key l.payload = record {
-        place = l.place;
-        before = l.before;
-        behind = l.behind;
-        records_are = l.records_are;
-        keyed = l.keyed;
-        last = l.last;
-      } in
-      let found = last-scan files key l.payload split in
-      let same : l.payload ≡ payload = cc in
-      subst (IsLast files key) same split
+  | inl l ↦ let found = last-scan files key l in let same : l.payload ≡ payload = cc in (l, same)
   | inr none ↦ absurd (let from = scan-some files key payload is in none from.0 payload (record-all files from.0 payload from.1.0) from.1.1)
 ]
-
-none-scan : (files : Files) (key : EntryKey) → finite.get (scan_of files) key ≡ None → NoneOf key (all_records files)
-none-scan files key is place payload there has = scan-none files key place payload is (all-record files place payload there) has
-
-scan-none_of : (files : Files) (key : EntryKey) → NoneOf key (all_records files) → finite.get (scan_of files) key ≡ None
-scan-none_of files key none =
-    elim (finite.get (scan_of files) key) as (λ o. finite.get (scan_of files) key ≡ o → o ≡ None) [
-      | None ↦ λ is. refl
-      | Some payload ↦ λ is. absurd (let from = scan-some files key payload is in none from.0 payload (record-all files from.0 payload from.1.0) from.1.1)
-    ] refl
-
-pub scan_takes_last : (files : Files) → ScanTakesLast files
-scan_takes_last files = record {
-  in_order = all_records_in_order files;
-  found = λ key payload. (scan-last files key payload, last-scan files key payload);
-  missing = λ key. (none-scan files key, scan-none_of files key);
-}

@@ -15,3 +15,8 @@ pub mod SortedMaps
 pub mod KeyedLaws
 pub mod Weights
 pub mod KeyedCounts
+pub mod Places
+pub mod Longer
+pub mod StandingRecords
+pub mod StandingEntries
+pub mod LastEntries

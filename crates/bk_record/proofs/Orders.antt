@@ -9,11 +9,11 @@ use Rattle.std.specs.FinMap as finite
 use Rattle.std.specs.FinMap.{nat_cmp-IsAntisymmetric}
 use Rattle.std.specs.FinMap.Entries.{is_sorted}
 use Rattle.std.proofs.lemmas.Cmp.{nat_cmp_total}
-use Rattle.bk_record.specs.Location.{Place}
+use Rattle.bk_record.specs.Location.{Place, Precedes}
 use Rattle.bk_record.specs.Record.{length_field}
 use Rattle.bk_record.specs.Body.{starts_with_record, pieces}
 use Rattle.bk_record.specs.Files.{Files, header_length, records_of, placed, all_records, In}
-use Rattle.bk_record.specs.Latest.{Precedes, AreInOrder}
+use Rattle.bk_record.specs.Latest.{AreInOrder}
 use Rattle.bk_record.proofs.Growth.{In-append_cases}
 use Rattle.bk_record.proofs.Entries.{and_left, and_right, below-In, flat_map-In, map-In}
 

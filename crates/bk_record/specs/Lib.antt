@@ -7,4 +7,6 @@ pub mod Files
 pub mod Scan
 pub mod Piece
 pub mod Spelling
+pub mod Entry
 pub mod Latest
+pub mod Longer
