@@ -6,6 +6,7 @@ ghost use Rattle.bk_lease.specs.Values.{new_ticket, with_given};
 
 mod callers;
 mod rows;
+mod size;
 mod threads;
 
 use crate::{Keeper, Lease, PinFault};

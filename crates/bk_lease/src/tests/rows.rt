@@ -1,7 +1,9 @@
 //! Worked examples on one thread.
+ghost use Rattle.std.specs.Prelude.{◌^◌, ◌<◌, ◌≤◌};
 
 use super::{Bytes, lease};
 use crate::{Lease, LeaseTable, Leased, PinFault, Slot};
+use std::alloc::{AllocError, Global};
 use std::sync::Arc;
 use std::test::Fail;
 
@@ -28,39 +30,47 @@ fn closes_once_both_leases_are_given_back(rt: HostRuntime) -> Result<(), Fail> {
 }
 
 #[test]
-fn freed_slot_takes_another_log(rt: HostRuntime) -> Result<(), Fail> {
-    let view = Arc::new(rt.alloc(), Bytes::new(rt.alloc()))?;
-    let mut keeper = LeaseTable::new(rt.alloc(), 2, 1)?;
-    keeper.open(1, 7);
-    let Ok(closed) = keeper.close(1) else {
-        return Err(Fail::new("leased"));
-    };
-    assert!(rt; closed.slot == 1 && closed.log == 7);
-    keeper.free(closed);
-    assert!(rt; matches!(keeper.slots(), [Slot::Free, Slot::Free]));
-    keeper.open(1, 2_147_483_647);
-    let lease = lease(&mut keeper, 1, &view)?;
-    assert!(rt; lease.slot() == 1 && lease.log() == 2_147_483_647);
-    assert!(rt; matches!(keeper.close(1), Err(Leased { count: 1 })));
-    drop(lease);
-    assert!(rt; keeper.close(1).is_ok());
+fn lease_outlives_its_keeper(rt: HostRuntime) -> Result<(), Fail> {
+    let view = Arc::new(rt.alloc(), vec![in rt.alloc(); 104; 1]?)?;
+    let mut keeper = LeaseTable::new(rt.alloc(), 1, 1)?;
+    keeper.open(0, 5);
+    let lease = lease(&mut keeper, 0, &view)?;
+    drop(keeper);
+    drop(view);
+    assert!(rt; lease.slot() == 0 && lease.log() == 5);
+    assert_eq!(rt; first_byte(lease), Some(104));
     Ok(())
 }
 
-#[test]
-fn closed_slot_opens_again(rt: HostRuntime) -> Result<(), Fail> {
-    let mut keeper = LeaseTable::new(rt.alloc(), 1, 1)?;
-    keeper.open(0, 0);
-    if keeper.close(0).is_err() {
-        return Err(Fail::new("leased"));
+// A slot of a new table is opened, closed, opened again, closed and freed: whether all of it went so.
+fn goes_round(alloc: Global, slots: usize, log: u32) -> Result<bool, AllocError>
+    requires slots { (0 < slots) × (slots ≤ 65536) }
+    requires log { log < 2 ^ 31 }
+{
+    let mut keeper = LeaseTable::new(alloc, slots, 1)?;
+    let Some(slot) = keeper.free_slot() else {
+        return Ok(false);
+    };
+    keeper.open(slot, log);
+    if keeper.close(slot).is_err() || keeper.slots()[slot] != Slot::Closed(log) {
+        return Ok(false);
     }
-    assert!(rt; matches!(keeper.slots(), [Slot::Closed(0)]));
-    keeper.open(0, 0);
-    let mut seat = keeper.pin(0)?;
-    assert!(rt; matches!(keeper.close(0), Err(Leased { count: 1 })));
-    seat.spend();
-    seat.end();
-    assert!(rt; keeper.close(0).is_ok());
+    keeper.open(slot, log);
+    let Ok(closed) = keeper.close(slot) else {
+        return Ok(false);
+    };
+    let is_it = closed.slot == slot && closed.log == log;
+    keeper.free(closed);
+    Ok(is_it && keeper.slots()[slot] == Slot::Free)
+}
+
+#[test]
+fn slot_goes_round(rt: HostRuntime) -> Result<(), Fail> {
+    for slots in [1, 2, 300, 65_536] {
+        for log in [0, 1, 5, 2_147_483_647] {
+            assert!(rt; matches!(goes_round(rt.alloc(), slots, log), Ok(true)));
+        }
+    }
     Ok(())
 }
 
@@ -72,19 +82,5 @@ fn answers_tell_themselves(rt: HostRuntime) -> Result<(), Fail> {
     assert_eq!(rt; too_many.as_str(), "too many leases");
     let leased = format!(in rt.alloc(); "{}", Leased { count: 2 })?;
     assert_eq!(rt; leased.as_str(), "leased 2");
-    Ok(())
-}
-
-#[test]
-fn lease_outlives_its_keeper(rt: HostRuntime) -> Result<(), Fail> {
-    let mut bytes = Bytes::new(rt.alloc());
-    bytes.push(104)?;
-    let view = Arc::new(rt.alloc(), bytes)?;
-    let mut keeper = LeaseTable::new(rt.alloc(), 1, 1)?;
-    keeper.open(0, 5);
-    let lease = lease(&mut keeper, 0, &view)?;
-    drop(keeper);
-    drop(view);
-    assert_eq!(rt; first_byte(lease), Some(104));
     Ok(())
 }
