@@ -1,5 +1,6 @@
 -- The rule after each step of the keeper, from the rule before it.
-use Rattle.std.proofs.Common.{◌≡◌, ◌≢◌, ℕ, ◌+◌, ◌^◌, ◌<◌, ◌≤◌, List, [], ◌∷◌, ◌++◌, length, get_or, set, length-set, length-append, sym, refl, ap, ◌∙◌, subst, ⊎_elim, arith, get_or-set_same, get_or-set_other, Option, Some, None}
+use Rattle.std.proofs.Common.{◌≡◌, ◌≢◌, ℕ, ◌+◌, ◌^◌, ◌<◌, ◌≤◌, List, [], ◌∷◌, ◌++◌, length, get_or, set, length-set, length-append, sym, refl, ap}
+use Rattle.std.proofs.Common.{◌∙◌, subst, ⊎_elim, arith, get_or-set_same, get_or-set_other, Option, Some, None}
 use mathlib.Core.Logic.{dite}
 use mathlib.Core.Option.{some}
 use native.Mathlib.Decide.{ℕ_discrete}
@@ -13,9 +14,10 @@ use Rattle.bk_lease.specs.declared.rule.Role.{Role}
 use Rattle.bk_lease.specs.declared.rule.Role.TheVariants.{Keeper, Held}
 use Rattle.bk_lease.specs.Leases.{state_at, hold_of, held_on, pending_on, open_word, closed_word, MayOpen, WordIs, IsWithinMet, SlotRuled, RuledBy}
 use Rattle.bk_lease.specs.Steps.{with_slot, with_pending, with_granted, pin_on}
+use Rattle.bk_lease.proofs.Slots.{inside_slots}
 use Rattle.bk_lease.proofs.Views.{some_inside, hold_of-here, hold_of-else, pending_on-here, pending_on-else, held_on-set, held_on-snoc}
 use Rattle.bk_lease.proofs.Words.{one_more, one_less, counted_none, WordIs-one_less}
-use Rattle.bk_lease.proofs.Ruled.{inside_slots, each_after, SlotRuled-equal, SlotRuled-by}
+use Rattle.bk_lease.proofs.Ruled.{each_after, SlotRuled-equal, SlotRuled-by}
 
 -- the views, where the keeper knows this
 abbrev pub keeping : Register → List Role → List Role
@@ -64,7 +66,8 @@ module _ (p : Register) (words : List ℕ) (views : List Role) (kept : RuledBy p
         within = ok.within;
         met = ok.met;
       }
-      (λ slot other. let same = get_or-set_other p.slots i slot state Free other in let old = kept.each_slot slot in SlotRuled-by p q slot _ _ (sym same) refl refl old.met old)
+      (λ slot other. let same = get_or-set_other p.slots i slot state Free other in let old = kept.each_slot slot in
+      SlotRuled-by p q slot _ _ (sym same) refl refl old.met old)
 
   pub RuledBy-opened : (log : ℕ) → i < length p.slots → log < 2 ^ 31 → MayOpen (state_at p.slots i)
       → let q : Register = with_slot p i (Open log) in RuledBy q (set words i (open_word log 0)) (keeping q views)
@@ -87,7 +90,8 @@ module _ (p : Register) (words : List ℕ) (views : List Role) (kept : RuledBy p
 
   pub RuledBy-pinned : (log : ℕ) → state_at p.slots i ≡ Open log → p.pending ≡ None
       → let q : Register = with_pending p (Some (pin_on i (held_on i views))) in RuledBy q (set words i (one_more (get_or words i 0))) (keeping q views)
-  RuledBy-pinned log is idle = let held : ℕ = held_on i views in let q : Register = with_pending p (Some (pin_on i held)) in let word : ℕ = one_more (get_or words i 0) in
+  RuledBy-pinned log is idle = let held : ℕ = held_on i views in let q : Register = with_pending p (Some (pin_on i held)) in
+      let word : ℕ = one_more (get_or words i 0) in
       let fits : log < 2 ^ 31 = (its_word (Open log) is).0 in let found = word-open log is idle in
       let within : held ≤ p.most = (kept.each_slot i).within in let bounded = kept.bounded in
       let one : pending_on i q.pending ≡ 1 = pending_on-here i held in

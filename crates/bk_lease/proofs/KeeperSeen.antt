@@ -1,5 +1,6 @@
 -- From what a keeper keeps of its fields, and what a clause says of it, to what its steps ask.
-use Rattle.std.proofs.Common.{◌≡◌, ◌≢◌, ℕ, ◌+◌, ◌%◌, ◌^◌, ◌<◌, ◌≤◌, List, [], length, get_or, set, length-set, sym, refl, ap, ◌∙◌, subst, arith, get_or-set_same, get_or-set_other}
+use Rattle.std.proofs.Common.{◌≡◌, ◌≢◌, ℕ, ◌+◌, ◌%◌, ◌^◌, ◌<◌, ◌≤◌, List, [], length, get_or, set, length-set, sym, refl, ap, ◌∙◌, subst, arith}
+use Rattle.std.proofs.Common.{get_or-set_same, get_or-set_other}
 use Rattle.std.specs.Arc.{arc_value}
 use mathlib.Core.Logic.{dite}
 use native.Mathlib.Decide.{ℕ_discrete}
@@ -14,7 +15,7 @@ use Rattle.bk_lease.specs.declared.rule.Role.TheVariants.{Keeper}
 use Rattle.bk_lease.specs.Leases.{state_at, log_of, log_at, MayOpen, IsOpen}
 use Rattle.bk_lease.specs.Steps.{Sitter, with_slot, Meets, Counts}
 use Rattle.bk_lease.specs.Values.{SlotTable, with_state, with_given, resting, given_in, MayMeet, IsAtRest}
-use Rattle.bk_lease.proofs.Ruled.{inside_slots}
+use Rattle.bk_lease.proofs.Slots.{inside_slots}
 
 -- what a keeper knows between two calls
 abbrev pub its_register : Inside → Register
@@ -118,7 +119,8 @@ module _ {k : Inside} {keeper : SlotTable} (d : SeenAs k keeper) where
 
   pub seen_given : (seat : Seat (Unit {0}) Role) → seat.table_id ≡ k.seat.table_id
       → seat.me ≡ (Keeper (resting k.slots.items k.most (given_in k.seat.me.0 + 1)), k.seat.me.1) → seen_at k seat k.slots.items ≡ with_given keeper
-  seen_given seat table me = seen_after seat k.slots.items (given_in k.seat.me.0 + 1) me keeper.slots (keeper.given + 1) table slots_seen (ap (λ (n : ℕ). n + 1) given_seen)
+  seen_given seat table me = seen_after seat k.slots.items (given_in k.seat.me.0 + 1) me keeper.slots (keeper.given + 1) table slots_seen
+      (ap (λ (n : ℕ). n + 1) given_seen)
 
   -- a seat that goes on with one slot in another state
   pub at_rest_with : (seat : Seat (Unit {0}) Role) (slot : ℕ) (state : Slot) → slot < length k.slots.items → log_of state < 2 ^ 31

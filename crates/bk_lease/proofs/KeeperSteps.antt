@@ -1,5 +1,6 @@
 -- Each step of the keeper keeps the rule, and tells what it is to tell.
-use Rattle.std.proofs.Common.{◌≡◌, ◌≢◌, ℕ, ◌^◌, ◌<◌, ◌≤◌, eqb, List, [], ◌∷◌, ◌++◌, length, get_or, set, replicate, sym, refl, ap, ◌∙◌, subst, arith, lt_of_not-le, eq-eqb, ne_eqb, Some, None}
+use Rattle.std.proofs.Common.{◌≡◌, ◌≢◌, ℕ, ◌^◌, ◌<◌, ◌≤◌, eqb, List, [], ◌∷◌, ◌++◌, length, get_or, set, replicate, sym, refl, ap, ◌∙◌, subst, arith}
+use Rattle.std.proofs.Common.{lt_of_not-le, eq-eqb, ne_eqb, Some, None}
 use Rattle.std.proofs.lemmas.List.{set-get_or, length-replicate, get_or-replicate}
 use Rattle.std.proofs.Math.ListN.{get_or-eq_default}
 use mathlib.Core.Logic.{dite}
@@ -16,7 +17,8 @@ use Rattle.bk_lease.specs.declared.rule.Role.{Role}
 use Rattle.bk_lease.specs.declared.rule.Role.TheVariants.{Keeper, Held}
 use Rattle.bk_lease.specs.declared.rule.Room.{Room}
 use Rattle.bk_lease.specs.Leases.{state_at, held_on, open_word, closed_word, MayOpen, WordIs, RuledBy, IsRuled, first_register, first_role}
-use Rattle.bk_lease.specs.Steps.{Sitter, with_slot, with_pending, with_granted, pin_on, GoesOn, Meets, Counts, opened, pinned, undone, role_by, settled, granted, closed, freed}
+use Rattle.bk_lease.specs.Steps.{Sitter, with_slot, with_pending, with_granted, pin_on, GoesOn, Meets, Counts, opened, pinned, undone, role_by}
+use Rattle.bk_lease.specs.Steps.{settled, granted, closed, freed}
 use Rattle.bk_lease.proofs.Views.{some_inside}
 use Rattle.bk_lease.proofs.Words.{one_more, one_less}
 use Rattle.bk_lease.proofs.Ruled.{Rule, the_keeper}
@@ -77,18 +79,20 @@ module _ (slots id i : ℕ) (me : Sitter) (p : Register) (knows : me.0 ≡ Keepe
     tt,
     ruled_after a i q new _ stored (RuledBy-opened p s.words s.views a.kept i log inside fits may),
     λ other told. let one_log : log ≡ other = omega arith in
-        subst (λ (l : ℕ). GoesOn me (Keeper q, me.1) (λ register. with_slot register i (Open l))) one_log (goes_on a i (λ register. with_slot register i (Open log))),
+        subst (λ (l : ℕ). GoesOn me (Keeper q, me.1) (λ register. with_slot register i (Open l))) one_log
+        (goes_on a i (λ register. with_slot register i (Open log))),
   )
 
   pub pins : (log : ℕ) → state_at p.slots i ≡ Open log → p.pending ≡ None → Allows Rule slots id me i one_more (pinned (step slots i 1 0 none) me)
   pins log is idle s ruled _ at _ = let a = at_keeper id me p s knows ruled at in let held : ℕ = held_on i s.views in
-      let q : Register → Register = λ r. with_pending r (Some (pin_on i held)) in (
-        Keeper (q p),
+      let q : ℕ → Register → Register = λ met r. with_pending r (Some (pin_on i met)) in
+      let tells : Register → ℕ → Type 0 = λ r l.
+      (met : ℕ) × Counts r i l (get_or s.words i 0) met × ((Keeper (q held p), me.1) ≡ (Keeper (q met r), me.1)) in (
+        Keeper (q held p),
         keeps,
         tt,
-        ruled_after a i (q p) _ _ refl (RuledBy-pinned p s.words s.views a.kept i log is idle),
-        on_open a i (λ r l. (met : ℕ) × Counts r i l (get_or s.words i 0) met × ((Keeper (q p), me.1) ≡ (Keeper (with_pending r (Some (pin_on i met))), me.1))) log is
-            (held, counts_held a i log is idle, refl),
+        ruled_after a i (q held p) _ _ refl (RuledBy-pinned p s.words s.views a.kept i log is idle),
+        on_open a i tells log is (held, counts_held a i log is idle, refl),
       )
 
   pub undoes : (met : ℕ) → i < length p.slots → p.pending ≡ Some (pin_on i met) → Allows Rule slots id me i one_less (undone (step slots i 1 0 none) me)

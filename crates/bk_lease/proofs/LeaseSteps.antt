@@ -10,12 +10,14 @@ use Rattle.bk_lease.specs.declared.rule.Role.{Role}
 use Rattle.bk_lease.specs.declared.rule.Role.TheVariants.{Keeper, Held, Spent}
 use Rattle.bk_lease.specs.Leases.{state_at, pending_on, WordIs, held_on, RuledBy, SlotRuled}
 use Rattle.bk_lease.specs.Steps.{Sitter, released, never}
+use Rattle.bk_lease.proofs.Slots.{inside_slots}
 use Rattle.bk_lease.proofs.Views.{hold_of-here, hold_of-else, held_on-set}
 use Rattle.bk_lease.proofs.Words.{one_less, counted_open}
-use Rattle.bk_lease.proofs.Ruled.{Rule, the_keeper, inside_slots, each_after, SlotRuled-equal, SlotRuled-one_less}
+use Rattle.bk_lease.proofs.Ruled.{Rule, the_keeper, each_after, SlotRuled-equal, SlotRuled-one_less}
 
 -- The seat id holds the slot i.
-module _ (register : Register) (words : List ℕ) (views : List Role) (kept : RuledBy register words views) (id i : ℕ) (at : get_elem? views id ≡ some (Held i)) where
+module _ (register : Register) (words : List ℕ) (views : List Role) (kept : RuledBy register words views) (id i : ℕ)
+    (at : get_elem? views id ≡ some (Held i)) where
   -- the views once it is spent
   abbrev after : List Role
   after = set views id Spent
@@ -37,7 +39,8 @@ module _ (register : Register) (words : List ℕ) (views : List Role) (kept : Ru
       (subst (λ (n : ℕ). WordIs (state_at register.slots i) n (get_or words i 0)) swapped its_slot.word_is)
 
   has_word : i < length words
-  has_word = let inside : i < length register.slots = inside_slots register.slots i (Open the_open.0) the_open.1 (λ e. cc) in let sized = kept.sized in omega arith
+  has_word = let inside : i < length register.slots = inside_slots register.slots i (Open the_open.0) the_open.1 (λ e. cc) in
+      let sized = kept.sized in omega arith
 
   -- it is not the keeper's
   not_first : 0 ≢ id
@@ -47,7 +50,8 @@ module _ (register : Register) (words : List ℕ) (views : List Role) (kept : Ru
   RuledBy-released : get_or words i 0 < 2 ^ 64 → RuledBy register (set words i (one_less (get_or words i 0))) after
   RuledBy-released small = record {
     keeper = set_else views id 0 Spent not_first ∙ kept.keeper;
-    alone = λ seat other e. ⊎_elim (λ t. let same : Spent ≡ Keeper other = t.1 in absurd cc) (λ t. kept.alone seat other t.1) (at_set views id seat Spent (Keeper other) e);
+    alone = λ seat other e. ⊎_elim (λ t. let same : Spent ≡ Keeper other = t.1 in absurd cc)
+        (λ t. kept.alone seat other t.1) (at_set views id seat Spent (Keeper other) e);
     sized = kept.sized ∙ sym (length-set words i _);
     counted = length-set views id Spent ∙ kept.counted;
     bounded = kept.bounded;

@@ -1,3 +1,4 @@
+pub mod Slots
 pub mod Views
 pub mod Words
 pub mod Ruled

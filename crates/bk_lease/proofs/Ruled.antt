@@ -1,13 +1,12 @@
 -- What follows from the rule as it stands, and how one slot's part of it carries over a step.
-use Rattle.std.proofs.Common.{◌≡◌, ◌≢◌, ℕ, ◌+◌, ◌^◌, ◌<◌, ◌≤◌, List, length, get_or, set, sym, refl, ap, ◌∙◌, subst, arith, get_or-set_same, get_or-set_other, lt_of_not-le, Option, Some, None}
-use Rattle.std.proofs.Math.ListN.{get_or-eq_default}
+use Rattle.std.proofs.Common.{◌≡◌, ◌≢◌, ℕ, ◌+◌, ◌^◌, ◌<◌, ◌≤◌, List, length, get_or, set, sym, refl, ap, ◌∙◌, subst, arith, get_or-set_same}
+use Rattle.std.proofs.Common.{get_or-set_other, Option, Some, None}
 use mathlib.Core.Logic.{dite}
 use mathlib.Core.Option.{some, some-injective}
-use native.Mathlib.Decide.{dec_le, ℕ_discrete}
+use native.Mathlib.Decide.{ℕ_discrete}
 use lib.ListN.{get_elem?}
 use Rattle.atomic_table.specs.Table.{State}
 use Rattle.bk_lease.specs.declared.slot.Slot.{Slot}
-use Rattle.bk_lease.specs.declared.slot.Slot.TheVariants.{Free}
 use Rattle.bk_lease.specs.declared.rule.Pin.{Pin}
 use Rattle.bk_lease.specs.declared.rule.Register.{Register}
 use Rattle.bk_lease.specs.declared.rule.Role.{Role}
@@ -29,11 +28,6 @@ the_keeper words views id v register ruled at knows = let kept = ruled.1 in
     let same : Keeper ruled.0 ≡ Keeper register = some-injective _ _ (sym kept.keeper ∙ there) in
     let equal : ruled.0 ≡ register = cc in
     (first, subst (λ (r : Register). RuledBy r words views) equal kept)
-
--- a slot that is not free is one of the slots
-pub inside_slots : (slots : List Slot) (i : ℕ) (state : Slot) → state_at slots i ≡ state → state ≢ Free → i < length slots
-inside_slots slots i state is taken =
-    dite (dec_le (length slots) i) (λ past. absurd (taken (sym is ∙ get_or-eq_default slots Free past))) (λ within. lt_of_not-le within)
 
 -- fewer seats are within what a pin met
 pub IsWithinMet-le : (slot : ℕ) (pending : Option Pin) (few held : ℕ) → few ≤ held → IsWithinMet slot pending held → IsWithinMet slot pending few

@@ -1,6 +1,7 @@
 -- The lease rule: what the keeper knows of a slot, how many seats hold it, and what its word therefore is.
--- The rule is this project's own. It holds between any two atomic steps of any threads.
-use Rattle.std.specs.Prelude.{◌≡◌, ℕ, ◌+◌, ◌*◌, ◌^◌, ◌<◌, ◌≤◌, ◌==◌, if◌then◌else◌, List, [], ◌∷◌, length, replicate, slice_index, slice_index_or, Option, Some, None}
+-- The rule is this project's own. Each step finds it true and leaves it true, whichever thread makes the step.
+use Rattle.std.specs.Prelude.{◌≡◌, ℕ, ◌+◌, ◌*◌, ◌^◌, ◌<◌, ◌≤◌, ◌==◌, if◌then◌else◌, List, [], ◌∷◌, length, replicate, slice_index, slice_index_or}
+use Rattle.std.specs.Prelude.{Option, Some, None}
 use mathlib.Core.Option.{some}
 use lib.ListN.{get_elem?}
 use Rattle.bk_lease.specs.declared.slot.Slot.{Slot}

@@ -1,3 +1,5 @@
 pub mod Leases
+pub mod Slots
 pub mod Steps
 pub mod Values
+pub mod Codes

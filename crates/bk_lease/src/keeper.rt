@@ -1,12 +1,13 @@
-//! The keeper of the lease words: the one that opens, pins, closes and frees slots.
+//! The keeper of a lease table: from it logs get their slots, and readers their seats.
 //!
 //! A keeper has the state of each slot at hand, and the lease rule says that the words agree with
 //! it: so no call has to ask a word for its log, and a count that a step finds is the count of that
 //! log.
-ghost use Rattle.std.specs.Prelude.{◌≡◌, ℕ, ◌^◌, ◌<◌, ◌≤◌, length};
+ghost use Rattle.std.specs.Prelude.{◌≡◌, ◌≢◌, ℕ, ◌^◌, ◌<◌, ◌≤◌, length, IfSome, IfNone};
 ghost use Rattle.std.specs.Prelude.{IfOk, IfErr, OnOk, OnErr, IsErrOf};
 ghost use Rattle.bk_lease.specs.declared.slot.Slot.TheVariants.{Free, Open};
 ghost use Rattle.bk_lease.specs.Leases.{state_at, log_at, IsOpen, IsClosed, MayOpen};
+ghost use Rattle.bk_lease.specs.Slots.{IsFree, taken_count};
 
 use crate::answers::{Closed, Leased, PinFault};
 use crate::lease::Lease;
@@ -19,20 +20,26 @@ use atomic_table::Seat;
 use std::marker::Model;
 use std::sync::Arc;
 
-/// The one that opens, pins, closes and frees the slots of a table. None of its calls waits.
+/// Whoever has it gives logs their slots and readers their seats, and closes slots that nobody
+/// holds. A table has one. None of its calls waits.
 #[derive(Drop)]
 pub struct Keeper {
     table: Arc<Board>,
     seat: Seat<(), Role>,
     slots: Vec<Slot>,
     most: u64,
+    /// Where a search for a free slot begins: the last slot that was opened or freed.
+    last: usize,
 }
 
 impl Model for Keeper {
     ghost use Rattle.std.specs.Arc.{arc_value};
     ghost use Rattle.bk_lease.specs.Values.{SlotTable};
+    ghost use Rattle.bk_lease.specs.Codes.{slot_table_code};
 
     ghost Value = { SlotTable };
+
+    ghost coded = { slot_table_code };
 
     ghost use Rattle.bk_lease.specs.Values.{IsAtRest, given_in};
 
@@ -71,6 +78,7 @@ impl Keeper {
             seat,
             slots,
             most,
+            last: 0,
         }
     }
 
@@ -79,6 +87,18 @@ impl Keeper {
         ensures { result.now ≡ self.now.slots }
     {
         &self.slots
+    }
+
+    /// A slot that is free, `None` where a log stands in each. It is near the last one that was
+    /// opened or freed, so that opening slots one after another looks at each slot once.
+    pub fn free_slot(&self) -> Option<usize>
+        ensures free { IfSome result (λ slot. IsFree self.now.slots slot) }
+        ensures full { IfNone result (taken_count self.now.slots ≡ length self.now.slots) }
+    {
+        if let Some(slot) = first_free(&self.slots, self.last) {
+            return Some(slot);
+        }
+        first_free(&self.slots, 0)
     }
 
     /// Opens a slot, which is free or closed, for this log.
@@ -91,6 +111,7 @@ impl Keeper {
         let shared = &self.table.shared;
         shared.store::<OpenStep>(&mut self.seat, slot, word::unleased(log));
         self.slots[slot] = Slot::Open(log);
+        self.last = slot;
     }
 
     /// A seat that holds this slot, which is open: a lease of its log.
@@ -150,6 +171,7 @@ impl Keeper {
         let shared = &self.table.shared;
         shared.store::<FreeStep>(&mut self.seat, closed.slot, 0);
         self.slots[closed.slot] = Slot::Free;
+        self.last = closed.slot;
     }
 
     /// Shows that no lease is of a slot which this keeper has closed, by putting the two together:
@@ -174,4 +196,18 @@ impl Keeper {
         };
         log
     }
+}
+
+/// The first slot from this one on that is free.
+fn first_free(slots: &[Slot], from: usize) -> Option<usize>
+    ensures free { IfSome result (λ slot. IsFree slots.now slot) }
+    ensures taken { IfNone result ((slot : ℕ) → from ≤ slot → slot < length slots.now
+        → state_at slots.now slot ≢ Free) }
+{
+    for slot in from..slots.len() {
+        if slots[slot] == Slot::Free {
+            return Some(slot);
+        }
+    }
+    None
 }

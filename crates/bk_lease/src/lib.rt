@@ -3,10 +3,10 @@
 //! closed, so it is never removed under its reader.
 //!
 //! A log that is held stands in a slot, and each slot has one word: is it closed, which log is it,
-//! and how many leases of it are out. One keeper opens, pins, closes and frees the slots. A lease
-//! is given back by one atomic step on its slot's word, in any thread, with no lock and no wait: so
-//! the keeper learns at the step that closes a slot, and by that step alone, that nobody reads its
-//! log.
+//! and how many leases of it are out. Logs get their slots, and readers their leases, from one
+//! keeper. A lease is given back by one atomic step on its slot's word, in any thread, with no lock
+//! and no wait: so the keeper learns at the step that closes a slot, and by that step alone, that
+//! nobody reads its log.
 
 mod answers;
 mod keeper;

@@ -1,9 +1,9 @@
 //! The lease rule, as the rule of a table that has one word for each slot.
 //!
-//! Each seat at the table has a view, which exists in proofs alone. The keeper's view says the
-//! state of each slot and which pin is under way; every other seat holds one slot, or is spent. The
-//! rule ties the words to the views, between any two atomic steps of any threads:
-//! `specs/Leases.antt` has it on one page.
+//! What a seat at the table knows is a view, which proofs alone see. The keeper knows the state of
+//! each slot, which pin is under way and how many seats it gave out; any other seat knows that it
+//! holds its slot, or that it is spent. The rule says which words go with which views, and each
+//! step, in whatever thread, leaves it true: `specs/Leases.antt` has it on one page.
 
 use crate::slot::Slot;
 use atomic_table::{Table, TableRule};

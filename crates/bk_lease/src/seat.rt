@@ -22,8 +22,11 @@ pub struct LeaseSeat {
 impl Model for LeaseSeat {
     ghost use Rattle.std.specs.Arc.{arc_value};
     ghost use Rattle.bk_lease.specs.Values.{Ticket};
+    ghost use Rattle.bk_lease.specs.Codes.{ticket_code};
 
     ghost Value = { Ticket };
+
+    ghost coded = { ticket_code };
 
     ghost use Rattle.bk_lease.specs.Values.{IsSeatOf, is_held};
 

@@ -2,13 +2,18 @@ use Rattle.std.proofs.Common.{rules, ◌<◌, length, refl, ap, ◌∙◌, ℕ}
 use Rattle.bk_lease.specs.declared.slot.Slot.TheVariants.{Closed}
 use Rattle.bk_lease.specs.Values.{with_state}
 use Rattle.bk_lease.proofs.KeeperSteps.{closes}
-use Rattle.bk_lease.proofs.KeeperSeen.{seen_as, knows, open_inside, open_fits, taken_inside, leased_seen, met_seen, meets_seen, still_at_rest, at_rest_with, seen_still, seen_with}
+use Rattle.bk_lease.proofs.KeeperSeen.{seen_as, knows, open_inside, open_fits, taken_inside, leased_seen, met_seen, meets_seen, still_at_rest}
+use Rattle.bk_lease.proofs.KeeperSeen.{at_rest_with, seen_still, seen_with}
 use Rattle.bk_lease.proofs.keeper.Keeper.close.Goals as goal
 
 pub compare_exchange-found-requires : goal.compare_exchange-found-requires
 compare_exchange-found-requires c = let d = seen_as c.self.inside _ c.self.view_is c.self.invariant in
-    let inside : c.args.slot < length c.self.inside.slots.items = taken_inside d _ _ c.requires (λ e. cc) in
-    (search rules, search rules, closes _ _ _ _ _ (knows d) c.log_at-log.result _ _ (open_inside d _ _ c.requires c.log_at-log.ensures) refl c.unleased-unleased.ensures c.closed-closed.ensures)
+    let inside : c.args.slot < length c.self.inside.slots.items = taken_inside d _ _ c.requires (λ e. cc) in (
+      search rules,
+      search rules,
+      closes _ _ _ _ _ (knows d) c.log_at-log.result _ _
+          (open_inside d _ _ c.requires c.log_at-log.ensures) refl c.unleased-unleased.ensures c.closed-closed.ensures,
+    )
 
 pub invariant_of-self : goal.invariant_of-self
 invariant_of-self c = let d = seen_as c.self.inside _ c.self.view_is c.self.invariant in let step = c.compare_exchange-found.ensures in

@@ -2,7 +2,8 @@ use Rattle.std.proofs.Common.{rules, ◌<◌, length, [], refl, ◌∙◌, ap, a
 use Rattle.bk_lease.specs.declared.rule.Role.TheVariants.{Keeper}
 use Rattle.bk_lease.specs.Steps.{Sitter, settled, granted}
 use Rattle.bk_lease.proofs.KeeperSteps.{pins, undoes, grants}
-use Rattle.bk_lease.proofs.KeeperSeen.{its_register, seen_as, knows, open_inside, taken_inside, count_read, room_seen, full_seen, still_at_rest, seen_still, seen_given}
+use Rattle.bk_lease.proofs.KeeperSeen.{its_register, seen_as, knows, open_inside, taken_inside, count_read, room_seen, full_seen, still_at_rest}
+use Rattle.bk_lease.proofs.KeeperSeen.{seen_still, seen_given}
 use Rattle.bk_lease.proofs.keeper.Keeper.pin.Goals as goal
 
 pub fetch_add-found-requires : goal.fetch_add-found-requires
@@ -59,4 +60,5 @@ returns-then-count_of-self-clause-err c = let d = seen_as c.self.inside _ c.self
 pub returns-clause-given : goal.returns-clause-given
 returns-clause-given c = let d = seen_as c.self.inside _ c.self.view_is c.self.invariant in
     let pinned = c.fetch_add-found.ensures.2 _ _ (knows d) (open_inside d _ _ c.requires c.log_at-log.ensures) in
-    seen_given d c.split_seat-seat.new.seat (c.split_seat-seat.ensures.0 ∙ c.fetch_add-found.ensures.0) (c.split_seat-seat.ensures.2 ∙ ap (λ (m : Sitter). (settled m.0, m.1)) pinned.2)
+    seen_given d c.split_seat-seat.new.seat (c.split_seat-seat.ensures.0 ∙ c.fetch_add-found.ensures.0) (c.split_seat-seat.ensures.2
+    ∙ ap (λ (m : Sitter). (settled m.0, m.1)) pinned.2)
