@@ -28,7 +28,7 @@ grown_by_prefix old new log piece kept (Err Disk) appends =
     (n, appends.1 ∙ ap (grown old log) (sym (take_min appends.0 (take kept piece)) ∙ take-take n kept piece below))
 grown_by_prefix old new log piece kept (Err NoLog) appends = (0, appends.1 ∙ sym (grown-nil old log))
 grown_by_prefix old new log piece kept (Err TooLong) appends = (0, appends.3 ∙ sym (grown-nil old log))
-grown_by_prefix old new log piece kept (Err Memory) appends = (0, appends ∙ sym (grown-nil old log))
+grown_by_prefix old new log piece kept (Err Memory) appends = (0, appends.3 ∙ sym (grown-nil old log))
 grown_by_prefix old new log piece kept (Err Exists) appends = absurd appends
 grown_by_prefix old new log piece kept (Err PastEnd) appends = absurd appends
 

@@ -3,3 +3,5 @@ pub mod FileMaps
 pub mod Listings
 pub mod Answered
 pub mod Failures
+pub mod Bounds
+pub mod Causes

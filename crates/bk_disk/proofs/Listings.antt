@@ -62,6 +62,13 @@ size_listed found i entry listing low here =
     let size : length (get_or (listed found) i d).1 < 2 ^ 32 = listing.sizes i d (omega (arith, length-listed found)) in
     omega (arith, size, ap (λ f. length f.1) (listed_at found i entry d low here))
 
+pub id_listed : (found : List (ℕ × Vec ℕ Global)) (i : ℕ) (entry : ℕ × Vec ℕ Global) → IsListing (listed found) → i < length found → entry ≡ get_or found i entry
+    → entry.0 < 2 ^ 31
+id_listed found i entry listing low here =
+    let d : ℕ × List ℕ = (0, []) in
+    let id : (get_or (listed found) i d).0 < 2 ^ 31 = listing.ids i d (omega (arith, length-listed found)) in
+    omega (arith, id, ap (λ f. f.0) (listed_at found i entry d low here))
+
 -- one file more of a list
 pub one_more_listed : (m n : BTreeMap ℕ (List ℕ)) (found : List (ℕ × Vec ℕ Global)) (i : ℕ) (entry : ℕ × Vec ℕ Global) (file : List ℕ)
     → IsListing (listed found) → i < length found → entry ≡ get_or found i entry → file ≡ entry.1.items

@@ -1,20 +1,38 @@
 -- What the calls on a disk do to its files, why they may fail, and what a failure leaves. Each relation goes by cases
 -- on the answer; a fault that the call does not have holds of nothing.
 use Rattle.std.specs.Prelude.{◌≡◌, ℕ, ◌+◌, ◌<◌, ◌≤◌, ◌^◌, max, nat_le, if◌then◌else◌, Bool, IsTrue, List, [], ◌++◌, length, take, drop, Some, IsSome, IsNone, Result, Ok, Err, IsErrOf}
+use Rattle.std.specs.List.{All}
 use Rattle.std.specs.Option.{option_map_or}
 use Rattle.std.specs.FinMap as map
 use Rattle.bk_record.specs.Files.{Files, header_length}
 use Rattle.bk_disk.specs.declared.fault.DiskFault.{DiskFault}
 use Rattle.bk_disk.specs.declared.fault.DiskFault.TheVariants.{Disk, Exists, NoLog, PastEnd, TooLong, Memory}
 
--- The count of the device's failures does not fall, and `Disk` is told only where it rose.
-pub record HasCause {T : Type 0} (before now : ℕ) (result : Result T DiskFault) : Type 0 where
+-- The count of the device's failures before and after a call of one or more calls on the disk, and what it means that the
+-- call tells a failing device: the count rises exactly where the call tells so, and by one.
+pub record IsCaused (before now : ℕ) (Told : Type 0) : Type 0 where
   pub later : before ≤ now
-  pub failed : IsErrOf result Disk → before < now
+  pub once : now ≤ before + 1
+  pub failed : Told → before < now
+  pub told : before < now → Told
+
+-- a call on the disk tells a failing device by `Disk`
+abbrev pub HasCause : {T : Type 0} → ℕ → ℕ → Result T DiskFault → Type 0
+HasCause before now result = IsCaused before now (IsErrOf result Disk)
 
 -- the log's file is this one
 abbrev pub IsFile : Files → ℕ → List ℕ → Type 0
 IsFile fs log file = map.get fs log ≡ Some file
+
+-- what the file of an entry log can be: its id, its length and its bytes
+pub record IsLogFile (log : ℕ) (file : List ℕ) : Type 0 where
+  pub id : log < 2 ^ 31
+  pub size : length file < 2 ^ 32
+  pub bytes : All (λ b. b < 2 ^ 8) file
+
+-- each file is one that an entry log can have
+pub record AreLogFiles (fs : Files) : Type 0 where
+  pub each : (log : ℕ) (file : List ℕ) → IsFile fs log file → IsLogFile log file
 
 -- the files with more bytes at the end of a log; as they are where there is no such log
 abbrev pub grown : Files → ℕ → List ℕ → Files
@@ -43,7 +61,7 @@ abbrev pub Measures : Files → ℕ → Result ℕ DiskFault → Files → Type 
 Measures old log (Ok n) new = (file : List ℕ) × IsFile old log file × (n ≡ length file) × (new ≡ old)
 Measures old log (Err Disk) new = new ≡ old
 Measures old log (Err NoLog) new = IsNone (map.get old log) × (new ≡ old)
-Measures old log (Err Memory) new = new ≡ old
+Measures old log (Err Memory) new = IsSome (map.get old log) × (new ≡ old)
 Measures old log (Err Exists) new = ⊥
 Measures old log (Err PastEnd) new = ⊥
 Measures old log (Err TooLong) new = ⊥
@@ -53,7 +71,7 @@ abbrev pub Creates : {T : Type 0} → Files → ℕ → Result T DiskFault → F
 Creates old log (Ok _) new = IsNone (map.get old log) × (new ≡ map.insert old log [])
 Creates old log (Err Disk) new = new ≡ old
 Creates old log (Err Exists) new = IsSome (map.get old log) × (new ≡ old)
-Creates old log (Err Memory) new = new ≡ old
+Creates old log (Err Memory) new = IsNone (map.get old log) × (new ≡ old)
 Creates old log (Err NoLog) new = ⊥
 Creates old log (Err PastEnd) new = ⊥
 Creates old log (Err TooLong) new = ⊥
@@ -64,7 +82,7 @@ Appends old log piece (Ok _) new = (file : List ℕ) × IsFile old log file × (
 Appends old log piece (Err Disk) new = (n : ℕ) × (new ≡ grown old log (take n piece))
 Appends old log piece (Err NoLog) new = IsNone (map.get old log) × (new ≡ old)
 Appends old log piece (Err TooLong) new = (file : List ℕ) × IsFile old log file × (2 ^ 32 ≤ length file + length piece) × (new ≡ old)
-Appends old log piece (Err Memory) new = new ≡ old
+Appends old log piece (Err Memory) new = (file : List ℕ) × IsFile old log file × (length file + length piece < 2 ^ 32) × (new ≡ old)
 Appends old log piece (Err Exists) new = ⊥
 Appends old log piece (Err PastEnd) new = ⊥
 
@@ -74,7 +92,7 @@ Patches old log bytes (Ok _) new = (file : List ℕ) × IsFile old log file × (
 Patches old log bytes (Err Disk) new = (left : List ℕ) × (length left ≡ 12) × (new ≡ patched old log left)
 Patches old log bytes (Err NoLog) new = IsNone (map.get old log) × (new ≡ old)
 Patches old log bytes (Err PastEnd) new = (file : List ℕ) × IsFile old log file × (length file < 20) × (new ≡ old)
-Patches old log bytes (Err Memory) new = new ≡ old
+Patches old log bytes (Err Memory) new = (file : List ℕ) × IsFile old log file × (20 ≤ length file) × (new ≡ old)
 Patches old log bytes (Err Exists) new = ⊥
 Patches old log bytes (Err TooLong) new = ⊥
 
@@ -83,7 +101,7 @@ abbrev pub Syncs : {T : Type 0} → Files → ℕ → Result T DiskFault → Fil
 Syncs old log (Ok _) new = IsSome (map.get old log) × (new ≡ old)
 Syncs old log (Err Disk) new = new ≡ old
 Syncs old log (Err NoLog) new = IsNone (map.get old log) × (new ≡ old)
-Syncs old log (Err Memory) new = new ≡ old
+Syncs old log (Err Memory) new = IsSome (map.get old log) × (new ≡ old)
 Syncs old log (Err Exists) new = ⊥
 Syncs old log (Err PastEnd) new = ⊥
 Syncs old log (Err TooLong) new = ⊥
@@ -94,7 +112,7 @@ Reads bytes old log at n (Ok found) new = (file : List ℕ) × IsFile old log fi
 Reads bytes old log at n (Err Disk) new = new ≡ old
 Reads bytes old log at n (Err NoLog) new = IsNone (map.get old log) × (new ≡ old)
 Reads bytes old log at n (Err PastEnd) new = (file : List ℕ) × IsFile old log file × (length file < at + n) × (new ≡ old)
-Reads bytes old log at n (Err Memory) new = new ≡ old
+Reads bytes old log at n (Err Memory) new = (file : List ℕ) × IsFile old log file × (at + n ≤ length file) × (new ≡ old)
 Reads bytes old log at n (Err Exists) new = ⊥
 Reads bytes old log at n (Err TooLong) new = ⊥
 
@@ -103,7 +121,7 @@ abbrev pub Views : {V : Type 0} → (V → List ℕ) → (V → Bool) → Files 
 Views bytes honest old log (Ok view) new = IsFile old log (bytes view) × IsTrue (honest view) × (new ≡ old)
 Views bytes honest old log (Err Disk) new = new ≡ old
 Views bytes honest old log (Err NoLog) new = IsNone (map.get old log) × (new ≡ old)
-Views bytes honest old log (Err Memory) new = new ≡ old
+Views bytes honest old log (Err Memory) new = IsSome (map.get old log) × (new ≡ old)
 Views bytes honest old log (Err Exists) new = ⊥
 Views bytes honest old log (Err PastEnd) new = ⊥
 Views bytes honest old log (Err TooLong) new = ⊥
@@ -113,7 +131,7 @@ abbrev pub Removes : {T : Type 0} → Files → ℕ → Result T DiskFault → F
 Removes old log (Ok _) new = IsSome (map.get old log) × (new ≡ map.remove old log)
 Removes old log (Err Disk) new = new ≡ old
 Removes old log (Err NoLog) new = IsNone (map.get old log) × (new ≡ old)
-Removes old log (Err Memory) new = new ≡ old
+Removes old log (Err Memory) new = IsSome (map.get old log) × (new ≡ old)
 Removes old log (Err Exists) new = ⊥
 Removes old log (Err PastEnd) new = ⊥
 Removes old log (Err TooLong) new = ⊥
@@ -131,7 +149,7 @@ abbrev pub ReadsView : {T : Type 0} → (T → List ℕ) → List ℕ → ℕ �
 ReadsView bytes file at n (Ok found) = IsInView file at n × (bytes found ≡ take n (drop at file))
 ReadsView bytes file at n (Err PastEnd) = ¬ (IsInView file at n)
 ReadsView bytes file at n (Err Disk) = Unit {0}
-ReadsView bytes file at n (Err Memory) = Unit {0}
+ReadsView bytes file at n (Err Memory) = IsInView file at n
 ReadsView bytes file at n (Err Exists) = ⊥
 ReadsView bytes file at n (Err NoLog) = ⊥
 ReadsView bytes file at n (Err TooLong) = ⊥

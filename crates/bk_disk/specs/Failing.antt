@@ -1,5 +1,5 @@
 -- A disk that fails once where it was told to, and a view of it that may be broken.
-use Rattle.std.specs.Prelude.{◌≡◌, ℕ, ◌+◌, ◌-◌, ◌==◌, ◌||◌, if◌then◌else◌, Bool, List, take, Result, Ok, Err, IsTrue, IsErrOf}
+use Rattle.std.specs.Prelude.{◌≡◌, ℕ, ◌+◌, ◌-◌, ◌==◌, ◌&&◌, ◌||◌, not, if◌then◌else◌, Bool, List, take, Result, Ok, Err, IsTrue, IsErrOf}
 use Rattle.std.proofs.Common.{refl}
 use Rattle.std.specs.Coded.{Coded, code_by, coded×, coded_ℕ, coded_bool, coded_list}
 use Rattle.std.specs.FinMap as map
@@ -21,26 +21,35 @@ abbrev pub counted : Count → Count
 counted count = record { left = count.left - 1; reached = count.reached || (count.left == 1) }
 
 -- A failing disk: the files, the honesty and the failures of the disk underneath; the calls, counted down to the one that
--- fails; the views, counted down to the broken one; how many bytes of its piece a failing append leaves.
+-- fails; whether the disk underneath failed in that one too; the views, counted down to the broken one; how many bytes of
+-- its piece a failing append leaves.
 pub record Failing : Type 0 where
   pub files : Files
   pub honest : Bool
   pub failures : ℕ
   pub calls : Count
+  pub shared : Bool
   pub views : Count
   pub kept : ℕ
 
 abbrev pub failing_code : Coded Failing
 failing_code =
-    code_by (Files × (Bool × (ℕ × (Count × (Count × ℕ)))))
-    (coded× (map.code coded_ℕ (coded_list coded_ℕ)) (coded× coded_bool (coded× coded_ℕ (coded× count_code (coded× count_code coded_ℕ)))))
-    (λ d. (d.files, (d.honest, (d.failures, (d.calls, (d.views, d.kept))))))
-    (λ p. record { files = p.0; honest = p.1.0; failures = p.1.1.0; calls = p.1.1.1.0; views = p.1.1.1.1.0; kept = p.1.1.1.1.1 })
-    (λ _. refl)
+    code_by (Files × (Bool × (ℕ × (Count × (Bool × (Count × ℕ))))))
+    (coded× (map.code coded_ℕ (coded_list coded_ℕ)) (coded× coded_bool (coded× coded_ℕ (coded× count_code (coded× coded_bool (coded× count_code coded_ℕ))))))
+    (λ d. (d.files, (d.honest, (d.failures, (d.calls, (d.shared, (d.views, d.kept)))))))
+    (λ p. record {
+      files = p.0;
+      honest = p.1.0;
+      failures = p.1.1.0;
+      calls = p.1.1.1.0;
+      shared = p.1.1.1.1.0;
+      views = p.1.1.1.1.1.0;
+      kept = p.1.1.1.1.1.1;
+    }) (λ _. refl)
 
--- how often the disk has failed: as often as the one underneath, and once more where the failure of its own has come
+-- how often the disk has failed: as often as the one underneath, and once more where only its own failure has come
 abbrev pub failure_count : Failing → ℕ
-failure_count disk = disk.failures + (if disk.calls.reached then 1 else 0)
+failure_count disk = disk.failures + (if disk.calls.reached && not disk.shared then 1 else 0)
 
 -- a call is counted, and answers `Disk` where it is the one that fails
 pub record Counts {T : Type 0} (old new : Failing) (result : Result T DiskFault) : Type 0 where

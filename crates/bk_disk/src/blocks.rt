@@ -4,6 +4,7 @@
 //! another block in its stead. The last block belongs to the log alone: an append writes in it, and a view copies it.
 
 ghost use Rattle.std.specs.Prelude.{◌≡◌, ◌+◌, ◌-◌, ◌%◌, ◌<◌, ◌≤◌, ◌^◌, [], ◌++◌, length, take, drop, IfOk, OnOk, OnErr};
+ghost use Rattle.std.specs.List.{All};
 ghost use Rattle.bk_disk.specs.Blocks.{BeginsWith};
 
 use std::alloc::{AllocError, Global};
@@ -39,6 +40,16 @@ impl Blocks {
             full: Vec::new(alloc),
             last: Vec::new(alloc),
         }
+    }
+
+    pub(crate) fn of(alloc: Global, bytes: &[u8]) -> Result<Blocks, AllocError>
+        requires { length bytes.now < 2 ^ 32 }
+        ensures value { IfOk result (λ blocks. blocks ≡ bytes.now) }
+        ensures bytes { All (λ b. b < 2 ^ 8) bytes.now }
+    {
+        let mut blocks = Blocks::new(alloc);
+        blocks.append(bytes)?;
+        Ok(blocks)
     }
 
     #[tactic(auto, using(crate::proofs::Cuts::length_joined))]

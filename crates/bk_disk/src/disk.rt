@@ -4,9 +4,9 @@
 //! the files is promised under honesty alone; on any disk each call returns, honesty stays, the count of failures
 //! doesn't fall, and `Disk` is answered only where it rose. An honest disk may fail.
 
-ghost use Rattle.std.specs.Prelude.{◌≡◌, ℕ, Bool, false, List, IsTrue, IsErrOf};
+ghost use Rattle.std.specs.Prelude.{◌≡◌, ℕ, ◌<◌, ◌^◌, Bool, false, List, IsTrue, IsErrOf};
 ghost use Rattle.bk_record.specs.Files.{Files};
-ghost use Rattle.bk_disk.specs.Disk.{HasCause, Lists, Measures, Creates, Appends, Patches, Syncs, Reads, Views, Removes, ReadsView, view_end};
+ghost use Rattle.bk_disk.specs.Disk.{AreLogFiles, HasCause, Lists, Measures, Creates, Appends, Patches, Syncs, Reads, Views, Removes, ReadsView, view_end};
 
 use crate::DiskFault;
 use std::alloc::Global;
@@ -42,6 +42,11 @@ pub trait LogDisk: Send + Drop {
 
     ghost failures: { Self → ℕ };
 
+    /// Does nothing: what each call keeps. Ids of an honest disk's logs go up to 2^31 - 1, and their files have at most
+    /// 2^32 - 1 bytes, also where an append failed.
+    fn bounds(&self)
+        ensures { IsTrue (honest self.now) → AreLogFiles (files self.now) };
+
     /// The ids of all logs, rising. Faults: `Disk`, `Memory`.
     fn list(&mut self, alloc: Global) -> Result<Vec<u32>, DiskFault>
         ensures honest { honest self.new ≡ honest self.old }
@@ -54,8 +59,10 @@ pub trait LogDisk: Send + Drop {
         ensures cause { HasCause (failures self.old) (failures self.new) result }
         ensures turn { IsTrue (honest self.old) → Measures (files self.old) log result (files self.new) };
 
-    /// Makes an empty log. Faults: `Exists` where there is one of that id, `Disk`, `Memory`.
+    /// Makes an empty log. The caller gives an id of at most 2^31 - 1. Faults: `Exists` where there is one of that id,
+    /// `Disk`, `Memory`.
     fn create(&mut self, alloc: Global, log: u32) -> Result<(), DiskFault>
+        requires { log < 2 ^ 31 }
         ensures honest { honest self.new ≡ honest self.old }
         ensures cause { HasCause (failures self.old) (failures self.new) result }
         ensures turn { IsTrue (honest self.old) → Creates (files self.old) log result (files self.new) };

@@ -1,6 +1,6 @@
 //! A disk over another one, for tests: one call that is chosen beforehand fails, or one view is broken.
 
-ghost use Rattle.std.specs.Prelude.{◌≡◌, false, IsTrue};
+ghost use Rattle.std.specs.Prelude.{◌≡◌, ◌<◌, ◌^◌, false, IsTrue};
 ghost use Rattle.bk_disk.specs.Disk.{HasCause, Lists, Measures, Creates, Appends, Patches, Syncs, Reads, Views, Removes};
 ghost use Rattle.bk_disk.specs.Failing.{failure_count, Counts, FailsUntouched, FailsKeeping, CountsView};
 
@@ -14,11 +14,13 @@ use std::marker::Model;
 pub struct FaultDisk<D: LogDisk> {
     inner: D,
     calls: Countdown,
+    shared: bool,
     views: Countdown,
     kept: usize,
 }
 
 impl<D: LogDisk> Model for FaultDisk<D> {
+    ghost use Rattle.std.specs.Prelude.{IsTrue};
     ghost use Rattle.bk_disk.specs.Failing.{Failing, failing_code};
 
     ghost Value = { Failing };
@@ -30,9 +32,12 @@ impl<D: LogDisk> Model for FaultDisk<D> {
       honest = D.honest disk.inner;
       failures = D.failures disk.inner;
       calls = disk.calls;
+      shared = disk.shared;
       views = disk.views;
       kept = disk.kept;
     } };
+
+    ghost invariant = { λ disk. IsTrue disk.shared → IsTrue disk.calls.reached };
 }
 
 impl<D: LogDisk> FaultDisk<D> {
@@ -45,6 +50,7 @@ impl<D: LogDisk> FaultDisk<D> {
           honest = D.honest inner;
           failures = D.failures inner;
           calls = record { left = k; reached = false };
+          shared = false;
           views = record { left = 0; reached = false };
           kept = kept;
         } }
@@ -52,6 +58,7 @@ impl<D: LogDisk> FaultDisk<D> {
         FaultDisk {
             inner,
             calls: Countdown::new(k),
+            shared: false,
             views: Countdown::new(0),
             kept,
         }
@@ -65,6 +72,7 @@ impl<D: LogDisk> FaultDisk<D> {
           honest = D.honest inner;
           failures = D.failures inner;
           calls = record { left = 0; reached = false };
+          shared = false;
           views = record { left = j; reached = false };
           kept = 0;
         } }
@@ -72,6 +80,7 @@ impl<D: LogDisk> FaultDisk<D> {
         FaultDisk {
             inner,
             calls: Countdown::new(0),
+            shared: false,
             views: Countdown::new(j),
             kept: 0,
         }
@@ -93,6 +102,10 @@ impl<D: LogDisk> LogDisk for FaultDisk<D> {
     ghost honest = { λ disk. disk.honest };
 
     ghost failures = { λ disk. failure_count disk };
+
+    fn bounds(&self) {
+        self.inner.bounds()
+    }
 
     fn list(&mut self, alloc: Global) -> Result<Vec<u32>, DiskFault>
         ensures honest { self.new.honest ≡ self.old.honest }
@@ -123,6 +136,7 @@ impl<D: LogDisk> LogDisk for FaultDisk<D> {
     }
 
     fn create(&mut self, alloc: Global, log: u32) -> Result<(), DiskFault>
+        requires { log < 2 ^ 31 }
         ensures honest { self.new.honest ≡ self.old.honest }
         ensures cause { HasCause (failure_count self.old) (failure_count self.new) result }
         ensures turn { IsTrue self.old.honest → Creates self.old.files log result self.new.files }
@@ -146,7 +160,8 @@ impl<D: LogDisk> LogDisk for FaultDisk<D> {
     {
         if self.calls.count() {
             let kept = self.kept.min(bytes.len());
-            let _ = self.inner.append(alloc, log, &bytes[..kept]);
+            let left = self.inner.append(alloc, log, &bytes[..kept]);
+            self.shared = left == Err(DiskFault::Disk);
             return Err(DiskFault::Disk);
         }
         self.inner.append(alloc, log, bytes)

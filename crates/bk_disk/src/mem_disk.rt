@@ -25,6 +25,7 @@ impl Model for MemDisk {
     ghost use Rattle.std.specs.Coded.{coded_ℕ, coded_list};
     ghost use Rattle.std.specs.FinMap as map;
     ghost use Rattle.bk_record.specs.Files.{Files};
+    ghost use Rattle.bk_disk.specs.Disk.{AreLogFiles};
     ghost use Rattle.bk_disk.specs.Logs.{files_of};
 
     ghost Value = { Files };
@@ -32,6 +33,8 @@ impl Model for MemDisk {
     ghost coded = { map.code coded_ℕ (coded_list coded_ℕ) };
 
     ghost view = { λ disk. files_of disk.logs };
+
+    ghost invariant = { λ disk. AreLogFiles (files_of disk.logs) };
 }
 
 impl MemDisk {
@@ -52,9 +55,7 @@ impl MemDisk {
     {
         let mut logs = BTreeMap::new(alloc);
         for (log, bytes) in &files {
-            let mut file = Blocks::new(alloc);
-            file.append(bytes)?;
-            logs.insert(*log, file)?;
+            logs.insert(*log, Blocks::of(alloc, bytes)?)?;
         }
         Ok(MemDisk { logs })
     }
@@ -69,6 +70,10 @@ impl LogDisk for MemDisk {
     ghost honest = { λ _. true };
 
     ghost failures = { λ _. 0 };
+
+    fn bounds(&self) {
+        let _ = &self.logs;
+    }
 
     fn list(&mut self, alloc: Global) -> Result<Vec<u32>, DiskFault> {
         self.logs

@@ -1,12 +1,13 @@
 -- Putting the flush's next entry: what the fields keep, and what the store is then.
-use Rattle.std.proofs.Common.{◌≡◌, inl, inr, ℕ, ◌<◌, ◌≤◌, List, [], ◌∷◌, ◌++◌, length, take, Bool, false, Option, Some, None, IsSome, is_some, IsTrue, Result, Ok, Err, IsErrOf, true, refl, sym, ap, ◌∙◌, subst, slice_get, arith, length-append}
+use Rattle.std.proofs.Common.{◌≡◌, inl, inr, ℕ, ◌+◌, ◌<◌, ◌≤◌, List, [], ◌∷◌, ◌++◌, length, take, Bool, false, Option, Some, None, IsSome, is_some, IsTrue, Result, Ok, Err, IsErrOf, true, refl, sym, ap, ◌∙◌, subst, slice_get, arith, length-append}
 use Rattle.std.specs.FinMap as finite
-use Rattle.std.proofs.lemmas.Option.{slice_get_within}
+use Rattle.std.specs.Result.{result_err}
+use Rattle.std.proofs.lemmas.Option.{slice_get_within, same_Some}
 use Rattle.bk_record.specs.Key.{EntryKey}
 use Rattle.bk_record.specs.Location.{Place}
 use Rattle.bk_record.specs.Record.{record_of}
 use Rattle.bk_record.specs.Files.{Files}
-use Rattle.bk_disk.specs.Disk.{grown}
+use Rattle.bk_disk.specs.Disk.{IsCaused as IsDeviceCaused, grown}
 use Rattle.bk_log.specs.Writing as writers
 use Rattle.bk_log.specs.Writing.{Puts, with_put}
 use Rattle.bk_log.specs.Writing.{PutTurn as LogPutTurn}
@@ -15,7 +16,7 @@ use Rattle.bk_log.specs.declared.fault.LogFault.TheVariants as logs
 use Rattle.bk_drive.specs.Logs.{Logs, log_at}
 use Rattle.bk_drive.specs.State.{Flush, Places, State}
 use Rattle.bk_drive.specs.Fits.{IsGoing, IsBacked, Fits}
-use Rattle.bk_log.specs.Faults.{IsCaused as IsLogCaused, is_lasting}
+use Rattle.bk_log.specs.Faults.{is_lasting}
 use Rattle.bk_drive.specs.Flushing.{IsCaused, HasNext, PutTurn, restarted}
 use Rattle.bk_drive.specs.Making.{IsNextOf, IsReady, NotesPlace, FaultTurn}
 use Rattle.bk_drive.specs.declared.settings.Settings.{Settings}
@@ -195,7 +196,7 @@ fault_keeps s t logs.Disk told turn = ap (λ (x : State). x.honest) turn.1
 fault_keeps s t logs.Failed told turn = ap (λ (x : State). x.honest) turn.1
 fault_keeps s t logs.Odd told turn = ap (λ (x : State). x.honest) turn.1
 
-fault_caused : {T : Type 0} (old s t : State) (fault : LogFault) (told : FlushFault) → IsLogCaused old.failures s.failures (fault ≡ logs.Disk) → FaultTurn s fault told t
+fault_caused : {T : Type 0} (old s t : State) (fault : LogFault) (told : FlushFault) → IsDeviceCaused old.failures s.failures (fault ≡ logs.Disk) → FaultTurn s fault told t
     → IsCaused {T = T} old (Err told) t
 fault_caused old s t logs.Memory told cause turn = record { later = subst (λ (x : State). old.failures ≤ x.failures) (sym turn.1) cause.later; failed = λ is. let no : told ≡ flush_faults.Memory 0 = turn.0 in cc }
 fault_caused old s t logs.Disk told cause turn = record { later = subst (λ (x : State). old.failures ≤ x.failures) (sym turn.1) cause.later; failed = λ is. subst (λ (x : State). old.failures < x.failures) (sym turn.1) (cause.failed refl) }
@@ -217,9 +218,11 @@ module _ (s old : State) (files' : Files) (honest' : Bool) (failures' : ℕ) (f'
   fault_honest kept = fault_keeps (record s { files = files'; honest = honest'; failures = failures'; flush = Some f'; writing = left }) t fault told after
       ∙ kept ∙ ap (λ (x : State). x.honest) same
 
-  pub fault_cause : {T : Type 0} → IsLogCaused s.failures failures' (IsErrOf {T = Place} (Err fault) logs.Disk) → IsCaused {T = T} old (Err told) t
+  pub fault_cause : {T : Type 0} → IsDeviceCaused s.failures failures' (IsErrOf {T = Place} (Err fault) logs.Disk) → IsCaused {T = T} old (Err told) t
   fault_cause cause = fault_caused old (record s { files = files'; honest = honest'; failures = failures'; flush = Some f'; writing = left }) t fault told
       (record {
         later = subst (λ (x : State). x.failures ≤ failures') same cause.later;
+        once = subst (λ (x : State). failures' ≤ x.failures + 1) same cause.once;
         failed = λ is. subst (λ (x : State). x.failures < failures') same (cause.failed (ap Err is));
+        told = λ rose. same_Some _ _ (ap result_err (cause.told (subst (λ (x : State). x.failures < failures') (sym same) rose)));
       }) after

@@ -1,5 +1,5 @@
 -- Logs that are shown one after another: what they keep, and what they show beside an honest disk.
-use Rattle.std.proofs.Common.{◌≡◌, inl, inr, ℕ, zero, suc, ◌+◌, ◌<◌, ◌≤◌, cond, List, [], ◌∷◌, length, set, Bool, true, false, Option, Some, None, IsSome, is_some, IsTrue, refl, sym, ap, ◌∙◌, subst, slice_get, option_map, arith, add-one, MatchBool, unwrap_or}
+use Rattle.std.proofs.Common.{◌≡◌, inl, inr, ℕ, zero, suc, ◌+◌, ◌<◌, cond, List, [], ◌∷◌, length, set, Bool, true, false, Option, Some, None, IsSome, is_some, IsTrue, refl, sym, ap, ◌∙◌, subst, slice_get, option_map, arith, add-one, MatchBool, unwrap_or}
 use Rattle.std.specs.Option.{option_and_then}
 use Rattle.std.specs.Ordering.{nat_cmp, eq_by_cmp, is_eq}
 use Rattle.std.specs.FinMap as finite
@@ -17,7 +17,7 @@ use Rattle.bk_drive.specs.Publishing.{HaveFiles, HasFileAt, IsWhole, IsShown, Is
 -- the loop over the logs, so far
 pub record IsShowing (honest : Bool) (files : Files) (failures : ℕ) (places : List Place) (old : Logs) (honest' : Bool) (files' : Files) (failures' n : ℕ) (now : Logs) : Type 0 where
   pub stays : honest' ≡ honest
-  pub later : failures ≤ failures'
+  pub unfailed : failures' ≡ failures
   pub same : IsTrue honest → files' ≡ files
   pub shown : ShownTo honest files places n old now
 
@@ -202,11 +202,11 @@ module _ (honest honest' : Bool) (files files' : Files) (failures failures' : �
         | false ↦ λ same. same
       ] shown
 
-  pub showing_on : (honest'' : Bool) (files'' : Files) (failures'' : ℕ) (now'' : Logs) → honest'' ≡ honest' → failures' ≤ failures'' → (IsTrue honest' → files'' ≡ files')
+  pub showing_on : (honest'' : Bool) (files'' : Files) (failures'' : ℕ) (now'' : Logs) → honest'' ≡ honest' → failures'' ≡ failures' → (IsTrue honest' → files'' ≡ files')
       → IsShownAt honest' files' places n now now'' → IsShowing honest files failures places old honest'' files'' failures'' (n + 1) now''
-  showing_on honest'' files'' failures'' now'' stays later same at = record {
+  showing_on honest'' files'' failures'' now'' stays unfailed same at = record {
     stays = stays ∙ showing.stays;
-    later = omega (arith, later, showing.later);
+    unfailed = unfailed ∙ showing.unfailed;
     same = λ h. same (subst (λ (b : Bool). IsTrue b) (sym showing.stays) h) ∙ showing.same h;
     shown = shown_on honest files places n old now now'' showing.shown (record {
       before = at.before;

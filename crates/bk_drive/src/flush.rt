@@ -4,7 +4,8 @@
 //! that was accepted is let go.
 
 ghost use Rattle.std.specs.Prelude.{◌≡◌, ◌+◌, ◌<◌, ◌≤◌, ◌^◌, false, List, ℕ, Some, IsTrue, IsNone, IsErrOf, OnOk, length, take, option_map};
-ghost use Rattle.bk_log.specs.Faults.{IsCaused as IsLogCaused, is_lasting};
+ghost use Rattle.bk_disk.specs.Disk.{IsCaused as IsDeviceCaused};
+ghost use Rattle.bk_log.specs.Faults.{is_lasting};
 ghost use Rattle.bk_drive.specs.Flushing.{IsCaused, HasNext, MayMake, NewLog, MakeTurn, ReadyTurn, PutTurn, WriteTurn, restarted, unwritten, needs_log};
 ghost use Rattle.bk_drive.specs.Making.{Creates, FaultTurn, IsMade, IsReady, IsNextOf, NotesPlace};
 ghost use Rattle.bk_drive.specs.Stored.{flush_of};
@@ -56,7 +57,7 @@ impl<D: LogDisk> Store<D> {
         requires may { MayMake self.old }
         requires none { IsNone self.old.writing }
         ensures honest { self.new.honest ≡ self.old.honest }
-        ensures cause { IsLogCaused self.old.failures self.new.failures (IsErrOf result LogFault.Disk) }
+        ensures cause { IsDeviceCaused self.old.failures self.new.failures (IsErrOf result LogFault.Disk) }
         ensures ok { OnOk result (IsMade self.old self.new) }
         ensures turn { IsTrue self.old.honest → Creates self.old result self.new }
     {
@@ -217,7 +218,7 @@ fn put_entry<D: LogDisk>(
     requires whole { writer.old.failed ≡ false }
     requires writes { IsTrue (D.honest disk.old) → Writes (D.files disk.old) writer.old }
     ensures honest { D.honest disk.new ≡ D.honest disk.old }
-    ensures cause { IsLogCaused (D.failures disk.old) (D.failures disk.new) (IsErrOf result LogFault.Disk) }
+    ensures cause { IsDeviceCaused (D.failures disk.old) (D.failures disk.new) (IsErrOf result LogFault.Disk) }
     ensures flush { NotesPlace (flush_of flush.old) result (flush_of flush.new) }
     ensures writer { (e : EntryKey × List ℕ) → IsNextOf (flush_of flush.old) e
         → Puts writer.old e.1 result writer.new }

@@ -6,8 +6,7 @@
 
 ghost use Rattle.std.specs.Prelude.{◌≡◌, ◌<◌, ◌≤◌, IsTrue, IsErrOf, OnOk, OnErr, length};
 ghost use Rattle.std.specs.FinMap as map;
-ghost use Rattle.bk_disk.specs.Disk.{HasCause, Views};
-ghost use Rattle.bk_log.specs.Faults.{IsCaused as IsLogCaused};
+ghost use Rattle.bk_disk.specs.Disk.{HasCause, IsCaused as IsDeviceCaused, Views};
 ghost use Rattle.bk_drive.specs.Flushing.{IsCaused, PublishTurn};
 ghost use Rattle.bk_drive.specs.Logs.{has_place};
 ghost use Rattle.bk_drive.specs.Publishing.{AreShown, AllShown, IsShownAt, IsShowFault, NameTurn, HaveFiles, HasFileAt, view_fault};
@@ -58,7 +57,7 @@ fn show_logs<D: LogDisk>(
 ) -> Result<(), FlushFault>
     requires stand { IsTrue (D.honest disk.old) → HaveFiles (D.files disk.old) logs.old }
     ensures honest { D.honest disk.new ≡ D.honest disk.old }
-    ensures cause { IsLogCaused (D.failures disk.old) (D.failures disk.new) (IsErrOf result FlushFault.Disk) }
+    ensures cause { IsDeviceCaused (D.failures disk.old) (D.failures disk.new) (IsErrOf result FlushFault.Disk) }
     ensures files { IsTrue (D.honest disk.old) → D.files disk.new ≡ D.files disk.old }
     ensures some { AreShown (D.honest disk.old) (D.files disk.old) places.now logs.old logs.new }
     ensures all { OnOk result (AllShown (D.honest disk.old) (D.files disk.old) places.now logs.old logs.new) }
@@ -81,7 +80,7 @@ fn show_log<D: LogDisk>(
     requires within { number < length logs.old }
     requires stands { IsTrue (D.honest disk.old) → HasFileAt (D.files disk.old) logs.old number }
     ensures honest { D.honest disk.new ≡ D.honest disk.old }
-    ensures cause { IsLogCaused (D.failures disk.old) (D.failures disk.new) (IsErrOf result FlushFault.Disk) }
+    ensures cause { IsDeviceCaused (D.failures disk.old) (D.failures disk.new) (IsErrOf result FlushFault.Disk) }
     ensures files { IsTrue (D.honest disk.old) → D.files disk.new ≡ D.files disk.old }
     ensures ok { OnOk result (IsShownAt (D.honest disk.old) (D.files disk.old) places.now number logs.old logs.new) }
     ensures err { OnErr result (logs.new ≡ logs.old) }

@@ -3,7 +3,7 @@
 //! A log that was to be sealed is written no more, whatever the disk answered: its map may be half there.
 
 ghost use Rattle.std.specs.Prelude.{◌≡◌, IsTrue, IsErrOf, IsSome, OnOk, Some};
-ghost use Rattle.bk_log.specs.Faults.{IsCaused as IsLogCaused};
+ghost use Rattle.bk_disk.specs.Disk.{IsCaused as IsDeviceCaused};
 ghost use Rattle.bk_log.specs.Writing.{Writing};
 ghost use Rattle.bk_drive.specs.Closing.{Seals, RollTurn};
 ghost use Rattle.bk_drive.specs.Flushing.{IsCaused, FillTurn};
@@ -58,7 +58,7 @@ impl<D: LogDisk> Store<D> {
     fn seal_log(&mut self, state: LogState) -> Result<(), LogFault>
         requires { IsSome self.old.writing }
         ensures honest { self.new.honest ≡ self.old.honest }
-        ensures cause { IsLogCaused self.old.failures self.new.failures (IsErrOf result LogFault.Disk) }
+        ensures cause { IsDeviceCaused self.old.failures self.new.failures (IsErrOf result LogFault.Disk) }
         ensures never { ¬ (IsErrOf result LogFault.Failed) }
         ensures closed { IsClosed self.old self.new }
         ensures turn { (w : Writing) → self.old.writing ≡ Some w → IsTrue self.old.honest

@@ -1,5 +1,5 @@
 -- What a fault of the disk means for a log, and why a fault may be told.
-use Rattle.std.specs.Prelude.{ℕ, ◌<◌, ◌≤◌, Bool, true, false}
+use Rattle.std.specs.Prelude.{Bool, true, false}
 use Rattle.bk_disk.specs.declared.fault.DiskFault.{DiskFault}
 use Rattle.bk_disk.specs.declared.fault.DiskFault.TheVariants as disks
 use Rattle.bk_log.specs.declared.fault.LogFault.{LogFault}
@@ -13,11 +13,6 @@ told disks.Exists = Odd
 told disks.NoLog = Odd
 told disks.PastEnd = Odd
 told disks.TooLong = Odd
-
--- The count of the device's failures does not fall, and a failing device is told only where it rose.
-pub record IsCaused (before now : ℕ) (Told : Type 0) : Type 0 where
-  pub later : before ≤ now
-  pub failed : Told → before < now
 
 -- whether nothing is written behind a record whose write ended so
 abbrev pub is_lasting : LogFault → Bool

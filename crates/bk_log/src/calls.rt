@@ -1,7 +1,7 @@
 //! One call on the disk that changes a log, its faults told as a log's.
 
 ghost use Rattle.std.specs.Prelude.{◌≡◌, IsTrue, IsErrOf, length};
-ghost use Rattle.bk_log.specs.Faults.{IsCaused};
+ghost use Rattle.bk_disk.specs.Disk.{IsCaused};
 ghost use Rattle.bk_log.specs.Calls.{HasRoom, Adds, HasHeader, Overwrites};
 
 use crate::LogFault;

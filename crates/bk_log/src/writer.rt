@@ -3,7 +3,7 @@
 
 ghost use Rattle.std.specs.Prelude.{◌≡◌, ◌<◌, ◌^◌, IsTrue, IfOk, IsErrAnd};
 ghost use Rattle.bk_head.specs.Header.{empty_header};
-ghost use Rattle.bk_log.specs.Faults.{IsCaused};
+ghost use Rattle.bk_disk.specs.Disk.{IsCaused};
 
 mod put;
 mod seal;

@@ -2,7 +2,7 @@
 
 ghost use Rattle.std.specs.Prelude.{◌≡◌, ◌+◌, ◌<◌, ◌^◌, false, IsTrue, IsSome, IsErrOf, IfOk, length};
 ghost use Rattle.bk_record.specs.Record.{IsPayload, key_of as payload_key, ledger_field, record_of};
-ghost use Rattle.bk_log.specs.Faults.{IsCaused};
+ghost use Rattle.bk_disk.specs.Disk.{IsCaused};
 
 use crate::calls::append;
 use crate::{LogFault, LogWriter};

@@ -3,7 +3,7 @@
 
 ghost use Rattle.std.specs.Prelude.{◌≡◌, ◌↔◌, false, true, IsTrue, IsErrOf, OnOk};
 ghost use Rattle.bk_record.specs.Files.{file_of};
-ghost use Rattle.bk_log.specs.Faults.{IsCaused};
+ghost use Rattle.bk_disk.specs.Disk.{IsCaused};
 
 use crate::calls::{append_any, patch};
 use crate::{LogFault, LogWriter};

@@ -5,9 +5,9 @@ use Rattle.bk_disk.proofs.fault_disk.FaultDiskLogDisk.append.Goals as goal
 
 pub returns-then-count-clause-turn : goal.returns-then-count-clause-turn
 returns-then-count-clause-turn g c = λ honest.
-    let left = g.D.LogDisk.files c.append.new.self in
+    let left = g.D.LogDisk.files c.append-left.new.self in
     let piece = c.args.bytes.now in
     let kept = c.min-kept.result in
-    let asked = c.append.ensures.turn (ap (λ disk. disk.honest) c.self.view_is ∙ honest) in
-    let appends = subst (λ fs. Appends fs c.args.log (take kept piece) c.append.result left) (ap (λ disk. disk.files) c.self.view_is) asked in
-    grown_by_prefix c.args.self.now.files left c.args.log piece kept c.append.result appends
+    let asked = c.append-left.ensures.turn (ap (λ disk. disk.honest) c.self.view_is ∙ honest) in
+    let appends = subst (λ fs. Appends fs c.args.log (take kept piece) c.append-left.result left) (ap (λ disk. disk.files) c.self.view_is) asked in
+    grown_by_prefix c.args.self.now.files left c.args.log piece kept c.append-left.result appends

@@ -1,10 +1,11 @@
-use Rattle.std.proofs.Common.{◌∙◌, ap, arith, rules, ◌≤◌, length}
+use Rattle.std.proofs.Common.{◌∙◌, ap, arith, rules, ◌≤◌, ◌++◌, take, drop, length}
 use Rattle.std.specs.FinMap as files
-use Rattle.bk_disk.specs.Disk.{Patches}
+use Rattle.bk_disk.specs.Disk.{Patches, IsLogFile}
 use Rattle.bk_disk.specs.declared.fault.DiskFault.TheVariants.{Memory}
 use Rattle.bk_disk.specs.Logs.{files_of}
 use Rattle.bk_disk.proofs.Answered.{answer_of-map_err}
 use Rattle.bk_disk.proofs.FileMaps.{written, insert_same, patched_there}
+use Rattle.bk_disk.proofs.Bounds.{AreLogFiles-same, AreLogFiles-written, IsLogFile-patch, each_byte, on_answer}
 use Rattle.bk_disk.proofs.mem_disk.MemDiskLogDisk.patch.Goals as goal
 
 pub returns-then-len-lt20-clause-turn : goal.returns-then-len-lt20-clause-turn
@@ -24,4 +25,23 @@ returns-clause-turn c = λ _.
     answer_of-map_err (λ r. Patches old c.args.log c.args.bytes.now r (files_of (c.get_mut.follows.lender now))) _ Memory c.patch.result c.map_err.result c.map_err.ensures.cases
     (λ e f post. search rules) c.patch.ensures.ok c.patch.ensures.err
     (λ _ ok. (file, wrote.0, long, wrote.1 ∙ ap put ok ∙ patched_there _ _ _ _ wrote.0 long))
-    (λ err. wrote.1 ∙ ap put err ∙ insert_same _ _ _ wrote.0)
+    (λ err. (file, wrote.0, omega (arith, c.len.ensures.value), wrote.1 ∙ ap put err ∙ insert_same _ _ _ wrote.0))
+
+pub invariant_of-self : goal.invariant_of-self
+invariant_of-self c = AreLogFiles-same c.self.inside.logs c.get_mut.follows.lender-at-none (ap (λ logs. logs.entries) c.get_mut.follows.holds-at-none) c.self.invariant
+
+pub invariant_of-self-then-len-lt20 : goal.invariant_of-self-then-len-lt20
+invariant_of-self-then-len-lt20 c =
+    let file = c.in-Some.file.now in
+    AreLogFiles-written c.self.inside.logs (c.get_mut.follows.lender file) c.args.log file file c.in-Some.ensures.value (c.get_mut.follows.holds file)
+    (λ one. one) c.self.invariant
+
+pub invariant_of-self-2 : goal.invariant_of-self-2
+invariant_of-self-2 c =
+    let file = c.in-Some.file.now in
+    let now = c.patch.new.self in
+    let bytes = c.args.bytes.now in
+    let long : 20 ≤ length file = omega (arith, c.len.ensures.value) in
+    AreLogFiles-written c.self.inside.logs (c.get_mut.follows.lender now) c.args.log file now c.in-Some.ensures.value (c.get_mut.follows.holds now)
+    (λ one. on_answer (IsLogFile c.args.log) now (take 8 file ++ bytes ++ drop 20 file) file c.patch.result c.patch.ensures.ok c.patch.ensures.err
+    (IsLogFile-patch c.args.log file bytes one (each_byte bytes c.fits-bytes) c.told-bytes long) one) c.self.invariant
