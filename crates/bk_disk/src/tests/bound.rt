@@ -1,6 +1,6 @@
 //! The traits through their bounds: what any honest disk does.
 
-ghost use Rattle.std.specs.Prelude.{◌≡◌, ◌≤◌, ◌++◌, IsTrue, IfOk, length, drop};
+ghost use Rattle.std.specs.Prelude.{◌≡◌, ◌≤◌, ◌<◌, ◌^◌, ◌++◌, IsTrue, IfOk, length, drop};
 ghost use Rattle.std.specs.FinMap as map;
 
 use crate::{DiskFault, LogDisk, LogView, MemDisk};
@@ -17,6 +17,7 @@ pub(super) fn view_between<D: LogDisk>(
 ) -> Result<Vec<u8>, DiskFault>
     requires honest { IsTrue (D.honest disk.old) }
     requires empty { D.files disk.old ≡ map.empty }
+    requires id { log < 2 ^ 31 }
     requires headed { 1024 ≤ length first.now }
     ensures honest { D.honest disk.new ≡ D.honest disk.old }
     ensures read { IfOk result (λ read. read.items ≡ drop 1024 first.now) }

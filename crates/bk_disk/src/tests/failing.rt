@@ -1,137 +1,64 @@
-//! A disk one of whose calls fails: which one, what it leaves, and that the next goes on.
+//! A disk one of whose calls fails, or one of whose views is broken.
 
 use super::bound::view_between;
-use super::calls::disk_with;
-use crate::{DiskFault, FaultDisk, LogDisk, MemDisk};
+use super::table::{Call, Want, check, make};
+use crate::{DiskFault, FaultDisk, LogDisk, LogView, MemDisk};
 use std::alloc::Global;
 use std::process::Abort;
 use std::test::Fail;
 
-type Outcome = Result<(), DiskFault>;
-
-const LOG: u32 = 4;
-
 const BYTES: &[u8; 24] = b"0123456789abcdefghijklmn";
 
-#[derive(Clone, Copy, Debug)]
-enum Call {
-    List,
-    Length,
-    Create,
-    Append,
-    Patch,
-    Sync,
-    Read,
-    View,
-    Remove,
-}
-
-const CALLS: [Call; 9] = [
+// One call of each kind on log 4, and a new log.
+const CALLS: [Call<'static>; 9] = [
     Call::List,
-    Call::Length,
-    Call::Create,
-    Call::Append,
-    Call::Patch,
-    Call::Sync,
-    Call::Read,
-    Call::View,
-    Call::Remove,
+    Call::Length(4),
+    Call::Create(5),
+    Call::Append(4, b"appended"),
+    Call::Patch(4, b"twelve bytes"),
+    Call::Sync(4),
+    Call::Read(4, 0, 1),
+    Call::View(4),
+    Call::Remove(4),
 ];
 
-// Makes a call on a log; a `create` is of the log behind it.
-fn make<D: LogDisk>(alloc: Global, disk: &mut D, call: Call, log: u32) -> Outcome {
-    match call {
-        Call::List => disk.list(alloc).map(|_| ()),
-        Call::Length => disk.length(alloc, log).map(|_| ()),
-        Call::Create => disk.create(alloc, log.wrapping_add(1)),
-        Call::Append => disk.append(alloc, log, b"appended"),
-        Call::Patch => disk.patch(alloc, log, b"twelve bytes"),
-        Call::Sync => disk.sync(alloc, log),
-        Call::Read => disk.read_at(alloc, log, 0, 1).map(|_| ()),
-        Call::View => disk.view(alloc, log).map(|_| ()),
-        Call::Remove => disk.remove(alloc, log),
-    }
-}
-
-// A disk of one log, one call of which fails.
-fn failing(alloc: Global, k: u64, kept: usize) -> Result<FaultDisk<MemDisk>, DiskFault> {
-    Ok(FaultDisk::new(disk_with(alloc, LOG, BYTES)?, k, kept))
-}
-
-// The disk has this log alone, with these bytes.
-fn check_log<D: LogDisk>(
-    rt: &impl Abort,
-    alloc: Global,
-    disk: &mut D,
-    want: &[u8],
-) -> Result<(), Fail> {
-    assert_eq!(rt; disk.list(alloc)?.as_slice(), [LOG].as_slice());
-    assert_eq!(rt; disk.length(alloc, LOG)?, want.len() as u64);
-    let bytes = disk.read_at(alloc, LOG, 0, want.len() as u64)?;
-    assert_eq!(rt; bytes.as_slice(), want);
-    Ok(())
+// A disk of log 4.
+fn one_log(alloc: Global) -> Result<MemDisk, DiskFault> {
+    let mut disk = MemDisk::new(alloc);
+    disk.create(alloc, 4)?;
+    disk.append(alloc, 4, BYTES)?;
+    Ok(disk)
 }
 
 #[test]
 fn the_kth_of_all_calls_fails_and_no_other(rt: HostRuntime) -> Result<(), Fail> {
     let alloc = rt.alloc();
-    for before in 0..9usize {
-        let mut disk = failing(alloc, before as u64 + 1, 0)?;
-        for (made, call) in CALLS.iter().enumerate() {
-            let outcome = make(alloc, &mut disk, *call, LOG);
-            if made == before {
-                assert_eq!(rt; outcome, Err(DiskFault::Disk), "{call:?} behind {before}");
-            } else {
-                assert_eq!(rt; outcome, Ok(()), "{call:?} behind {made}");
-            }
-            assert_eq!(rt; disk.has_failed(), before <= made);
+    for k in 0..10u64 {
+        let mut disk = FaultDisk::new(one_log(alloc)?, k, 0);
+        let mut made = 0u64;
+        for call in CALLS {
+            made = made.saturating_add(1);
+            let fault = make(alloc, &mut disk, call).err();
+            assert_eq!(rt; fault == Some(DiskFault::Disk), made == k, "{call:?}");
+            assert_eq!(rt; disk.has_failed(), 0 < k && k <= made);
         }
     }
     Ok(())
 }
 
 #[test]
-fn a_failing_call_leaves_the_files_and_the_next_of_its_kind_goes_on(
-    rt: HostRuntime,
-) -> Result<(), Fail> {
+fn a_failing_call_leaves_the_files_and_the_next_goes_on(rt: HostRuntime) -> Result<(), Fail> {
     let alloc = rt.alloc();
     for call in CALLS {
-        let mut disk = failing(alloc, 1, 0)?;
-        assert_eq!(rt;
-            make(alloc, &mut disk, call, LOG),
-            Err(DiskFault::Disk),
-            "{call:?}"
-        );
-        check_log(&rt, alloc, &mut disk, BYTES)?;
-        assert_eq!(rt; make(alloc, &mut disk, call, LOG), Ok(()), "{call:?}");
-    }
-    Ok(())
-}
-
-#[test]
-fn a_call_that_is_refused_counts(rt: HostRuntime) -> Result<(), Fail> {
-    let alloc = rt.alloc();
-    for call in CALLS {
-        let mut disk = failing(alloc, 2, 0)?;
-        let refused = make(alloc, &mut disk, call, LOG.wrapping_sub(1));
-        assert_eq!(rt; refused.is_ok(), matches!(call, Call::List), "{call:?}");
-        assert!(rt; refused != Err(DiskFault::Disk));
-        assert_eq!(rt;
-            make(alloc, &mut disk, call, LOG),
-            Err(DiskFault::Disk),
-            "{call:?}"
-        );
-    }
-    Ok(())
-}
-
-#[test]
-fn no_call_fails_where_the_number_is_0(rt: HostRuntime) -> Result<(), Fail> {
-    let alloc = rt.alloc();
-    let mut disk = failing(alloc, 0, 0)?;
-    for call in CALLS {
-        assert_eq!(rt; make(alloc, &mut disk, call, LOG), Ok(()), "{call:?}");
-        assert!(rt; !disk.has_failed());
+        let mut disk = FaultDisk::new(one_log(alloc)?, 1, 0);
+        let fails = [
+            (call, Want::Fault(DiskFault::Disk)),
+            (Call::List, Want::Ids(&[4])),
+            (Call::Read(4, 0, 24), Want::Bytes(BYTES)),
+            (Call::Length(4), Want::Number(24)),
+        ];
+        check(&rt, alloc, &mut disk, &fails);
+        assert!(rt; make(alloc, &mut disk, call).is_ok(), "{call:?}");
     }
     Ok(())
 }
@@ -139,53 +66,72 @@ fn no_call_fails_where_the_number_is_0(rt: HostRuntime) -> Result<(), Fail> {
 #[test]
 fn a_failing_append_keeps_the_first_bytes(rt: HostRuntime) -> Result<(), Fail> {
     let alloc = rt.alloc();
-    for (kept, want) in [(0, 24), (7, 31), (8, 32), (9, 32), (usize::MAX, 32)] {
-        let mut disk = failing(alloc, 1, kept)?;
-        let outcome = disk.append(alloc, LOG, b"appended");
-        assert_eq!(rt; outcome, Err(DiskFault::Disk), "{kept} kept");
-        let all = b"0123456789abcdefghijklmnappended";
-        check_log(&rt, alloc, &mut disk, &all[..want])?;
-        disk.append(alloc, LOG, b"!")?;
-        assert_eq!(rt; disk.length(alloc, LOG), Ok(want as u64 + 1));
+    let all = b"0123456789abcdefghijklmnappended";
+    for (kept, left) in [(0, 24u8), (7, 31), (8, 32), (9, 32), (usize::MAX, 32)] {
+        let mut disk = FaultDisk::new(one_log(alloc)?, 1, kept);
+        let calls = [
+            (Call::Append(4, b"appended"), Want::Fault(DiskFault::Disk)),
+            (Call::Length(4), Want::Number(u64::from(left))),
+            (Call::Read(4, 0, 24), Want::Bytes(BYTES)),
+            (Call::Append(4, b"appended"), Want::Done),
+        ];
+        check(&rt, alloc, &mut disk, &calls);
+        let bytes = disk.read_at(alloc, 4, 0, u64::from(left))?;
+        assert!(rt; all.starts_with(&bytes));
     }
     Ok(())
 }
 
 #[test]
-fn a_failing_call_on_a_log_that_is_not_there_answers_disk(rt: HostRuntime) -> Result<(), Fail> {
-    let alloc = rt.alloc();
-    for call in CALLS {
-        let mut disk = failing(alloc, 1, 7)?;
-        assert_eq!(rt;
-            make(alloc, &mut disk, call, 9),
-            Err(DiskFault::Disk),
-            "{call:?}"
-        );
-        check_log(&rt, alloc, &mut disk, BYTES)?;
-    }
+fn a_failing_append_of_no_log_leaves_none(rt: HostRuntime) -> Result<(), Fail> {
+    let calls = [
+        (Call::Append(9, b"appended"), Want::Fault(DiskFault::Disk)),
+        (Call::List, Want::Ids(&[4])),
+        (Call::Append(9, b"appended"), Want::Fault(DiskFault::NoLog)),
+    ];
+    check(
+        &rt,
+        rt.alloc(),
+        &mut FaultDisk::new(one_log(rt.alloc())?, 1, 7),
+        &calls,
+    );
     Ok(())
 }
 
 #[test]
 fn an_append_that_fails_on_two_disks_keeps_the_fewer_bytes(rt: HostRuntime) -> Result<(), Fail> {
-    let alloc = rt.alloc();
+    let calls = [
+        (Call::Append(4, b"appended"), Want::Fault(DiskFault::Disk)),
+        (Call::Read(4, 20, 6), Want::Bytes(b"klmnap")),
+        (Call::Length(4), Want::Number(26)),
+    ];
     for (outer, inner) in [(2, 5), (5, 2)] {
-        let mut disk = FaultDisk::new(failing(alloc, 1, inner)?, 1, outer);
-        let outcome = disk.append(alloc, LOG, b"appended");
-        assert_eq!(rt; outcome, Err(DiskFault::Disk));
-        check_log(&rt, alloc, &mut disk, b"0123456789abcdefghijklmnap")?;
+        let underneath = FaultDisk::new(one_log(rt.alloc())?, 1, inner);
+        check(
+            &rt,
+            rt.alloc(),
+            &mut FaultDisk::new(underneath, 1, outer),
+            &calls,
+        );
     }
     Ok(())
 }
 
 #[test]
-fn a_disk_over_a_failing_one_fails_with_it(rt: HostRuntime) -> Result<(), Fail> {
+fn the_chosen_view_is_broken_and_no_other(rt: HostRuntime) -> Result<(), Fail> {
     let alloc = rt.alloc();
-    let mut disk = FaultDisk::new(failing(alloc, 2, 0)?, 2, 0);
-    disk.sync(alloc, LOG)?;
-    assert_eq!(rt; disk.sync(alloc, LOG), Err(DiskFault::Disk));
-    assert_eq!(rt; disk.sync(alloc, LOG), Err(DiskFault::Disk));
-    disk.sync(alloc, LOG)?;
+    for j in 0..4u64 {
+        let mut disk = FaultDisk::broken_view(one_log(alloc)?, j);
+        assert_eq!(rt; disk.view(alloc, 9).err(), Some(DiskFault::NoLog));
+        for number in 1..=4u64 {
+            let view = disk.view(alloc, 4)?;
+            let read = view.read_at(alloc, 1024, 0).err();
+            assert_eq!(rt; read == Some(DiskFault::Disk), number == j);
+            let past = view.read_at(alloc, 0, 0).err();
+            assert_eq!(rt; past == Some(DiskFault::PastEnd), number != j);
+        }
+        assert!(rt; !disk.has_failed());
+    }
     Ok(())
 }
 
