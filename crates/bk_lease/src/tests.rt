@@ -1,6 +1,6 @@
 //! What no clause says: that the calls succeed, in the order of a worked example and with threads,
 //! and that the contracts are enough for a caller.
-ghost use Rattle.std.specs.Prelude.{◌≡◌, IfOk, OnOk, OnErr};
+ghost use Rattle.std.specs.Prelude.{◌≡◌, ◌^◌, ◌<◌, IfOk, OnOk, OnErr};
 ghost use Rattle.bk_lease.specs.Leases.{IsOpen};
 ghost use Rattle.bk_lease.specs.Values.{new_ticket, with_given};
 
@@ -9,11 +9,23 @@ mod rows;
 mod size;
 mod threads;
 
-use crate::{Keeper, Lease, PinFault};
+use crate::{Keeper, Lease, LeaseTable, PinFault};
+use std::alloc::{AllocError, Global};
 use std::sync::Arc;
 
 /// What the leases of these tests show.
 type Bytes = Vec<u8>;
+
+// A keeper with log 5 in its one slot, and a byte for leases of it to show.
+fn one_log(alloc: Global, most: u64) -> Result<(Keeper, Arc<Bytes>), AllocError>
+    requires { (0 < most) × (most < 2 ^ 16) }
+    ensures { IfOk result (λ made. IsOpen made.0.slots 0) }
+{
+    let view = Arc::new(alloc, vec![in alloc; 104; 1]?)?;
+    let mut keeper = LeaseTable::new(alloc, 1, most)?;
+    keeper.open(0, 5);
+    Ok((keeper, view))
+}
 
 fn lease(keeper: &mut Keeper, slot: usize, view: &Arc<Bytes>) -> Result<Lease<Bytes>, PinFault>
     requires { IsOpen keeper.old.slots slot }

@@ -4,8 +4,8 @@ ghost use Rattle.std.specs.Prelude.{◌≡◌, ◌≢◌, ◌^◌, ◌<◌, leng
 ghost use Rattle.std.specs.Option.{ForSome};
 ghost use Rattle.bk_lease.specs.Leases.{IsOpen, IsClosed, log_at};
 
-use super::{Bytes, lease};
-use crate::{Closed, Keeper, Lease, LeaseTable, Leased, PinFault, Slot};
+use super::{Bytes, lease, one_log};
+use crate::{Closed, Keeper, Lease, Leased, PinFault, Slot};
 use std::sync::{Arc, Mutex, Wait};
 use std::test::Fail;
 use std::thread;
@@ -66,9 +66,7 @@ impl Store {
 
 #[test]
 fn store_closes_a_slot_that_its_reader_has_left(rt: HostRuntime) -> Result<(), Fail> {
-    let view = Arc::new(rt.alloc(), Bytes::new(rt.alloc()))?;
-    let mut keeper = LeaseTable::new(rt.alloc(), 2, 1)?;
-    keeper.open(0, 5);
+    let (keeper, view) = one_log(rt.alloc(), 1)?;
     let mut store = Store::new(keeper);
     store.take(0, &view)?;
     assert!(rt; matches!(store.close(0), Err(Leased { count: 1 })));
@@ -95,9 +93,7 @@ fn close_shared(
 
 #[test]
 fn shared_keeper_closes_while_a_lease_ends_without_the_lock(rt: HostRuntime) -> Result<(), Fail> {
-    let view = Arc::new(rt.alloc(), Bytes::new(rt.alloc()))?;
-    let mut keeper = LeaseTable::new(rt.alloc(), 1, 1)?;
-    keeper.open(0, 5);
+    let (mut keeper, view) = one_log(rt.alloc(), 1)?;
     let lease = lease(&mut keeper, 0, &view)?;
     let keeper = Arc::new(rt.alloc(), Mutex::new(keeper))?;
     let held = keeper.lock(&rt);

@@ -1,44 +1,39 @@
 //! Worked examples on one thread.
 ghost use Rattle.std.specs.Prelude.{◌^◌, ◌<◌, ◌≤◌};
 
-use super::{Bytes, lease};
+use super::{Bytes, lease, one_log};
 use crate::{Lease, LeaseTable, Leased, PinFault, Slot};
 use std::alloc::{AllocError, Global};
-use std::sync::Arc;
 use std::test::Fail;
 
-// Leaves by `?`, which drops the lease: there is no byte to read.
-fn first_byte(lease: Lease<Bytes>) -> Option<u8> {
-    let first = lease.view().first()?;
-    Some(*first)
+// Leaves by `?`, which drops the lease: there is no second byte.
+fn second_byte(lease: Lease<Bytes>) -> Option<u8> {
+    let byte = lease.view().get(1)?;
+    Some(*byte)
 }
 
 #[test]
 fn closes_once_both_leases_are_given_back(rt: HostRuntime) -> Result<(), Fail> {
-    let view = Arc::new(rt.alloc(), Bytes::new(rt.alloc()))?;
-    let mut keeper = LeaseTable::new(rt.alloc(), 1, 2)?;
-    keeper.open(0, 5);
+    let (mut keeper, view) = one_log(rt.alloc(), 2)?;
     let first = lease(&mut keeper, 0, &view)?;
     let second = lease(&mut keeper, 0, &view)?;
     assert!(rt; matches!(lease(&mut keeper, 0, &view), Err(PinFault::TooMany)));
     assert!(rt; matches!(keeper.close(0), Err(Leased { count: 2 })));
     first.release().end();
     assert!(rt; matches!(keeper.close(0), Err(Leased { count: 1 })));
-    assert!(rt; first_byte(second).is_none());
+    assert!(rt; second_byte(second).is_none());
     assert!(rt; keeper.close(0).is_ok());
     Ok(())
 }
 
 #[test]
 fn lease_outlives_its_keeper(rt: HostRuntime) -> Result<(), Fail> {
-    let view = Arc::new(rt.alloc(), vec![in rt.alloc(); 104; 1]?)?;
-    let mut keeper = LeaseTable::new(rt.alloc(), 1, 1)?;
-    keeper.open(0, 5);
+    let (mut keeper, view) = one_log(rt.alloc(), 1)?;
     let lease = lease(&mut keeper, 0, &view)?;
     drop(keeper);
     drop(view);
     assert!(rt; lease.slot() == 0 && lease.log() == 5);
-    assert_eq!(rt; first_byte(lease), Some(104));
+    assert!(rt; matches!(lease.view().first(), Some(104)));
     Ok(())
 }
 

@@ -1,16 +1,13 @@
 //! Leases that are given back in other threads.
 
-use super::{Bytes, lease};
-use crate::{LeaseTable, Leased};
-use std::sync::Arc;
+use super::{lease, one_log};
+use crate::Leased;
 use std::test::Fail;
 use std::thread;
 
 #[test]
 fn counts_only_fall_while_two_threads_give_back(rt: HostRuntime) -> Result<(), Fail> {
-    let view = Arc::new(rt.alloc(), Bytes::new(rt.alloc()))?;
-    let mut keeper = LeaseTable::new(rt.alloc(), 1, 2)?;
-    keeper.open(0, 5);
+    let (mut keeper, view) = one_log(rt.alloc(), 2)?;
     let released = lease(&mut keeper, 0, &view)?;
     let dropped = lease(&mut keeper, 0, &view)?;
 
