@@ -6,8 +6,8 @@ use Rattle.std.specs.FinMap.{entries_sorted}
 use Rattle.std.proofs.lemmas.Map.Entries.{lookup-filter-keys}
 use Rattle.bk_record.specs.Key.{EntryKey}
 use Rattle.bk_record.specs.Scan.{Payloads}
-use Rattle.bk_index.proofs.KeyOrder.{key_cmp_total}
-use Rattle.bk_index.proofs.SortedPairs.{is_true, Some-same, filter-behind}
+use Rattle.bk_record.proofs.Keys.{key_cmp_total}
+use Rattle.bk_record.proofs.SortedPairs.{is_true, Some-same, filter-behind}
 use Rattle.bk_cache.specs.Recents.{Recents, Entry, same_key, recent_of, remembered, without_recent, IsOldOrRemembered}
 use Rattle.bk_cache.specs.Caches.{first_after}
 use Rattle.bk_cache.proofs.RecentPuts.{same_key_exact}

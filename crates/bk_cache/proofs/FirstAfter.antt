@@ -11,9 +11,9 @@ use Rattle.std.proofs.lemmas.Option.{slice_get-map}
 use Rattle.bk_record.specs.Key.{EntryKey, key_cmp}
 use Rattle.bk_record.specs.Record.{read_added}
 use Rattle.bk_record.specs.Scan.{Payloads}
-use Rattle.bk_index.proofs.KeyOrder.{key_cmp_total}
-use Rattle.bk_index.proofs.SortedPairs.{find_at}
-use Rattle.bk_index.proofs.SortedMaps.{entries-sorted}
+use Rattle.bk_record.proofs.Keys.{key_cmp_total}
+use Rattle.bk_record.proofs.SortedPairs.{find_at}
+use Rattle.bk_record.proofs.SortedMaps.{entries-sorted}
 use Rattle.bk_cache.specs.Kept.{IsKept}
 use Rattle.bk_cache.specs.Recents.{Entry}
 use Rattle.bk_cache.specs.Caches.{first_after}

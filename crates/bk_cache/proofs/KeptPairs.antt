@@ -9,9 +9,9 @@ use Rattle.std.specs.FinMap.Entries.{find-put, find-where_key}
 use Rattle.std.proofs.lemmas.Map.Entries.{sum_by-insert_entry}
 use Rattle.bk_record.specs.Key.{EntryKey, key_cmp}
 use Rattle.bk_record.specs.Record.{read_added}
-use Rattle.bk_index.proofs.KeyOrder.{key_cmp_total, key_cmp_exact}
-use Rattle.bk_index.proofs.SortedPairs.{Some-same, keys_rise, find-lookup, is_sorted_put}
-use Rattle.bk_index.proofs.SortedMaps.{entries-sorted, get-sorted, is_sorted-filter}
+use Rattle.bk_record.proofs.Keys.{key_cmp_total, key_cmp_antisymmetric}
+use Rattle.bk_record.proofs.SortedPairs.{Some-same, keys_rise, find-lookup, is_sorted_put}
+use Rattle.bk_record.proofs.SortedMaps.{entries-sorted, get-sorted, is_sorted-filter}
 use Rattle.bk_cache.specs.Recents.{Entry}
 use Rattle.bk_cache.proofs.Seen.{insert_entry-put}
 use Rattle.bk_cache.specs.Kept.{IsKept}
@@ -41,7 +41,7 @@ module _ (pairs : List Entry) (used : ℕ) (kept : IsKept pairs used) where
       keyed_put : (key : EntryKey) (payload : List ℕ) → read_added payload ≡ Ok key → (q : EntryKey) (p : List ℕ) → cond (eq_by_cmp key_cmp q key) (Some payload) (find key_cmp q pairs) ≡ Some p → read_added p ≡ Ok q
       keyed_put key payload keyed q p =
           elim (eq_by_cmp key_cmp q key) as (λ b. eq_by_cmp key_cmp q key ≡ b → cond b (Some payload) (find key_cmp q pairs) ≡ Some p → read_added p ≡ Ok q) [
-            | true ↦ λ tied is. subst (λ (bytes : List ℕ). read_added bytes ≡ Ok q) (Some-same is) (keyed ∙ ap Ok (sym (key_cmp_exact q key ((Equal-is (key_cmp q key)).0 tied))))
+            | true ↦ λ tied is. subst (λ (bytes : List ℕ). read_added bytes ≡ Ok q) (Some-same is) (keyed ∙ ap Ok (sym (key_cmp_antisymmetric q key ((Equal-is (key_cmp q key)).0 tied))))
             | false ↦ λ _ is. kept.keyed q p is
           ] refl
 
@@ -49,7 +49,7 @@ module _ (pairs : List Entry) (used : ℕ) (kept : IsKept pairs used) where
   pub kept_filter : (p : EntryKey → Bool) → IsKept (filter (λ e. p e.0) pairs) (sum_by length (values_of (filter (λ e. p e.0) pairs)))
   kept_filter p = record {
     sorted = is_sorted-filter key_cmp pairs kept.sorted p;
-    keyed = λ q bytes is. kept.keyed q bytes (left (p q) (sym (find-where_key key_cmp p q (λ x tied. ap p (sym (key_cmp_exact q x tied))) pairs) ∙ is));
+    keyed = λ q bytes is. kept.keyed q bytes (left (p q) (sym (find-where_key key_cmp p q (λ x tied. ap p (sym (key_cmp_antisymmetric q x tied))) pairs) ∙ is));
     counted = refl;
   }
     where

@@ -1,6 +1,9 @@
 pub mod Options
 pub mod Seen
 pub mod KeptPairs
+pub mod KeyedPayloads
+pub mod LedgerKeys
+pub mod RemovedPairs
 pub mod CachePairs
 pub mod FirstAfter
 pub mod RecentTurns

@@ -5,7 +5,7 @@ use Rattle.std.proofs.Math.ListN.{drop_of_length-le}
 use Rattle.std.proofs.lemmas.List.{take_more, take_all}
 use Rattle.std.proofs.lemmas.List.Elements.{filter-append}
 use Rattle.lru.specs.LruCache.{LruCache, lru_cache, demoted}
-use Rattle.bk_index.proofs.SortedPairs.{Some-same}
+use Rattle.bk_record.proofs.SortedPairs.{Some-same}
 
 demoted-first : {K X : Type 0} (test : K → Bool) (e : K × X) (es : List (K × X)) → test e.0 ≡ true → demoted test (e ∷ es) ≡ es ++ e ∷ []
 demoted-first test e es is = rw is

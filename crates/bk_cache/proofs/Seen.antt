@@ -11,8 +11,8 @@ use Rattle.std.specs.FinMap.{find, put, is_sorted, from_sorted, get as map_get}
 use Rattle.std.specs.FinMap.Entries.{by_order}
 use Rattle.std.proofs.lemmas.List.Sums.{sum_by-cons}
 use Rattle.std.proofs.lemmas.Map.Made.{lookup-map_values}
-use Rattle.bk_index.proofs.SortedPairs.{find-lookup}
-use Rattle.bk_index.proofs.SortedMaps.{get-sorted}
+use Rattle.bk_record.proofs.SortedPairs.{find-lookup}
+use Rattle.bk_record.proofs.SortedMaps.{get-sorted}
 
 pub sum_by-map : {A B : Type 0} (g : B → ℕ) (f : A → B) (xs : List A) → sum_by g (map f xs) ≡ sum_by (λ x. g (f x)) xs
 sum_by-map g f [] = refl

@@ -1,28 +1,30 @@
 -- What the two write caches keep together, through each change.
-use Rattle.std.proofs.Common.{◌≡◌, ℕ, ◌+◌, ◌≤◌, true, false, cond, eqb, List, length, Option, Some, None, IsSome, option_map, unwrap_or, is_some, refl, sym, ap, subst, ◌∙◌, arith}
+use Rattle.std.proofs.Common.{◌≡◌, ℕ, ◌+◌, ◌≤◌, true, false, cond, eqb, List, length, Option, Some, None, IsSome, option_map, unwrap_or, is_some, Ok, refl, sym, ap, subst, ◌∙◌, arith}
 use mathlib.Core.Bool.{false≢true}
 use Rattle.std.specs.Ordering.{eq_by_cmp}
 use Rattle.std.specs.Cmp.{Equal-is}
 use Rattle.std.specs.Option.{option_or}
 use Rattle.std.specs.FinMap.{empty, get, get-empty, get-insert}
 use Rattle.bk_record.specs.Key.{EntryKey, key_cmp}
+use Rattle.bk_record.specs.Record.{read_added}
 use Rattle.bk_record.specs.Scan.{Payloads}
-use Rattle.bk_index.specs.Keyed.{without_ledger}
-use Rattle.bk_index.proofs.KeyOrder.{key_cmp_total, key_cmp_exact}
-use Rattle.bk_index.proofs.KeyedLaws.{get-without_ledger}
+use Rattle.bk_record.specs.Keyed.{without_ledger}
+use Rattle.bk_record.proofs.Keys.{key_cmp_total, key_cmp_antisymmetric}
+use Rattle.bk_record.proofs.KeyedLaws.{get-without_ledger}
 use Rattle.bk_cache.specs.Recents.{Recents, without_recent}
 use Rattle.bk_cache.specs.Caches.{CacheState, used_of, flush_of, held, added_key, with_added, without, new_caches}
 use Rattle.bk_cache.specs.Kept.{IsSound}
+use Rattle.bk_cache.proofs.KeyedPayloads.{keyed_empty, keyed_insert, keyed_without, keyed_flush_without}
 use Rattle.bk_cache.proofs.Used.{used_of-empty, used_of-insert, used_of-without_ledger-le}
 
 pub sound_new : (limit most : ℕ) → limit ≤ 1073741824 → IsSound (new_caches limit most)
-sound_new limit most limited = record { within = rw used_of-empty (omega arith); limited = limited; apart = λ key has. get-empty key_cmp key }
+sound_new limit most limited = record { within = rw used_of-empty (omega arith); limited = limited; apart = λ key has. get-empty key_cmp key; keyed = keyed_empty; flush_keyed = keyed_empty }
 
 pub sound_done : (s : CacheState) → IsSound s → IsSound (record s { flush = None })
-sound_done s sound = record { within = sound.within; limited = sound.limited; apart = λ key has. get-empty key_cmp key }
+sound_done s sound = record { within = sound.within; limited = sound.limited; apart = λ key has. get-empty key_cmp key; keyed = sound.keyed; flush_keyed = keyed_empty }
 
 pub sound_swapped : (s : CacheState) → IsSound s → IsSound (record s { active = empty; flush = Some s.active })
-sound_swapped s sound = record { within = rw used_of-empty (omega arith); limited = sound.limited; apart = λ key has. absurd (false≢true (ap is_some (sym (get-empty key_cmp key)) ∙ has)) }
+sound_swapped s sound = record { within = rw used_of-empty (omega arith); limited = sound.limited; apart = λ key has. absurd (false≢true (ap is_some (sym (get-empty key_cmp key)) ∙ has)); keyed = keyed_empty; flush_keyed = sound.keyed }
 
 -- neither cache has a key
 pub neither : (a b : Option (List ℕ)) → option_or a b ≡ None → (a ≡ None) × (b ≡ None)
@@ -32,17 +34,19 @@ neither (Some x) b none = cc
 apart_added : (active flush : Payloads) (key : EntryKey) (payload : List ℕ) → ((q : EntryKey) → IsSome (get active q) → get flush q ≡ None) → get flush key ≡ None → (q : EntryKey) → IsSome (cond (eq_by_cmp key_cmp q key) (Some payload) (get active q)) → get flush q ≡ None
 apart_added active flush key payload apart none q =
     elim (eq_by_cmp key_cmp q key) as (λ b. eq_by_cmp key_cmp q key ≡ b → IsSome (cond b (Some payload) (get active q)) → get flush q ≡ None) [
-      | true ↦ λ tied has. ap (get flush) (key_cmp_exact q key ((Equal-is (key_cmp q key)).0 tied)) ∙ none
+      | true ↦ λ tied has. ap (get flush) (key_cmp_antisymmetric q key ((Equal-is (key_cmp q key)).0 tied)) ∙ none
       | false ↦ λ _ has. apart q has
     ] refl
 
-pub sound_added : (s : CacheState) (payload : List ℕ) → IsSound s → held s (added_key payload) ≡ None → used_of s.active + length payload ≤ s.limit → IsSound (with_added s payload)
-sound_added s payload sound absent fits =
+pub sound_added : (s : CacheState) (payload : List ℕ) → IsSound s → read_added payload ≡ Ok (added_key payload) → held s (added_key payload) ≡ None → used_of s.active + length payload ≤ s.limit → IsSound (with_added s payload)
+sound_added s payload sound own absent fits =
     let none = neither (get s.active (added_key payload)) (get (flush_of s) (added_key payload)) absent in
     record {
       within = rw (used_of-insert s.active (added_key payload) payload none.0) fits;
       limited = sound.limited;
       apart = λ q has. apart_added s.active (flush_of s) (added_key payload) payload sound.apart none.1 q (ap is_some (sym (get-insert key_cmp_total s.active (added_key payload) payload q)) ∙ has);
+      keyed = keyed_insert s.active (added_key payload) payload sound.keyed own;
+      flush_keyed = sound.flush_keyed;
     }
 
 apart_without : (active : Payloads) (flush : Option Payloads) (ledger : ℕ) → ((q : EntryKey) → IsSome (get active q) → get (unwrap_or flush empty) q ≡ None) → (q : EntryKey) → IsSome (get (without_ledger active ledger) q) → get (unwrap_or (option_map (λ m. without_ledger m ledger) flush) empty) q ≡ None
@@ -59,6 +63,8 @@ sound_without s ledger sound = record {
   within = omega (arith, used_of-without_ledger-le s.active ledger, sound.within);
   limited = sound.limited;
   apart = apart_without s.active s.flush ledger sound.apart;
+  keyed = keyed_without s.active ledger sound.keyed;
+  flush_keyed = keyed_flush_without s.flush ledger sound.flush_keyed;
 }
 
 -- the same, told of each part

@@ -8,11 +8,11 @@ use Rattle.std.proofs.lemmas.List.Filters.{sum_by-filter_both}
 use Rattle.std.proofs.lemmas.Map.Entries.{sum_by-insert_entry}
 use Rattle.bk_record.specs.Key.{EntryKey, key_cmp}
 use Rattle.bk_record.specs.Scan.{Payloads}
-use Rattle.bk_index.specs.Keyed.{without_ledger, ledger_count}
-use Rattle.bk_index.proofs.KeyOrder.{key_cmp_total}
-use Rattle.bk_index.proofs.SortedPairs.{is_true, keys_rise, find-lookup}
-use Rattle.bk_index.proofs.SortedMaps.{entries-sorted, from_sorted-nil}
-use Rattle.bk_index.proofs.KeyedLaws.{entries-without_ledger}
+use Rattle.bk_record.specs.Keyed.{without_ledger, ledger_count}
+use Rattle.bk_record.proofs.Keys.{key_cmp_total}
+use Rattle.bk_record.proofs.SortedPairs.{is_true, keys_rise, find-lookup}
+use Rattle.bk_record.proofs.SortedMaps.{entries-sorted, from_sorted-nil}
+use Rattle.bk_record.proofs.KeyedLaws.{entries-without_ledger}
 use Rattle.bk_cache.specs.Recents.{Entry}
 use Rattle.bk_cache.specs.Caches.{used_of}
 use Rattle.bk_cache.proofs.Seen.{insert_entry-put, sum_by-map}

@@ -8,7 +8,7 @@ use Rattle.std.specs.FinMap as map
 use Rattle.bk_record.specs.Key.{EntryKey, key_cmp}
 use Rattle.bk_record.specs.Record.{read_added}
 use Rattle.bk_record.specs.Scan.{Payloads}
-use Rattle.bk_index.specs.Keyed.{key_code, without_ledger}
+use Rattle.bk_record.specs.Keyed.{key_code, without_ledger}
 use Rattle.bk_cache.specs.Recents.{Recents, Entry, recents_code, recent_of, without_recent}
 
 -- What the caches hold. Adds go to `active`; `flush` has what a running flush writes, and is None where none runs.

@@ -5,7 +5,7 @@ use Rattle.std.specs.FinMap.{find, is_sorted}
 use Rattle.bk_record.specs.Key.{EntryKey, key_cmp}
 use Rattle.bk_record.specs.Record.{read_added}
 use Rattle.bk_cache.specs.Recents.{Entry}
-use Rattle.bk_cache.specs.Caches.{CacheState, used_of, AreApart}
+use Rattle.bk_cache.specs.Caches.{CacheState, used_of, flush_of, AllKeyed, AreApart}
 
 -- the pairs are in the order of their keys, each payload stands under the key that it gives, and these are their bytes
 pub record IsKept (pairs : List Entry) (used : ℕ) : Type 0 where
@@ -13,8 +13,11 @@ pub record IsKept (pairs : List Entry) (used : ℕ) : Type 0 where
   pub keyed : (key : EntryKey) (payload : List ℕ) → find key_cmp key pairs ≡ Some payload → read_added payload ≡ Ok key
   pub counted : used ≡ sum_by length (values_of pairs)
 
--- what the two write caches keep together
+-- What the two write caches keep together, before and after every call: the active cache's payloads are within the limit,
+-- no key is in both, and each payload stands under the key that it gives.
 pub record IsSound (s : CacheState) : Type 0 where
   pub within : used_of s.active ≤ s.limit
   pub limited : s.limit ≤ 1073741824
   pub apart : AreApart s
+  pub keyed : AllKeyed s.active
+  pub flush_keyed : AllKeyed (flush_of s)

@@ -3,7 +3,7 @@ use Rattle.std.specs.Prelude.{◌≡◌, ◌⊎◌, ℕ, ◌-◌, Bool, not, ◌
 use Rattle.std.specs.Coded.{Coded, code_by, coded×, coded_list, coded_ℕ}
 use Rattle.std.specs.Map.{lookup, remove_entry}
 use Rattle.bk_record.specs.Key.{EntryKey}
-use Rattle.bk_index.specs.Keyed.{key_code}
+use Rattle.bk_record.specs.Keyed.{key_code}
 
 -- a key and the payload that it stands for
 abbrev pub Entry : Type 0

@@ -1,10 +1,9 @@
 //! One write cache: the payload of each key, shared, and how many bytes the payloads have together.
 
-ghost use Rattle.std.specs.Prelude.{◌≡◌, ◌↔◌, ◌+◌, ◌<◌, ◌^◌, Ok, None, length, option_map, sum_by, IfSome, OnOk, OnErr, IsTrue};
-ghost use Rattle.std.specs.BTreeMap.{values};
+ghost use Rattle.std.specs.Prelude.{◌≡◌, ◌↔◌, ◌+◌, ◌<◌, ◌^◌, Ok, None, length, option_map, IsSome, IfSome, IfNone, OnOk, OnErr};
 ghost use Rattle.std.specs.FinMap as map;
 ghost use Rattle.bk_record.specs.Record.{read_added};
-ghost use Rattle.bk_index.specs.Keyed.{without_ledger, ledger_count};
+ghost use Rattle.bk_record.specs.Keyed.{without_ledger, ledger_count};
 ghost use Rattle.bk_cache.specs.Caches.{used_of, AllKeyed, first_after};
 
 use crate::Flushing;
@@ -93,9 +92,37 @@ impl Cache {
         ensures bound { result < 2 ^ 63 }
     {
         let before = self.len();
-        self.pairs.retain(|key, _| key.ledger() != ledger);
-        self.used = payload_bytes(&self.pairs);
+        // A ledger's keys stand together, so that no other is looked at but the one behind them.
+        while let Some(key) = self.first_of(ledger) {
+            self.remove(&key);
+        }
         before - self.len()
+    }
+
+    // The first key of a ledger.
+    fn first_of(&self, ledger: u64) -> Option<Key>
+        ensures some { IfSome result (λ key. (key.ledger ≡ ledger) × IsSome (map.get self.now key)) }
+        ensures none { IfNone result (without_ledger self.now ledger ≡ self.now) }
+    {
+        let pairs = &self.pairs;
+        let first = Key::new(ledger, 0)?;
+        let (key, _) = pairs
+            .range((Bound::Included(first), Bound::Unbounded))
+            .next()?;
+        if key.ledger() == ledger {
+            Some(*key)
+        } else {
+            None
+        }
+    }
+
+    // Takes an entry out, where the cache has one of the key.
+    fn remove(&mut self, key: &Key)
+        ensures { self.new ≡ map.remove self.old key.now }
+    {
+        if let Some(payload) = self.pairs.remove(key) {
+            self.used -= payload.len() as u64;
+        }
     }
 
     /// The entries in key order.
@@ -123,16 +150,4 @@ impl Cache {
             .next()?;
         Some((*next, payload))
     }
-}
-
-// How many bytes the payloads have together.
-fn payload_bytes(pairs: &BTreeMap<Key, Arc<Vec<u8>>>) -> u64
-    requires { sum_by (λ payload. length payload.value.items) (values pairs.now) < 2 ^ 64 }
-    ensures { result ≡ sum_by (λ payload. length payload.value.items) (values pairs.now) }
-{
-    let mut bytes = 0;
-    for payload in pairs.values() {
-        bytes += payload.len() as u64;
-    }
-    bytes
 }

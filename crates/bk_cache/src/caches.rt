@@ -5,9 +5,10 @@ ghost use Rattle.std.specs.Prelude.{◌≡◌, ◌↔◌, ◌⊎◌, ◌+◌, �
 ghost use Rattle.std.specs.FinMap as map;
 ghost use Rattle.bk_record.specs.Key.{EntryKey};
 ghost use Rattle.bk_record.specs.Record.{read_added};
-ghost use Rattle.bk_index.specs.Keyed.{ledger_count};
+ghost use Rattle.bk_record.specs.Keyed.{ledger_count};
 ghost use Rattle.bk_cache.specs.Recents.{recent_of, remembered, IsOldOrRemembered};
 ghost use Rattle.bk_cache.specs.Caches.{added_key, used_of, IsFull, flush_of, held, cached, AllKeyed, AreApart, first_after, new_caches, with_added, without};
+ghost use Rattle.bk_cache.specs.Kept.{IsSound};
 ghost use Rattle.bk_cache.specs.Turns.{SwapTurn, IsFaultOf};
 
 use crate::cache::Cache;
@@ -48,7 +49,8 @@ impl Caches {
     /// only error is want of memory.
     pub fn new(alloc: Global, limit: u64, recent: u32) -> Result<Caches, AllocError>
         requires { limit ≤ 1073741824 }
-        ensures { IfOk result (λ caches. caches ≡ new_caches limit recent) }
+        ensures value { IfOk result (λ caches. caches ≡ new_caches limit recent) }
+        ensures sound { IfOk result IsSound }
     {
         Ok(Caches {
             alloc,
@@ -61,7 +63,8 @@ impl Caches {
 
     /// How many payload bytes the active cache may have.
     pub fn limit(&self) -> u64
-        ensures { result ≡ self.now.limit }
+        ensures value { result ≡ self.now.limit }
+        ensures sound { IsSound self.now }
     {
         self.limit
     }
@@ -70,13 +73,15 @@ impl Caches {
     pub fn used(&self) -> u64
         ensures value { result ≡ used_of self.now.active }
         ensures within { result ≤ self.now.limit }
+        ensures sound { IsSound self.now }
     {
         self.active.used()
     }
 
     /// Whether one of the two write caches has the key.
     pub fn holds(&self, key: &Key) -> bool
-        ensures { result ≡ is_some (held self.now key.now) }
+        ensures value { result ≡ is_some (held self.now key.now) }
+        ensures sound { IsSound self.now }
     {
         self.written(key).is_some()
     }
@@ -86,6 +91,7 @@ impl Caches {
     pub fn get(&self, key: &Key) -> Option<&Arc<Vec<u8>>>
         ensures value { option_map (λ payload. payload.now.value.items) result ≡ cached self.now key.now }
         ensures keyed { IsSome (held self.now key.now) → IfSome result (λ payload. read_added payload.now.value.items ≡ Ok key.now) }
+        ensures sound { IsSound self.now }
     {
         match self.written(key) {
             Some(payload) => Some(payload),
@@ -97,6 +103,7 @@ impl Caches {
     fn written(&self, key: &Key) -> Option<&Arc<Vec<u8>>>
         ensures value { option_map (λ payload. payload.now.value.items) result ≡ held self.now key.now }
         ensures keyed { IfSome result (λ payload. read_added payload.now.value.items ≡ Ok key.now) }
+        ensures sound { IsSound self.now }
     {
         match (self.active.get(key), &self.flush) {
             (Some(payload), _) => Some(payload),
@@ -117,6 +124,7 @@ impl Caches {
         ensures full { (result ≡ Err (CacheFault.Full (used_of self.old.active) self.old.limit)) ↔ IsFull self.old payload.now }
         ensures only { IfErr result (IsFaultOf self.old) }
         ensures err { OnErr result (self.new ≡ self.old) }
+        ensures sound { IsSound self.new }
     {
         let used = self.active.used();
         let limit = self.limit;
@@ -136,7 +144,8 @@ impl Caches {
     /// Makes the active cache the flushing one, and answers how many entries it has. `Running` where a flush runs, also
     /// one whose entries were all taken out, and else `Nothing` where no entry came in: then nothing changes.
     pub fn swap(&mut self) -> Swap
-        ensures { SwapTurn self.old result self.new }
+        ensures turn { SwapTurn self.old result self.new }
+        ensures sound { IsSound self.new }
     {
         if self.flush.is_some() {
             return Swap::Running;
@@ -152,14 +161,16 @@ impl Caches {
 
     /// Whether a flush runs.
     pub fn is_flushing(&self) -> bool
-        ensures { IsTrue result ↔ IsSome self.now.flush }
+        ensures value { IsTrue result ↔ IsSome self.now.flush }
+        ensures sound { IsSound self.now }
     {
         self.flush.is_some()
     }
 
     /// How many entries the running flush has, 0 where none runs.
     pub fn flush_len(&self) -> u64
-        ensures { result ≡ map.len (flush_of self.now) }
+        ensures value { result ≡ map.len (flush_of self.now) }
+        ensures sound { IsSound self.now }
     {
         match &self.flush {
             Some(flush) => flush.len(),
@@ -171,6 +182,7 @@ impl Caches {
     pub fn flushing(&self) -> Flushing<'_>
         ensures items { result ≡ map.entries (flush_of self.now) }
         ensures keyed { AllKeyed (flush_of self.now) }
+        ensures sound { IsSound self.now }
     {
         match &self.flush {
             Some(flush) => flush.walk(),
@@ -182,6 +194,7 @@ impl Caches {
     pub fn flushing_after(&self, key: Option<Key>) -> Option<(Key, &Arc<Vec<u8>>)>
         ensures value { option_map (λ e. (e.0, e.1.now.value.items)) result ≡ first_after key (flush_of self.now) }
         ensures keyed { IfSome result (λ e. read_added e.1.now.value.items ≡ Ok e.0) }
+        ensures sound { IsSound self.now }
     {
         match &self.flush {
             Some(flush) => flush.first_after(key),
@@ -191,7 +204,8 @@ impl Caches {
 
     /// Ends the flush, if one runs: its entries go.
     pub fn done(&mut self)
-        ensures { self.new ≡ record self.old { flush = None } }
+        ensures value { self.new ≡ record self.old { flush = None } }
+        ensures sound { IsSound self.new }
     {
         self.flush = None;
     }
@@ -203,6 +217,7 @@ impl Caches {
         ensures recent { (self.new ≡ self.old) ⊎ (self.new ≡ record self.old { recent = remembered self.old.recent key payload.value.items }) }
         ensures replaced { IsSome (recent_of self.old.recent key) → self.new ≡ record self.old { recent = remembered self.old.recent key payload.value.items } }
         ensures only { (q : EntryKey) → IfSome (recent_of self.new.recent q) (IsOldOrRemembered self.old.recent key payload.value.items q) }
+        ensures sound { IsSound self.new }
     {
         self.recent.remember(&key, payload);
     }
@@ -211,6 +226,7 @@ impl Caches {
     pub fn recent_len(&self) -> u64
         ensures value { result ≡ length self.now.recent.entries }
         ensures within { result ≤ self.now.recent.most }
+        ensures sound { IsSound self.now }
     {
         self.recent.len() as u64
     }
@@ -221,6 +237,7 @@ impl Caches {
         ensures left { self.new ≡ without self.old ledger }
         ensures count { result ≡ ledger_count self.old.active ledger + ledger_count (flush_of self.old) ledger }
         ensures apart { AreApart self.old }
+        ensures sound { IsSound self.new }
     {
         self.recent.drop_ledger(ledger);
         let active = self.active.drop_ledger(ledger);

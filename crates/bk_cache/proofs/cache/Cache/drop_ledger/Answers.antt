@@ -1,33 +1,25 @@
-use Rattle.std.proofs.Common.{not, ap, ◌∙◌, arith, rules}
-use Rattle.std.specs.Bool.{◌==◌}
+use Rattle.std.proofs.Common.{sym, ap, ◌∙◌, arith}
 use Rattle.std.specs.FinMap as map
-use Rattle.std.proofs.lemmas.Map.Made.{filter_same_pairs}
-use Rattle.bk_index.proofs.KeyedLaws.{len-without_ledger}
-use Rattle.bk_cache.proofs.CachePairs.{kept_left, used_left, view_left}
+use Rattle.bk_record.specs.Keyed.{without_ledger}
+use Rattle.bk_record.proofs.KeyedLaws.{len-without_ledger}
+use Rattle.bk_cache.proofs.LedgerKeys.{without_ledger-remove}
+use Rattle.bk_cache.proofs.RemovedPairs.{len-removed}
 use Rattle.bk_cache.proofs.cache.Cache.drop_ledger.Goals as goal
 
--- `retain` leaves the entries of other ledgers
-pub payload_bytes-self-inside-requires : goal.payload_bytes-self-inside-requires
-payload_bytes-self-inside-requires c =
-    let left = filter_same_pairs _ (λ e. not (e.0.ledger == c.args.ledger)) _ (λ k v b w f' t. search rules) _ _ c.retain.ensures.filtered in
-    omega (arith, used_left (λ p. p.value.items) _ _ c.self.invariant _ c.self.view_is c.args.ledger _ left)
+pub loop-key-smaller : goal.loop-key-smaller
+loop-key-smaller c = omega (arith, ap map.len c.remove.ensures, len-removed c.loop-key.self c.in-Some.key c.in-Some.ensures.some.1)
 
-pub invariant_of-self : goal.invariant_of-self
-invariant_of-self c =
-    let left = filter_same_pairs _ (λ e. not (e.0.ledger == c.args.ledger)) _ (λ k v b w f' t. search rules) _ _ c.retain.ensures.filtered in
-    rw c.payload_bytes-self-inside.ensures (kept_left (λ p. p.value.items) _ _ c.self.invariant _ c.self.view_is c.args.ledger _ left)
+pub loop-key-preserved : goal.loop-key-preserved
+loop-key-preserved c =
+    ap (λ m. without_ledger m c.args.ledger) c.remove.ensures ∙ without_ledger-remove c.loop-key.self c.in-Some.key c.args.ledger c.in-Some.ensures.some.0 ∙ c.loop-key.invariant
 
-pub returns-clause-left : goal.returns-clause-left
-returns-clause-left c =
-    let left = filter_same_pairs _ (λ e. not (e.0.ledger == c.args.ledger)) _ (λ k v b w f' t. search rules) _ _ c.retain.ensures.filtered in
-    view_left (λ p. p.value.items) _ _ c.self.invariant _ c.self.view_is c.args.ledger _ left
-
+-- the loop ends where no key of the ledger is left
 pub overflow_sub-result : goal.overflow_sub-result
 overflow_sub-result c =
-    let after = c.len.ensures.count ∙ ap map.len (returns-clause-left c) in
-    omega (arith, after, c.len-before.ensures.count, len-without_ledger c.args.self.now c.args.ledger)
+    let left = ap map.len (sym c.in_default.ensures.none ∙ c.loop-key.invariant) in
+    omega (arith, left, c.len.ensures.count, c.len-before.ensures.count, len-without_ledger c.args.self.now c.args.ledger)
 
 pub returns-clause-count : goal.returns-clause-count
 returns-clause-count c =
-    let after = c.len.ensures.count ∙ ap map.len (returns-clause-left c) in
-    omega (arith, after, c.len-before.ensures.count, len-without_ledger c.args.self.now c.args.ledger)
+    let left = ap map.len (sym c.in_default.ensures.none ∙ c.loop-key.invariant) in
+    omega (arith, left, c.len.ensures.count, c.len-before.ensures.count, len-without_ledger c.args.self.now c.args.ledger)

@@ -2,7 +2,7 @@ use Rattle.std.proofs.Common.{sym, ap, ◌∙◌}
 use Rattle.std.specs.FinMap as map
 use Rattle.std.proofs.lemmas.List.{length-map}
 use Rattle.bk_record.specs.Key.{key_cmp}
-use Rattle.bk_index.proofs.SortedMaps.{len-sorted}
+use Rattle.bk_record.proofs.SortedMaps.{len-sorted}
 use Rattle.bk_cache.proofs.cache.Cache.len.Goals as goal
 
 pub returns-clause-count : goal.returns-clause-count

@@ -1,7 +1,7 @@
 use Rattle.std.proofs.Common.{sym, ap, subst, ◌∙◌}
 use Rattle.std.specs.FinMap as map
 use Rattle.bk_record.specs.Key.{key_cmp}
-use Rattle.bk_index.proofs.SortedMaps.{entries-sorted}
+use Rattle.bk_record.proofs.SortedMaps.{entries-sorted}
 use Rattle.bk_cache.specs.Caches.{AllKeyed}
 use Rattle.bk_cache.proofs.Seen.{seen}
 use Rattle.bk_cache.proofs.KeptPairs.{keyed_kept}

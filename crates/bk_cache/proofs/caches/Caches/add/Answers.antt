@@ -1,4 +1,4 @@
-use Rattle.std.proofs.Common.{◌≡◌, ◌+◌, ◌≤◌, None, length, sym, ap, subst, ◌∙◌, arith}
+use Rattle.std.proofs.Common.{◌≡◌, ◌+◌, ◌≤◌, None, Ok, length, sym, ap, subst, ◌∙◌, arith}
 use Rattle.std.specs.FinMap as map
 use Rattle.bk_record.specs.Scan.{Payloads}
 use Rattle.bk_cache.specs.Caches.{used_of, held, added_key, with_added}
@@ -33,5 +33,9 @@ invariant_of-self-2 c =
     let key_is = added_key_is _ _ (read_added_is _ _ c.requires.valid (sym c.key_of.ensures ∙ c.unwrap-key.ensures)) in
     let active = c.in-Ok-insert.ensures.ok ∙ (λ i. map.insert fields.active (sym key_is i) (c.in-Ok.ensures i)) in
     let lacks = ap (λ s. held s (added_key c.args.payload.now)) c.self.view_is ∙ c.requires.new in
+    let own = read_added_is _ _ c.requires.valid (sym c.key_of.ensures ∙ c.unwrap-key.ensures) ∙ ap Ok (sym key_is) in
     let fits : used_of fields.active + length c.args.payload.now ≤ fields.limit = omega (arith, c.if-used-payload.false, c.used-used.ensures) in
-    rw active (sound_added _ c.args.payload.now c.self.invariant lacks fits)
+    rw active (sound_added _ c.args.payload.now c.self.invariant own lacks fits)
+
+pub returns-clause-sound : goal.returns-clause-sound
+returns-clause-sound c = invariant_of-self-2 c

@@ -1,7 +1,7 @@
 use Rattle.std.proofs.Common.{◌+◌, Option, Some, option_map, unwrap_or, sym, ap, ◌∙◌, arith}
 use Rattle.std.specs.FinMap as map
 use Rattle.bk_record.specs.Scan.{Payloads}
-use Rattle.bk_index.specs.Keyed.{without_ledger, ledger_count}
+use Rattle.bk_record.specs.Keyed.{without_ledger, ledger_count}
 use Rattle.bk_cache.specs.Caches.{CacheState, flush_of}
 use Rattle.bk_cache.proofs.Sound.{sound_left}
 use Rattle.bk_cache.proofs.Used.{ledger_count-empty}
@@ -27,3 +27,6 @@ returns-clause-count c =
       | in-Some w ↦ omega (arith, before, w.result-is, c.drop_ledger-active.ensures.count, w.drop_ledger-in-Some.ensures.count, ap counted w.in-Some.is)
       | in-None w ↦ omega (arith, before, w.result-is, c.drop_ledger-active.ensures.count, ap counted w.in-None.is, ledger_count-empty c.args.ledger)
     ]
+
+pub returns-clause-sound : goal.returns-clause-sound
+returns-clause-sound c = invariant_of-self c

@@ -4,6 +4,6 @@ use Rattle.bk_record.specs.Key.{key_cmp}
 use Rattle.bk_cache.specs.Caches.{flush_of}
 use Rattle.bk_cache.proofs.caches.Caches.flush_len.Goals as goal
 
-pub returns-in-None : goal.returns-in-None
-returns-in-None c =
+pub returns-in-None-clause-value : goal.returns-in-None-clause-value
+returns-in-None-clause-value c =
     sym (map.len-empty key_cmp (List ℕ)) ∙ ap (λ o. map.len (unwrap_or o map.empty)) (sym c.in-None.is) ∙ ap (λ s. map.len (flush_of s)) c.self.view_is

@@ -1,0 +1,212 @@
+-- The keys of one ledger among the pairs of a write cache: they stand together, from the least key of the ledger on.
+use Rattle.std.proofs.Common.{◌≡◌, ℕ, ◌<◌, ◌≤◌, ◌^◌, Bool, true, false, cond, eqb, eqb-true, eq-eqb, ◌&&◌, ◌⊎◌, inl, inr, nat_lt, if◌then◌else◌, List, [], ◌∷◌, length, drop, Option, Some, None, IsSome, is_some, option_map, slice_get, IsTrue, Ok, Err, Result, refl, sym, ap, subst, ◌∙◌, arith}
+use mathlib.Core.Bool.{false≢true}
+use Rattle.std.specs.declared.cmp.Ordering.TheVariants.{Less, Equal, Greater}
+use Rattle.std.specs.declared.ops.Bound.TheVariants.{Included, Unbounded}
+use Rattle.std.specs.Ordering.{nat_cmp, ordering_then, eq_by_cmp, is_lt, is_le}
+use Rattle.std.specs.BTreeMap.Range.{range_contains}
+use Rattle.std.specs.List.{filter}
+use Rattle.std.specs.Cmp.{Equal-is}
+use Rattle.std.specs.Option.{ok_or}
+use Rattle.std.specs.FinMap.{get, remove, get-remove, find, is_sorted, from_sorted, same_map}
+use Rattle.std.specs.FinMap.Entries.{find-where_key}
+use Rattle.std.proofs.lemmas.Option.{slice_get-map}
+use Rattle.std.proofs.lemmas.Bool.{ltb-true}
+use Rattle.std.proofs.lemmas.Cmp.{ranked}
+use Rattle.bk_record.specs.Key.{EntryKey, key_cmp}
+use Rattle.bk_record.specs.Record.{key_of, read_key, read_added, unless_too_long, max_added, ledger_field, entry_field}
+use Rattle.bk_record.specs.declared.fault.RecordFault.{RecordFault}
+use Rattle.bk_record.specs.declared.fault.RecordFault.TheVariants.{Short, Negative, TooLong}
+use Rattle.bk_record.specs.Scan.{Payloads}
+use Rattle.bk_record.specs.Keyed.{without_ledger}
+use Rattle.bk_record.proofs.Keys.{key_cmp_total, key_cmp_antisymmetric}
+use Rattle.bk_record.proofs.KeyedLaws.{get-without_ledger}
+use Rattle.bk_record.proofs.SortedPairs.{Some-same, find_at, filter-behind}
+use Rattle.bk_record.proofs.SortedMaps.{is_sorted-filter, get-sorted}
+use Rattle.bk_cache.specs.Kept.{IsKept}
+use Rattle.bk_cache.proofs.Seen.{seen, filter-seen}
+
+-- a map that has no key of the ledger stays as it is
+pub without_ledger-none : (m : Payloads) (ledger : ℕ) → ((q : EntryKey) (payload : List ℕ) → get m q ≡ Some payload → q.ledger ≡ ledger → ⊥) → without_ledger m ledger ≡ m
+without_ledger-none m ledger none = same_map key_cmp_total key_cmp_antisymmetric _ _ (λ q. get-without_ledger m ledger q
+    ∙ elim (eqb q.ledger ledger) as (λ b. eqb q.ledger ledger ≡ b → cond b None (get m q) ≡ get m q) [
+      | true ↦ λ same. lacks q (get m q) refl (eqb-true q.ledger ledger same)
+      | false ↦ λ _. refl
+    ] refl)
+  where
+    lacks : (q : EntryKey) (o : Option (List ℕ)) → get m q ≡ o → q.ledger ≡ ledger → None ≡ o
+    lacks q None is same = refl
+    lacks q (Some payload) is same = absurd (none q payload is same)
+
+-- a key of the ledger goes, and without the ledger the map is the same
+pub without_ledger-remove : (m : Payloads) (key : EntryKey) (ledger : ℕ) → key.ledger ≡ ledger → without_ledger (remove m key) ledger ≡ without_ledger m ledger
+without_ledger-remove m key ledger own = same_map key_cmp_total key_cmp_antisymmetric _ _ (λ q. get-without_ledger (remove m key) ledger q
+    ∙ ap (cond (eqb q.ledger ledger) None) (get-remove key_cmp_total m key q)
+    ∙ elim (eqb q.ledger ledger) as (λ b. eqb q.ledger ledger ≡ b → cond b None (cond (eq_by_cmp key_cmp q key) None (get m q)) ≡ cond b None (get m q)) [
+      | true ↦ λ _. refl
+      | false ↦ λ apart. elim (eq_by_cmp key_cmp q key) as (λ b. eq_by_cmp key_cmp q key ≡ b → cond b None (get m q) ≡ get m q) [
+        | true ↦ λ tied.
+            let same : q.ledger ≡ ledger = ap (λ (k : EntryKey). k.ledger) (key_cmp_antisymmetric q key ((Equal-is (key_cmp q key)).0 tied)) ∙ own in
+            absurd (false≢true (sym apart ∙ eq-eqb q.ledger ledger same))
+        | false ↦ λ _. refl
+      ] refl
+    ] refl
+    ∙ sym (get-without_ledger m ledger q))
+
+-- the ledger of a key that a payload gives is below 2 ^ 63
+bounded : (payload : List ℕ) (q : EntryKey) → key_of payload ≡ Some q → q.ledger < 2 ^ 63
+unfolding key_of
+bounded payload q is =
+    elim (nat_lt (ledger_field payload) (2 ^ 63)) as (λ b. nat_lt (ledger_field payload) (2 ^ 63) ≡ b
+    → (if b && nat_lt (entry_field payload) (2 ^ 63) then Some (record { ledger = ledger_field payload; entry = entry_field payload }) else None) ≡ Some q → q.ledger < 2 ^ 63) [
+      | true ↦ λ below. elim (nat_lt (entry_field payload) (2 ^ 63)) as (λ b. (if b then Some (record { ledger = ledger_field payload; entry = entry_field payload }) else None) ≡ Some q → q.ledger < 2 ^ 63) [
+        | true ↦ λ found. subst (λ (k : EntryKey). k.ledger < 2 ^ 63) (Some-same found) (ltb-true (ledger_field payload) (2 ^ 63) below)
+        | false ↦ λ found. cc
+      ]
+      | false ↦ λ _ found. cc
+    ] refl is
+
+read_is : (n : ℕ) (answer : Result EntryKey RecordFault) (q : EntryKey) → unless_too_long n answer ≡ Ok q → answer ≡ Ok q
+read_is n (Err fault) q is = is
+read_is n (Ok key) q is =
+    elim (nat_lt max_added n) as (λ b. ◌≡◌ {A = Result EntryKey RecordFault} (if b then Err (TooLong n) else Ok key) (Ok q) → ◌≡◌ {A = Result EntryKey RecordFault} (Ok key) (Ok q)) [
+      | true ↦ λ none. cc
+      | false ↦ λ same. same
+    ] is
+
+keyed_is : (o : Option EntryKey) (q : EntryKey) (fault : RecordFault) → ok_or o fault ≡ Ok q → o ≡ Some q
+keyed_is None q fault is = cc
+keyed_is (Some key) q fault is = cc
+
+pub added_ledger-lt : (payload : List ℕ) (q : EntryKey) → read_added payload ≡ Ok q → q.ledger < 2 ^ 63
+unfolding read_added read_key
+added_ledger-lt payload q is =
+    elim (nat_lt (length payload) 16) as (λ b. (if b then Err (Short (length payload)) else ok_or (key_of payload) Negative) ≡ Ok q → q.ledger < 2 ^ 63) [
+      | true ↦ λ none. cc
+      | false ↦ λ found. bounded payload q (keyed_is (key_of payload) q Negative found)
+    ] (read_is _ (read_key payload) q is)
+
+-- whether a key is at or behind the least key of the ledger
+abbrev pub is_from : ℕ → EntryKey → Bool
+is_from ledger q = range_contains key_cmp (Included (record { ledger = ledger; entry = 0 })) Unbounded q
+
+-- the pairs from the ledger's least key on
+abbrev pub from_ledger : {X : Type 0} → ℕ → List (EntryKey × X) → List (EntryKey × X)
+from_ledger ledger pairs = filter (λ e. is_from ledger e.0) pairs
+
+-- a key in front of another has no greater ledger
+ledger-le : (h q : EntryKey) → is_lt (key_cmp h q) ≡ true → h.ledger ≤ q.ledger
+ledger-le h q =
+    elim (nat_cmp h.ledger q.ledger) as (λ r. r ≡ nat_cmp h.ledger q.ledger → is_lt (ordering_then r (nat_cmp h.entry q.entry)) ≡ true → h.ledger ≤ q.ledger) [
+      | Less ↦ λ is _. let below : h.ledger < q.ledger = ranked h.ledger q.ledger Less is in omega arith
+      | Equal ↦ λ is _. let same : h.ledger ≡ q.ledger = ranked h.ledger q.ledger Equal is in omega arith
+      | Greater ↦ λ _ lower. absurd (false≢true lower)
+    ] refl
+
+from-le : (ledger : ℕ) (q : EntryKey) → is_from ledger q ≡ true → ledger ≤ q.ledger
+from-le ledger q =
+    elim (nat_cmp ledger q.ledger) as (λ r. r ≡ nat_cmp ledger q.ledger → (is_le (ordering_then r (nat_cmp 0 q.entry)) && true) ≡ true → ledger ≤ q.ledger) [
+      | Less ↦ λ is _. let below : ledger < q.ledger = ranked ledger q.ledger Less is in omega arith
+      | Equal ↦ λ is _. let same : ledger ≡ q.ledger = ranked ledger q.ledger Equal is in omega arith
+      | Greater ↦ λ _ lower. absurd (false≢true lower)
+    ] refl
+
+own_from : (ledger : ℕ) (q : EntryKey) → q.ledger ≡ ledger → is_from ledger q ≡ true
+own_from ledger q own =
+    elim (nat_cmp ledger q.ledger) as (λ r. r ≡ nat_cmp ledger q.ledger → (is_le (ordering_then r (nat_cmp 0 q.entry)) && true) ≡ true) [
+      | Less ↦ λ is. refl
+      | Equal ↦ λ is. elim (nat_cmp 0 q.entry) as (λ r. r ≡ nat_cmp 0 q.entry → (is_le r && true) ≡ true) [
+        | Less ↦ λ _. refl
+        | Equal ↦ λ _. refl
+        | Greater ↦ λ past. let below : q.entry < 0 = ranked 0 q.entry Greater past in absurd (omega arith)
+      ] refl
+      | Greater ↦ λ is. let above : q.ledger < ledger = ranked ledger q.ledger Greater is in absurd (omega arith)
+    ] refl
+
+module _ {X : Type 0} (pairs : List (EntryKey × X)) (sorted : IsTrue (is_sorted key_cmp pairs)) where
+  -- the first of the pairs is the one of a key, or stands in front of it
+  in_front : (h : EntryKey × X) (q : EntryKey) (v : X) → slice_get pairs 0 ≡ Some h → find key_cmp q pairs ≡ Some v → (q ≡ h.0) ⊎ (is_lt (key_cmp h.0 q) ≡ true)
+  in_front h q v at found =
+      elim (eq_by_cmp key_cmp q h.0) as (λ b. eq_by_cmp key_cmp q h.0 ≡ b → (q ≡ h.0) ⊎ (is_lt (key_cmp h.0 q) ≡ true)) [
+        | true ↦ λ tied. inl (key_cmp_antisymmetric q h.0 ((Equal-is (key_cmp q h.0)).0 tied))
+        | false ↦ λ apart. inr (behind apart)
+      ] refl
+    where
+      passes : (b : Bool) (o : Option X) → cond b o None ≡ Some v → b ≡ true
+      passes true o is = refl
+      passes false o is = cc
+
+      rest : (es : List (EntryKey × X)) → slice_get es 0 ≡ Some h → eq_by_cmp key_cmp q h.0 ≡ false → find key_cmp q es ≡ find key_cmp q (drop 1 es)
+      rest [] none apart = cc
+      rest (e ∷ es) is apart =
+          ap (λ b. cond b (Some e.1) (find key_cmp q es)) (ap (λ (x : EntryKey × X). eq_by_cmp key_cmp q x.0) (Some-same is) ∙ apart)
+
+      behind : eq_by_cmp key_cmp q h.0 ≡ false → is_lt (key_cmp h.0 q) ≡ true
+      behind apart =
+          let later : EntryKey → Bool = λ k. is_lt (key_cmp h.0 k) in
+          let left = sym (filter-behind key_cmp_total h.0 h.1 pairs 0 sorted at) in
+          let one = sym (find-where_key key_cmp later q (λ x tied. ap later (sym (key_cmp_antisymmetric q x tied))) pairs)
+          ∙ ap (find key_cmp q) (sym left) ∙ sym (rest pairs at apart) ∙ found in
+          passes (later q) (find key_cmp q pairs) one
+
+module _ {X : Type 0} (pairs : List (EntryKey × X)) (sorted : IsTrue (is_sorted key_cmp pairs)) (ledger : ℕ) where
+  from_sorted_too : IsTrue (is_sorted key_cmp (from_ledger ledger pairs))
+  from_sorted_too = is_sorted-filter key_cmp pairs sorted (λ k. is_from ledger k)
+
+  find-from : (q : EntryKey) → find key_cmp q (from_ledger ledger pairs) ≡ cond (is_from ledger q) (find key_cmp q pairs) None
+  find-from q = find-where_key key_cmp (λ k. is_from ledger k) q (λ x tied. ap (is_from ledger) (sym (key_cmp_antisymmetric q x tied))) pairs
+
+  -- the first pair from the ledger's least key on is one of the pairs
+  pub first_found : (h : EntryKey × X) → slice_get (from_ledger ledger pairs) 0 ≡ Some h → (is_from ledger h.0 ≡ true) × (find key_cmp h.0 pairs ≡ Some h.1)
+  first_found h at = both (is_from ledger h.0) (sym (find-from h.0) ∙ find_at key_cmp_total (from_ledger ledger pairs) 0 h.0 h.1 from_sorted_too at)
+    where
+      both : (b : Bool) → cond b (find key_cmp h.0 pairs) None ≡ Some h.1 → (b ≡ true) × (find key_cmp h.0 pairs ≡ Some h.1)
+      both true is = (refl, is)
+      both false is = cc
+
+  -- there is none of the ledger where that pair is none, or of another ledger
+  pub none_found : (q : EntryKey) (v : X) → find key_cmp q pairs ≡ Some v → q.ledger ≡ ledger → slice_get (from_ledger ledger pairs) 0 ≡ None → ⊥
+  none_found q v found own none = empty (from_ledger ledger pairs) none (find-from q ∙ ap (λ b. cond b (find key_cmp q pairs) None) (own_from ledger q own) ∙ found)
+    where
+      empty : (es : List (EntryKey × X)) → slice_get es 0 ≡ None → find key_cmp q es ≡ Some v → ⊥
+      empty [] none is = cc
+      empty (e ∷ es) none is = cc
+
+  pub other_found : (h : EntryKey × X) (q : EntryKey) (v : X) → slice_get (from_ledger ledger pairs) 0 ≡ Some h → find key_cmp q pairs ≡ Some v → q.ledger ≡ ledger → h.0.ledger ≡ ledger
+  other_found h q v at found own =
+      let here = find-from q ∙ ap (λ b. cond b (find key_cmp q pairs) None) (own_from ledger q own) ∙ found in
+      let low = from-le ledger h.0 (first_found h at).0 in
+      elim (in_front (from_ledger ledger pairs) from_sorted_too h q v at here) [
+        | inl same ↦ ap (λ (k : EntryKey). k.ledger) (sym same) ∙ own
+        | inr lower ↦ omega (arith, ledger-le h.0 q lower)
+      ]
+
+-- the same of a write cache, whose shared payloads are read through f
+module _ {X : Type 0} (f : X → List ℕ) (es : List (EntryKey × X)) (used : ℕ) (kept : IsKept (seen f es) used) (m : Payloads) (view : from_sorted (seen f es) ≡ m) (ledger : ℕ) where
+  has : (q : EntryKey) → get m q ≡ find key_cmp q (seen f es)
+  has q = sym (ap (λ n. get n q) view) ∙ get-sorted key_cmp _ kept.sorted q
+
+  first_seen : (o : Option (EntryKey × X)) → slice_get (from_ledger ledger es) 0 ≡ o → slice_get (from_ledger ledger (seen f es)) 0 ≡ option_map (λ e. (e.0, f e.1)) o
+  first_seen o is =
+      ap (λ xs. slice_get xs 0) (filter-seen f (λ k. is_from ledger k) es) ∙ slice_get-map (λ e. (e.0, f e.1)) (from_ledger ledger es) 0
+      ∙ ap (option_map (λ e. (e.0, f e.1))) is
+
+  -- no key has a ledger past 2 ^ 63 - 1
+  pub left-past : ((ledger < 2 ^ 63) × (0 < 2 ^ 63) → ⊥) → without_ledger m ledger ≡ m
+  left-past past = without_ledger-none m ledger (λ q payload is own.
+      let below : q.ledger < 2 ^ 63 = added_ledger-lt payload q (kept.keyed q payload (sym (has q) ∙ is)) in
+      past (omega arith, omega arith))
+
+  -- no pair is at the ledger's least key or behind it
+  pub left-none : slice_get (from_ledger ledger es) 0 ≡ None → without_ledger m ledger ≡ m
+  left-none none = without_ledger-none m ledger (λ q payload is own.
+      none_found (seen f es) kept.sorted ledger q payload (sym (has q) ∙ is) own (first_seen None none))
+
+  -- the first one there is of another ledger
+  pub left-other : (h : EntryKey × X) → slice_get (from_ledger ledger es) 0 ≡ Some h → (h.0.ledger ≡ ledger → ⊥) → without_ledger m ledger ≡ m
+  left-other h at other = without_ledger-none m ledger (λ q payload is own.
+      other (other_found (seen f es) kept.sorted ledger (h.0, f h.1) q payload (first_seen (Some h) at) (sym (has q) ∙ is) own))
+
+  -- the first one there is an entry of the cache
+  pub first_held : (h : EntryKey × X) → slice_get (from_ledger ledger es) 0 ≡ Some h → IsSome (get m h.0)
+  first_held h at = ap is_some (has h.0 ∙ (first_found (seen f es) kept.sorted ledger (h.0, f h.1) (first_seen (Some h) at)).1)
