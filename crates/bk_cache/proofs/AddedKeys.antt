@@ -12,7 +12,8 @@ was_key : (n : ℕ) (answer : Result EntryKey RecordFault) → IsOk (unless_too_
 was_key n (Ok key) is = refl
 was_key n (Err fault) is = is
 
-same_key_read : (n : ℕ) (answer : Result EntryKey RecordFault) (key : EntryKey) → IsOk (unless_too_long n answer) → answer ≡ Ok key → unless_too_long n answer ≡ Ok key
+same_key_read : (n : ℕ) (answer : Result EntryKey RecordFault) (key : EntryKey) → IsOk (unless_too_long n answer) → answer ≡ Ok key
+    → unless_too_long n answer ≡ Ok key
 same_key_read n (Err fault) key is read = cc
 same_key_read n (Ok found) key is read =
     elim (nat_lt max_added n) as (λ b. IsOk (if b then Err (TooLong n) else Ok found) → (if b then Err (TooLong n) else Ok found) ≡ Ok key) [

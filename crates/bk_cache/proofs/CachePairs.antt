@@ -13,7 +13,8 @@ use Rattle.bk_cache.specs.Caches.{used_of, AllKeyed}
 use Rattle.bk_cache.proofs.Seen.{seen, put-seen, insert_entry-put}
 use Rattle.bk_cache.proofs.KeptPairs.{used_of-kept, keyed_kept, kept_put}
 
-module _ {X : Type 0} (f : X → List ℕ) (es : List (EntryKey × X)) (used : ℕ) (kept : IsKept (seen f es) used) (m : Payloads) (view : from_sorted (seen f es) ≡ m) where
+module _ {X : Type 0} (f : X → List ℕ) (es : List (EntryKey × X)) (used : ℕ) (kept : IsKept (seen f es) used) (m : Payloads)
+    (view : from_sorted (seen f es) ≡ m) where
   pub used_seen : used_of m ≡ used
   used_seen = ap used_of (sym view) ∙ used_of-kept _ _ kept
 
@@ -31,4 +32,5 @@ module _ {X : Type 0} (f : X → List ℕ) (es : List (EntryKey × X)) (used : �
         subst (λ pairs. IsKept pairs (used + length (f payload))) (sym seen_put) (kept_put _ _ kept key (f payload) keyed none)
 
     pub view_inserted : from_sorted (seen f new) ≡ entries.insert m key (f payload)
-    view_inserted = ap from_sorted seen_put ∙ sym (insert-sorted key_cmp _ kept.sorted key_cmp_total key (f payload)) ∙ ap (λ n. entries.insert n key (f payload)) view
+    view_inserted = ap from_sorted seen_put ∙ sym (insert-sorted key_cmp _ kept.sorted key_cmp_total key (f payload))
+        ∙ ap (λ n. entries.insert n key (f payload)) view

@@ -18,15 +18,18 @@ slice_get-drop [] (suc i) = refl
 slice_get-drop (x ∷ xs) (suc i) = slice_get-drop xs i
 
 -- the first pair behind the key of the i-th is the next one
-pub first_after-place : (m : Payloads) (i : ℕ) (e : Entry) → slice_get (entries.entries m) i ≡ Some e → first_after (Some e.0) m ≡ slice_get (entries.entries m) (i + 1)
+pub first_after-place : (m : Payloads) (i : ℕ) (e : Entry) → slice_get (entries.entries m) i ≡ Some e
+    → first_after (Some e.0) m ≡ slice_get (entries.entries m) (i + 1)
 first_after-place m i e at =
     ap (λ pairs. slice_get pairs 0) (filter-behind key_cmp_total e.0 e.1 (entries.entries m) i (is_true _ (entries_sorted m)) at)
     ∙ slice_get-drop (entries.entries m) (suc i) ∙ ap (slice_get (entries.entries m)) (sym (add-one i))
 
 -- a ledger's recent entries are gone, the others stay
-pub recent_of-without_recent : (r : Recents) (ledger : ℕ) (key : EntryKey) → recent_of (without_recent r ledger) key ≡ cond (not (eqb key.ledger ledger)) (recent_of r key) None
+pub recent_of-without_recent : (r : Recents) (ledger : ℕ) (key : EntryKey)
+    → recent_of (without_recent r ledger) key ≡ cond (not (eqb key.ledger ledger)) (recent_of r key) None
 recent_of-without_recent r ledger key =
-    lookup-filter-keys (same_key key) (λ k. not (eqb k.ledger ledger)) (not (eqb key.ledger ledger)) (λ k same. ap (λ (q : EntryKey). not (eqb q.ledger ledger)) (sym (same_key_exact key k same))) r.entries
+    lookup-filter-keys (same_key key) (λ k. not (eqb k.ledger ledger)) (not (eqb key.ledger ledger))
+    (λ k same. ap (λ (q : EntryKey). not (eqb q.ledger ledger)) (sym (same_key_exact key k same))) r.entries
 
 -- what a look-up finds in the first so many pairs it finds in all
 lookup-take : {X : Type 0} (test : EntryKey → Bool) (n : ℕ) (es : List (EntryKey × X)) (v : X) → lookup test (take n es) ≡ Some v → lookup test es ≡ Some v
@@ -39,26 +42,37 @@ lookup-take test (suc n) (e ∷ es) v found =
     ] found
 
 -- an entry of another key goes, and a look-up finds what it found
-lookup-remove_other : {X : Type 0} (key q : EntryKey) (es : List (EntryKey × X)) → same_key q key ≡ false → lookup (same_key q) (remove_entry (same_key key) es) ≡ lookup (same_key q) es
+lookup-remove_other : {X : Type 0} (key q : EntryKey) (es : List (EntryKey × X)) → same_key q key ≡ false
+    → lookup (same_key q) (remove_entry (same_key key) es) ≡ lookup (same_key q) es
 lookup-remove_other key q [] other = refl
 lookup-remove_other key q (e ∷ es) other =
-    elim (same_key key e.0) as (λ b. same_key key e.0 ≡ b → lookup (same_key q) (cond b es (e ∷ remove_entry (same_key key) es)) ≡ cond (same_key q e.0) (Some e.1) (lookup (same_key q) es)) [
+    elim (same_key key e.0)
+    as (λ b. same_key key e.0 ≡ b → lookup (same_key q) (cond b es (e ∷ remove_entry (same_key key) es))
+    ≡ cond (same_key q e.0) (Some e.1) (lookup (same_key q) es)) [
       | true ↦ λ is. rw (ap (same_key q) (sym (same_key_exact key e.0 is)) ∙ other)
       | false ↦ λ _. ap (cond (same_key q e.0) (Some e.1)) (lookup-remove_other key q es other)
     ] refl
 
 -- a recent entry was there, or is the one that was remembered
-pub recent_of-remembered : (r : Recents) (key : EntryKey) (payload : List ℕ) (q : EntryKey) (p : List ℕ) → recent_of (remembered r key payload) q ≡ Some p → IsOldOrRemembered r key payload q p
+pub recent_of-remembered : (r : Recents) (key : EntryKey) (payload : List ℕ) (q : EntryKey) (p : List ℕ)
+    → recent_of (remembered r key payload) q ≡ Some p → IsOldOrRemembered r key payload q p
 recent_of-remembered r key payload q p =
-    elim (same_key q key) as (λ b. same_key q key ≡ b → cond b (Some payload) (lookup (same_key q) (cond (is_some (recent_of r key)) (remove_entry (same_key key) r.entries) (take (r.most - 1) r.entries))) ≡ Some p → IsOldOrRemembered r key payload q p) [
+    elim (same_key q key)
+    as (λ b. same_key q key ≡ b
+    → cond b (Some payload)
+    (lookup (same_key q) (cond (is_some (recent_of r key)) (remove_entry (same_key key) r.entries) (take (r.most - 1) r.entries))) ≡ Some p
+    → IsOldOrRemembered r key payload q p) [
       | true ↦ λ is found. inr (same_key_exact q key is, sym (Some-same found))
-      | false ↦ λ other. elim (is_some (recent_of r key)) as (λ b. lookup (same_key q) (cond b (remove_entry (same_key key) r.entries) (take (r.most - 1) r.entries)) ≡ Some p → IsOldOrRemembered r key payload q p) [
-        | true ↦ λ found. inl (sym (lookup-remove_other key q r.entries other) ∙ found)
-        | false ↦ λ found. inl (lookup-take (same_key q) (r.most - 1) r.entries p found)
-      ]
+      | false ↦ λ other. elim (is_some (recent_of r key))
+          as (λ b. lookup (same_key q) (cond b (remove_entry (same_key key) r.entries) (take (r.most - 1) r.entries)) ≡ Some p
+          → IsOldOrRemembered r key payload q p) [
+            | true ↦ λ found. inl (sym (lookup-remove_other key q r.entries other) ∙ found)
+            | false ↦ λ found. inl (lookup-take (same_key q) (r.most - 1) r.entries p found)
+          ]
     ] refl
 
-pub IfSome-recent_of_changed : (old new : Recents) (key : EntryKey) (payload : List ℕ) → (new ≡ old) ⊎ (new ≡ remembered old key payload) → (q : EntryKey) → IfSome (recent_of new q) (IsOldOrRemembered old key payload q)
+pub IfSome-recent_of_changed : (old new : Recents) (key : EntryKey) (payload : List ℕ) → (new ≡ old) ⊎ (new ≡ remembered old key payload)
+    → (q : EntryKey) → IfSome (recent_of new q) (IsOldOrRemembered old key payload q)
 IfSome-recent_of_changed old new key payload changed q = each (recent_of new q) refl
   where
     each : (o : Option (List ℕ)) → recent_of new q ≡ o → IfSome o (IsOldOrRemembered old key payload q)

@@ -24,7 +24,8 @@ use Rattle.bk_cache.proofs.Used.{entries-empty}
 first_keyed : (pairs : List Entry) (used : ℕ) → IsKept pairs used → (e : Entry) → slice_get pairs 0 ≡ Some e → read_added e.1 ≡ Ok e.0
 first_keyed pairs used kept e at = kept.keyed e.0 e.1 (find_at key_cmp_total pairs 0 e.0 e.1 kept.sorted at)
 
-module _ {X : Type 0} (f : X → List ℕ) (es : List (EntryKey × X)) (used : ℕ) (kept : IsKept (seen f es) used) (m : Payloads) (view : from_sorted (seen f es) ≡ m) where
+module _ {X : Type 0} (f : X → List ℕ) (es : List (EntryKey × X)) (used : ℕ) (kept : IsKept (seen f es) used) (m : Payloads)
+    (view : from_sorted (seen f es) ≡ m) where
   entries-seen : entries.entries m ≡ seen f es
   entries-seen = ap entries.entries (sym view) ∙ entries-sorted key_cmp _ kept.sorted
 
@@ -33,10 +34,12 @@ module _ {X : Type 0} (f : X → List ℕ) (es : List (EntryKey × X)) (used : �
   first_of_all = sym (slice_get-map (λ e. (e.0, f e.1)) es 0) ∙ ap (λ pairs. slice_get pairs 0) (sym entries-seen)
 
   -- behind a key: what a map's range gives first
-  pub first_behind : (key : EntryKey) → option_map (λ e. (e.0, f e.1)) (slice_get (entries_between key_cmp (Excluded key) Unbounded es) 0) ≡ first_after (Some key) m
+  pub first_behind : (key : EntryKey) → option_map (λ e. (e.0, f e.1)) (slice_get (entries_between key_cmp (Excluded key) Unbounded es) 0)
+      ≡ first_after (Some key) m
   first_behind key =
       let behind : EntryKey → Bool = λ k. is_lt (key_cmp key k) in
-      let tests : entries_between key_cmp (Excluded key) Unbounded es ≡ filter (λ e. behind e.0) es = λ i. filter (λ (e : EntryKey × X). and-true (behind e.0) i) es in
+      let tests : entries_between key_cmp (Excluded key) Unbounded es ≡ filter (λ e. behind e.0) es =
+      λ i. filter (λ (e : EntryKey × X). and-true (behind e.0) i) es in
       ap (λ xs. option_map (λ e. (e.0, f e.1)) (slice_get xs 0)) tests
       ∙ sym (slice_get-map (λ e. (e.0, f e.1)) (filter (λ e. behind e.0) es) 0)
       ∙ ap (λ pairs. slice_get pairs 0) (sym (filter-seen f behind es) ∙ ap (filter (λ e. behind e.0)) (sym entries-seen))

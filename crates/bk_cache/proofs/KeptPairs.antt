@@ -28,20 +28,24 @@ module _ (pairs : List Entry) (used : ℕ) (kept : IsKept pairs used) where
   keyed_kept key payload is = kept.keyed key payload (sym (get-sorted key_cmp pairs kept.sorted key) ∙ is)
 
   -- one more pair under the key that its payload gives
-  pub kept_put : (key : EntryKey) (payload : List ℕ) → read_added payload ≡ Ok key → find key_cmp key pairs ≡ None → IsKept (put key_cmp key payload pairs) (used + length payload)
+  pub kept_put : (key : EntryKey) (payload : List ℕ) → read_added payload ≡ Ok key → find key_cmp key pairs ≡ None
+      → IsKept (put key_cmp key payload pairs) (used + length payload)
   kept_put key payload keyed absent = record {
     sorted = is_sorted_put key_cmp_total key payload pairs kept.sorted;
     keyed = λ q p is. keyed_put key payload keyed q p (sym (find-put key_cmp key_cmp_total q key payload pairs) ∙ is);
     counted =
-        let none : unwrap_or (option_map length (lookup (eq_by_cmp key_cmp key) pairs)) 0 ≡ 0 = ap (λ o. unwrap_or (option_map length o) 0) (sym (find-lookup key_cmp key pairs) ∙ absent) in
+        let none : unwrap_or (option_map length (lookup (eq_by_cmp key_cmp key) pairs)) 0 ≡ 0 =
+        ap (λ o. unwrap_or (option_map length o) 0) (sym (find-lookup key_cmp key pairs) ∙ absent) in
         let grown = rw insert_entry-put at (sum_by-insert_entry length key_cmp_total pairs key payload (keys_rise key_cmp pairs kept.sorted)) in
         omega (arith, grown, none, kept.counted);
   }
     where
-      keyed_put : (key : EntryKey) (payload : List ℕ) → read_added payload ≡ Ok key → (q : EntryKey) (p : List ℕ) → cond (eq_by_cmp key_cmp q key) (Some payload) (find key_cmp q pairs) ≡ Some p → read_added p ≡ Ok q
+      keyed_put : (key : EntryKey) (payload : List ℕ) → read_added payload ≡ Ok key → (q : EntryKey) (p : List ℕ)
+          → cond (eq_by_cmp key_cmp q key) (Some payload) (find key_cmp q pairs) ≡ Some p → read_added p ≡ Ok q
       keyed_put key payload keyed q p =
           elim (eq_by_cmp key_cmp q key) as (λ b. eq_by_cmp key_cmp q key ≡ b → cond b (Some payload) (find key_cmp q pairs) ≡ Some p → read_added p ≡ Ok q) [
-            | true ↦ λ tied is. subst (λ (bytes : List ℕ). read_added bytes ≡ Ok q) (Some-same is) (keyed ∙ ap Ok (sym (key_cmp_antisymmetric q key ((Equal-is (key_cmp q key)).0 tied))))
+            | true ↦ λ tied is. subst (λ (bytes : List ℕ). read_added bytes ≡ Ok q) (Some-same is)
+                (keyed ∙ ap Ok (sym (key_cmp_antisymmetric q key ((Equal-is (key_cmp q key)).0 tied))))
             | false ↦ λ _ is. kept.keyed q p is
           ] refl
 

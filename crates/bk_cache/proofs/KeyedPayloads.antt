@@ -18,7 +18,8 @@ keyed_empty key payload is = let none = get-empty {X = List ℕ} key_cmp key in 
 pub keyed_insert : (m : Payloads) (key : EntryKey) (payload : List ℕ) → AllKeyed m → read_added payload ≡ Ok key → AllKeyed (insert m key payload)
 keyed_insert m key payload keyed own q p is =
     elim (eq_by_cmp key_cmp q key) as (λ b. eq_by_cmp key_cmp q key ≡ b → cond b (Some payload) (get m q) ≡ Some p → read_added p ≡ Ok q) [
-      | true ↦ λ tied found. subst (λ (bytes : List ℕ). read_added bytes ≡ Ok q) (Some-same found) (own ∙ ap Ok (sym (key_cmp_antisymmetric q key ((Equal-is (key_cmp q key)).0 tied))))
+      | true ↦ λ tied found. subst (λ (bytes : List ℕ). read_added bytes ≡ Ok q) (Some-same found)
+          (own ∙ ap Ok (sym (key_cmp_antisymmetric q key ((Equal-is (key_cmp q key)).0 tied))))
       | false ↦ λ _ found. keyed q p found
     ] refl (sym (get-insert key_cmp_total m key payload q) ∙ is)
 
@@ -30,6 +31,7 @@ keyed_without m ledger keyed q p is =
     ] (sym (get-without_ledger m ledger q) ∙ is)
 
 -- the same of a flush, if one runs
-pub keyed_flush_without : (flush : Option Payloads) (ledger : ℕ) → AllKeyed (unwrap_or flush empty) → AllKeyed (unwrap_or (option_map (λ m. without_ledger m ledger) flush) empty)
+pub keyed_flush_without : (flush : Option Payloads) (ledger : ℕ) → AllKeyed (unwrap_or flush empty)
+    → AllKeyed (unwrap_or (option_map (λ m. without_ledger m ledger) flush) empty)
 keyed_flush_without None ledger keyed = keyed
 keyed_flush_without (Some m) ledger keyed = keyed_without m ledger keyed

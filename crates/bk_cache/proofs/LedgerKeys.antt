@@ -27,7 +27,8 @@ use Rattle.bk_cache.specs.Kept.{IsKept}
 use Rattle.bk_cache.proofs.Seen.{seen, filter-seen}
 
 -- a map that has no key of the ledger stays as it is
-pub without_ledger-none : (m : Payloads) (ledger : ℕ) → ((q : EntryKey) (payload : List ℕ) → get m q ≡ Some payload → q.ledger ≡ ledger → ⊥) → without_ledger m ledger ≡ m
+pub without_ledger-none : (m : Payloads) (ledger : ℕ) → ((q : EntryKey) (payload : List ℕ) → get m q ≡ Some payload → q.ledger ≡ ledger → ⊥)
+    → without_ledger m ledger ≡ m
 without_ledger-none m ledger none = same_map key_cmp_total key_cmp_antisymmetric _ _ (λ q. get-without_ledger m ledger q
     ∙ elim (eqb q.ledger ledger) as (λ b. eqb q.ledger ledger ≡ b → cond b None (get m q) ≡ get m q) [
       | true ↦ λ same. lacks q (get m q) refl (eqb-true q.ledger ledger same)
@@ -58,18 +59,21 @@ bounded : (payload : List ℕ) (q : EntryKey) → key_of payload ≡ Some q → 
 unfolding key_of
 bounded payload q is =
     elim (nat_lt (ledger_field payload) (2 ^ 63)) as (λ b. nat_lt (ledger_field payload) (2 ^ 63) ≡ b
-    → (if b && nat_lt (entry_field payload) (2 ^ 63) then Some (record { ledger = ledger_field payload; entry = entry_field payload }) else None) ≡ Some q → q.ledger < 2 ^ 63) [
-      | true ↦ λ below. elim (nat_lt (entry_field payload) (2 ^ 63)) as (λ b. (if b then Some (record { ledger = ledger_field payload; entry = entry_field payload }) else None) ≡ Some q → q.ledger < 2 ^ 63) [
-        | true ↦ λ found. subst (λ (k : EntryKey). k.ledger < 2 ^ 63) (Some-same found) (ltb-true (ledger_field payload) (2 ^ 63) below)
-        | false ↦ λ found. cc
-      ]
+    → (if b && nat_lt (entry_field payload) (2 ^ 63) then Some (record { ledger = ledger_field payload; entry = entry_field payload }) else None)
+    ≡ Some q → q.ledger < 2 ^ 63) [
+      | true ↦ λ below. elim (nat_lt (entry_field payload) (2 ^ 63))
+          as (λ b. (if b then Some (record { ledger = ledger_field payload; entry = entry_field payload }) else None) ≡ Some q → q.ledger < 2 ^ 63) [
+            | true ↦ λ found. subst (λ (k : EntryKey). k.ledger < 2 ^ 63) (Some-same found) (ltb-true (ledger_field payload) (2 ^ 63) below)
+            | false ↦ λ found. cc
+          ]
       | false ↦ λ _ found. cc
     ] refl is
 
 read_is : (n : ℕ) (answer : Result EntryKey RecordFault) (q : EntryKey) → unless_too_long n answer ≡ Ok q → answer ≡ Ok q
 read_is n (Err fault) q is = is
 read_is n (Ok key) q is =
-    elim (nat_lt max_added n) as (λ b. ◌≡◌ {A = Result EntryKey RecordFault} (if b then Err (TooLong n) else Ok key) (Ok q) → ◌≡◌ {A = Result EntryKey RecordFault} (Ok key) (Ok q)) [
+    elim (nat_lt max_added n) as (λ b. ◌≡◌ {A = Result EntryKey RecordFault} (if b then Err (TooLong n) else Ok key) (Ok q)
+    → ◌≡◌ {A = Result EntryKey RecordFault} (Ok key) (Ok q)) [
       | true ↦ λ none. cc
       | false ↦ λ same. same
     ] is
@@ -166,13 +170,15 @@ module _ {X : Type 0} (pairs : List (EntryKey × X)) (sorted : IsTrue (is_sorted
 
   -- there is none of the ledger where that pair is none, or of another ledger
   pub none_found : (q : EntryKey) (v : X) → find key_cmp q pairs ≡ Some v → q.ledger ≡ ledger → slice_get (from_ledger ledger pairs) 0 ≡ None → ⊥
-  none_found q v found own none = empty (from_ledger ledger pairs) none (find-from q ∙ ap (λ b. cond b (find key_cmp q pairs) None) (own_from ledger q own) ∙ found)
+  none_found q v found own none =
+      empty (from_ledger ledger pairs) none (find-from q ∙ ap (λ b. cond b (find key_cmp q pairs) None) (own_from ledger q own) ∙ found)
     where
       empty : (es : List (EntryKey × X)) → slice_get es 0 ≡ None → find key_cmp q es ≡ Some v → ⊥
       empty [] none is = cc
       empty (e ∷ es) none is = cc
 
-  pub other_found : (h : EntryKey × X) (q : EntryKey) (v : X) → slice_get (from_ledger ledger pairs) 0 ≡ Some h → find key_cmp q pairs ≡ Some v → q.ledger ≡ ledger → h.0.ledger ≡ ledger
+  pub other_found : (h : EntryKey × X) (q : EntryKey) (v : X) → slice_get (from_ledger ledger pairs) 0 ≡ Some h → find key_cmp q pairs ≡ Some v
+      → q.ledger ≡ ledger → h.0.ledger ≡ ledger
   other_found h q v at found own =
       let here = find-from q ∙ ap (λ b. cond b (find key_cmp q pairs) None) (own_from ledger q own) ∙ found in
       let low = from-le ledger h.0 (first_found h at).0 in
@@ -182,11 +188,13 @@ module _ {X : Type 0} (pairs : List (EntryKey × X)) (sorted : IsTrue (is_sorted
       ]
 
 -- the same of a write cache, whose shared payloads are read through f
-module _ {X : Type 0} (f : X → List ℕ) (es : List (EntryKey × X)) (used : ℕ) (kept : IsKept (seen f es) used) (m : Payloads) (view : from_sorted (seen f es) ≡ m) (ledger : ℕ) where
+module _ {X : Type 0} (f : X → List ℕ) (es : List (EntryKey × X)) (used : ℕ) (kept : IsKept (seen f es) used) (m : Payloads)
+    (view : from_sorted (seen f es) ≡ m) (ledger : ℕ) where
   has : (q : EntryKey) → get m q ≡ find key_cmp q (seen f es)
   has q = sym (ap (λ n. get n q) view) ∙ get-sorted key_cmp _ kept.sorted q
 
-  first_seen : (o : Option (EntryKey × X)) → slice_get (from_ledger ledger es) 0 ≡ o → slice_get (from_ledger ledger (seen f es)) 0 ≡ option_map (λ e. (e.0, f e.1)) o
+  first_seen : (o : Option (EntryKey × X)) → slice_get (from_ledger ledger es) 0 ≡ o
+      → slice_get (from_ledger ledger (seen f es)) 0 ≡ option_map (λ e. (e.0, f e.1)) o
   first_seen o is =
       ap (λ xs. slice_get xs 0) (filter-seen f (λ k. is_from ledger k) es) ∙ slice_get-map (λ e. (e.0, f e.1)) (from_ledger ledger es) 0
       ∙ ap (option_map (λ e. (e.0, f e.1))) is

@@ -9,6 +9,7 @@ option_map-now f None = refl
 option_map-now f (Some x) = refl
 
 -- what holds of the value that is read
-pub IfSome-from_map : {A B : Type 0} (f : A → B) (P : B → Type 0) (r : Option A) (o : Option B) → option_map f r ≡ o → ((y : B) → o ≡ Some y → P y) → IfSome r (λ x. P (f x))
+pub IfSome-from_map : {A B : Type 0} (f : A → B) (P : B → Type 0) (r : Option A) (o : Option B) → option_map f r ≡ o → ((y : B) → o ≡ Some y → P y)
+    → IfSome r (λ x. P (f x))
 IfSome-from_map f P None o is holds = tt
 IfSome-from_map f P (Some x) o is holds = holds (f x) (sym is)

@@ -38,34 +38,48 @@ module _ {K X Y : Type 0} (f : X → Y) where
 
 module _ {X : Type 0} (f : X → List ℕ) (c : LruCache EntryKey X) (key : EntryKey) (payload : X) where
   -- what is seen of the table is what the recent entries are to be
-  pub put-seen_recents : seen f (put_entries same_key c key payload) ≡ (remembered (record { entries = seen f c.entries; most = c.cap }) key (f payload)).entries
+  pub put-seen_recents : seen f (put_entries same_key c key payload)
+      ≡ (remembered (record { entries = seen f c.entries; most = c.cap }) key (f payload)).entries
   put-seen_recents = put (lookup_entry (same_key key) c.entries) refl
     where
-      put : (o : Option (EntryKey × X)) → lookup_entry (same_key key) c.entries ≡ o → seen f (put_entries same_key c key payload) ≡ (remembered (record { entries = seen f c.entries; most = c.cap }) key (f payload)).entries
+      put : (o : Option (EntryKey × X)) → lookup_entry (same_key key) c.entries ≡ o
+          → seen f (put_entries same_key c key payload) ≡ (remembered (record { entries = seen f c.entries; most = c.cap }) key (f payload)).entries
       put None none =
-          let lacks = lookup-map_values f (same_key key) c.entries ∙ ap (option_map f) (sym (lookup-lookup_entry (same_key key) c.entries)) ∙ ap (λ o. option_map f (option_map (λ e. e.1) o)) none in
+          let lacks = lookup-map_values f (same_key key) c.entries ∙ ap (option_map f) (sym (lookup-lookup_entry (same_key key) c.entries))
+          ∙ ap (λ o. option_map f (option_map (λ e. e.1) o)) none in
           ap (λ o. seen f (option_map_or (λ e. (e.0, payload) ∷ remove_entry (same_key key) c.entries) o ((key, payload) ∷ take (c.cap - 1) c.entries))) none
           ∙ ap (λ es. (key, f payload) ∷ es) (sym (take-map (λ e. (e.0, f e.1)) (c.cap - 1) c.entries))
           ∙ ap (λ o. (key, f payload) ∷ cond (is_some o) (remove_entry (same_key key) (seen f c.entries)) (take (c.cap - 1) (seen f c.entries))) (sym lacks)
       put (Some e) held =
-          let has = lookup-map_values f (same_key key) c.entries ∙ ap (option_map f) (sym (lookup-lookup_entry (same_key key) c.entries)) ∙ ap (λ o. option_map f (option_map (λ e. e.1) o)) held in
+          let has = lookup-map_values f (same_key key) c.entries ∙ ap (option_map f) (sym (lookup-lookup_entry (same_key key) c.entries))
+          ∙ ap (λ o. option_map f (option_map (λ e. e.1) o)) held in
           let named = same_key_exact key e.0 (Contains-lookup_entry (same_key key) c.entries e held).1 in
           ap (λ o. seen f (option_map_or (λ e. (e.0, payload) ∷ remove_entry (same_key key) c.entries) o ((key, payload) ∷ take (c.cap - 1) c.entries))) held
           ∙ ap (λ (k : EntryKey). (k, f payload) ∷ seen f (remove_entry (same_key key) c.entries)) (sym named)
           ∙ ap (λ es. (key, f payload) ∷ es) (sym (remove_entry-seen f (same_key key) c.entries))
           ∙ ap (λ o. (key, f payload) ∷ cond (is_some o) (remove_entry (same_key key) (seen f c.entries)) (take (c.cap - 1) (seen f c.entries))) (sym has)
 
-  table-put : (now : Recents) → record { entries = seen f c.entries; most = c.cap } ≡ now → (new : LruCache EntryKey X) → new ≡ lru_cache (put_entries same_key c key payload) c.cap → record { entries = seen f new.entries; most = new.cap } ≡ remembered now key (f payload)
+  table-put : (now : Recents) → record { entries = seen f c.entries; most = c.cap } ≡ now → (new : LruCache EntryKey X)
+      → new ≡ lru_cache (put_entries same_key c key payload) c.cap → record { entries = seen f new.entries; most = new.cap } ≡ remembered now key (f payload)
   table-put now seen_now new put =
-      ap (λ (d : LruCache EntryKey X). record { entries = seen f d.entries; most = d.cap }) put ∙ ap (λ es. record { entries = es; most = c.cap }) put-seen_recents ∙ ap (λ r. remembered r key (f payload)) seen_now
+      ap (λ (d : LruCache EntryKey X). record { entries = seen f d.entries; most = d.cap }) put
+      ∙ ap (λ es. record { entries = es; most = c.cap }) put-seen_recents ∙ ap (λ r. remembered r key (f payload)) seen_now
 
   -- what is seen after a put that may have been refused
-  pub put-or_same : (now : Recents) → record { entries = seen f c.entries; most = c.cap } ≡ now → (new : LruCache EntryKey X) {E : Type 0} {B : Type 0} (answer : Result B E) → OnOk answer (new ≡ lru_cache (put_entries same_key c key payload) c.cap) → OnErr answer (new ≡ c) → (record { entries = seen f new.entries; most = new.cap } ≡ now) ⊎ (record { entries = seen f new.entries; most = new.cap } ≡ remembered now key (f payload))
+  pub put-or_same : (now : Recents) → record { entries = seen f c.entries; most = c.cap } ≡ now
+      → (new : LruCache EntryKey X) {E : Type 0} {B : Type 0} (answer : Result B E)
+      → OnOk answer (new ≡ lru_cache (put_entries same_key c key payload) c.cap) → OnErr answer (new ≡ c)
+      → (record { entries = seen f new.entries; most = new.cap } ≡ now) ⊎
+      (record { entries = seen f new.entries; most = new.cap } ≡ remembered now key (f payload))
   put-or_same now seen_now new (Ok _) put same = inr (table-put now seen_now new put)
   put-or_same now seen_now new (Err _) put same = inl (ap (λ (d : LruCache EntryKey X). record { entries = seen f d.entries; most = d.cap }) same ∙ seen_now)
 
   -- an entry of a key that is there is renewed, whatever memory there is
-  pub put-renews : (now : Recents) → record { entries = seen f c.entries; most = c.cap } ≡ now → (new : LruCache EntryKey X) {E : Type 0} {B : Type 0} (answer : Result B E) → OnOk answer (new ≡ lru_cache (put_entries same_key c key payload) c.cap) → (IsSome (lookup (same_key key) c.entries) → IsOk answer) → IsSome (recent_of now key) → record { entries = seen f new.entries; most = new.cap } ≡ remembered now key (f payload)
+  pub put-renews : (now : Recents) → record { entries = seen f c.entries; most = c.cap } ≡ now
+      → (new : LruCache EntryKey X) {E : Type 0} {B : Type 0} (answer : Result B E)
+      → OnOk answer (new ≡ lru_cache (put_entries same_key c key payload) c.cap) → (IsSome (lookup (same_key key) c.entries) → IsOk answer)
+      → IsSome (recent_of now key) → record { entries = seen f new.entries; most = new.cap } ≡ remembered now key (f payload)
   put-renews now seen_now new (Ok _) put succeeds held = table-put now seen_now new put
   put-renews now seen_now new (Err _) put succeeds held =
-      absurd (false≢true (succeeds (sym (is_some-option_map f (lookup (same_key key) c.entries)) ∙ ap is_some (sym (lookup-map_values f (same_key key) c.entries)) ∙ ap (λ r. is_some (recent_of r key)) seen_now ∙ held)))
+      absurd (false≢true (succeeds (sym (is_some-option_map f (lookup (same_key key) c.entries))
+      ∙ ap is_some (sym (lookup-map_values f (same_key key) c.entries)) ∙ ap (λ r. is_some (recent_of r key)) seen_now ∙ held)))

@@ -47,10 +47,12 @@ module _ {K X : Type 0} (keep : K → Bool) (all : List (K × X)) where
     pub turn_keeps : keep e.0 ≡ true → (test : K → Bool) → test e.0 ≡ true → demoted test (after_turns i) ≡ after_turns (i + 1)
     turn_keeps stays test is =
         let grown : kept (take (i + 1) all) ≡ kept (take i all) ++ e ∷ [] = more ∙ ap (λ b. kept (take i all) ++ cond b (e ∷ []) []) stays in
-        ap (demoted test) front ∙ demoted-first test e _ is ∙ append_assoc (drop (i + 1) all) (kept (take i all)) (e ∷ []) ∙ ap (λ es. drop (i + 1) all ++ es) (sym grown)
+        ap (demoted test) front ∙ demoted-first test e _ is ∙ append_assoc (drop (i + 1) all) (kept (take i all)) (e ∷ [])
+        ∙ ap (λ es. drop (i + 1) all ++ es) (sym grown)
 
 -- one turn of a table whose entries before it are those after i turns
-module _ {K X : Type 0} (keep : K → Bool) (all : List (K × X)) (cap i : ℕ) (within : i < length all) (before : LruCache K X) (so_far : before ≡ lru_cache (after_turns keep all i) cap) (e : K × X) (first : slice_get before.entries 0 ≡ Some e) (after : LruCache K X) where
+module _ {K X : Type 0} (keep : K → Bool) (all : List (K × X)) (cap i : ℕ) (within : i < length all) (before : LruCache K X)
+    (so_far : before ≡ lru_cache (after_turns keep all i) cap) (e : K × X) (first : slice_get before.entries 0 ≡ Some e) (after : LruCache K X) where
   in_front : slice_get (after_turns keep all i) 0 ≡ Some e
   in_front = ap (λ c. slice_get c.entries 0) (sym so_far) ∙ first
 
@@ -58,6 +60,7 @@ module _ {K X : Type 0} (keep : K → Bool) (all : List (K × X)) (cap i : ℕ) 
   table-turn_drops popped goes =
       popped ∙ ap (λ c. lru_cache (drop 1 c.entries) c.cap) so_far ∙ ap (λ es. lru_cache es cap) (turn_drops keep all i within e in_front goes)
 
-  pub table-turn_keeps : (test : K → Bool) → after ≡ lru_cache (demoted test before.entries) before.cap → keep e.0 ≡ true → test e.0 ≡ true → after ≡ lru_cache (after_turns keep all (i + 1)) cap
+  pub table-turn_keeps : (test : K → Bool) → after ≡ lru_cache (demoted test before.entries) before.cap → keep e.0 ≡ true → test e.0 ≡ true
+      → after ≡ lru_cache (after_turns keep all (i + 1)) cap
   table-turn_keeps test moved stays is =
       moved ∙ ap (λ c. lru_cache (demoted test c.entries) c.cap) so_far ∙ ap (λ es. lru_cache es cap) (turn_keeps keep all i within e in_front stays test is)

@@ -43,7 +43,8 @@ filter-behind_all key (e ∷ es) below =
     ∙ ap (λ rest. e ∷ rest) (filter-behind_all key es (second _ _ below))
 
 -- in order, without the pair of a key are those of other keys
-pub remove_entry-sorted : {X : Type 0} (key : EntryKey) (es : List (EntryKey × X)) → IsTrue (is_sorted key_cmp es) → remove_entry (eq_by_cmp key_cmp key) es ≡ filter (λ e. is_other key e.0) es
+pub remove_entry-sorted : {X : Type 0} (key : EntryKey) (es : List (EntryKey × X)) → IsTrue (is_sorted key_cmp es)
+    → remove_entry (eq_by_cmp key_cmp key) es ≡ filter (λ e. is_other key e.0) es
 remove_entry-sorted key [] sorted = refl
 remove_entry-sorted key (e ∷ es) sorted =
     elim (eq_by_cmp key_cmp key e.0) as (λ b. eq_by_cmp key_cmp key e.0 ≡ b
@@ -71,15 +72,18 @@ retain_keys-others m key = same_map key_cmp_total key_cmp_antisymmetric _ _ (λ 
 pub len-removed : (m : Payloads) (key : EntryKey) → IsSome (get m key) → len (remove m key) + 1 ≡ len m
 len-removed m key there =
     let less : len (remove m key) ≡ len m - 1 = len-remove key_cmp_total m key ∙ ap (λ b. cond b (len m - 1) (len m)) there in
-    let some : len m ≡ 0 → ⊥ = λ none. absurd (false≢true (sym (ap (λ n. is_some (get n key)) (empty_of_len m none) ∙ ap is_some (get-empty key_cmp key)) ∙ there)) in
+    let some : len m ≡ 0 → ⊥ =
+    λ none. absurd (false≢true (sym (ap (λ n. is_some (get n key)) (empty_of_len m none) ∙ ap is_some (get-empty key_cmp key)) ∙ there)) in
     positive (len m) some less
   where
     positive : (n : ℕ) → (n ≡ 0 → ⊥) → len (remove m key) ≡ n - 1 → len (remove m key) + 1 ≡ n
     positive zero some less = absurd (some refl)
     positive (suc n) some less = omega arith
 
-module _ {X : Type 0} (f : X → List ℕ) (es : List (EntryKey × X)) (used : ℕ) (kept : IsKept (seen f es) used) (m : Payloads) (view : from_sorted (seen f es) ≡ m) where
-  module _ (key : EntryKey) (new : List (EntryKey × X)) (is : new ≡ remove_entry (eq_by_cmp key_cmp key) es) (o : Option X) (value : o ≡ lookup (eq_by_cmp key_cmp key) es) where
+module _ {X : Type 0} (f : X → List ℕ) (es : List (EntryKey × X)) (used : ℕ) (kept : IsKept (seen f es) used) (m : Payloads)
+    (view : from_sorted (seen f es) ≡ m) where
+  module _ (key : EntryKey) (new : List (EntryKey × X)) (is : new ≡ remove_entry (eq_by_cmp key_cmp key) es) (o : Option X)
+      (value : o ≡ lookup (eq_by_cmp key_cmp key) es) where
     seen_remove : (xs : List (EntryKey × X)) → seen f (remove_entry (eq_by_cmp key_cmp key) xs) ≡ remove_entry (eq_by_cmp key_cmp key) (seen f xs)
     seen_remove [] = refl
     seen_remove (e ∷ xs) =

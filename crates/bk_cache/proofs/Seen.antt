@@ -22,7 +22,8 @@ sum_by-map g f (x ∷ xs) = sum_by-cons g (f x) (map f xs) ∙ ap (λ n. g (f x)
 pub insert_entry-put : {K X : Type 0} (R : K → K → Ordering) (es : List (K × X)) (k : K) (v : X) → insert_entry R es k v ≡ put R k v es
 insert_entry-put R [] k v = refl
 insert_entry-put R (e ∷ es) k v =
-    elim (R k e.0) as (λ r. match_ordering r ((k, v) ∷ e ∷ es) ((e.0, v) ∷ es) (e ∷ insert_entry R es k v) ≡ by_order r ((k, v) ∷ e ∷ es) ((e.0, v) ∷ es) (e ∷ put R k v es)) [
+    elim (R k e.0) as (λ r. match_ordering r ((k, v) ∷ e ∷ es) ((e.0, v) ∷ es) (e ∷ insert_entry R es k v)
+    ≡ by_order r ((k, v) ∷ e ∷ es) ((e.0, v) ∷ es) (e ∷ put R k v es)) [
       | Less ↦ refl
       | Equal ↦ refl
       | Greater ↦ ap (λ rest. e ∷ rest) (insert_entry-put R es k v)
@@ -39,7 +40,8 @@ module _ {K X Y : Type 0} (f : X → Y) where
   pub filter-seen : (p : K → Bool) (es : List (K × X)) → filter (λ e. p e.0) (seen es) ≡ seen (filter (λ e. p e.0) es)
   filter-seen p [] = refl
   filter-seen p (e ∷ es) =
-      elim (p e.0) as (λ b. cond b ((e.0, f e.1) ∷ filter (λ e. p e.0) (seen es)) (filter (λ e. p e.0) (seen es)) ≡ seen (cond b (e ∷ filter (λ e. p e.0) es) (filter (λ e. p e.0) es))) [
+      elim (p e.0) as (λ b. cond b ((e.0, f e.1) ∷ filter (λ e. p e.0) (seen es)) (filter (λ e. p e.0) (seen es))
+      ≡ seen (cond b (e ∷ filter (λ e. p e.0) es) (filter (λ e. p e.0) es))) [
         | true ↦ ap (λ rest. (e.0, f e.1) ∷ rest) (filter-seen p es)
         | false ↦ filter-seen p es
       ]
@@ -51,12 +53,14 @@ module _ {K X Y : Type 0} (f : X → Y) where
     pub put-seen : (es : List (K × X)) (k : K) (v : X) → seen (put R k v es) ≡ put R k (f v) (seen es)
     put-seen [] k v = refl
     put-seen (e ∷ es) k v =
-        elim (R k e.0) as (λ r. seen (by_order r ((k, v) ∷ e ∷ es) ((e.0, v) ∷ es) (e ∷ put R k v es)) ≡ by_order r ((k, f v) ∷ (e.0, f e.1) ∷ seen es) ((e.0, f v) ∷ seen es) ((e.0, f e.1) ∷ put R k (f v) (seen es))) [
+        elim (R k e.0) as (λ r. seen (by_order r ((k, v) ∷ e ∷ es) ((e.0, v) ∷ es) (e ∷ put R k v es))
+        ≡ by_order r ((k, f v) ∷ (e.0, f e.1) ∷ seen es) ((e.0, f v) ∷ seen es) ((e.0, f e.1) ∷ put R k (f v) (seen es))) [
           | Less ↦ refl
           | Equal ↦ refl
           | Greater ↦ ap (λ rest. (e.0, f e.1) ∷ rest) (put-seen es k v)
         ]
 
 -- a look-up in the map that the seen pairs make
-pub get-seen : {K X Y : Type 0} (f : X → Y) (R : K → K → Ordering) (es : List (K × X)) → IsTrue (is_sorted R (seen f es)) → (q : K) → option_map f (lookup (eq_by_cmp R q) es) ≡ map_get (from_sorted {R = R} (seen f es)) q
+pub get-seen : {K X Y : Type 0} (f : X → Y) (R : K → K → Ordering) (es : List (K × X)) → IsTrue (is_sorted R (seen f es)) → (q : K)
+    → option_map f (lookup (eq_by_cmp R q) es) ≡ map_get (from_sorted {R = R} (seen f es)) q
 get-seen f R es sorted q = sym (find-seen f R q es) ∙ sym (get-sorted R (seen f es) sorted q)

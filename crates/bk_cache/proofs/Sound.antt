@@ -18,38 +18,66 @@ use Rattle.bk_cache.proofs.KeyedPayloads.{keyed_empty, keyed_insert, keyed_witho
 use Rattle.bk_cache.proofs.Used.{used_of-empty, used_of-insert, used_of-without_ledger-le}
 
 pub sound_new : (limit most : ℕ) → limit ≤ 1073741824 → IsSound (new_caches limit most)
-sound_new limit most limited = record { within = rw used_of-empty (omega arith); limited = limited; apart = λ key has. get-empty key_cmp key; keyed = keyed_empty; flush_keyed = keyed_empty }
+sound_new limit most limited =
+    record {
+      within = rw used_of-empty (omega arith);
+      limited = limited;
+      apart = λ key has. get-empty key_cmp key;
+      keyed = keyed_empty;
+      flush_keyed =
+          keyed_empty;
+    }
 
 pub sound_done : (s : CacheState) → IsSound s → IsSound (record s { flush = None })
-sound_done s sound = record { within = sound.within; limited = sound.limited; apart = λ key has. get-empty key_cmp key; keyed = sound.keyed; flush_keyed = keyed_empty }
+sound_done s sound = record {
+  within = sound.within;
+  limited = sound.limited;
+  apart = λ key has. get-empty key_cmp key;
+  keyed =
+      sound.keyed;
+  flush_keyed = keyed_empty;
+}
 
 pub sound_swapped : (s : CacheState) → IsSound s → IsSound (record s { active = empty; flush = Some s.active })
-sound_swapped s sound = record { within = rw used_of-empty (omega arith); limited = sound.limited; apart = λ key has. absurd (false≢true (ap is_some (sym (get-empty key_cmp key)) ∙ has)); keyed = keyed_empty; flush_keyed = sound.keyed }
+sound_swapped s sound =
+    record {
+      within = rw used_of-empty (omega arith);
+      limited = sound.limited;
+      apart =
+          λ key has. absurd (false≢true (ap is_some (sym (get-empty key_cmp key)) ∙ has));
+      keyed = keyed_empty;
+      flush_keyed = sound.keyed;
+    }
 
 -- neither cache has a key
 pub neither : (a b : Option (List ℕ)) → option_or a b ≡ None → (a ≡ None) × (b ≡ None)
 neither None b none = (refl, none)
 neither (Some x) b none = cc
 
-apart_added : (active flush : Payloads) (key : EntryKey) (payload : List ℕ) → ((q : EntryKey) → IsSome (get active q) → get flush q ≡ None) → get flush key ≡ None → (q : EntryKey) → IsSome (cond (eq_by_cmp key_cmp q key) (Some payload) (get active q)) → get flush q ≡ None
+apart_added : (active flush : Payloads) (key : EntryKey) (payload : List ℕ) → ((q : EntryKey) → IsSome (get active q) → get flush q ≡ None)
+    → get flush key ≡ None → (q : EntryKey) → IsSome (cond (eq_by_cmp key_cmp q key) (Some payload) (get active q)) → get flush q ≡ None
 apart_added active flush key payload apart none q =
     elim (eq_by_cmp key_cmp q key) as (λ b. eq_by_cmp key_cmp q key ≡ b → IsSome (cond b (Some payload) (get active q)) → get flush q ≡ None) [
       | true ↦ λ tied has. ap (get flush) (key_cmp_antisymmetric q key ((Equal-is (key_cmp q key)).0 tied)) ∙ none
       | false ↦ λ _ has. apart q has
     ] refl
 
-pub sound_added : (s : CacheState) (payload : List ℕ) → IsSound s → read_added payload ≡ Ok (added_key payload) → held s (added_key payload) ≡ None → used_of s.active + length payload ≤ s.limit → IsSound (with_added s payload)
+pub sound_added : (s : CacheState) (payload : List ℕ) → IsSound s → read_added payload ≡ Ok (added_key payload) → held s (added_key payload) ≡ None
+    → used_of s.active + length payload ≤ s.limit → IsSound (with_added s payload)
 sound_added s payload sound own absent fits =
     let none = neither (get s.active (added_key payload)) (get (flush_of s) (added_key payload)) absent in
     record {
       within = rw (used_of-insert s.active (added_key payload) payload none.0) fits;
       limited = sound.limited;
-      apart = λ q has. apart_added s.active (flush_of s) (added_key payload) payload sound.apart none.1 q (ap is_some (sym (get-insert key_cmp_total s.active (added_key payload) payload q)) ∙ has);
+      apart = λ q has. apart_added s.active (flush_of s) (added_key payload) payload sound.apart none.1 q
+          (ap is_some (sym (get-insert key_cmp_total s.active (added_key payload) payload q)) ∙ has);
       keyed = keyed_insert s.active (added_key payload) payload sound.keyed own;
       flush_keyed = sound.flush_keyed;
     }
 
-apart_without : (active : Payloads) (flush : Option Payloads) (ledger : ℕ) → ((q : EntryKey) → IsSome (get active q) → get (unwrap_or flush empty) q ≡ None) → (q : EntryKey) → IsSome (get (without_ledger active ledger) q) → get (unwrap_or (option_map (λ m. without_ledger m ledger) flush) empty) q ≡ None
+apart_without : (active : Payloads) (flush : Option Payloads) (ledger : ℕ)
+    → ((q : EntryKey) → IsSome (get active q) → get (unwrap_or flush empty) q ≡ None) → (q : EntryKey) → IsSome (get (without_ledger active ledger) q)
+    → get (unwrap_or (option_map (λ m. without_ledger m ledger) flush) empty) q ≡ None
 apart_without active None ledger apart q has = get-empty key_cmp q
 apart_without active (Some m) ledger apart q has =
     get-without_ledger m ledger q
@@ -68,7 +96,10 @@ sound_without s ledger sound = record {
 }
 
 -- the same, told of each part
-pub sound_left : (s : CacheState) (ledger : ℕ) → IsSound s → (active : Payloads) (flush : Option Payloads) (recent : Recents) → active ≡ without_ledger s.active ledger → flush ≡ option_map (λ m. without_ledger m ledger) s.flush → recent ≡ without_recent s.recent ledger → IsSound (record { active = active; flush = flush; recent = recent; limit = s.limit })
+pub sound_left : (s : CacheState) (ledger : ℕ) → IsSound s → (active : Payloads) (flush : Option Payloads) (recent : Recents)
+    → active ≡ without_ledger s.active ledger → flush ≡ option_map (λ m. without_ledger m ledger) s.flush → recent ≡ without_recent s.recent ledger
+    → IsSound (record { active = active; flush = flush; recent = recent; limit = s.limit })
 sound_left s ledger sound active flush recent a f r =
-    let same : record { active = active; flush = flush; recent = recent; limit = s.limit } ≡ without s ledger = λ i. record { active = a i; flush = f i; recent = r i; limit = s.limit } in
+    let same : record { active = active; flush = flush; recent = recent; limit = s.limit } ≡ without s ledger =
+    λ i. record { active = a i; flush = f i; recent = r i; limit = s.limit } in
     subst IsSound (sym same) (sound_without s ledger sound)

@@ -27,7 +27,8 @@ pub used_of-insert : (m : Payloads) (key : EntryKey) (payload : List ℕ) → ge
 used_of-insert m key payload absent =
     let missing = sym (find-lookup key_cmp key (entries m)) ∙ sym (get-entries m key) ∙ absent in
     let none : unwrap_or (option_map length (lookup (eq_by_cmp key_cmp key) (entries m))) 0 ≡ 0 = ap (λ o. unwrap_or (option_map length o) 0) missing in
-    let grown = rw insert_entry-put at (sum_by-insert_entry length key_cmp_total (entries m) key payload (keys_rise key_cmp (entries m) (is_true _ (entries_sorted m)))) in
+    let grown = rw insert_entry-put at
+    (sum_by-insert_entry length key_cmp_total (entries m) key payload (keys_rise key_cmp (entries m) (is_true _ (entries_sorted m)))) in
     let now = ap (λ es. sum_by length (values_of es)) (entries-insert key_cmp_total m key payload) in
     omega (arith, grown, none, now)
 

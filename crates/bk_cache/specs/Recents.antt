@@ -20,7 +20,8 @@ no_recents = record { entries = []; most = 0 }
 
 abbrev pub recents_code : Coded Recents
 recents_code =
-    code_by (List Entry × ℕ) (coded× (coded_list (coded× key_code (coded_list coded_ℕ))) coded_ℕ) (λ r. (r.entries, r.most)) (λ p. record { entries = p.0; most = p.1 }) (λ _. refl)
+    code_by (List Entry × ℕ) (coded× (coded_list (coded× key_code (coded_list coded_ℕ))) coded_ℕ) (λ r. (r.entries, r.most))
+    (λ p. record { entries = p.0; most = p.1 }) (λ _. refl)
 
 -- whether two keys are the same
 abbrev pub same_key : EntryKey → EntryKey → Bool

@@ -11,7 +11,8 @@ loop-key-smaller c = omega (arith, ap map.len c.remove.ensures, len-removed c.lo
 
 pub loop-key-preserved : goal.loop-key-preserved
 loop-key-preserved c =
-    ap (λ m. without_ledger m c.args.ledger) c.remove.ensures ∙ without_ledger-remove c.loop-key.self c.in-Some.key c.args.ledger c.in-Some.ensures.some.0 ∙ c.loop-key.invariant
+    ap (λ m. without_ledger m c.args.ledger) c.remove.ensures
+    ∙ without_ledger-remove c.loop-key.self c.in-Some.key c.args.ledger c.in-Some.ensures.some.0 ∙ c.loop-key.invariant
 
 -- the loop ends where no key of the ledger is left
 pub overflow_sub-result : goal.overflow_sub-result

@@ -13,12 +13,14 @@ returns-in_default-clause-value c =
     ∙ first_of_all (λ p. p.value.items) _ _ c.self.invariant _ c.self.view_is ∙ ap (λ key. first_after key c.args.self.now) (sym c.in_default.is)
 
 pub returns-in_default-clause-keyed : goal.returns-in_default-clause-keyed
-returns-in_default-clause-keyed c = first_after_keyed (λ p. p.value.items) _ _ c.self.invariant _ c.self.view_is c.args.key _ (sym (returns-in_default-clause-value c))
+returns-in_default-clause-keyed c = first_after_keyed (λ p. p.value.items) _ _ c.self.invariant _ c.self.view_is c.args.key _
+    (sym (returns-in_default-clause-value c))
 
 pub returns-in_err-first-clause-value : goal.returns-in_err-first-clause-value
 returns-in_err-first-clause-value c =
     let es = c.self.inside.pairs.entries in
-    let none : slice_get es 0 ≡ None = elim (cases_lt 0 (length es)) [ inl some ↦ absurd (false≢true (c.in_err-first.ensures.variant.1 some)) | inr past ↦ slice_get_past es 0 past ] in
+    let none : slice_get es 0 ≡ None =
+    elim (cases_lt 0 (length es)) [ inl some ↦ absurd (false≢true (c.in_err-first.ensures.variant.1 some)) | inr past ↦ slice_get_past es 0 past ] in
     rw c.from_residual.ensures (ap (option_map (λ e. (e.0, e.1.value.items))) (sym none)
     ∙ first_of_all (λ p. p.value.items) _ _ c.self.invariant _ c.self.view_is ∙ ap (λ key. first_after key c.args.self.now) (sym c.in_default.is))
 

@@ -25,7 +25,8 @@ returns-clause-ok c =
     let fields = c.self.inside in
     let key_is = added_key_is _ _ (read_added_is _ _ c.requires.valid (sym c.key_of.ensures ∙ c.unwrap-key.ensures)) in
     let active = c.in-Ok-insert.ensures.ok ∙ (λ i. map.insert fields.active (sym key_is i) (c.in-Ok.ensures i)) in
-    ap (λ (m : Payloads). record { active = m; flush = fields.flush; recent = fields.recent; limit = fields.limit }) active ∙ ap (λ s. with_added s c.args.payload.now) c.self.view_is
+    ap (λ (m : Payloads). record { active = m; flush = fields.flush; recent = fields.recent; limit = fields.limit }) active
+    ∙ ap (λ s. with_added s c.args.payload.now) c.self.view_is
 
 pub invariant_of-self-2 : goal.invariant_of-self-2
 invariant_of-self-2 c =

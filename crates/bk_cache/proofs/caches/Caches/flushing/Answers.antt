@@ -13,5 +13,6 @@ returns-in-None-clause-items c =
 
 pub returns-in-None-clause-keyed : goal.returns-in-None-clause-keyed
 returns-in-None-clause-keyed c key payload has =
-    let none = sym (map.get-empty key_cmp key) ∙ ap (λ o. map.get (unwrap_or o map.empty) key) (sym c.in-None.is) ∙ ap (λ s. map.get (flush_of s) key) c.self.view_is in
+    let none = sym (map.get-empty key_cmp key) ∙ ap (λ o. map.get (unwrap_or o map.empty) key) (sym c.in-None.is)
+    ∙ ap (λ s. map.get (flush_of s) key) c.self.view_is in
     absurd (false≢true (ap is_some (none ∙ has)))

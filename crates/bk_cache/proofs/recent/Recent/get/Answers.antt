@@ -8,5 +8,6 @@ use Rattle.bk_cache.proofs.recent.Recent.get.Goals as goal
 pub returns-in-Some : goal.returns-in-Some
 returns-in-Some c =
     let seen = rw c.in-Some.is at (ap (λ r. recent_of r c.args.key.now) c.self.view_is) in
-    option_map-now (λ p. p.value.items) c.peek.result ∙ ap (option_map (λ p. p.value.items)) (c.peek.ensures ∙ ap (λ key. lookup (same_key key) c.in-Some.kept.entries) c.of.ensures)
+    option_map-now (λ p. p.value.items) c.peek.result
+    ∙ ap (option_map (λ p. p.value.items)) (c.peek.ensures ∙ ap (λ key. lookup (same_key key) c.in-Some.kept.entries) c.of.ensures)
     ∙ sym (lookup-map_values (λ p. p.value.items) (same_key c.args.key.now) c.in-Some.kept.entries) ∙ seen
