@@ -1,5 +1,5 @@
 -- The count of failures over calls that follow one another, of which the last alone may tell a failing device.
-use Rattle.std.proofs.Common.{◌≡◌, ℕ, ◌+◌, ◌<◌, ◌≤◌, ◌⊎◌, inl, inr, Result, Ok, IsErrOf, sym, subst, arith}
+use Rattle.std.proofs.Common.{◌≡◌, ℕ, ◌<◌, ◌⊎◌, inl, inr, Ok, IsErrOf, sym, subst, arith}
 use Rattle.std.proofs.Math.Nat.{eq-or-lt_of_le}
 use Rattle.bk_disk.specs.Disk.{IsCaused}
 

@@ -5,3 +5,4 @@ pub mod Answered
 pub mod Failures
 pub mod Bounds
 pub mod Causes
+pub mod Digits

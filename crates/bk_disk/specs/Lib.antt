@@ -2,3 +2,4 @@ pub mod Disk
 pub mod Blocks
 pub mod Logs
 pub mod Failing
+pub mod Names

@@ -9,7 +9,11 @@ ghost use Rattle.bk_record.specs.Files.{Files};
 ghost use Rattle.bk_disk.specs.Disk.{AreLogFiles, HasCause, Lists, Measures, Creates, Appends, Patches, Syncs, Reads, Views, Removes, ReadsView, view_end};
 
 use crate::DiskFault;
+use bk_record::HEADER_LENGTH;
 use std::alloc::Global;
+
+/// The position at which a view begins: behind the log's header.
+pub(crate) const HEADER: u64 = HEADER_LENGTH as u64;
 
 /// The bytes of one log as they were when the view was made, for good: from byte 1024 to `end`. Threads may read it
 /// together. A sound view never answers `Disk`.

@@ -3,18 +3,24 @@
 
 mod blocks;
 mod countdown;
+mod dir_disk;
+mod dir_view;
 mod disk;
 mod fault;
 mod fault_disk;
 mod fault_view;
 mod mem_disk;
 mod mem_view;
+mod names;
 #[cfg(test)]
 mod tests;
 
+pub use dir_disk::DirDisk;
+pub use dir_view::DirView;
 pub use disk::{LogDisk, LogView};
 pub use fault::DiskFault;
 pub use fault_disk::FaultDisk;
 pub use fault_view::FaultView;
 pub use mem_disk::MemDisk;
 pub use mem_view::MemView;
+pub use names::{log_of, name_of};

@@ -8,12 +8,10 @@ ghost use Rattle.bk_disk.specs.Logs.{listed, IsListing};
 
 use crate::blocks::Blocks;
 use crate::{DiskFault, LogDisk, MemView};
+use bk_record::MAX_LOG_LENGTH;
 use std::alloc::{AllocError, Global};
 use std::collections::BTreeMap;
 use std::marker::Model;
-
-/// The most bytes that a log may have.
-const LONGEST: u64 = u32::MAX as u64;
 
 /// A disk in memory: honest, and its device never fails.
 #[derive(Drop)]
@@ -104,7 +102,7 @@ impl LogDisk for MemDisk {
         let Some(file) = self.logs.get_mut(&log) else {
             return Err(DiskFault::NoLog);
         };
-        if bytes.len() as u64 > LONGEST - file.len() {
+        if bytes.len() as u64 > MAX_LOG_LENGTH - file.len() {
             return Err(DiskFault::TooLong);
         }
         file.append(bytes).map_err(|_| DiskFault::Memory)

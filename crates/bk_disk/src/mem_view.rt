@@ -3,12 +3,10 @@
 ghost use Rattle.std.specs.Prelude.{◌≡◌, true};
 
 use crate::blocks::Blocks;
+use crate::disk::HEADER;
 use crate::{DiskFault, LogView};
 use std::alloc::Global;
 use std::marker::Model;
-
-/// The length of a log's header, where its records begin.
-const HEADER: u64 = 1024;
 
 /// A view of a log of a `MemDisk`. It is sound, and keeps its bytes while the log grows, is patched and is removed.
 #[derive(Drop)]

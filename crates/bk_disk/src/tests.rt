@@ -3,7 +3,9 @@
 mod bound;
 mod calls;
 mod failing;
+mod folder;
 mod large;
 mod listing;
+mod names;
 mod refused;
 mod table;
