@@ -4,7 +4,7 @@ use Rattle.std.specs.declared.cmp.Ordering.{Ordering}
 use Rattle.std.specs.Cmp.{IsTotalOrder}
 use Rattle.std.specs.Ordering.{eq_by_cmp, is_eq, is_lt}
 use Rattle.std.specs.FinMap as finite
-use Rattle.std.specs.List.{flat_map, filter_map, cons_option}
+use Rattle.std.specs.List.{filter, flat_map, filter_map, cons_option}
 use Rattle.std.specs.FinMap.{IsAntisymmetric}
 use Rattle.std.specs.FinMap.Entries.{find, is_sorted, below_all}
 use Rattle.std.proofs.lemmas.Map.Views.{tells_apart}
@@ -121,3 +121,18 @@ filter_map-In {X = X} f y (z ∷ xs) there =
         | inr later ↦ let found = filter_map-In f y xs later in (found.0, (inr found.1.0, found.1.1))
       ]
     ] refl there
+
+pub In-filter : {X : Type 0} (p : X → Bool) (x : X) (xs : List X) → In x xs → p x ≡ true → In x (filter p xs)
+In-filter p x [] there passes = absurd there
+In-filter p x (z ∷ xs) (inl e) passes = rw (ap p e ∙ passes) (inl e)
+In-filter p x (z ∷ xs) (inr later) passes = elim (p z) as (λ b. In x (cond b (z ∷ filter p xs) (filter p xs))) [
+  | true ↦ inr (In-filter p x xs later passes)
+  | false ↦ In-filter p x xs later passes
+]
+
+pub filter-In : {X : Type 0} (p : X → Bool) (x : X) (xs : List X) → In x (filter p xs) → In x xs
+filter-In p x [] there = there
+filter-In p x (z ∷ xs) there = elim (p z) as (λ b. In x (cond b (z ∷ filter p xs) (filter p xs)) → (z ≡ x) ⊎ In x xs) [
+  | true ↦ λ some. elim some [ inl e ↦ inl e | inr later ↦ inr (filter-In p x xs later) ]
+  | false ↦ λ later. inr (filter-In p x xs later)
+] there

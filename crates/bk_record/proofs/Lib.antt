@@ -20,3 +20,4 @@ pub mod Longer
 pub mod StandingRecords
 pub mod StandingEntries
 pub mod LastEntries
+pub mod EntryLists
