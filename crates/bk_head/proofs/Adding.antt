@@ -13,7 +13,7 @@ use Rattle.bk_record.specs.Files.{In}
 use Rattle.bk_head.specs.declared.fault.HeadFault.{HeadFault}
 use Rattle.bk_head.specs.declared.fault.HeadFault.TheVariants.{BadMagic, Version, Negative, NotAMap, MapLength, Repeated, CountDiffers, Memory}
 use Rattle.bk_head.specs.Ledgers.{LedgersMap, pair_bytes, IsPair, ledgers_of, AreDistinct}
-use Rattle.bk_head.specs.Faults.{ReachesPair, PairFault, OrMemory}
+use Rattle.bk_head.specs.Faults.{ReachesPair, ReachesNew, PairFault, OrMemory}
 use Rattle.bk_head.specs.Parts.{Adds, PairRefusal}
 use Rattle.bk_record.specs.Spelling.{IsBytes}
 use Rattle.bk_head.proofs.Bytes.{IsBytes-drop, big_number-8, from_be_bytes-take-8}
@@ -95,8 +95,11 @@ reaches before at left bytes m p each long is numbers a =
 
 -- a pair that can't be added is the first such one
 pub refused : (before : List (ℕ × ℕ)) (at left : ℕ) (bytes : List ℕ) (m : LedgersMap) (p : ℕ × ℕ) (fault : HeadFault) → IsBytes bytes → at + 16 + 16 * left ≡ length bytes
-    → pair_bytes p ≡ take 16 (drop at bytes) → IsNumbers p → Adds before (take at bytes) m → OrMemory fault (PairRefusal m p fault) → OrMemory fault (PairFault before bytes fault)
-refused before at left bytes m p Memory each long is numbers a h = tt
+    → pair_bytes p ≡ take 16 (drop at bytes) → IsNumbers p → Adds before (take at bytes) m
+    → OrMemory fault (IsPair p × (ledgers.get m p.0 ≡ None)) (PairRefusal m p fault) → OrMemory fault (ReachesNew before bytes) (PairFault before bytes fault)
+refused before at left bytes m p Memory each long is numbers a h =
+    let new = find_none p.0 (before ++ a.good) (sym (found_in (before ++ a.good) m p.0 a.map_is) ∙ h.1) in
+    (a.good, (p, (reaches before at left bytes m p each long is numbers a, (h.0, new))))
 refused before at left bytes m p Negative each long is numbers a h = (a.good, (p, (reaches before at left bytes m p each long is numbers a, h)))
 refused before at left bytes m p (Repeated ledger) each long is numbers a h =
     let found = some_of (ledgers.get m p.0) h.1.1 in

@@ -1,5 +1,5 @@
 -- Batches that are read one after another, up to the first fault.
-use Rattle.std.proofs.Common.{◌≡◌, ℕ, ◌+◌, ◌*◌, ◌≤◌, List, [], ◌++◌, length, take, drop, refl, sym, ap, subst, ◌∙◌, append_assoc, arith}
+use Rattle.std.proofs.Common.{◌≡◌, ◌≢◌, ℕ, ◌+◌, ◌*◌, ◌≤◌, List, [], ◌++◌, length, take, drop, refl, sym, ap, subst, ◌∙◌, append_assoc, arith}
 use Rattle.std.specs.Int.{w32, to_be_bytes}
 use Rattle.std.specs.List.{flat_map}
 use Rattle.std.specs.FinMap as ledgers
@@ -8,7 +8,7 @@ use Rattle.bk_record.specs.Record.{record_of, IsPayload}
 use Rattle.bk_head.specs.declared.fault.HeadFault.{HeadFault}
 use Rattle.bk_head.specs.declared.fault.HeadFault.TheVariants.{BadMagic, Version, Negative, NotAMap, MapLength, Repeated, CountDiffers, Memory}
 use Rattle.bk_head.specs.Ledgers.{LedgersMap, batch_ids, pair_bytes, batch_payload, batch_of, IsBatch, Batches, SpellsMap}
-use Rattle.bk_head.specs.Faults.{HasPairs, PairFault, FaultAt, FirstFault, OrMemory}
+use Rattle.bk_head.specs.Faults.{HasPairs, PairFault, FaultAt, FirstFault, ReachesNew, AsksForMemory, OrMemory}
 use Rattle.bk_head.specs.Parts.{Adds}
 use Rattle.bk_head.proofs.BatchBytes.{length-batch_ids}
 use Rattle.bk_head.proofs.Pairs.{length-pairs}
@@ -69,15 +69,19 @@ spells_more tail bytes at m n within s h a =
 
 -- ---- the first fault
 
-pub or_memory : (fault : HeadFault) (P : Type 0) → P → OrMemory fault P
-or_memory Memory P p = tt
-or_memory BadMagic P p = p
-or_memory (Version version) P p = p
-or_memory Negative P p = p
-or_memory (NotAMap at) P p = p
-or_memory (MapLength at) P p = p
-or_memory (Repeated ledger) P p = p
-or_memory (CountDiffers found) P p = p
+pub or_fault : (fault : HeadFault) (M P : Type 0) → fault ≢ Memory → P → OrMemory fault M P
+or_fault Memory M P other p = absurd (other refl)
+or_fault BadMagic M P other p = p
+or_fault (Version version) M P other p = p
+or_fault Negative M P other p = p
+or_fault (NotAMap at) M P other p = p
+or_fault (MapLength at) M P other p = p
+or_fault (Repeated ledger) M P other p = p
+or_fault (CountDiffers found) M P other p = p
+
+-- what stands in the bytes is no want of memory
+pub stands_without_memory : (at : ℕ) (before : List (ℕ × ℕ)) (bytes : List ℕ) (fault : HeadFault) → FaultAt at before bytes fault → fault ≢ Memory
+stands_without_memory at before bytes fault stands is = (subst (FaultAt at before bytes) is stands).1.1
 
 pub stops : (offset at : ℕ) (tail : List ℕ) (m : LedgersMap) (fault : HeadFault) → at ≤ length tail → (s : SpellsMap (take at tail) m) → FaultAt (offset + at) s.pairs (drop at tail) fault → FirstFault offset tail fault
 stops offset at tail m fault within s stands =
@@ -92,9 +96,33 @@ stops offset at tail m fault within s stands =
       stands = subst (λ (n : ℕ). FaultAt (offset + n) s.pairs (drop at tail) fault) long stands;
     }
 
+pub asks : (at : ℕ) (tail bytes : List ℕ) (m : LedgersMap) → (s : SpellsMap (take at tail) m) → HasPairs (drop at tail) bytes → ReachesNew s.pairs bytes → AsksForMemory tail
+asks at tail bytes m s has reaches = record {
+  whole = take at tail;
+  rest = drop at tail;
+  pairs = s.pairs;
+  batch = bytes;
+  bytes_are = sym (take-append-drop at tail);
+  spelled = s.spelled;
+  distinct = s.distinct;
+  has = has;
+  reaches = reaches;
+}
+
+pub or_memory-map : (fault : HeadFault) (M N P Q : Type 0) → (M → N) → (P → Q) → OrMemory fault M P → OrMemory fault N Q
+or_memory-map Memory M N P Q g f p = g p
+or_memory-map BadMagic M N P Q g f p = f p
+or_memory-map (Version version) M N P Q g f p = f p
+or_memory-map Negative M N P Q g f p = f p
+or_memory-map (NotAMap at) M N P Q g f p = f p
+or_memory-map (MapLength at) M N P Q g f p = f p
+or_memory-map (Repeated ledger) M N P Q g f p = f p
+or_memory-map (CountDiffers found) M N P Q g f p = f p
+
 -- a pair's fault is the fault of its batch
-pair_stops : (at : ℕ) (before : List (ℕ × ℕ)) (tail bytes : List ℕ) (fault : HeadFault) → HasPairs tail bytes → OrMemory fault (PairFault before bytes fault) → OrMemory fault (FaultAt at before tail fault)
-pair_stops at before tail bytes Memory has h = tt
+pair_stops : (at : ℕ) (before : List (ℕ × ℕ)) (tail bytes : List ℕ) (fault : HeadFault) → HasPairs tail bytes
+    → OrMemory fault (ReachesNew before bytes) (PairFault before bytes fault) → OrMemory fault (ReachesNew before bytes) (FaultAt at before tail fault)
+pair_stops at before tail bytes Memory has h = h
 pair_stops at before tail bytes Negative has h = (bytes, (has, h))
 pair_stops at before tail bytes (Repeated ledger) has h = (bytes, (has, h))
 pair_stops at before tail bytes BadMagic has h = absurd h
@@ -103,17 +131,9 @@ pair_stops at before tail bytes (NotAMap place) has h = absurd h
 pair_stops at before tail bytes (MapLength place) has h = absurd h
 pair_stops at before tail bytes (CountDiffers found) has h = absurd h
 
-pub or_memory-map : (fault : HeadFault) (P Q : Type 0) → (P → Q) → OrMemory fault P → OrMemory fault Q
-or_memory-map Memory P Q f p = tt
-or_memory-map BadMagic P Q f p = f p
-or_memory-map (Version version) P Q f p = f p
-or_memory-map Negative P Q f p = f p
-or_memory-map (NotAMap at) P Q f p = f p
-or_memory-map (MapLength at) P Q f p = f p
-or_memory-map (Repeated ledger) P Q f p = f p
-or_memory-map (CountDiffers found) P Q f p = f p
-
-pub stops_at_pair : (offset at : ℕ) (tail bytes : List ℕ) (m : LedgersMap) (fault : HeadFault) → at ≤ length tail → (s : SpellsMap (take at tail) m) → HasPairs (drop at tail) bytes
-    → OrMemory fault (PairFault s.pairs bytes fault) → OrMemory fault (FirstFault offset tail fault)
+pub stops_at_pair : (offset at : ℕ) (tail bytes : List ℕ) (m : LedgersMap) (fault : HeadFault) → at ≤ length tail → (s : SpellsMap (take at tail) m)
+    → HasPairs (drop at tail) bytes → OrMemory fault (ReachesNew s.pairs bytes) (PairFault s.pairs bytes fault)
+    → OrMemory fault (AsksForMemory tail) (FirstFault offset tail fault)
 stops_at_pair offset at tail bytes m fault within s has h =
-    or_memory-map fault (FaultAt (offset + at) s.pairs (drop at tail) fault) (FirstFault offset tail fault) (stops offset at tail m fault within s) (pair_stops (offset + at) s.pairs (drop at tail) bytes fault has h)
+    or_memory-map fault (ReachesNew s.pairs bytes) (AsksForMemory tail) (FaultAt (offset + at) s.pairs (drop at tail) fault) (FirstFault offset tail fault)
+    (asks at tail bytes m s has) (stops offset at tail m fault within s) (pair_stops (offset + at) s.pairs (drop at tail) bytes fault has h)

@@ -64,7 +64,25 @@ pub record FirstFault (from : ℕ) (bytes : List ℕ) (fault : HeadFault) : Type
   pub distinct : AreDistinct (ledgers_of pairs)
   pub stands : FaultAt (from + length whole) pairs rest fault
 
--- want of memory, or what is said of every other fault
-abbrev pub OrMemory : HeadFault → Type 0 → Type 0
-OrMemory Memory P = Unit {0}
-OrMemory fault P = P
+-- The bytes are those of good pairs, of one that can be added (it is not negative, and its ledger is new), and of later ones.
+abbrev pub ReachesNew : List (ℕ × ℕ) → List ℕ → Type 0
+ReachesNew before bytes = (good : List (ℕ × ℕ)) × ((pair : ℕ × ℕ)
+    × (ReachesPair before bytes good pair × (IsPair pair × ¬ (In pair.0 (ledgers_of (before ++ good))))))
+
+-- The one place where memory is asked for: behind whole batches, no ledger twice, a batch of the right length with a pair
+-- that can be added. So what is wrong further left is told, and never want of memory (this project's rule).
+pub record AsksForMemory (bytes : List ℕ) : Type 0 where
+  pub whole : List ℕ
+  pub rest : List ℕ
+  pub pairs : List (ℕ × ℕ)
+  pub batch : List ℕ
+  pub bytes_are : bytes ≡ whole ++ rest
+  pub spelled : Batches whole pairs
+  pub distinct : AreDistinct (ledgers_of pairs)
+  pub has : HasPairs rest batch
+  pub reaches : ReachesNew pairs batch
+
+-- what is said of want of memory, and what of every other fault
+abbrev pub OrMemory : HeadFault → Type 0 → Type 0 → Type 0
+OrMemory Memory M P = M
+OrMemory fault M P = P

@@ -7,7 +7,7 @@ use Rattle.bk_head.specs.declared.header.Header.{Header}
 use Rattle.bk_head.specs.declared.fault.HeadFault.{HeadFault}
 use Rattle.bk_head.specs.declared.fault.HeadFault.TheVariants.{Negative, NotAMap, CountDiffers}
 use Rattle.bk_head.specs.Ledgers.{LedgersMap, map_of, SpellsMap}
-use Rattle.bk_head.specs.Faults.{FirstFault, OrMemory}
+use Rattle.bk_head.specs.Faults.{FirstFault, AsksForMemory, OrMemory}
 
 -- Where a header has the map, and how many ledgers: none in a log that is not sealed (the BookKeeper entry log
 -- format). A map stands from byte 1024 on, and its offset may be the log's length.
@@ -43,10 +43,15 @@ seen (Ok None) = Ok None
 seen (Ok (Some tree)) = Ok (Some (map_of tree))
 seen (Err fault) = Err fault
 
--- want of memory, or what is said of every other answer
-abbrev pub UnlessMemory : Result (Option LedgersMap) HeadFault → Type 0 → Type 0
-UnlessMemory (Ok map) P = P
-UnlessMemory (Err fault) P = OrMemory fault P
+-- want of memory comes only where the header has a map, and a pair of it can be added
+abbrev pub WantsMemory : List ℕ → ℕ → Header → Type 0
+WantsMemory tail length header =
+    ((place : ℕ × ℕ) × (Ok (Some place) ≡ map_place length header.map_offset header.count)) × AsksForMemory tail
+
+-- what is said of want of memory, and what of every other answer
+abbrev pub UnlessMemory : Result (Option LedgersMap) HeadFault → Type 0 → Type 0 → Type 0
+UnlessMemory (Ok map) M P = P
+UnlessMemory (Err fault) M P = OrMemory fault M P
 
 -- These bytes are as many as a log of this length has from the offset on. An offset outside asks nothing.
 abbrev pub IsTail : List ℕ → ℕ → ℤ → Type 0

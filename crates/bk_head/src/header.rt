@@ -4,6 +4,7 @@ ghost use Rattle.std.specs.Prelude.{◌≡◌, ◌↔◌, pos, IsOk, IfOk, IfErr
 ghost use Rattle.bk_head.specs.Header.{IsHeader, HeaderFault, empty_header, patch_of, magic, version_field};
 
 use crate::HeadFault;
+use bk_record::HEADER_LENGTH;
 use byteorder::{BigEndian, ByteOrder};
 
 /// The first four bytes of every entry log.
@@ -29,7 +30,7 @@ pub struct Header {
 ///
 /// Faults, tried in this order: `BadMagic` where the first four bytes are not `BKLO`, `Version` with the version
 /// where it is not 1 (this project's rule).
-pub fn read_header(bytes: &[u8; 1024]) -> Result<Header, HeadFault>
+pub fn read_header(bytes: &[u8; HEADER_LENGTH]) -> Result<Header, HeadFault>
     ensures ok { IsOk result ↔ ((take 4 bytes.now ≡ magic) × (version_field bytes.now ≡ 1)) }
     ensures value { IfOk result (λ header. IsHeader bytes.now header) }
     ensures err { IfErr result (λ fault. HeaderFault bytes.now fault) }
@@ -49,11 +50,11 @@ pub fn read_header(bytes: &[u8; 1024]) -> Result<Header, HeadFault>
 }
 
 /// The header of a log that is not sealed: the magic, the version, and zeros.
-pub fn new_header() -> [u8; 1024]
+pub fn new_header() -> [u8; HEADER_LENGTH]
     ensures value { result ≡ empty_header }
     ensures header { IsHeader result (record { version = 1; map_offset = pos 0; count = pos 0 }) }
 {
-    let mut header = [0; 1024];
+    let mut header = [0; HEADER_LENGTH];
     header[..4].copy_from_slice(&MAGIC);
     BigEndian::write_u32(&mut header[4..], VERSION);
     header

@@ -5,22 +5,16 @@ ghost use Rattle.std.specs.FinMap as ledgers;
 ghost use Rattle.bk_record.specs.Piece.{BeginsWith};
 ghost use Rattle.bk_head.specs.declared.fault.HeadFault.{HeadFault as Fault};
 ghost use Rattle.bk_head.specs.Ledgers.{LedgersMap, map_of, SpellsMap, IsPair, ledgers_of, AreDistinct};
-ghost use Rattle.bk_head.specs.Faults.{HasNoBatch, HasPairs, PairFault, FaultAt, FirstFault, OrMemory};
-ghost use Rattle.bk_head.specs.Reading.{MapAnswer, UnlessMemory, seen, IsTail, map_place};
+ghost use Rattle.bk_head.specs.Faults.{HasNoBatch, HasPairs, PairFault, FaultAt, FirstFault, ReachesNew, AsksForMemory, OrMemory};
+ghost use Rattle.bk_head.specs.Reading.{MapAnswer, WantsMemory, UnlessMemory, seen, IsTail, map_place};
 ghost use Rattle.bk_head.specs.Parts.{Adds, PairRefusal};
 
 use crate::batch::{IDS_AND_COUNT, PAIR, batch_ids};
 use crate::{HeadFault, Header};
-use bk_record::{Piece, read_record};
+use bk_record::{HEADER_LENGTH, IDS_LENGTH, LENGTH_FIELD, Piece, read_record};
 use byteorder::{BigEndian, ByteOrder};
 use std::alloc::Global;
 use std::collections::BTreeMap;
-
-/// The least position that a map can have: the header's length.
-const FIRST: u64 = 1024;
-
-/// The length field's bytes.
-const FIELD: usize = 4;
 
 /// Reads the ledgers map of a log of `length` bytes whose header was read. `tail` is the log from the header's offset
 /// on, of which nothing is asked where the offset is not in 1024 to `length`. `None` where the offset and the count
@@ -31,7 +25,8 @@ const FIELD: usize = 4;
 /// and -2 stands, `MapLength` where it has not the length that its number of pairs wants, both with the position of
 /// its length field in the log, and for each of its pairs `Negative` where the ledger or the size is negative,
 /// `Repeated` where the ledger was there before. At the end `CountDiffers` with the number of ledgers where it is not
-/// the header's count (this project's rules). `Memory` may come at any pair.
+/// the header's count (this project's rules). `Memory` comes only at a pair that is to be added: everything further left is
+/// whole, and the pair itself is neither negative nor repeated.
 pub fn read_map(
     alloc: Global,
     tail: &[u8],
@@ -39,9 +34,10 @@ pub fn read_map(
     header: &Header,
 ) -> Result<Option<BTreeMap<u64, u64>>, HeadFault>
     requires { IsTail tail.now length header.now.map_offset }
-    ensures answer { UnlessMemory (seen result) (MapAnswer tail.now length header.now (seen result)) }
+    ensures answer { UnlessMemory (seen result) (WantsMemory tail.now length header.now)
+        (MapAnswer tail.now length header.now (seen result)) }
     ensures only { (answer : Result (Option LedgersMap) Fault)
-        → MapAnswer tail.now length header.now answer → UnlessMemory (seen result) (seen result ≡ answer) }
+        → MapAnswer tail.now length header.now answer → UnlessMemory (seen result) (Unit {0}) (seen result ≡ answer) }
 {
     let Some((offset, count)) = place_of(length, header)? else {
         return Ok(None);
@@ -66,7 +62,7 @@ fn place_of(length: u64, header: &Header) -> Result<Option<(u64, u64)>, HeadFaul
     if offset == 0 && count == 0 {
         return Ok(None);
     }
-    if offset < FIRST || offset > length {
+    if offset < HEADER_LENGTH as u64 || offset > length {
         return Err(HeadFault::NotAMap(offset));
     }
     Ok(Some((offset, count)))
@@ -76,14 +72,14 @@ fn place_of(length: u64, header: &Header) -> Result<Option<(u64, u64)>, HeadFaul
 fn read_batches(alloc: Global, tail: &[u8], offset: u64) -> Result<BTreeMap<u64, u64>, HeadFault>
     requires { offset + length tail.now < 2 ^ 64 }
     ensures ok { IfOk result (λ map. SpellsMap tail.now (map_of map)) }
-    ensures err { IfErr result (λ fault. OrMemory fault (FirstFault offset tail.now fault)) }
+    ensures err { IfErr result (λ fault. OrMemory fault (AsksForMemory tail.now) (FirstFault offset tail.now fault)) }
 {
     let mut map = BTreeMap::new(alloc);
     let mut at = 0;
     while at < tail.len() {
         let pairs = pairs_at(&tail[at..], offset + at as u64)?;
         add_pairs(pairs, &mut map)?;
-        at += FIELD + IDS_AND_COUNT + pairs.len();
+        at += LENGTH_FIELD + IDS_AND_COUNT + pairs.len();
     }
     Ok(map)
 }
@@ -104,7 +100,7 @@ fn pairs_at(bytes: &[u8], at: u64) -> Result<&[u8], HeadFault>
         return Err(HeadFault::MapLength(at));
     }
     let (head, pairs) = payload.split_at(IDS_AND_COUNT);
-    let count = BigEndian::read_u32(&head[16..]) as usize;
+    let count = BigEndian::read_u32(&head[IDS_LENGTH..]) as usize;
     if pairs.len() != PAIR * count {
         return Err(HeadFault::MapLength(at));
     }
@@ -117,7 +113,7 @@ fn payload_at(bytes: &[u8]) -> Option<&[u8]>
     ensures { MatchOption result (HasNoBatch bytes.now) (λ payload. BeginsWith bytes.now payload.now) }
 {
     match read_record(bytes, 0) {
-        Piece::Foreign { to } => Some(&bytes[FIELD..to]),
+        Piece::Foreign { to } => Some(&bytes[LENGTH_FIELD..to]),
         _ => None,
     }
 }
@@ -128,7 +124,7 @@ fn add_pairs(bytes: &[u8], map: &mut BTreeMap<u64, u64>) -> Result<(), HeadFault
     ensures { (before : List (ℕ × ℕ))
         → AreDistinct (ledgers_of before) → map_of map.old ≡ ledgers.from_entries before
         → MatchResult result (λ _. Adds before bytes.now (map_of map.new))
-        (λ fault. OrMemory fault (PairFault before bytes.now fault)) }
+        (λ fault. OrMemory fault (ReachesNew before bytes.now) (PairFault before bytes.now fault)) }
 {
     for k in 0..bytes.len() / PAIR {
         let pair = &bytes[PAIR * k..PAIR * k + PAIR];
@@ -146,7 +142,8 @@ fn add_pair(ledger: u64, size: u64, map: &mut BTreeMap<u64, u64>) -> Result<(), 
     ensures pair { OnOk result (IsPair (ledger, size)) }
     ensures new { OnOk result (ledgers.get (map_of map.old) ledger ≡ None) }
     ensures added { OnOk result (map_of map.new ≡ ledgers.insert (map_of map.old) ledger size) }
-    ensures err { IfErr result (λ fault. OrMemory fault (PairRefusal (map_of map.old) (ledger, size) fault)) }
+    ensures err { IfErr result (λ fault. OrMemory fault (IsPair (ledger, size) × (ledgers.get (map_of map.old) ledger ≡ None))
+        (PairRefusal (map_of map.old) (ledger, size) fault)) }
 {
     if ledger >> 63 != 0 || size >> 63 != 0 {
         return Err(HeadFault::Negative);

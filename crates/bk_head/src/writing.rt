@@ -6,11 +6,8 @@ ghost use Rattle.bk_head.specs.Ledgers.{map_of, SpellsMap};
 ghost use Rattle.bk_head.specs.Written.{written_map, IsWritable};
 
 use crate::HeadFault;
-use crate::batch::{BATCH_PAIRS, PAIR, batch_head, pair_bytes};
+use crate::batch::{BATCH_HEAD, BATCH_PAIRS, PAIR, batch_head, pair_bytes};
 use std::collections::BTreeMap;
-
-/// The bytes before the pairs of a batch.
-const HEAD: usize = 24;
 
 /// Appends the ledgers map: its pairs by rising ledger, in full batches of 10,000 and one with what is left, so an empty
 /// map adds nothing (this project's rule; a batch's form is the BookKeeper entry log format). The map has at most
@@ -24,7 +21,7 @@ pub fn write_map(map: &BTreeMap<u64, u64>, out: &mut Vec<u8>) -> Result<(), Head
 {
     let mut left = map.len();
     if out
-        .reserve(left.div_ceil(BATCH_PAIRS) * HEAD + left * PAIR)
+        .reserve(left.div_ceil(BATCH_PAIRS) * BATCH_HEAD + left * PAIR)
         .is_err()
     {
         return Err(HeadFault::Memory);

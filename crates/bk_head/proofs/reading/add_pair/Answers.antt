@@ -11,3 +11,6 @@ returns-in-Ok-None-clause-added c = map_of-insert c.args.map.now c.insert.new.se
 pub returns-in-Ok-Some-clause-err : goal.returns-in-Ok-Some-clause-err
 returns-in-Ok-Some-clause-err c =
     (refl, ((omega arith, omega arith), rw (get-map_of c.args.map.now c.args.ledger ∙ sym c.in-Ok-Some.ensures.old ∙ c.in-Ok-Some.field-0-is) refl))
+
+pub returns-in-Err-clause-err : goal.returns-in-Err-clause-err
+returns-in-Err-clause-err c = ((omega arith, omega arith), get-map_of c.args.map.now c.args.ledger ∙ c.in-Err.ensures.absent)

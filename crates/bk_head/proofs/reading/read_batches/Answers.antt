@@ -3,8 +3,8 @@ use Rattle.std.specs.FinMap.{from_entries}
 use Rattle.std.proofs.lemmas.List.{take_rest, length-drop}
 use Rattle.std.proofs.lemmas.Result.{err_from_is_err_and}
 use Rattle.bk_head.specs.Ledgers.{map_of}
-use Rattle.bk_head.specs.Faults.{HasPairs, FaultAt, FirstFault}
-use Rattle.bk_head.proofs.Batching.{spells_nothing, spells_more, has-front, or_memory, stops, stops_at_pair}
+use Rattle.bk_head.specs.Faults.{HasPairs, FaultAt, FirstFault, AsksForMemory}
+use Rattle.bk_head.proofs.Batching.{spells_nothing, spells_more, has-front, or_fault, stands_without_memory, stops, stops_at_pair}
 use Rattle.bk_head.proofs.reading.read_batches.Goals as goal
 
 pub loop-at-init : goal.loop-at-init
@@ -18,7 +18,7 @@ returns-in_err-pairs-clause-err c =
     let s = c.loop-at.invariant.1 in
     let stands = subst (λ (x : List ℕ). FaultAt (c.args.offset + at) s.pairs x fault) (take_rest tail at) (c.in_err-pairs.ensures.err s.pairs) in
     let p = err_from_is_err_and c.from_residual.result c.from_residual.ensures.1 in
-    rw (p.1, p.2) (or_memory fault (FirstFault c.args.offset tail fault) (stops c.args.offset at tail (map_of c.loop-at.map) fault c.loop-at.invariant.0 s stands))
+    rw (p.1, p.2) (or_fault fault (AsksForMemory tail) (FirstFault c.args.offset tail fault) (stands_without_memory (c.args.offset + at) s.pairs (drop at tail) fault stands) (stops c.args.offset at tail (map_of c.loop-at.map) fault c.loop-at.invariant.0 s stands))
 
 pub returns-in_err-add_pairs-clause-err : goal.returns-in_err-add_pairs-clause-err
 returns-in_err-add_pairs-clause-err c =
