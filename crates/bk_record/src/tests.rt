@@ -1,8 +1,14 @@
 //! Worked examples, with bytes and numbers written by hand.
+
+ghost use Rattle.std.specs.Prelude.{◌≡◌, ◌≤◌, length, IfOk};
+ghost use Rattle.bk_record.specs.Record.{IsPayload};
+
 use crate::{
     Key, Location, Piece, RecordFault, check_add, key_of, last_record_wins, one_piece,
     one_spelling, read_record, write_record,
 };
+use std::alloc::{AllocError, Global};
+use std::cmp::Ordering;
 use std::test::Fail;
 
 /// The record of entry 0 of ledger 1 with the data `hello`.
@@ -40,19 +46,38 @@ fn a_location_is_the_log_and_the_payload_behind_its_length(rt: HostRuntime) -> R
 }
 
 #[test]
+fn keys_are_ordered_by_ledger_then_entry(rt: HostRuntime) -> Result<(), Fail> {
+    let cases = [
+        ((1, 5), (2, 0), Ordering::Less),
+        ((2, 0), (1, 5), Ordering::Greater),
+        ((2, 3), (2, 4), Ordering::Less),
+        ((2, 4), (2, 4), Ordering::Equal),
+    ];
+    for (first, second, order) in cases {
+        let first = Key::new(first.0, first.1).ok_or("the first key")?;
+        let second = Key::new(second.0, second.1).ok_or("the second key")?;
+        assert_eq!(rt; first.cmp(&second), order);
+    }
+    Ok(())
+}
+
+#[test]
 fn a_payload_is_refused_by_its_length_and_its_ids(rt: HostRuntime) -> Result<(), Fail> {
-    let alloc = rt.alloc();
-    assert_eq!(rt; key_of(&HELLO[4..]), check_add(&HELLO[4..]));
+    let cases = [
+        (0, 0, Some(RecordFault::Short(0))),
+        (15, 0xff, Some(RecordFault::Short(15))),
+        (16, 0xff, Some(RecordFault::Negative)),
+        (16, 0, None),
+        (1_048_576, 0x7f, None),
+        (1_048_577, 0x7f, Some(RecordFault::TooLong(1_048_577))),
+        (1_048_577, 0xff, Some(RecordFault::Negative)),
+    ];
+    for (length, byte, fault) in cases {
+        let payload = vec![in rt.alloc(); byte; length]?;
+        assert_eq!(rt; check_add(&payload).err(), fault, "{length} {byte}");
+    }
     assert_eq!(rt; key_of(&HELLO[4..]).ok(), Key::new(1, 0));
-    assert_eq!(rt; check_add(&[0xff; 15]), Err(RecordFault::Short(15)));
-    assert_eq!(rt; check_add(&[0xff; 16]), Err(RecordFault::Negative));
-    let largest = vec![in alloc; 0; 1_048_576]?;
-    assert_eq!(rt; check_add(&largest).ok(), Key::new(0, 0));
-    let larger = vec![in alloc; 0; 1_048_577]?;
-    assert_eq!(rt; check_add(&larger), Err(RecordFault::TooLong(1_048_577)));
-    assert_eq!(rt; key_of(&larger).ok(), Key::new(0, 0));
-    let negative = vec![in alloc; 0xff; 1_048_577]?;
-    assert_eq!(rt; check_add(&negative), Err(RecordFault::Negative));
+    assert_eq!(rt; check_add(&HELLO[4..]).ok(), Key::new(1, 0));
     Ok(())
 }
 
@@ -92,6 +117,57 @@ fn pieces_of_a_log(rt: HostRuntime) {
         read_record(&[0x7f, 0xff, 0xff, 0xff], 0),
         Piece::Torn { rest: 4 }
     );
+}
+
+/// A payload of so many bytes whose ids are 2^63 - 1.
+fn payload_of(alloc: Global, size: usize) -> Result<Vec<u8>, AllocError>
+    requires { 16 ≤ size }
+    ensures { IfOk result (λ payload. length payload.items ≡ size) }
+{
+    let mut payload = vec![in alloc; 0xff; size]?;
+    payload[0] = 0x7f;
+    payload[8] = 0x7f;
+    Ok(payload)
+}
+
+/// Writes so many records of the payload.
+fn write_many(payload: &[u8], times: u32, log: &mut Vec<u8>) -> Result<(), RecordFault>
+    requires { IsPayload payload.now }
+{
+    for _ in 0..times {
+        write_record(payload, log)?;
+    }
+    Ok(())
+}
+
+/// How many records with a key stand one after another, at most this many, and where the last one ends.
+fn whole_records(log: &[u8], most: u32) -> (u32, usize) {
+    let mut at = 0;
+    for count in 0..most {
+        if at > log.len() {
+            return (count, at);
+        }
+        match read_record(log, at) {
+            Piece::Whole { to, .. } => at = to,
+            _ => return (count, at),
+        }
+    }
+    (most, at)
+}
+
+/// A record of 2 MiB with the largest ids, and thousands of small ones behind it.
+#[test]
+fn large_and_many_records_are_read_again(rt: HostRuntime) -> Result<(), Fail> {
+    let large = payload_of(rt.alloc(), 2_097_152)?;
+    let small = payload_of(rt.alloc(), 18)?;
+    let last = Key::new(9_223_372_036_854_775_807, 9_223_372_036_854_775_807);
+    assert_eq!(rt; key_of(&large).ok(), last);
+    let mut log = Vec::new(rt.alloc());
+    write_many(&large, 1, &mut log)?;
+    write_many(&small, 5_000, &mut log)?;
+    assert_eq!(rt; log.len(), 2_207_156);
+    assert_eq!(rt; whole_records(&log, 9_999), (5_001, 2_207_156));
+    Ok(())
 }
 
 #[test]
