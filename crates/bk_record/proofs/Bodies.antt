@@ -10,7 +10,9 @@ use Rattle.bk_record.proofs.Records.{length-record_of, length_field-record_of, s
 
 pub pieces-stop : (most from : ℕ) (bytes : List ℕ) → starts_with_record bytes ≡ false → pieces most from bytes ≡ []
 pieces-stop zero from bytes is = refl
-pieces-stop (suc most) from bytes is = ap (λ (b : Bool). cond b ((from + 4, take (length_field bytes) (drop 4 bytes)) ∷ pieces most (from + 4 + length_field bytes) (drop (4 + length_field bytes) bytes)) []) is
+pieces-stop (suc most) from bytes is = ap
+    (λ (b : Bool). cond b ((from + 4, take (length_field bytes) (drop 4 bytes)) ∷ pieces most (from + 4 + length_field bytes)
+    (drop (4 + length_field bytes) bytes)) []) is
 
 pub leftover-stop : (most : ℕ) (bytes : List ℕ) → starts_with_record bytes ≡ false → leftover most bytes ≡ bytes
 leftover-stop zero bytes is = refl
@@ -71,7 +73,8 @@ body_append {behind = behind} {rest = rest} {others = others} (done {from = from
     subst (λ (n : ℕ). Body n behind others rest) (let e : from + 0 ≡ from = omega arith in e) next
 body_append (torn (short some less)) nothing next = absurd (omega (arith, some, ap length nothing))
 body_append (torn (cut four least most less)) nothing next = absurd (omega (arith, four, ap length nothing))
-body_append {behind = behind} {rest = rest} {others = others} (more {from = from} {payload = payload} {behind = inner} {records = records} legal body) nothing next =
+body_append {behind = behind} {rest = rest} {others = others}
+    (more {from = from} {payload = payload} {behind = inner} {records = records} legal body) nothing next =
     let size = length-append (record_of payload) inner in
     let place : from + length (record_of payload ++ inner) ≡ from + 4 + length payload + length inner = omega (arith, length-record_of payload) in
     let later = subst (λ (n : ℕ). Body n behind others rest) place next in

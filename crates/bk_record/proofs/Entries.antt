@@ -52,7 +52,8 @@ module _ {K X : Type 0} {R : K → K → Ordering} (total : IsTotalOrder R) (sam
   pub In-find : (q : K) (es : List (K × X)) (x : X) → T (is_sorted R es) → In (q, x) es → find R q es ≡ Some x
   In-find q [] x sorted there = absurd there
   In-find q (e ∷ es) x sorted (inl here) =
-      ap (λ (b : Bool). cond b (Some e.1) (find R q es)) (ap (λ (p : K × X). eq_by_cmp R q p.0) here ∙ ap is_eq (tied_itself total q)) ∙ ap (λ (p : K × X). Some p.1) here
+      ap (λ (b : Bool). cond b (Some e.1) (find R q es)) (ap (λ (p : K × X). eq_by_cmp R q p.0) here ∙ ap is_eq (tied_itself total q))
+      ∙ ap (λ (p : K × X). Some p.1) here
   In-find q (e ∷ es) x sorted (inr later) =
       let less = below-In e.0 q x es (and_left _ _ sorted) later in
       elim (eq_by_cmp R q e.0) as (λ b. eq_by_cmp R q e.0 ≡ b → cond b (Some e.1) (find R q es) ≡ Some x) [
@@ -79,7 +80,8 @@ In-reverse {X = X} x (z ∷ xs) there = elim (In-append_cases x (reverse xs) (z 
 pub reverse-In : {X : Type 0} (x : X) (xs : List X) → In x xs → In x (reverse xs)
 reverse-In x [] there = there
 reverse-In {X = X} x (z ∷ xs) (inl e) = subst (λ (l : List X). In x l) (sym (reverse-append (z ∷ []) xs)) (In-append_right x (reverse xs) (z ∷ []) (inl e))
-reverse-In {X = X} x (z ∷ xs) (inr later) = subst (λ (l : List X). In x l) (sym (reverse-append (z ∷ []) xs)) (In-append_left x (reverse xs) (z ∷ []) (reverse-In x xs later))
+reverse-In {X = X} x (z ∷ xs) (inr later) = subst (λ (l : List X). In x l) (sym (reverse-append (z ∷ []) xs))
+    (In-append_left x (reverse xs) (z ∷ []) (reverse-In x xs later))
 
 pub In-flat_map : {X Y : Type 0} (f : X → List Y) (y : Y) (x : X) (xs : List X) → In x xs → In y (f x) → In y (flat_map f xs)
 In-flat_map f y x [] there here = absurd there

@@ -29,7 +29,8 @@ pieces-enough (suc most) (suc other) from bytes m n =
     let size = length_field bytes in
     let first : List (ℕ × List ℕ) → List (ℕ × List ℕ) = λ rest. (from + 4, take size (drop 4 bytes)) ∷ rest in
     elim (starts_with_record bytes) as (λ b. starts_with_record bytes ≡ b
-    → cond b (first (pieces most (from + 4 + size) (drop (4 + size) bytes))) [] ≡ cond b (first (pieces other (from + 4 + size) (drop (4 + size) bytes))) []) [
+    → cond b (first (pieces most (from + 4 + size) (drop (4 + size) bytes))) []
+    ≡ cond b (first (pieces other (from + 4 + size) (drop (4 + size) bytes))) []) [
       | true ↦ λ is.
           let s = starts_only bytes is in
           let fewer = length-drop (4 + size) bytes in
@@ -88,10 +89,12 @@ pub entries_of-foreign : (file bytes : List ℕ) (others : List (ℕ × List ℕ
 entries_of-foreign file bytes others are foreign =
     entries_of-more file bytes others are ∙ ap (λ (l : List (ℕ × List ℕ)). entries_of file ++ l) (no_entries others foreign) ∙ append-nil (entries_of file)
   where
-    no_entries : (rs : List (ℕ × List ℕ)) → ((at : ℕ) (payload : List ℕ) → In (at, payload) rs → key_of payload ≡ None) → filter (λ r. not (is_foreign r.1)) rs ≡ []
+    no_entries : (rs : List (ℕ × List ℕ)) → ((at : ℕ) (payload : List ℕ) → In (at, payload) rs → key_of payload ≡ None)
+        → filter (λ r. not (is_foreign r.1)) rs ≡ []
     no_entries [] none = refl
     no_entries (r ∷ rs) none =
-        ap (λ (o : Option EntryKey). cond (not (not (is_some o))) (r ∷ filter (λ x. not (is_foreign x.1)) rs) (filter (λ x. not (is_foreign x.1)) rs)) (none r.0 r.1 (inl refl))
+        ap (λ (o : Option EntryKey). cond (not (not (is_some o))) (r ∷ filter (λ x. not (is_foreign x.1)) rs)
+        (filter (λ x. not (is_foreign x.1)) rs)) (none r.0 r.1 (inl refl))
         ∙ no_entries rs (λ at payload there. none at payload (inr there))
 
 -- ---- an entry that stands is one of its log's list
@@ -99,7 +102,8 @@ entries_of-foreign file bytes others are foreign =
 module _ (files : Files) (place : Place) (key : EntryKey) (payload : List ℕ) where
   pub entry-listed : HasEntry files place key payload → In (place.at, payload) (entries_of (file_of files place.log))
   unfolding entries_of
-  entry-listed there = In-filter (λ r. not (is_foreign r.1)) (place.at, payload) (records_of (file_of files place.log)) (record-has files place payload there.stands)
+  entry-listed there = In-filter (λ r. not (is_foreign r.1)) (place.at, payload) (records_of (file_of files place.log))
+      (record-has files place payload there.stands)
       (ap (λ (o : Option EntryKey). not (not (is_some o))) there.keyed)
 
   pub listed-entry : In (place.at, payload) (entries_of (file_of files place.log)) → key_of payload ≡ Some key → HasEntry files place key payload

@@ -10,11 +10,13 @@ use Rattle.bk_record.proofs.Records.{length-record_of}
 use Rattle.bk_record.proofs.Bodies.{pieces-body, leftover-body, body_append, body_record, prefix_is_torn}
 
 -- the records of a file are those that its body spells
-pub records_of-body : (file : List ℕ) {rest : List ℕ} {records : List (ℕ × List ℕ)} → Body header_length (drop header_length file) records rest → records_of file ≡ records
+pub records_of-body : (file : List ℕ) {rest : List ℕ} {records : List (ℕ × List ℕ)} → Body header_length (drop header_length file) records rest
+    → records_of file ≡ records
 unfolding records_of
 records_of-body file body = pieces-body (length file) body (omega (arith, length-drop header_length file))
 
-pub rest_of-body : (file : List ℕ) {rest : List ℕ} {records : List (ℕ × List ℕ)} → Body header_length (drop header_length file) records rest → rest_of file ≡ rest
+pub rest_of-body : (file : List ℕ) {rest : List ℕ} {records : List (ℕ × List ℕ)} → Body header_length (drop header_length file) records rest
+    → rest_of file ≡ rest
 unfolding rest_of
 rest_of-body file body = leftover-body (length file) body (omega (arith, length-drop header_length file))
 
@@ -46,7 +48,8 @@ records_of-behind file w behind rest others next =
     records_of-body (file ++ behind) (grown_body file w behind rest others next)
     ∙ ap (λ (l : List (ℕ × List ℕ)). l ++ others) (sym (records_of-whole file w))
 
-pub whole_behind : (file : List ℕ) → IsWhole file → (behind : List ℕ) (others : List (ℕ × List ℕ)) → Body (length file) behind others [] → IsWhole (file ++ behind)
+pub whole_behind : (file : List ℕ) → IsWhole file → (behind : List ℕ) (others : List (ℕ × List ℕ)) → Body (length file) behind others []
+    → IsWhole (file ++ behind)
 whole_behind file w behind others next = record {
   headed = omega (arith, w.headed, length-append file behind);
   records = w.records ++ others;

@@ -57,7 +57,11 @@ log_count-remove m key log =
 -- a ledger that is taken out
 pub log_count-without_ledger : (m : Places) (ledger log : ℕ) → log_count (without_ledger m ledger) log + log_count (of_ledger m ledger) log ≡ log_count m log
 log_count-without_ledger m ledger log =
-    omega (arith, weight-retain_keys key_cmp_total key_cmp_antisymmetric (in_log log) m (λ k. eqb k.ledger ledger) (λ k. not (eqb k.ledger ledger)) (λ k. refl))
+    omega (
+      arith,
+      weight-retain_keys key_cmp_total key_cmp_antisymmetric (in_log log) m (λ k. eqb k.ledger ledger) (λ k. not (eqb k.ledger ledger))
+          (λ k. refl),
+    )
 
 -- a map that has the keys of two maps without a common one
 pub log_count-union : (u m n : Places) (log : ℕ) → ((q : EntryKey) → finite.get u q ≡ option_or (finite.get n q) (finite.get m q))
@@ -91,18 +95,33 @@ module _ {X : Type 0} where
   pub ledger_count-new : (m : Keyed X) (key : EntryKey) (v : X) (ledger : ℕ) → finite.get m key ≡ None
       → ledger_count (finite.insert m key v) ledger ≡ ledger_count m ledger + cond (eqb key.ledger ledger) 1 0
   ledger_count-new m key v ledger none =
-      omega (arith, weight-insert key_cmp_total key_cmp_antisymmetric (in_ledger ledger) m key v, ap (weight_at key_cmp_total key_cmp_antisymmetric (in_ledger ledger) key) none)
+      omega (
+        arith,
+        weight-insert key_cmp_total key_cmp_antisymmetric (in_ledger ledger) m key v,
+        ap
+            (weight_at key_cmp_total key_cmp_antisymmetric (in_ledger ledger) key) none,
+      )
 
   -- a key that was
   pub ledger_count-held : (m : Keyed X) (key : EntryKey) (v w : X) (ledger : ℕ) → finite.get m key ≡ Some w
       → ledger_count (finite.insert m key v) ledger ≡ ledger_count m ledger
   ledger_count-held m key v w ledger is =
-      omega (arith, weight-insert key_cmp_total key_cmp_antisymmetric (in_ledger ledger) m key v, ap (weight_at key_cmp_total key_cmp_antisymmetric (in_ledger ledger) key) is)
+      omega (
+        arith,
+        weight-insert key_cmp_total key_cmp_antisymmetric (in_ledger ledger) m key v,
+        ap
+            (weight_at key_cmp_total key_cmp_antisymmetric (in_ledger ledger) key) is,
+      )
 
   pub ledger_count-remove : (m : Keyed X) (key : EntryKey) (w : X) (ledger : ℕ) → finite.get m key ≡ Some w
       → ledger_count (finite.remove m key) ledger + cond (eqb key.ledger ledger) 1 0 ≡ ledger_count m ledger
   ledger_count-remove m key w ledger is =
-      omega (arith, weight-remove key_cmp_total key_cmp_antisymmetric (in_ledger ledger) m key, ap (weight_at key_cmp_total key_cmp_antisymmetric (in_ledger ledger) key) is)
+      omega (
+        arith,
+        weight-remove key_cmp_total key_cmp_antisymmetric (in_ledger ledger) m key,
+        ap
+            (weight_at key_cmp_total key_cmp_antisymmetric (in_ledger ledger) key) is,
+      )
 
   pub ledger_count-union : (u m n : Keyed X) (ledger : ℕ) → ((q : EntryKey) → finite.get u q ≡ option_or (finite.get n q) (finite.get m q))
       → ((q : EntryKey) → IsSome (finite.get n q) → finite.get m q ≡ None) → ledger_count u ledger ≡ ledger_count m ledger + ledger_count n ledger
@@ -123,21 +142,24 @@ module _ {X : Type 0} where
   -- a ledger that is taken out has none left, the others keep theirs
   pub ledger_count-without_ledger : (m : Keyed X) (ledger : ℕ) → ledger_count (without_ledger m ledger) ledger ≡ 0
   ledger_count-without_ledger m ledger = weight-none key_cmp_total key_cmp_antisymmetric (in_ledger ledger) (without_ledger m ledger)
-      (λ key v is. elim (eqb key.ledger ledger) as (λ b. cond b None (finite.get m key) ≡ Some v → one_if b ≡ 0) [ true ↦ λ e. cc | false ↦ λ _. refl ] (sym (get-without_ledger m ledger key) ∙ is))
+      (λ key v is. elim (eqb key.ledger ledger) as (λ b. cond b None (finite.get m key) ≡ Some v → one_if b
+      ≡ 0) [ true ↦ λ e. cc | false ↦ λ _. refl ] (sym (get-without_ledger m ledger key) ∙ is))
 
   pub ledger_count-without_other : (m : Keyed X) (ledger other : ℕ) → other ≢ ledger → ledger_count (without_ledger m ledger) other ≡ ledger_count m other
   ledger_count-without_other m ledger other apart =
-      let parts = weight-retain_keys key_cmp_total key_cmp_antisymmetric (in_ledger other) m (λ k. eqb k.ledger ledger) (λ k. not (eqb k.ledger ledger)) (λ k. refl) in
+      let parts = weight-retain_keys key_cmp_total key_cmp_antisymmetric (in_ledger other) m (λ k. eqb k.ledger ledger)
+      (λ k. not (eqb k.ledger ledger)) (λ k. refl) in
       omega (arith, parts, none_of_other)
     where
       not_other : (key : EntryKey) (v : X) → finite.get (of_ledger m ledger) key ≡ Some v → one_if (eqb key.ledger other) ≡ 0
-      not_other key v is = elim (eqb key.ledger ledger) as (λ b. eqb key.ledger ledger ≡ b → cond b (finite.get m key) None ≡ Some v → one_if (eqb key.ledger other) ≡ 0) [
-        | true ↦ λ here _. elim (eqb key.ledger other) as (λ c. eqb key.ledger other ≡ c → one_if c ≡ 0) [
-          | true ↦ λ there. absurd (apart (sym (eqb-true key.ledger other there) ∙ eqb-true key.ledger ledger here))
-          | false ↦ λ _. refl
-        ] refl
-        | false ↦ λ _ e. cc
-      ] refl (sym (get-of_ledger m ledger key) ∙ is)
+      not_other key v is = elim (eqb key.ledger ledger) as (λ b. eqb key.ledger ledger ≡ b → cond b (finite.get m key) None ≡ Some v
+          → one_if (eqb key.ledger other) ≡ 0) [
+            | true ↦ λ here _. elim (eqb key.ledger other) as (λ c. eqb key.ledger other ≡ c → one_if c ≡ 0) [
+              | true ↦ λ there. absurd (apart (sym (eqb-true key.ledger other there) ∙ eqb-true key.ledger ledger here))
+              | false ↦ λ _. refl
+            ] refl
+            | false ↦ λ _ e. cc
+          ] refl (sym (get-of_ledger m ledger key) ∙ is)
 
       none_of_other : ledger_count (of_ledger m ledger) other ≡ 0
       none_of_other = weight-none key_cmp_total key_cmp_antisymmetric (in_ledger other) (of_ledger m ledger) not_other

@@ -10,7 +10,8 @@ use Rattle.bk_record.proofs.Keys.{key_cmp_total, key_cmp_antisymmetric}
 use Rattle.bk_record.proofs.SortedMaps.{entries-retain_keys}
 
 module _ {X : Type 0} where
-  pub get-without_ledger : (m : Keyed X) (ledger : ℕ) (q : EntryKey) → finite.get (without_ledger m ledger) q ≡ cond (eqb q.ledger ledger) None (finite.get m q)
+  pub get-without_ledger : (m : Keyed X) (ledger : ℕ) (q : EntryKey) → finite.get (without_ledger m ledger) q
+      ≡ cond (eqb q.ledger ledger) None (finite.get m q)
   get-without_ledger m ledger q =
       finite.get-retain_keys m _ q (λ x tied. ap (λ (k : EntryKey). not (eqb k.ledger ledger)) (sym (key_cmp_antisymmetric q x tied)))
       ∙ elim (eqb q.ledger ledger) as (λ b. cond (not b) (finite.get m q) None ≡ cond b None (finite.get m q)) [ true ↦ refl | false ↦ refl ]
@@ -19,7 +20,8 @@ module _ {X : Type 0} where
   get-of_ledger m ledger q = finite.get-retain_keys m _ q (λ x tied. ap (λ (k : EntryKey). eqb k.ledger ledger) (sym (key_cmp_antisymmetric q x tied)))
 
   -- the entries of a ledger and the others are all entries
-  pub entries-without_ledger : (m : Keyed X) (ledger : ℕ) → finite.entries (without_ledger m ledger) ≡ filter (λ e. not (eqb e.0.ledger ledger)) (finite.entries m)
+  pub entries-without_ledger : (m : Keyed X) (ledger : ℕ) → finite.entries (without_ledger m ledger)
+      ≡ filter (λ e. not (eqb e.0.ledger ledger)) (finite.entries m)
   entries-without_ledger m ledger = entries-retain_keys key_cmp_total key_cmp_antisymmetric m (λ key. not (eqb key.ledger ledger))
 
   pub len-without_ledger : (m : Keyed X) (ledger : ℕ) → finite.len (without_ledger m ledger) + ledger_count m ledger ≡ finite.len m

@@ -62,7 +62,8 @@ last_or_none key (r ∷ records) = elim (last_or_none key records) [
 ]
 
 -- what has no entry of the key is passed over
-find-append : (key : EntryKey) (es fs : List (EntryKey × List ℕ)) → ((payload : List ℕ) → In (key, payload) es → ⊥) → find key_cmp key (es ++ fs) ≡ find key_cmp key fs
+find-append : (key : EntryKey) (es fs : List (EntryKey × List ℕ)) → ((payload : List ℕ) → In (key, payload) es → ⊥) → find key_cmp key (es ++ fs)
+    ≡ find key_cmp key fs
 find-append key [] fs none = refl
 find-append key (e ∷ es) fs none =
     elim (eq_by_cmp key_cmp key e.0) as (λ b. eq_by_cmp key_cmp key e.0 ≡ b → cond b (Some e.1) (find key_cmp key (es ++ fs)) ≡ find key_cmp key fs) [

@@ -24,15 +24,19 @@ starts_longer bytes more s =
 
 -- what pieces give of bytes that begin with a record
 pieces-starts : (most from : ℕ) (bytes : List ℕ) → starts_with_record bytes ≡ true
-    → pieces (suc most) from bytes ≡ (from + 4, take (length_field bytes) (drop 4 bytes)) ∷ pieces most (from + 4 + length_field bytes) (drop (4 + length_field bytes) bytes)
+    → pieces (suc most) from bytes ≡ (from + 4, take (length_field bytes) (drop 4 bytes)) ∷ pieces most (from + 4 + length_field bytes)
+    (drop (4 + length_field bytes) bytes)
 pieces-starts most from bytes is =
-    ap (λ (b : Bool). cond b ((from + 4, take (length_field bytes) (drop 4 bytes)) ∷ pieces most (from + 4 + length_field bytes) (drop (4 + length_field bytes) bytes)) []) is
+    ap (λ (b : Bool). cond b ((from + 4, take (length_field bytes) (drop 4 bytes)) ∷ pieces most (from + 4 + length_field bytes)
+    (drop (4 + length_field bytes) bytes)) []) is
 
 pieces-longer : (m n from : ℕ) (bytes more : List ℕ) (x : ℕ × List ℕ) → m ≤ n → In x (pieces m from bytes) → In x (pieces n from (bytes ++ more))
 pieces-longer zero n from bytes more x le there = absurd there
 pieces-longer (suc m) zero from bytes more x le there = absurd (omega arith)
 pieces-longer (suc m) (suc n) from bytes more x le there =
-    elim (starts_with_record bytes) as (λ b. starts_with_record bytes ≡ b → In x (cond b ((from + 4, take (length_field bytes) (drop 4 bytes)) ∷ pieces m (from + 4 + length_field bytes) (drop (4 + length_field bytes) bytes)) []) → In x (pieces (suc n) from (bytes ++ more))) [
+    elim (starts_with_record bytes) as (λ b. starts_with_record bytes ≡ b
+    → In x (cond b ((from + 4, take (length_field bytes) (drop 4 bytes)) ∷ pieces m (from + 4 + length_field bytes)
+    (drop (4 + length_field bytes) bytes)) []) → In x (pieces (suc n) from (bytes ++ more))) [
       | false ↦ λ _ none. absurd none
       | true ↦ λ is found.
           let s = starts_only bytes is in
@@ -40,13 +44,18 @@ pieces-longer (suc m) (suc n) from bytes more x le there =
           let first : take (length_field bytes) (drop 4 (bytes ++ more)) ≡ take (length_field bytes) (drop 4 bytes) =
           ap (take (length_field bytes)) (drop-append-le 4 bytes more s.field)
           ∙ take-append-le (length_field bytes) (drop 4 bytes) more (omega (arith, s.whole, length-drop 4 bytes)) in
-          let behind : drop (4 + length_field bytes) (bytes ++ more) ≡ drop (4 + length_field bytes) bytes ++ more = drop-append-le (4 + length_field bytes) bytes more s.whole in
-          let list : pieces (suc n) from (bytes ++ more) ≡ (from + 4, take (length_field bytes) (drop 4 bytes)) ∷ pieces n (from + 4 + length_field bytes) (drop (4 + length_field bytes) bytes ++ more) =
+          let behind : drop (4 + length_field bytes) (bytes ++ more)
+          ≡ drop (4 + length_field bytes) bytes ++ more = drop-append-le (4 + length_field bytes) bytes more s.whole in
+          let list : pieces (suc n) from (bytes ++ more)
+          ≡ (from + 4, take (length_field bytes) (drop 4 bytes)) ∷ pieces n (from + 4 + length_field bytes)
+          (drop (4 + length_field bytes) bytes ++ more) =
           pieces-starts n from (bytes ++ more) (starts_longer bytes more s)
           ∙ ap (λ (k : ℕ). (from + 4, take k (drop 4 (bytes ++ more))) ∷ pieces n (from + 4 + k) (drop (4 + k) (bytes ++ more))) field
           ∙ ap (λ (p : List ℕ). (from + 4, p) ∷ pieces n (from + 4 + length_field bytes) (drop (4 + length_field bytes) (bytes ++ more))) first
           ∙ ap (λ (b : List ℕ). (from + 4, take (length_field bytes) (drop 4 bytes)) ∷ pieces n (from + 4 + length_field bytes) b) behind in
-          subst (λ (l : List (ℕ × List ℕ)). In x l) (sym list) (elim found as (λ _. In x ((from + 4, take (length_field bytes) (drop 4 bytes)) ∷ pieces n (from + 4 + length_field bytes) (drop (4 + length_field bytes) bytes ++ more))) [
+          subst (λ (l : List (ℕ × List ℕ)). In x l) (sym list)
+          (elim found as (λ _. In x ((from + 4, take (length_field bytes) (drop 4 bytes)) ∷ pieces n (from + 4 + length_field bytes)
+          (drop (4 + length_field bytes) bytes ++ more))) [
             | inl e ↦ inl e
             | inr later ↦ inr (pieces-longer m n _ _ more x (omega arith) later)
           ])
@@ -57,7 +66,8 @@ unfolding records_of
 records-longer front whole x longer there = elim (dec_le (length front) header_length) [
   | yes short ↦ absurd (subst (λ (l : List (ℕ × List ℕ)). In x l) (records_of-short front short) there)
   | no headed ↦
-      let size : length (drop header_length whole) ≡ length (drop header_length front) + length longer.behind = ap length longer.is ∙ length-append (drop header_length front) longer.behind in
+      let size : length (drop header_length whole) ≡ length (drop header_length front) + length longer.behind = ap length longer.is
+      ∙ length-append (drop header_length front) longer.behind in
       subst (λ (b : List ℕ). In x (pieces (length whole) header_length b)) (sym longer.is)
       (pieces-longer (length front) (length whole) header_length (drop header_length front) longer.behind x
       (omega (arith, size, length-drop header_length whole, length-drop header_length front)) there)
@@ -72,7 +82,8 @@ longer_append file more = elim (dec_le header_length (length file)) [
   | yes headed ↦ record { behind = more; is = drop-append-le header_length file more headed }
   | no short ↦ record {
     behind = drop header_length (file ++ more);
-    is = ap (λ (l : List ℕ). l ++ drop header_length (file ++ more)) (sym (nil_from_length (drop header_length file) (omega (arith, length-drop header_length file))));
+    is = ap (λ (l : List ℕ). l ++ drop header_length (file ++ more))
+        (sym (nil_from_length (drop header_length file) (omega (arith, length-drop header_length file))));
   }
 ]
 

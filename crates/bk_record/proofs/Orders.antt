@@ -36,7 +36,8 @@ pieces_behind : (most from : ℕ) (bytes : List ℕ) (at : ℕ) (payload : List 
 pieces_behind zero from bytes at payload there = absurd there
 pieces_behind (suc most) from bytes at payload there =
     let n = length_field bytes in
-    elim (starts_with_record bytes) as (λ b. In (at, payload) (cond b ((from + 4, take n (drop 4 bytes)) ∷ pieces most (from + 4 + n) (drop (4 + n) bytes)) []) → from < at) [
+    elim (starts_with_record bytes) as (λ b. In (at, payload)
+    (cond b ((from + 4, take n (drop 4 bytes)) ∷ pieces most (from + 4 + n) (drop (4 + n) bytes)) []) → from < at) [
       | false ↦ λ none. absurd none
       | true ↦ λ some. elim some [
         | inl here ↦ let place : from + 4 ≡ at = ap (λ (r : ℕ × List ℕ). r.0) here in omega arith
@@ -67,7 +68,8 @@ less_told : (a b : ℕ) → T (is_lt (nat_cmp a b)) → a < b
 less_told a b is =
     elim (nat_lt a b) as (λ l. nat_lt a b ≡ l → T (is_lt (cond l Less (cond (a == b) Equal Greater))) → a < b) [
       | true ↦ λ less _. ltb-true a b less
-      | false ↦ λ _ told. elim (a == b) as (λ e. T (is_lt (cond e Equal Greater)) → a < b) [ true ↦ λ never. absurd never | false ↦ λ never. absurd never ] told
+      | false ↦ λ _ told. elim (a == b) as (λ e. T (is_lt (cond e Equal Greater))
+          → a < b) [ true ↦ λ never. absurd never | false ↦ λ never. absurd never ] told
     ] refl is
 
 logs_in_order : (files : List (ℕ × List ℕ)) → T (is_sorted nat_cmp files) → AreInOrder (flat_map (λ f. placed f.0 (records_of f.1)) files)

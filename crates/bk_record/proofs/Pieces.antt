@@ -26,7 +26,8 @@ field_read left here n is read =
 -- a length that is below 16 or negative, as a signed number
 pub signed_below : (n : ℕ) → (n < 16) ⊎ (2 ^ 31 ≤ n) → cast_signed w32 n <ℤ pos 16
 signed_below n (inl few) = subst (λ (v : ℤ). v <ℤ pos 16) (sym (to_z_pos w32 n (omega arith))) (omega (arith, ints))
-signed_below n (inr high) = subst (λ (v : ℤ). v <ℤ pos 16) (sym (ap (λ (b : Bool). cond b (pos n) (negsuc (2 ^ 32 - suc n))) (le-ltb _ _ high))) (record { lt = tt })
+signed_below n (inr high) = subst (λ (v : ℤ). v <ℤ pos 16) (sym (ap (λ (b : Bool). cond b (pos n) (negsuc (2 ^ 32 - suc n))) (le-ltb _ _ high)))
+    (record { lt = tt })
 
 pub short_here : (left here : List ℕ) → left ≡ here → 0 < length left → length left < 4 → IsTorn here × (length left ≡ length here)
 short_here left here is some less = let same : length left ≡ length here = ap length is in (short (omega arith) (omega arith), same)
@@ -38,7 +39,8 @@ cut_here left here n is read four least most less =
     let field = field_read left here n is read in
     (cut (omega arith) (omega arith) (omega arith) (omega arith), same)
 
-pub bad_here : (left here : List ℕ) (at n : ℕ) (z : ℤ) → left ≡ here → n ≡ big_number 4 left → 4 ≤ length left → n < 2 ^ 32 → (n < 16) ⊎ (2 ^ 31 ≤ n) → z ≡ cast_signed w32 n
+pub bad_here : (left here : List ℕ) (at n : ℕ) (z : ℤ) → left ≡ here → n ≡ big_number 4 left → 4 ≤ length left → n < 2 ^ 32 → (n < 16) ⊎ (2 ^ 31 ≤ n)
+    → z ≡ cast_signed w32 n
     → (at ≡ at) × ((4 ≤ length here) × ((cast_signed w32 (cast_unsigned w32 z) ≡ signed_field here) × (cast_signed w32 (cast_unsigned w32 z) <ℤ pos 16)))
 unfolding signed_field length_field
 bad_here left here at n z is read four fits low value =
@@ -47,7 +49,8 @@ bad_here left here at n z is read four fits low value =
     ap (λ (v : ℤ). cast_signed w32 (cast_unsigned w32 v)) value ∙ ap (cast_signed w32) (of_z-to_z w32 n fits) in
     (refl, (omega arith, (signed ∙ ap (cast_signed w32) (field_read left here n is read), subst (λ (v : ℤ). v <ℤ pos 16) (sym signed) (signed_below n low))))
 
-begins_here : (left here : List ℕ) (n : ℕ) → left ≡ here → IsBytes here → n ≡ big_number 4 left → 4 ≤ length left → 16 ≤ n → n ≤ 2147483647 → n ≤ length left - 4
+begins_here : (left here : List ℕ) (n : ℕ) → left ≡ here → IsBytes here → n ≡ big_number 4 left → 4 ≤ length left → 16 ≤ n → n ≤ 2147483647
+    → n ≤ length left - 4
     → BeginsWith here (take (4 + n - 4) (drop 4 left)) × (n ≡ length (take (4 + n - 4) (drop 4 left)))
 begins_here left here n is each read four least most enough =
     let same : length left ≡ length here = ap length is in
@@ -79,7 +82,8 @@ some_key payload key is =
 pub none_key : (payload : List ℕ) (fault : RecordFault) → Err fault ≡ read_key payload → 16 ≤ length payload → IsNone (key_of payload)
 unfolding read_key
 none_key payload fault is enough =
-    elim (nat_lt (length payload) 16) as (λ b. nat_lt (length payload) 16 ≡ b → Err fault ≡ cond b (Err (Short (length payload))) (ok_or (key_of payload) Negative) → IsNone (key_of payload)) [
+    elim (nat_lt (length payload) 16) as (λ b. nat_lt (length payload) 16 ≡ b → Err fault
+    ≡ cond b (Err (Short (length payload))) (ok_or (key_of payload) Negative) → IsNone (key_of payload)) [
       | true ↦ λ few e. absurd (omega (arith, enough, ltb-true _ _ few))
       | false ↦ λ _. elim (key_of payload) as (λ o. Err fault ≡ ok_or o Negative → IsNone o) [ None ↦ λ e. refl | Some k ↦ λ e. cc ]
     ] refl is

@@ -62,5 +62,6 @@ pub before-precedes : (before behind : List (Place × List ℕ)) (place : Place)
     → (other : Place) (held : List ℕ) → In (other, held) before → Precedes other place
 before-precedes [] behind place payload order other held there = absurd there
 before-precedes (r ∷ before) behind place payload order other held (inl e) =
-    subst (λ (x : Place × List ℕ). Precedes x.0 place) e (order.0 place payload (In-append_right (place, payload) before ((place, payload) ∷ behind) (inl refl)))
+    subst (λ (x : Place × List ℕ). Precedes x.0 place) e
+    (order.0 place payload (In-append_right (place, payload) before ((place, payload) ∷ behind) (inl refl)))
 before-precedes (r ∷ before) behind place payload order other held (inr later) = before-precedes before behind place payload order.1 other held later

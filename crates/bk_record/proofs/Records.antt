@@ -60,7 +60,8 @@ starts_only bytes is =
 
 pub starts_false : (bytes : List ℕ) → (Starts bytes → ⊥) → starts_with_record bytes ≡ false
 starts_false bytes never =
-    elim (starts_with_record bytes) as (λ b. starts_with_record bytes ≡ b → b ≡ false) [ true ↦ λ is. absurd (never (starts_only bytes is)) | false ↦ λ is. refl ] refl
+    elim (starts_with_record bytes) as (λ b. starts_with_record bytes ≡ b → b
+    ≡ false) [ true ↦ λ is. absurd (never (starts_only bytes is)) | false ↦ λ is. refl ] refl
 
 pub starts-record_of : (payload behind : List ℕ) → IsPayload payload → starts_with_record (record_of payload ++ behind) ≡ true
 starts-record_of payload behind legal =

@@ -68,4 +68,5 @@ pub scan-none : (fs : Files) (key : EntryKey) (place : Place) (payload : List �
     → HasRecord fs place payload → key_of payload ≡ Some key → ⊥
 scan-none fs key place payload is there has =
     find-none key_cmp_total key_cmp_antisymmetric key _ payload (sym (scan-found fs key) ∙ is)
-    (reverse-In _ _ (In-filter_map (λ r. keyed r.1) (key, payload) (place, payload) (all_records fs) (record-all fs place payload there) (payload-keyed payload key has)))
+    (reverse-In _ _ (In-filter_map (λ r. keyed r.1) (key, payload) (place, payload) (all_records fs) (record-all fs place payload there)
+    (payload-keyed payload key has)))

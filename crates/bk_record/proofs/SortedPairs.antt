@@ -58,21 +58,24 @@ module _ {K X : Type 0} {R : K → K → Ordering} (o : IsTotalOrder R) where
       find-lookup R k es ∙ lookup_from_place (eq_by_cmp_equiv o) es i k v (IsDistinct-from_sorted R _ (keys_rise R es sorted)) at
 
   -- a key that would go to a place is not found
-  pub find_gap : (k : K) (es : List (K × X)) (i : ℕ) → ((j : ℕ) (e : K × X) → j < i → slice_get es j ≡ Some e → R e.0 k ≡ Less) → ((j : ℕ) (e : K × X) → i ≤ j → slice_get es j ≡ Some e → R e.0 k ≡ Greater) → IsTrue (is_sorted R es) → find R k es ≡ None
+  pub find_gap : (k : K) (es : List (K × X)) (i : ℕ) → ((j : ℕ) (e : K × X) → j < i → slice_get es j ≡ Some e → R e.0 k ≡ Less)
+      → ((j : ℕ) (e : K × X) → i ≤ j → slice_get es j ≡ Some e → R e.0 k ≡ Greater) → IsTrue (is_sorted R es) → find R k es ≡ None
   find_gap k es i before behind sorted =
       find-lookup R k es
       ∙ lookup_at_gap o k es i (keys_rise R es sorted) (λ j e lt at. o.antisymm k e.0 ∙ ap ordering_reverse (before j e lt at))
       (λ e at. o.antisymm k e.0 ∙ ap ordering_reverse (behind i e (omega arith) at))
 
   -- to put a key into its gap is to insert it there
-  pub put_gap : (k : K) (v : X) (es : List (K × X)) (i : ℕ) → ((j : ℕ) (e : K × X) → j < i → slice_get es j ≡ Some e → R e.0 k ≡ Less) → ((j : ℕ) (e : K × X) → i ≤ j → slice_get es j ≡ Some e → R e.0 k ≡ Greater) → i ≤ length es → put R k v es ≡ insert es i (k, v)
+  pub put_gap : (k : K) (v : X) (es : List (K × X)) (i : ℕ) → ((j : ℕ) (e : K × X) → j < i → slice_get es j ≡ Some e → R e.0 k ≡ Less)
+      → ((j : ℕ) (e : K × X) → i ≤ j → slice_get es j ≡ Some e → R e.0 k ≡ Greater) → i ≤ length es → put R k v es ≡ insert es i (k, v)
   put_gap k v [] zero before behind in_range = refl
   put_gap k v [] (suc i) before behind in_range = absurd (omega arith)
   put_gap k v (e ∷ es) zero before behind in_range =
       rw (o.antisymm k e.0 ∙ ap ordering_reverse (behind zero e (omega arith) refl))
   put_gap k v (e ∷ es) (suc i) before behind in_range =
       rw (o.antisymm k e.0 ∙ ap ordering_reverse (before zero e (omega arith) refl))
-      (ap (λ rest. e ∷ rest) (put_gap k v es i (λ j e' lt at. before (suc j) e' (omega arith) at) (λ j e' le at. behind (suc j) e' (omega arith) at) (omega arith)))
+      (ap (λ rest. e ∷ rest) (put_gap k v es i (λ j e' lt at. before (suc j) e' (omega arith) at) (λ j e' le at. behind (suc j) e' (omega arith) at)
+      (omega arith)))
 
   -- to put a key that stands at a place is to write over its value
   pub put_at : (k : K) (v w : X) (es : List (K × X)) (i : ℕ) → IsTrue (is_sorted R es) → slice_get es i ≡ Some (k, v) → put R k w es ≡ set es i (k, w)
@@ -93,7 +96,8 @@ module _ {K X : Type 0} {R : K → K → Ordering} (o : IsTotalOrder R) where
   all_behind k [] all = refl
   all_behind k (e ∷ es) all = rw all.0 (ap (λ rest. e ∷ rest) (all_behind k es all.1))
 
-  pub filter-behind : (k : K) (v : X) (es : List (K × X)) (i : ℕ) → IsTrue (is_sorted R es) → slice_get es i ≡ Some (k, v) → filter (λ e. is_lt (R k e.0)) es ≡ drop (suc i) es
+  pub filter-behind : (k : K) (v : X) (es : List (K × X)) (i : ℕ) → IsTrue (is_sorted R es) → slice_get es i ≡ Some (k, v)
+      → filter (λ e. is_lt (R k e.0)) es ≡ drop (suc i) es
   filter-behind k v [] i sorted at = cc
   filter-behind k v (e ∷ es) zero sorted at =
       let parts = and_parts _ _ sorted in

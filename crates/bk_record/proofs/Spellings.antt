@@ -99,7 +99,15 @@ leftover-behind (suc most) tail (more {payload = payload} {behind = inner} legal
     ap (leftover (suc most)) (append_assoc (record_of payload) inner tail)
     ∙ leftover-step most payload (inner ++ tail) legal
     ∙ leftover-behind most tail body nothing
-    (omega (arith, enough, length-append (record_of payload ++ inner) tail, length-append (record_of payload) inner, length-append inner tail, length-record_of payload)) is
+    (omega (
+      arith,
+      enough,
+      length-append (record_of payload ++ inner) tail,
+      length-append
+          (record_of payload) inner,
+      length-append inner tail,
+      length-record_of payload,
+    )) is
 
 module _ (from : ℕ) (bytes : List ℕ) (at : ℕ) (value : ℤ) (bad : IsBadAt from bytes at value) where
   split_bytes : bytes ≡ bad.before ++ (bad.field ++ bad.behind)
@@ -137,7 +145,8 @@ body_rest (done) = inl refl
 body_rest (torn is) = inr is
 body_rest (more legal body) = body_rest body
 
-pub never_both : (from : ℕ) (bytes : List ℕ) (records : List (ℕ × List ℕ)) (rest : List ℕ) (at : ℕ) (value : ℤ) → Body from bytes records rest → IsBadAt from bytes at value → ⊥
+pub never_both : (from : ℕ) (bytes : List ℕ) (records : List (ℕ × List ℕ)) (rest : List ℕ) (at : ℕ) (value : ℤ) → Body from bytes records rest
+    → IsBadAt from bytes at value → ⊥
 never_both from bytes records rest at value body bad =
     let left : rest ≡ bad.field ++ bad.behind = sym (leftover-body (length bytes) body (omega arith)) ∙ all_leftover-bad from bytes at value bad in
     elim (body_rest body) [
@@ -162,11 +171,13 @@ told_stop most from bytes is =
       ]
     ]
 
-told_more : (most from : ℕ) (payload behind : List ℕ) → IsPayload payload → Told most (from + 4 + length payload) behind → Told (suc most) from (record_of payload ++ behind)
+told_more : (most from : ℕ) (payload behind : List ℕ) → IsPayload payload → Told most (from + 4 + length payload) behind
+    → Told (suc most) from (record_of payload ++ behind)
 told_more most from payload behind legal (inl body) =
     let bytes = record_of payload ++ behind in
     inl (subst (λ (r : List (ℕ × List ℕ)). Body from bytes r (leftover (suc most) bytes)) (sym (pieces-step most from payload behind legal))
-    (subst (λ (l : List ℕ). Body from bytes ((from + 4, payload) ∷ pieces most (from + 4 + length payload) behind) l) (sym (leftover-step most payload behind legal)) (more legal body)))
+    (subst (λ (l : List ℕ). Body from bytes ((from + 4, payload) ∷ pieces most (from + 4 + length payload) behind) l)
+    (sym (leftover-step most payload behind legal)) (more legal body)))
 told_more most from payload behind legal (inr bad) = inr (
   bad.0,
   (
@@ -189,7 +200,8 @@ told (suc most) from bytes each enough =
           let size : length payload ≡ n = omega (arith, s.whole, length-take n (drop 4 bytes), length-drop 4 bytes) in
           subst (Told (suc most) from) (sym (record_in_front bytes each s))
           (told_more most from payload (drop (4 + n) bytes) (omega (arith, s.least), omega (arith, s.most))
-          (told most (from + 4 + length payload) (drop (4 + n) bytes) (bytes_drop (4 + n) bytes each) (omega (arith, enough, s.whole, length-drop (4 + n) bytes))))
+          (told most (from + 4 + length payload) (drop (4 + n) bytes) (bytes_drop (4 + n) bytes each)
+          (omega (arith, enough, s.whole, length-drop (4 + n) bytes))))
     ] refl
 
 pub read_one_way : (from : ℕ) (bytes : List ℕ) → IsBytes bytes → IsReadOneWay from bytes

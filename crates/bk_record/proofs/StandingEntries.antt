@@ -11,7 +11,8 @@ use Rattle.bk_record.proofs.Places.{one_record}
 use Rattle.bk_record.proofs.StandingRecords.{record-longer, more-record, same-record, short-record, next_place, new-record, grown-record, part-record, record-remove, remove-record, record-insert_else}
 
 -- at a place stands one entry
-pub one_entry : (files : Files) (place : Place) (key other : EntryKey) (a b : List ℕ) → HasEntry files place key a → HasEntry files place other b → (key ≡ other) × (a ≡ b)
+pub one_entry : (files : Files) (place : Place) (key other : EntryKey) (a b : List ℕ) → HasEntry files place key a → HasEntry files place other b
+    → (key ≡ other) × (a ≡ b)
 one_entry files place key other a b here there =
     let same = one_record files place a b here.stands there.stands in
     (some_same key other (sym here.keyed ∙ ap key_of same ∙ there.keyed), same)
@@ -20,7 +21,8 @@ one_entry files place key other a b here there =
     some_same j k is = cc
 
 -- an entry keeps its place where files only grow
-pub entry-longer : (files later : Files) → AreLonger files later → (place : Place) (key : EntryKey) (payload : List ℕ) → HasEntry files place key payload → HasEntry later place key payload
+pub entry-longer : (files later : Files) → AreLonger files later → (place : Place) (key : EntryKey) (payload : List ℕ)
+    → HasEntry files place key payload → HasEntry later place key payload
 entry-longer files later longer place key payload there = record { stands = record-longer files later longer place payload there.stands; keyed = there.keyed }
 
 -- ---- a log that gets other bytes
@@ -28,7 +30,8 @@ entry-longer files later longer place key payload there = record { stands = reco
 module _ (files : Files) (log : ℕ) (bytes : List ℕ) (place : Place) (key : EntryKey) (payload : List ℕ) where
   -- where the bytes have the records of the log and foreign ones, no entry comes
   pub foreign-entry : (others : List (ℕ × List ℕ)) → records_of bytes ≡ records_of (file_of files log) ++ others
-      → ((at : ℕ) (held : List ℕ) → In (at, held) others → key_of held ≡ None) → HasEntry (finite.insert files log bytes) place key payload → HasEntry files place key payload
+      → ((at : ℕ) (held : List ℕ) → In (at, held) others → key_of held ≡ None) → HasEntry (finite.insert files log bytes) place key payload
+      → HasEntry files place key payload
   foreign-entry others are foreign there = elim (more-record files log bytes place payload others are there.stands) [
     | inl stood ↦ record { stands = stood; keyed = there.keyed }
     | inr own ↦ absurd (never (key_of payload) (foreign place.at payload own.1) there.keyed)
@@ -37,7 +40,8 @@ module _ (files : Files) (log : ℕ) (bytes : List ℕ) (place : Place) (key : E
       never : (o : Option EntryKey) → o ≡ None → o ≡ Some key → ⊥
       never o none some = cc
 
-  pub same-entry : records_of bytes ≡ records_of (file_of files log) → HasEntry (finite.insert files log bytes) place key payload → HasEntry files place key payload
+  pub same-entry : records_of bytes ≡ records_of (file_of files log) → HasEntry (finite.insert files log bytes) place key payload
+      → HasEntry files place key payload
   same-entry are there = record { stands = same-record files log bytes place payload are there.stands; keyed = there.keyed }
 
   -- a log as short as a header has no entry
@@ -51,17 +55,20 @@ module _ (files : Files) (log : ℕ) (bytes : List ℕ) (place : Place) (key : E
 -- ---- a log that grows by a record, or by a part of one
 
 module _ (files : Files) (log : ℕ) (new : List ℕ) (whole : IsWhole (file_of files log)) (legal : IsPayload new) where
-  pub new-entry : (key : EntryKey) → key_of new ≡ Some key → HasEntry (finite.insert files log (file_of files log ++ record_of new)) (next_place files log) key new
+  pub new-entry : (key : EntryKey) → key_of new ≡ Some key
+      → HasEntry (finite.insert files log (file_of files log ++ record_of new)) (next_place files log) key new
   new-entry key is = record { stands = new-record files log new whole legal; keyed = is }
 
-  pub grown-entry : (place : Place) (key : EntryKey) (payload : List ℕ) → HasEntry (finite.insert files log (file_of files log ++ record_of new)) place key payload
+  pub grown-entry : (place : Place) (key : EntryKey) (payload : List ℕ)
+      → HasEntry (finite.insert files log (file_of files log ++ record_of new)) place key payload
       → HasEntry files place key payload ⊎ ((place ≡ next_place files log) × (payload ≡ new))
   grown-entry place key payload there = elim (grown-record files log new whole legal place payload there.stands) [
     | inl stood ↦ inl (record { stands = stood; keyed = there.keyed })
     | inr own ↦ inr own
   ]
 
-  pub part-entry : (n : ℕ) (place : Place) (key : EntryKey) (payload : List ℕ) → HasEntry (finite.insert files log (file_of files log ++ take n (record_of new))) place key payload
+  pub part-entry : (n : ℕ) (place : Place) (key : EntryKey) (payload : List ℕ)
+      → HasEntry (finite.insert files log (file_of files log ++ take n (record_of new))) place key payload
       → HasEntry files place key payload ⊎ ((place ≡ next_place files log) × (payload ≡ new))
   part-entry n place key payload there = elim (part-record files log new whole legal n place payload there.stands) [
     | inl stood ↦ inl (record { stands = stood; keyed = there.keyed })

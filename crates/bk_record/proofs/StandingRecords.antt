@@ -52,7 +52,8 @@ longer-made files log bytes none =
     longer-insert files log bytes (subst (λ (file : List ℕ). IsLonger file bytes) (sym (file-none files log none)) (longer_empty bytes))
 
 -- what is longer has all records
-pub record-longer : (files later : Files) → AreLonger files later → (place : Place) (payload : List ℕ) → HasRecord files place payload → HasRecord later place payload
+pub record-longer : (files later : Files) → AreLonger files later → (place : Place) (payload : List ℕ) → HasRecord files place payload
+    → HasRecord later place payload
 record-longer files later longer place payload there =
     has-record later place payload (records-longer _ _ _ (longer place.log) (record-has files place payload there))
 
@@ -62,12 +63,14 @@ module _ (files : Files) (log : ℕ) (bytes : List ℕ) (place : Place) (payload
   pub record-insert_here : place.log ≡ log → In (place.at, payload) (records_of bytes) → HasRecord (finite.insert files log bytes) place payload
   record-insert_here here listed =
       has-record (finite.insert files log bytes) place payload
-      (subst (λ (file : List ℕ). In (place.at, payload) (records_of file)) (sym (ap (file_of (finite.insert files log bytes)) here ∙ file-insert_here files log bytes)) listed)
+      (subst (λ (file : List ℕ). In (place.at, payload) (records_of file))
+      (sym (ap (file_of (finite.insert files log bytes)) here ∙ file-insert_here files log bytes)) listed)
 
   pub record-insert_else : place.log ≢ log → HasRecord files place payload → HasRecord (finite.insert files log bytes) place payload
   record-insert_else apart there =
       has-record (finite.insert files log bytes) place payload
-      (subst (λ (file : List ℕ). In (place.at, payload) (records_of file)) (sym (file-insert_else files log bytes place.log apart)) (record-has files place payload there))
+      (subst (λ (file : List ℕ). In (place.at, payload) (records_of file)) (sym (file-insert_else files log bytes place.log apart))
+      (record-has files place payload there))
 
   -- it is one of the bytes, or one of another log
   pub insert-record : HasRecord (finite.insert files log bytes) place payload
@@ -75,12 +78,21 @@ module _ (files : Files) (log : ℕ) (bytes : List ℕ) (place : Place) (payload
   insert-record there =
       let listed = record-has (finite.insert files log bytes) place payload there in
       elim (key_cases nat_cmp_total nat_cmp-IsAntisymmetric place.log log) [
-        | inl here ↦ inl (here, subst (λ (file : List ℕ). In (place.at, payload) (records_of file)) (ap (file_of (finite.insert files log bytes)) here ∙ file-insert_here files log bytes) listed)
-        | inr apart ↦ inr (apart.1, has-record files place payload (subst (λ (file : List ℕ). In (place.at, payload) (records_of file)) (file-insert_else files log bytes place.log apart.1) listed))
+        | inl here ↦ inl (
+          here,
+          subst (λ (file : List ℕ). In (place.at, payload) (records_of file))
+              (ap (file_of (finite.insert files log bytes)) here ∙ file-insert_here files log bytes) listed,
+        )
+        | inr apart ↦ inr (
+          apart.1,
+          has-record files place payload
+              (subst (λ (file : List ℕ). In (place.at, payload) (records_of file)) (file-insert_else files log bytes place.log apart.1) listed),
+        )
       ]
 
   -- where the bytes have the records of the log and others, it is one of those that stood or one of the others
-  pub more-record : (others : List (ℕ × List ℕ)) → records_of bytes ≡ records_of (file_of files log) ++ others → HasRecord (finite.insert files log bytes) place payload
+  pub more-record : (others : List (ℕ × List ℕ)) → records_of bytes ≡ records_of (file_of files log) ++ others
+      → HasRecord (finite.insert files log bytes) place payload
       → HasRecord files place payload ⊎ ((place.log ≡ log) × In (place.at, payload) others)
   more-record others are there = elim (insert-record there) [
     | inr other ↦ inl other.1
@@ -91,7 +103,8 @@ module _ (files : Files) (log : ℕ) (bytes : List ℕ) (place : Place) (payload
   ]
 
   -- where they have the same records, it stood
-  pub same-record : records_of bytes ≡ records_of (file_of files log) → HasRecord (finite.insert files log bytes) place payload → HasRecord files place payload
+  pub same-record : records_of bytes ≡ records_of (file_of files log) → HasRecord (finite.insert files log bytes) place payload
+      → HasRecord files place payload
   same-record are there = elim (more-record [] (are ∙ sym (append-nil (records_of (file_of files log)))) there) [
     | inl stood ↦ stood
     | inr new ↦ absurd new.1
@@ -121,7 +134,8 @@ module _ (files : Files) (log : ℕ) (new : List ℕ) (whole : IsWhole (file_of 
       (subst (In (length (file_of files log) + 4, new)) (sym (records_of-record (file_of files log) new whole legal))
       (In-append_right _ (records_of (file_of files log)) _ (inl refl)))
 
-  one_new : (place : Place) (payload : List ℕ) → (place.log ≡ log) × In {X = ℕ × List ℕ} (place.at, payload) ((length (file_of files log) + 4, new) ∷ []) → (place ≡ next_place files log) × (payload ≡ new)
+  one_new : (place : Place) (payload : List ℕ) → (place.log ≡ log)
+      × In {X = ℕ × List ℕ} (place.at, payload) ((length (file_of files log) + 4, new) ∷ []) → (place ≡ next_place files log) × (payload ≡ new)
   one_new place payload (here, inl e) =
       let at : place.at ≡ length (file_of files log) + 4 = sym (ap (λ (r : ℕ × List ℕ). r.0) e) in
       (same_place place (next_place files log) here at, sym (ap (λ (r : ℕ × List ℕ). r.1) e))
@@ -137,7 +151,8 @@ module _ (files : Files) (log : ℕ) (new : List ℕ) (whole : IsWhole (file_of 
       ]
 
   -- the same of a part of the record
-  pub part-record : (n : ℕ) (place : Place) (payload : List ℕ) → HasRecord (finite.insert files log (file_of files log ++ take n (record_of new))) place payload
+  pub part-record : (n : ℕ) (place : Place) (payload : List ℕ)
+      → HasRecord (finite.insert files log (file_of files log ++ take n (record_of new))) place payload
       → HasRecord files place payload ⊎ ((place ≡ next_place files log) × (payload ≡ new))
   part-record n place payload there = elim (records_of-prefix (file_of files log) new n whole legal) [
     | inl same ↦ inl (same-record files log (file_of files log ++ take n (record_of new)) place payload same there)
@@ -153,12 +168,18 @@ module _ (files : Files) (log : ℕ) (place : Place) (payload : List ℕ) where
   pub record-remove : place.log ≢ log → HasRecord files place payload → HasRecord (finite.remove files log) place payload
   record-remove apart there =
       has-record (finite.remove files log) place payload
-      (subst (λ (file : List ℕ). In (place.at, payload) (records_of file)) (sym (file-remove_else files log place.log apart)) (record-has files place payload there))
+      (subst (λ (file : List ℕ). In (place.at, payload) (records_of file)) (sym (file-remove_else files log place.log apart))
+      (record-has files place payload there))
 
   pub remove-record : HasRecord (finite.remove files log) place payload → (place.log ≢ log) × HasRecord files place payload
   remove-record there =
       let listed = record-has (finite.remove files log) place payload there in
       elim (key_cases nat_cmp_total nat_cmp-IsAntisymmetric place.log log) [
-        | inl here ↦ absurd (subst (In (place.at, payload)) (ap (λ (k : ℕ). records_of (file_of (finite.remove files log) k)) here ∙ ap records_of (file-remove_here files log) ∙ records_of-short [] (lit≤ tt)) listed)
-        | inr apart ↦ (apart.1, has-record files place payload (subst (λ (file : List ℕ). In (place.at, payload) (records_of file)) (file-remove_else files log place.log apart.1) listed))
+        | inl here ↦ absurd (subst (In (place.at, payload)) (ap (λ (k : ℕ). records_of (file_of (finite.remove files log) k)) here
+            ∙ ap records_of (file-remove_here files log) ∙ records_of-short [] (lit≤ tt)) listed)
+        | inr apart ↦ (
+          apart.1,
+          has-record files place payload
+              (subst (λ (file : List ℕ). In (place.at, payload) (records_of file)) (file-remove_else files log place.log apart.1) listed),
+        )
       ]

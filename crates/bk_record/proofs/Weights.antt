@@ -65,8 +65,10 @@ module _ {K X : Type 0} {R : K → K → Ordering} (total : IsTotalOrder R) (sam
   pub weight-retain_keys : (m : finite.FinMap R X) (p q : K → Bool) → ((k : K) → q k ≡ not (p k))
       → weight (finite.retain_keys m p) + weight (finite.retain_keys m q) ≡ weight m
   weight-retain_keys m p q other =
-      let these : weight (finite.retain_keys m p) ≡ sum_by weigh (filter (λ e. p e.0) (finite.entries m)) = ap (sum_by weigh) (entries-retain_keys total same m p) in
-      let others : weight (finite.retain_keys m q) ≡ sum_by weigh (filter (λ e. q e.0) (finite.entries m)) = ap (sum_by weigh) (entries-retain_keys total same m q) in
+      let these : weight (finite.retain_keys m p)
+      ≡ sum_by weigh (filter (λ e. p e.0) (finite.entries m)) = ap (sum_by weigh) (entries-retain_keys total same m p) in
+      let others : weight (finite.retain_keys m q)
+      ≡ sum_by weigh (filter (λ e. q e.0) (finite.entries m)) = ap (sum_by weigh) (entries-retain_keys total same m q) in
       omega (arith, these, others, sum_by-filter_both (λ (e : K × X). p e.0) (λ e. q e.0) (λ e. other e.0) weigh (finite.entries m))
 
   pub weight-remove : (m : finite.FinMap R X) (k : K) → weight (finite.remove m k) + weight_at k (finite.get m k) ≡ weight m

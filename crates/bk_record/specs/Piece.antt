@@ -13,7 +13,8 @@ pub record BeginsWith (bytes payload : List ℕ) : Type 0 where
 
 -- The piece that stands at a position: one of five, by the form of a body.
 abbrev pub IsPieceAt : List ℕ → ℕ → Piece → Type 0
-IsPieceAt bytes at (Whole from to) = (payload : List ℕ) × (BeginsWith (drop at bytes) payload × (IsSome (key_of payload) × ((from ≡ at + 4) × (to ≡ at + 4 + length payload))))
+IsPieceAt bytes at (Whole from to) = (payload : List ℕ)
+    × (BeginsWith (drop at bytes) payload × (IsSome (key_of payload) × ((from ≡ at + 4) × (to ≡ at + 4 + length payload))))
 IsPieceAt bytes at (Foreign to) = (payload : List ℕ) × (BeginsWith (drop at bytes) payload × (IsNone (key_of payload) × (to ≡ at + 4 + length payload)))
 IsPieceAt bytes at (Torn rest) = IsTorn (drop at bytes) × (rest ≡ length (drop at bytes))
 IsPieceAt bytes at (Bad place value) = (place ≡ at) × ((4 ≤ length (drop at bytes)) × ((value ≡ signed_field (drop at bytes)) × (value <ℤ pos 16)))
