@@ -23,15 +23,18 @@ use Rattle.bk_head.proofs.Pairs.{IsNumbers, pair_at, pair_at-is, flat_map-append
 -- cut at a place further on
 pub take-more : (n m : ℕ) (bytes : List ℕ) → n + m ≤ length bytes → take (n + m) bytes ≡ take n bytes ++ take m (drop n bytes)
 take-more n m bytes long =
-    ap (take (n + m)) (sym (take-append-drop n bytes) ∙ ap (λ (x : List ℕ). take n bytes ++ x) (sym (take-append-drop m (drop n bytes))) ∙ sym (append_assoc (take n bytes) (take m (drop n bytes)) (drop m (drop n bytes))))
-    ∙ take_at (take n bytes ++ take m (drop n bytes)) (drop m (drop n bytes)) (n + m) (omega (arith, length-append (take n bytes) (take m (drop n bytes)), length-take n bytes, length-take m (drop n bytes), length-drop n bytes))
+    ap (take (n + m)) (sym (take-append-drop n bytes) ∙ ap (λ (x : List ℕ). take n bytes ++ x) (sym (take-append-drop m (drop n bytes)))
+    ∙ sym (append_assoc (take n bytes) (take m (drop n bytes)) (drop m (drop n bytes))))
+    ∙ take_at (take n bytes ++ take m (drop n bytes)) (drop m (drop n bytes)) (n + m)
+    (omega (arith, length-append (take n bytes) (take m (drop n bytes)), length-take n bytes, length-take m (drop n bytes), length-drop n bytes))
 
 number_in : (bytes : List ℕ) → from_be_bytes w64 (take 16 bytes) ≡ from_be_bytes w64 bytes
 number_in bytes = sym (from_be_bytes-take-8 (take 16 bytes)) ∙ ap (from_be_bytes w64) (take-take 8 16 bytes (omega arith)) ∙ from_be_bytes-take-8 bytes
 
 -- the pair that is read at a place
 pub pair_read : (at : ℕ) (bytes pair : List ℕ) (ledger size : ℕ) → IsBytes bytes → at + 16 ≤ length bytes → pair ≡ take (at + 16 - at) (drop at bytes)
-    → ledger ≡ big_number 8 pair → size ≡ big_number 8 (take (length pair - 8) (drop 8 pair)) → (pair_bytes (ledger, size) ≡ take 16 (drop at bytes)) × IsNumbers (ledger, size)
+    → ledger ≡ big_number 8 pair → size ≡ big_number 8 (take (length pair - 8) (drop 8 pair)) → (pair_bytes (ledger, size) ≡ take 16 (drop at bytes))
+    × IsNumbers (ledger, size)
 pair_read at bytes pair ledger size each long is is-ledger is-size =
     let rest = drop at bytes in
     let whole = pair_at-is rest (IsBytes-drop at bytes each) (omega (arith, length-drop at bytes)) in
@@ -42,7 +45,8 @@ pair_read at bytes pair ledger size each long is is-ledger is-size =
     let behind : take (length pair - 8) (drop 8 pair) ≡ take 8 (take 8 (drop 8 rest)) =
     ap (λ n. take n (drop 8 pair)) size-of ∙ ap (λ (x : List ℕ). take 8 (drop 8 x)) pair-is ∙ ap (take 8) (drop-take 8 8 rest) in
     let size-is : size ≡ from_be_bytes w64 (drop 8 rest) =
-    is-size ∙ ap (big_number 8) behind ∙ big_number-8 (take 8 (take 8 (drop 8 rest))) ∙ from_be_bytes-take-8 (take 8 (drop 8 rest)) ∙ from_be_bytes-take-8 (drop 8 rest) in
+    is-size ∙ ap (big_number 8) behind ∙ big_number-8 (take 8 (take 8 (drop 8 rest))) ∙ from_be_bytes-take-8 (take 8 (drop 8 rest))
+    ∙ from_be_bytes-take-8 (drop 8 rest) in
     let same : ◌≡◌ {A = ℕ × ℕ} (ledger, size) (pair_at rest) = λ i. (ledger-is i, size-is i) in
     (ap pair_bytes same ∙ whole.0, subst IsNumbers (sym same) whole.1)
 
@@ -59,19 +63,24 @@ found_in : (pairs : List (ℕ × ℕ)) (m : LedgersMap) (ledger : ℕ) → m ≡
 found_in pairs m ledger is = ap (λ (x : LedgersMap). ledgers.get x ledger) is ∙ ledgers.get-from_entries nat_cmp_total pairs ledger
 
 -- one more pair, with a new ledger
-pub adds_more : (before : List (ℕ × ℕ)) (at : ℕ) (bytes : List ℕ) (m n : LedgersMap) (p : ℕ × ℕ) → at + 16 ≤ length bytes → pair_bytes p ≡ take 16 (drop at bytes)
+pub adds_more : (before : List (ℕ × ℕ)) (at : ℕ) (bytes : List ℕ) (m n : LedgersMap) (p : ℕ × ℕ) → at + 16 ≤ length bytes → pair_bytes p
+    ≡ take 16 (drop at bytes)
     → Adds before (take at bytes) m → IsPair p → ledgers.get m p.0 ≡ None → n ≡ ledgers.insert m p.0 p.1 → Adds before (take (at + 16) bytes) n
 adds_more before at bytes m n p long is a good new added =
     let none : find nat_cmp p.0 (before ++ a.good) ≡ None = sym (found_in (before ++ a.good) m p.0 a.map_is) ∙ new in
     let joined : (before ++ a.good) ++ p ∷ [] ≡ before ++ (a.good ++ p ∷ []) = append_assoc before a.good (p ∷ []) in
     let one : flat_map pair_bytes (p ∷ []) ≡ pair_bytes p = append-nil (pair_bytes p) in
-    let fresh : AreDistinct (ledgers_of (before ++ a.good) ++ p.0 ∷ []) = AreDistinct-push (ledgers_of (before ++ a.good)) p.0 a.distinct (find_none p.0 (before ++ a.good) none) in
+    let fresh : AreDistinct (ledgers_of (before ++ a.good) ++ p.0 ∷ []) = AreDistinct-push (ledgers_of (before ++ a.good)) p.0 a.distinct
+    (find_none p.0 (before ++ a.good) none) in
     record {
       good = a.good ++ p ∷ [];
-      bytes_are = take-more at 16 bytes long ∙ ap (λ (x : List ℕ). x ++ take 16 (drop at bytes)) a.bytes_are ∙ ap (λ (x : List ℕ). flat_map pair_bytes a.good ++ x) (sym is ∙ sym one) ∙ sym (flat_map-append a.good (p ∷ []));
+      bytes_are = take-more at 16 bytes long ∙ ap (λ (x : List ℕ). x ++ take 16 (drop at bytes)) a.bytes_are
+          ∙ ap (λ (x : List ℕ). flat_map pair_bytes a.good ++ x) (sym is ∙ sym one) ∙ sym (flat_map-append a.good (p ∷ []));
       each = each-append IsPair a.good (p ∷ []) a.each (good, tt);
       distinct = subst AreDistinct (sym (ledgers_of-append (before ++ a.good) (p ∷ [])) ∙ ap ledgers_of joined) fresh;
-      map_is = added ∙ ap (λ (x : LedgersMap). ledgers.insert x p.0 p.1) a.map_is ∙ sym (ledgers.from_entries_push nat_cmp_total ledgers.nat_cmp-IsAntisymmetric (before ++ a.good) p.0 p.1 none) ∙ ap (λ (x : List (ℕ × ℕ)). ledgers.from_entries {R = nat_cmp} x) joined;
+      map_is = added ∙ ap (λ (x : LedgersMap). ledgers.insert x p.0 p.1) a.map_is
+          ∙ sym (ledgers.from_entries_push nat_cmp_total ledgers.nat_cmp-IsAntisymmetric (before ++ a.good) p.0 p.1 none)
+          ∙ ap (λ (x : List (ℕ × ℕ)). ledgers.from_entries {R = nat_cmp} x) joined;
     }
 
 some_of : (o : Option ℕ) → IsSome o → (v : ℕ) × (o ≡ Some v)
@@ -85,7 +94,8 @@ reaches before at left bytes m p each long is numbers a =
     record {
       later = rest.pairs;
       bytes_are = sym (take-append-drop at bytes) ∙ ap (λ (x : List ℕ). x ++ drop at bytes) a.bytes_are
-          ∙ ap (λ (x : List ℕ). flat_map pair_bytes a.good ++ x) (sym (take-append-drop 16 (drop at bytes)) ∙ ap (λ (x : List ℕ). x ++ drop 16 (drop at bytes)) (sym is)
+          ∙ ap (λ (x : List ℕ). flat_map pair_bytes a.good ++ x) (sym (take-append-drop 16 (drop at bytes))
+          ∙ ap (λ (x : List ℕ). x ++ drop 16 (drop at bytes)) (sym is)
           ∙ ap (λ (x : List ℕ). pair_bytes p ++ x) (drop-drop 16 at bytes ∙ rest.bytes_are))
           ∙ sym (flat_map-append a.good (p ∷ rest.pairs));
       numbers = each-append IsNumbers a.good (p ∷ rest.pairs) (numbers_of a.good a.each) (numbers, rest.numbers);
@@ -94,7 +104,8 @@ reaches before at left bytes m p each long is numbers a =
     }
 
 -- a pair that can't be added is the first such one
-pub refused : (before : List (ℕ × ℕ)) (at left : ℕ) (bytes : List ℕ) (m : LedgersMap) (p : ℕ × ℕ) (fault : HeadFault) → IsBytes bytes → at + 16 + 16 * left ≡ length bytes
+pub refused : (before : List (ℕ × ℕ)) (at left : ℕ) (bytes : List ℕ) (m : LedgersMap) (p : ℕ × ℕ) (fault : HeadFault) → IsBytes bytes
+    → at + 16 + 16 * left ≡ length bytes
     → pair_bytes p ≡ take 16 (drop at bytes) → IsNumbers p → Adds before (take at bytes) m
     → OrMemory fault (IsPair p × (ledgers.get m p.0 ≡ None)) (PairRefusal m p fault) → OrMemory fault (ReachesNew before bytes) (PairFault before bytes fault)
 refused before at left bytes m p Memory each long is numbers a h =
@@ -103,7 +114,8 @@ refused before at left bytes m p Memory each long is numbers a h =
 refused before at left bytes m p Negative each long is numbers a h = (a.good, (p, (reaches before at left bytes m p each long is numbers a, h)))
 refused before at left bytes m p (Repeated ledger) each long is numbers a h =
     let found = some_of (ledgers.get m p.0) h.1.1 in
-    let among : In p.0 (ledgers_of (before ++ a.good)) = In-from_find p.0 (before ++ a.good) found.0 (sym (found_in (before ++ a.good) m p.0 a.map_is) ∙ found.1) in
+    let among : In p.0 (ledgers_of (before ++ a.good)) = In-from_find p.0 (before ++ a.good) found.0
+    (sym (found_in (before ++ a.good) m p.0 a.map_is) ∙ found.1) in
     let Stands : ℕ → Type 0 = λ l. ReachesPair before bytes a.good (l, p.1) × (IsPair (l, p.1) × In l (ledgers_of (before ++ a.good))) in
     (a.good, (p.1, subst Stands (sym h.0) (reaches before at left bytes m p each long is numbers a, (h.1.0, among))))
 refused before at left bytes m p BadMagic each long is numbers a h = h

@@ -10,7 +10,8 @@ use Rattle.bk_head.specs.Written.{written_map, IsWritable}
 use Rattle.bk_head.proofs.Spelling.{written_spells}
 
 pub read_again : (map : LedgersMap) (offset : ℕ) → IsWritable map → 1024 ≤ offset
-    → MapAnswer (written_map map) (offset + length (written_map map)) (record { version = 1; map_offset = pos offset; count = pos (ledgers.len map) }) (Ok (Some map))
+    → MapAnswer (written_map map) (offset + length (written_map map))
+    (record { version = 1; map_offset = pos offset; count = pos (ledgers.len map) }) (Ok (Some map))
 unfolding MapAnswer
 read_again map offset writable low =
     let some : eqb offset 0 ≡ false = ne_eqb offset 0 (λ e. omega (arith, e)) in

@@ -21,7 +21,8 @@ at_place : (place : Result (Option (ℕ × ℕ)) HeadFault) (tail : List ℕ) (l
 unfolding MapAnswer
 at_place place tail long header answer is h = subst (λ (p : Result (Option (ℕ × ℕ)) HeadFault). AnswerAt p tail answer) is h
 
-pub unsealed : (place : Option (ℕ × ℕ)) (tail : List ℕ) (long : ℕ) (header : Header) → Ok place ≡ map_place long header.map_offset header.count → place ≡ None → MapAnswer tail long header (Ok None)
+pub unsealed : (place : Option (ℕ × ℕ)) (tail : List ℕ) (long : ℕ) (header : Header) → Ok place ≡ map_place long header.map_offset header.count
+    → place ≡ None → MapAnswer tail long header (Ok None)
 unsealed place tail long header is none = at_place (Ok None) tail long header (Ok None) (ap (λ p. Ok p) (sym none) ∙ is) refl
 
 -- a header's offset and count ask for no memory
@@ -56,28 +57,35 @@ tail_fault offset count tail Memory h = h
 abbrev pub IsPlace : Option (ℕ × ℕ) → ℕ → ℕ → ℕ → Header → Type 0
 IsPlace place offset count long header = (Ok place ≡ map_place long header.map_offset header.count) × (place ≡ Some (offset, count))
 
-pub faulty : (place : Option (ℕ × ℕ)) (offset count : ℕ) (tail : List ℕ) (long : ℕ) (header : Header) (fault : HeadFault) → IsPlace place offset count long header
-    → OrMemory fault (AsksForMemory tail) (FirstFault offset tail fault) → UnlessMemory (Err fault) (WantsMemory tail long header) (MapAnswer tail long header (Err fault))
+pub faulty : (place : Option (ℕ × ℕ)) (offset count : ℕ) (tail : List ℕ) (long : ℕ) (header : Header) (fault : HeadFault)
+    → IsPlace place offset count long header
+    → OrMemory fault (AsksForMemory tail) (FirstFault offset tail fault)
+    → UnlessMemory (Err fault) (WantsMemory tail long header) (MapAnswer tail long header (Err fault))
 faulty place offset count tail long header fault is h =
     let stands : Ok (Some (offset, count)) ≡ map_place long header.map_offset header.count = ap (λ p. Ok p) (sym is.1) ∙ is.0 in
     or_memory-map fault (AsksForMemory tail) (WantsMemory tail long header) (FirstFault offset tail fault) (MapAnswer tail long header (Err fault))
     (λ asks. (((offset, count), stands), asks))
     (λ t. at_place (Ok (Some (offset, count))) tail long header (Err fault) stands (tail_fault offset count tail fault t)) h
 
-pub other_count : (place : Option (ℕ × ℕ)) (offset count : ℕ) (tail : List ℕ) (long : ℕ) (header : Header) (map : BTreeMap ℕ ℕ) (found : ℕ) → IsPlace place offset count long header
-    → SpellsMap tail (map_of map) → tree.IsOrdered nat_cmp map → found ≡ btree_map_len map → found ≢ count → MapAnswer tail long header (Err (CountDiffers found))
+pub other_count : (place : Option (ℕ × ℕ)) (offset count : ℕ) (tail : List ℕ) (long : ℕ) (header : Header) (map : BTreeMap ℕ ℕ) (found : ℕ)
+    → IsPlace place offset count long header
+    → SpellsMap tail (map_of map) → tree.IsOrdered nat_cmp map → found ≡ btree_map_len map → found ≢ count
+    → MapAnswer tail long header (Err (CountDiffers found))
 other_count place offset count tail long header map found is spells ordered long-is other =
     at_place (Ok (Some (offset, count))) tail long header (Err (CountDiffers found)) (ap (λ p. Ok p) (sym is.1) ∙ is.0)
     (map_of map, (spells, (long-is ∙ sym (len-map_of map ordered), other)))
 
-pub spelled_map : (place : Option (ℕ × ℕ)) (offset count : ℕ) (tail : List ℕ) (long : ℕ) (header : Header) (map : BTreeMap ℕ ℕ) (found : ℕ) → IsPlace place offset count long header
-    → SpellsMap tail (map_of map) → tree.IsOrdered nat_cmp map → found ≡ btree_map_len map → found ≡ count → MapAnswer tail long header (Ok (Some (map_of map)))
+pub spelled_map : (place : Option (ℕ × ℕ)) (offset count : ℕ) (tail : List ℕ) (long : ℕ) (header : Header) (map : BTreeMap ℕ ℕ) (found : ℕ)
+    → IsPlace place offset count long header
+    → SpellsMap tail (map_of map) → tree.IsOrdered nat_cmp map → found ≡ btree_map_len map → found ≡ count
+    → MapAnswer tail long header (Ok (Some (map_of map)))
 spelled_map place offset count tail long header map found is spells ordered long-is same =
     at_place (Ok (Some (offset, count))) tail long header (Ok (Some (map_of map))) (ap (λ p. Ok p) (sym is.1) ∙ is.0)
     (spells, len-map_of map ordered ∙ sym long-is ∙ same)
 
 -- no other answer fits
-pub only : (tail : List ℕ) (long : ℕ) (header : Header) (fault : HeadFault) → UnlessMemory (Err fault) (WantsMemory tail long header) (MapAnswer tail long header (Err fault))
+pub only : (tail : List ℕ) (long : ℕ) (header : Header) (fault : HeadFault)
+    → UnlessMemory (Err fault) (WantsMemory tail long header) (MapAnswer tail long header (Err fault))
     → (answer : Result (Option LedgersMap) HeadFault) → MapAnswer tail long header answer → UnlessMemory (Err fault) (Unit {0}) (Err fault ≡ answer)
 only tail long header fault h answer k =
     or_memory-map fault (WantsMemory tail long header) (Unit {0}) (MapAnswer tail long header (Err fault)) (Err fault ≡ answer)

@@ -22,7 +22,8 @@ length-batch_ids = refl
 
 -- ---- the ids
 
-ids_asked : (payload ids : List ℕ) (r : Bool) → ids ≡ batch_ids → r ≡ starts_with eqb payload ids → (r ≡ true → IsForMap payload) × (IsForMap payload → r ≡ true)
+ids_asked : (payload ids : List ℕ) (r : Bool) → ids ≡ batch_ids → r ≡ starts_with eqb payload ids → (r ≡ true → IsForMap payload)
+    × (IsForMap payload → r ≡ true)
 ids_asked payload ids r is asked =
     let long : length ids ≡ 16 = ap length is ∙ length-batch_ids in
     let answer = slice_eq-Decides Decides-eqb ids (take (length ids) payload) r asked in
@@ -49,29 +50,37 @@ IsBytes-payload bytes payload each s =
     subst IsBytes (sym front) (IsBytes-take (length payload) (drop 4 bytes) (IsBytes-drop 4 bytes each))
 
 -- the count as it is read from a payload's first twenty bytes alone
-pub count_read : (payload head : List ℕ) (n : ℕ) → 20 ≤ length payload → head ≡ take 20 payload → n ≡ big_number 4 (take (length head - 16) (drop 16 head)) → n ≡ from_be_bytes w32 (drop 16 payload)
+pub count_read : (payload head : List ℕ) (n : ℕ) → 20 ≤ length payload → head ≡ take 20 payload → n
+    ≡ big_number 4 (take (length head - 16) (drop 16 head)) → n ≡ from_be_bytes w32 (drop 16 payload)
 count_read payload head n long is read =
     let size : length head - 16 ≡ 4 = omega (arith, ap length is, length-take 20 payload) in
-    let behind : take 4 (drop 16 head) ≡ take 4 (drop 16 payload) = ap (λ (x : List ℕ). take 4 (drop 16 x)) is ∙ ap (take 4) (drop-take 16 4 payload) ∙ take_all 4 (take 4 (drop 16 payload)) (omega (arith, length-take 4 (drop 16 payload))) in
-    read ∙ ap (λ k. big_number 4 (take k (drop 16 head))) size ∙ ap (big_number 4) behind ∙ big_number-4 (take 4 (drop 16 payload)) ∙ from_be_bytes-take-4 (drop 16 payload)
+    let behind : take 4 (drop 16 head) ≡ take 4 (drop 16 payload) = ap (λ (x : List ℕ). take 4 (drop 16 x)) is ∙ ap (take 4) (drop-take 16 4 payload)
+    ∙ take_all 4 (take 4 (drop 16 payload)) (omega (arith, length-take 4 (drop 16 payload))) in
+    read ∙ ap (λ k. big_number 4 (take k (drop 16 head))) size ∙ ap (big_number 4) behind ∙ big_number-4 (take 4 (drop 16 payload))
+    ∙ from_be_bytes-take-4 (drop 16 payload)
 
 -- a count that isn't negative is the number that stands there
 pub count_is : (bytes : List ℕ) (count : ℕ) → IsBytes bytes → signed_field bytes ≡ pos count → from_be_bytes w32 bytes ≡ count
 unfolding signed_field
 count_is bytes count each e = sym (of_z-to_z w32 (from_be_bytes w32 bytes) (below_4 bytes each)) ∙ ap (cast_unsigned w32) e
 
-pub not_sized : (payload pairs : List ℕ) (n : ℕ) → IsBytes payload → pairs ≡ drop 20 payload → n ≡ from_be_bytes w32 (drop 16 payload) → (length pairs ≡ 16 * n → ⊥) → IsSized payload → ⊥
+pub not_sized : (payload pairs : List ℕ) (n : ℕ) → IsBytes payload → pairs ≡ drop 20 payload → n ≡ from_be_bytes w32 (drop 16 payload)
+    → (length pairs ≡ 16 * n → ⊥) → IsSized payload → ⊥
 not_sized payload pairs n each is read other s =
     let same : n ≡ s.0 = read ∙ count_is (drop 16 payload) s.0 (IsBytes-drop 16 payload each) s.1.0 in
     other (omega (arith, ap length is, length-drop 20 payload, s.1.1, same))
 
 -- ---- the pairs
 
-pub has_pairs : (bytes payload pairs : List ℕ) (n : ℕ) → IsBytes bytes → BeginsWith bytes payload → IsForMap payload → 20 ≤ length payload → pairs ≡ drop 20 payload
+pub has_pairs : (bytes payload pairs : List ℕ) (n : ℕ) → IsBytes bytes → BeginsWith bytes payload → IsForMap payload → 20 ≤ length payload → pairs
+    ≡ drop 20 payload
     → n ≡ from_be_bytes w32 (drop 16 payload) → length pairs ≡ 16 * n → HasPairs bytes pairs
 has_pairs bytes payload pairs n each s for_map long is read sized =
-    let count : to_be_bytes w32 n ≡ take 4 (drop 16 payload) = ap (to_be_bytes w32) read ∙ front_4 (drop 16 payload) (IsBytes-drop 16 payload (IsBytes-payload bytes payload each s)) (omega (arith, length-drop 16 payload)) in
+    let count : to_be_bytes w32 n ≡ take 4 (drop 16 payload) = ap (to_be_bytes w32) read
+    ∙ front_4 (drop 16 payload) (IsBytes-drop 16 payload (IsBytes-payload bytes payload each s)) (omega (arith, length-drop 16 payload)) in
     let parts : payload ≡ take 16 payload ++ (take 4 (drop 16 payload) ++ drop 20 payload) =
-    sym (take-append-drop 16 payload) ∙ ap (λ (x : List ℕ). take 16 payload ++ x) (sym (take-append-drop 4 (drop 16 payload)) ∙ ap (λ (x : List ℕ). take 4 (drop 16 payload) ++ x) (drop-drop 4 16 payload)) in
-    let spelled : payload ≡ batch_ids ++ to_be_bytes w32 n ++ pairs = parts ∙ rw (for_map, ← count, ← is) (sym (append_assoc batch_ids (to_be_bytes w32 n) pairs)) in
+    sym (take-append-drop 16 payload) ∙ ap (λ (x : List ℕ). take 16 payload ++ x) (sym (take-append-drop 4 (drop 16 payload))
+    ∙ ap (λ (x : List ℕ). take 4 (drop 16 payload) ++ x) (drop-drop 4 16 payload)) in
+    let spelled : payload ≡ batch_ids ++ to_be_bytes w32 n ++ pairs = parts
+    ∙ rw (for_map, ← count, ← is) (sym (append_assoc batch_ids (to_be_bytes w32 n) pairs)) in
     record { count = n; begins = subst (BeginsWith bytes) spelled s; sized = sized }

@@ -23,11 +23,14 @@ pub batches_at : (b c : List ℕ) (p q : List (ℕ × ℕ)) → b ≡ c → p �
 batches_at b c p q same-bytes same-pairs is = subst (λ (x : List ℕ). Batches x q) same-bytes (subst (λ (x : List (ℕ × ℕ)). Batches b x) same-pairs is)
 
 -- one more batch behind batches
-pub batches_more : (bytes : List ℕ) (pairs others : List (ℕ × ℕ)) → Batches bytes pairs → IsBatch others → Batches (bytes ++ batch_of others) (pairs ++ others)
+pub batches_more : (bytes : List ℕ) (pairs others : List (ℕ × ℕ)) → Batches bytes pairs → IsBatch others
+    → Batches (bytes ++ batch_of others) (pairs ++ others)
 batches_more _ _ others Batches.none is =
-    batches_at (batch_of others ++ []) (batch_of others) (others ++ []) others (append-nil (batch_of others)) (append-nil others) (Batches.more is Batches.none)
+    batches_at (batch_of others ++ []) (batch_of others) (others ++ []) others (append-nil (batch_of others)) (append-nil others)
+    (Batches.more is Batches.none)
 batches_more _ _ others (Batches.more {pairs = ps} {others = qs} {behind = rest} first b) is =
-    batches_at _ _ _ _ (sym (append_assoc (batch_of ps) rest (batch_of others))) (sym (append_assoc ps qs others)) (Batches.more first (batches_more rest qs others b is))
+    batches_at _ _ _ _ (sym (append_assoc (batch_of ps) rest (batch_of others))) (sym (append_assoc ps qs others))
+    (Batches.more first (batches_more rest qs others b is))
 
 -- ---- one batch that was read
 
@@ -35,17 +38,25 @@ batches_more _ _ others (Batches.more {pairs = ps} {others = qs} {behind = rest}
 many : (count : ℕ) (bytes : List ℕ) (good : List (ℕ × ℕ)) → length bytes ≡ 16 * count → bytes ≡ flat_map pair_bytes good → length good ≡ count
 many count bytes good sized is = omega (arith, ap length is, length-pairs good)
 
-payload_of : (tail bytes : List ℕ) (h : HasPairs tail bytes) (good : List (ℕ × ℕ)) → bytes ≡ flat_map pair_bytes good → batch_ids ++ to_be_bytes w32 h.count ++ bytes ≡ batch_payload good
+payload_of : (tail bytes : List ℕ) (h : HasPairs tail bytes) (good : List (ℕ × ℕ)) → bytes ≡ flat_map pair_bytes good
+    → batch_ids ++ to_be_bytes w32 h.count ++ bytes ≡ batch_payload good
 unfolding batch_payload
 payload_of tail bytes h good is =
     ap (λ (n : ℕ). batch_ids ++ to_be_bytes w32 n ++ bytes) (sym (many h.count bytes good h.sized is))
     ∙ ap (λ (x : List ℕ). batch_ids ++ to_be_bytes w32 (length good) ++ x) is
 
 pub length-payload : (count : ℕ) (bytes : List ℕ) → length (batch_ids ++ to_be_bytes w32 count ++ bytes) ≡ 20 + length bytes
-length-payload count bytes = omega (arith, length-append (batch_ids ++ to_be_bytes w32 count) bytes, length-append batch_ids (to_be_bytes w32 count), length-batch_ids)
+length-payload count bytes = omega (
+  arith,
+  length-append (batch_ids ++ to_be_bytes w32 count) bytes,
+  length-append batch_ids
+      (to_be_bytes w32 count),
+  length-batch_ids,
+)
 
 -- a batch begins with its head, and its pairs follow
-pub has-front : (tail bytes : List ℕ) (h : HasPairs tail bytes) → (take (24 + length bytes) tail ≡ record_of (batch_ids ++ to_be_bytes w32 h.count ++ bytes)) × (24 + length bytes ≤ length tail)
+pub has-front : (tail bytes : List ℕ) (h : HasPairs tail bytes)
+    → (take (24 + length bytes) tail ≡ record_of (batch_ids ++ to_be_bytes w32 h.count ++ bytes)) × (24 + length bytes ≤ length tail)
 has-front tail bytes h =
     let payload = batch_ids ++ to_be_bytes w32 h.count ++ bytes in
     let long : length (record_of payload) ≡ 24 + length bytes = omega (arith, length-record_of payload, length-payload h.count bytes) in (
@@ -53,16 +64,19 @@ has-front tail bytes h =
       omega (arith, ap length h.begins.is, length-append (record_of payload) h.begins.behind, long),
     )
 
-pub spells_more : (tail bytes : List ℕ) (at : ℕ) (m n : LedgersMap) → at ≤ length tail → (s : SpellsMap (take at tail) m) → HasPairs (drop at tail) bytes → Adds s.pairs bytes n
+pub spells_more : (tail bytes : List ℕ) (at : ℕ) (m n : LedgersMap) → at ≤ length tail → (s : SpellsMap (take at tail) m)
+    → HasPairs (drop at tail) bytes → Adds s.pairs bytes n
     → SpellsMap (take (at + (24 + length bytes)) tail) n
 spells_more tail bytes at m n within s h a =
     let front = has-front (drop at tail) bytes h in
     let payload-is = payload_of (drop at tail) bytes h a.good a.bytes_are in
     let whole : take (at + (24 + length bytes)) tail ≡ take at tail ++ batch_of a.good =
-    take-more at (24 + length bytes) tail (omega (arith, front.1, length-drop at tail)) ∙ ap (λ (x : List ℕ). take at tail ++ x) (front.0 ∙ ap record_of payload-is) in
+    take-more at (24 + length bytes) tail (omega (arith, front.1, length-drop at tail))
+    ∙ ap (λ (x : List ℕ). take at tail ++ x) (front.0 ∙ ap record_of payload-is) in
     record {
       pairs = s.pairs ++ a.good;
-      spelled = batches_at _ _ _ _ (sym whole) refl (batches_more (take at tail) s.pairs a.good s.spelled (record { fits = subst IsPayload payload-is h.begins.legal; each = a.each }));
+      spelled = batches_at _ _ _ _ (sym whole) refl
+          (batches_more (take at tail) s.pairs a.good s.spelled (record { fits = subst IsPayload payload-is h.begins.legal; each = a.each }));
       distinct = a.distinct;
       map_is = a.map_is;
     }
@@ -83,7 +97,8 @@ or_fault (CountDiffers found) M P other p = p
 pub stands_without_memory : (at : ℕ) (before : List (ℕ × ℕ)) (bytes : List ℕ) (fault : HeadFault) → FaultAt at before bytes fault → fault ≢ Memory
 stands_without_memory at before bytes fault stands is = (subst (FaultAt at before bytes) is stands).1.1
 
-pub stops : (offset at : ℕ) (tail : List ℕ) (m : LedgersMap) (fault : HeadFault) → at ≤ length tail → (s : SpellsMap (take at tail) m) → FaultAt (offset + at) s.pairs (drop at tail) fault → FirstFault offset tail fault
+pub stops : (offset at : ℕ) (tail : List ℕ) (m : LedgersMap) (fault : HeadFault) → at ≤ length tail → (s : SpellsMap (take at tail) m)
+    → FaultAt (offset + at) s.pairs (drop at tail) fault → FirstFault offset tail fault
 stops offset at tail m fault within s stands =
     let long : at ≡ length (take at tail) = omega (arith, length-take at tail) in
     record {
@@ -96,7 +111,8 @@ stops offset at tail m fault within s stands =
       stands = subst (λ (n : ℕ). FaultAt (offset + n) s.pairs (drop at tail) fault) long stands;
     }
 
-pub asks : (at : ℕ) (tail bytes : List ℕ) (m : LedgersMap) → (s : SpellsMap (take at tail) m) → HasPairs (drop at tail) bytes → ReachesNew s.pairs bytes → AsksForMemory tail
+pub asks : (at : ℕ) (tail bytes : List ℕ) (m : LedgersMap) → (s : SpellsMap (take at tail) m) → HasPairs (drop at tail) bytes
+    → ReachesNew s.pairs bytes → AsksForMemory tail
 asks at tail bytes m s has reaches = record {
   whole = take at tail;
   rest = drop at tail;

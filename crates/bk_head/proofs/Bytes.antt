@@ -25,11 +25,18 @@ pub big_number-8 : (bytes : List ℕ) → big_number 8 bytes ≡ from_be_bytes w
 big_number-8 bytes = omega arith
 
 pub from_be_bytes-take-4 : (bytes : List ℕ) → from_be_bytes w32 (take 4 bytes) ≡ from_be_bytes w32 bytes
-from_be_bytes-take-4 bytes = rw (get_or-take 4 bytes 0 0 (omega arith), get_or-take 4 bytes 1 0 (omega arith), get_or-take 4 bytes 2 0 (omega arith), get_or-take 4 bytes 3 0 (omega arith)) refl
+from_be_bytes-take-4 bytes = rw (
+  get_or-take 4 bytes 0 0 (omega arith),
+  get_or-take 4 bytes 1 0 (omega arith),
+  get_or-take 4 bytes 2 0
+      (omega arith),
+  get_or-take 4 bytes 3 0 (omega arith),
+) refl
 
 -- the first four bytes are those of the number that they spell
 pub front_4 : (bytes : List ℕ) → IsBytes bytes → 4 ≤ length bytes → to_be_bytes w32 (from_be_bytes w32 bytes) ≡ take 4 bytes
-front_4 bytes each long = be_bytes_4 (take 4 bytes) (from_be_bytes w32 bytes) (omega (arith, length-take 4 bytes)) (IsBytes-take 4 bytes each) (sym (from_be_bytes-take-4 bytes))
+front_4 bytes each long = be_bytes_4 (take 4 bytes) (from_be_bytes w32 bytes) (omega (arith, length-take 4 bytes)) (IsBytes-take 4 bytes each)
+    (sym (from_be_bytes-take-4 bytes))
 
 pub below_4 : (bytes : List ℕ) → IsBytes bytes → from_be_bytes w32 bytes < 2 ^ 32
 below_4 bytes each = omega (arith, each 0, each 1, each 2, each 3)
@@ -39,10 +46,22 @@ below_8 bytes each = omega (arith, each 0, each 1, each 2, each 3, each 4, each 
 
 pub from_be_bytes-take-8 : (bytes : List ℕ) → from_be_bytes w64 (take 8 bytes) ≡ from_be_bytes w64 bytes
 from_be_bytes-take-8 bytes =
-    rw (get_or-take 8 bytes 0 0 (omega arith), get_or-take 8 bytes 1 0 (omega arith), get_or-take 8 bytes 2 0 (omega arith), get_or-take 8 bytes 3 0 (omega arith), get_or-take 8 bytes 4 0 (omega arith), get_or-take 8 bytes 5 0 (omega arith), get_or-take 8 bytes 6 0 (omega arith), get_or-take 8 bytes 7 0 (omega arith)) refl
+    rw (
+      get_or-take 8 bytes 0 0 (omega arith),
+      get_or-take 8 bytes 1 0 (omega arith),
+      get_or-take 8 bytes 2 0 (omega arith),
+      get_or-take 8 bytes 3 0
+          (omega arith),
+      get_or-take 8 bytes 4 0 (omega arith),
+      get_or-take 8 bytes 5 0 (omega arith),
+      get_or-take 8 bytes 6 0
+          (omega arith),
+      get_or-take 8 bytes 7 0 (omega arith),
+    ) refl
 
 pub front_8 : (bytes : List ℕ) → IsBytes bytes → 8 ≤ length bytes → to_be_bytes w64 (from_be_bytes w64 bytes) ≡ take 8 bytes
-front_8 bytes each long = be_bytes_8 (take 8 bytes) (from_be_bytes w64 bytes) (omega (arith, length-take 8 bytes)) (IsBytes-take 8 bytes each) (sym (from_be_bytes-take-8 bytes))
+front_8 bytes each long = be_bytes_8 (take 8 bytes) (from_be_bytes w64 bytes) (omega (arith, length-take 8 bytes)) (IsBytes-take 8 bytes each)
+    (sym (from_be_bytes-take-8 bytes))
 
 -- a number that is spelled is read again, whatever follows it
 pub again_4 : (n : ℕ) (rest : List ℕ) → n < 2 ^ 32 → from_be_bytes w32 (to_be_bytes w32 n ++ rest) ≡ n

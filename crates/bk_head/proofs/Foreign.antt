@@ -38,7 +38,8 @@ no_bad bytes payload value s is low =
     let below : pos (length payload) <ℤ pos 16 = subst (λ z. z <ℤ pos 16) length-is low in
     omega (arith, ints, below, s.legal.0)
 
-pub no_other_piece : (bytes payload : List ℕ) (piece : Piece) → IsPieceAt bytes 0 piece → ((to : ℕ) → piece ≡ Foreign to → ⊥) → BeginsWith bytes payload → IsForMap payload → ⊥
+pub no_other_piece : (bytes payload : List ℕ) (piece : Piece) → IsPieceAt bytes 0 piece → ((to : ℕ) → piece ≡ Foreign to → ⊥)
+    → BeginsWith bytes payload → IsForMap payload → ⊥
 no_other_piece bytes payload (Whole from to) h other s for_map =
     no_key h.0 (subst IsForMap (same_payload bytes payload h.0 s h.1.0) for_map) h.1.1.0
 no_other_piece bytes payload (Foreign to) h other s for_map = other to refl
@@ -51,5 +52,6 @@ pub cut_out : (bytes payload : List ℕ) (to : ℕ) → BeginsWith bytes payload
 cut_out bytes payload to s is =
     let long : to - 4 ≡ length payload = omega (arith, is) in
     let same : take (to - 4) (drop 4 bytes) ≡ payload =
-    ap (λ (n : ℕ). take n (drop 4 bytes)) long ∙ ap (λ (x : List ℕ). take (length payload) (drop 4 x)) s.is ∙ ap (take (length payload)) (payload_is payload s.behind) ∙ take_at payload s.behind (length payload) refl in
+    ap (λ (n : ℕ). take n (drop 4 bytes)) long ∙ ap (λ (x : List ℕ). take (length payload) (drop 4 x)) s.is
+    ∙ ap (take (length payload)) (payload_is payload s.behind) ∙ take_at payload s.behind (length payload) refl in
     subst (BeginsWith bytes) (sym same) s

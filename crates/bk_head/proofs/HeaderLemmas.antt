@@ -28,10 +28,14 @@ pub head_is : (bytes : List ℕ) → IsBytes bytes → length bytes ≡ 1024 →
     → bytes ≡ head_of (from_be_bytes w64 (drop 8 bytes)) (from_be_bytes w32 (drop 16 bytes)) ++ drop 20 bytes
 unfolding head_of patch_of version_field
 head_is bytes each long magic_is version_is =
-    let version : take 4 (drop 4 bytes) ≡ to_be_bytes w32 1 = sym (front_4 (drop 4 bytes) (IsBytes-drop 4 bytes each) (omega (arith, length-drop 4 bytes))) ∙ ap (to_be_bytes w32) version_is in
-    let offset : take 8 (drop 8 bytes) ≡ to_be_bytes w64 (from_be_bytes w64 (drop 8 bytes)) = sym (front_8 (drop 8 bytes) (IsBytes-drop 8 bytes each) (omega (arith, length-drop 8 bytes))) in
-    let count : take 4 (drop 16 bytes) ≡ to_be_bytes w32 (from_be_bytes w32 (drop 16 bytes)) = sym (front_4 (drop 16 bytes) (IsBytes-drop 16 bytes each) (omega (arith, length-drop 16 bytes))) in
-    joined bytes magic (to_be_bytes w32 1) (to_be_bytes w64 (from_be_bytes w64 (drop 8 bytes))) (to_be_bytes w32 (from_be_bytes w32 (drop 16 bytes))) magic_is version offset count
+    let version : take 4 (drop 4 bytes) ≡ to_be_bytes w32 1 = sym
+    (front_4 (drop 4 bytes) (IsBytes-drop 4 bytes each) (omega (arith, length-drop 4 bytes))) ∙ ap (to_be_bytes w32) version_is in
+    let offset : take 8 (drop 8 bytes) ≡ to_be_bytes w64 (from_be_bytes w64 (drop 8 bytes)) = sym
+    (front_8 (drop 8 bytes) (IsBytes-drop 8 bytes each) (omega (arith, length-drop 8 bytes))) in
+    let count : take 4 (drop 16 bytes) ≡ to_be_bytes w32 (from_be_bytes w32 (drop 16 bytes)) = sym
+    (front_4 (drop 16 bytes) (IsBytes-drop 16 bytes each) (omega (arith, length-drop 16 bytes))) in
+    joined bytes magic (to_be_bytes w32 1) (to_be_bytes w64 (from_be_bytes w64 (drop 8 bytes)))
+    (to_be_bytes w32 (from_be_bytes w32 (drop 16 bytes))) magic_is version offset count
 
 pub magic_is : (bytes : List ℕ) (r : Bool) → r ≡ starts_with eqb bytes magic → r ≡ true → take 4 bytes ≡ magic
 magic_is bytes r is starts = sym ((slice_eq-Decides Decides-eqb magic (take 4 bytes) r is).0 starts)
@@ -56,9 +60,15 @@ bits_32 n z fits is =
     let bits : cast_unsigned w32 z ≡ n = ap (cast_unsigned w32) is ∙ of_z-to_z w32 n fits in
     ap (λ (k : ℕ). cast_unsigned w32 (cast_signed w32 k)) bits ∙ of_z-to_z w32 n fits
 
-pub header_read : (bytes : List ℕ) (version : ℕ) (offset count : ℤ) → IsBytes bytes → length bytes ≡ 1024 → take 4 bytes ≡ magic → version ≡ version_field bytes → version ≡ 1
+pub header_read : (bytes : List ℕ) (version : ℕ) (offset count : ℤ) → IsBytes bytes → length bytes ≡ 1024 → take 4 bytes ≡ magic → version
+    ≡ version_field bytes → version ≡ 1
     → offset ≡ cast_signed w64 (big_number 8 (mid_of 8 1016 bytes)) → count ≡ cast_signed w32 (big_number 4 (mid_of 16 1008 bytes))
-    → IsHeader bytes (record { version = version; map_offset = cast_signed w64 (cast_unsigned w64 offset); count = cast_signed w32 (cast_unsigned w32 count) })
+    → IsHeader bytes (record {
+      version = version;
+      map_offset = cast_signed w64 (cast_unsigned w64 offset);
+      count = cast_signed w32
+          (cast_unsigned w32 count);
+    })
 header_read bytes version offset count each long is-magic is-version one is-offset is-count =
     let n : ℕ = from_be_bytes w64 (drop 8 bytes) in
     let m : ℕ = from_be_bytes w32 (drop 16 bytes) in
@@ -69,5 +79,7 @@ header_read bytes version offset count each long is-magic is-version one is-offs
     record {
       rest = drop 20 bytes;
       version_is = one;
-      bytes_are = head_is bytes each long is-magic (sym is-version ∙ one) ∙ ap (λ (h : List ℕ). h ++ drop 20 bytes) (ap (λ (k : ℕ). head_of k m) (sym low-offset) ∙ ap (λ (k : ℕ). head_of (cast_unsigned w64 (cast_signed w64 (cast_unsigned w64 offset))) k) (sym low-count));
+      bytes_are = head_is bytes each long is-magic (sym is-version ∙ one)
+          ∙ ap (λ (h : List ℕ). h ++ drop 20 bytes) (ap (λ (k : ℕ). head_of k m) (sym low-offset)
+          ∙ ap (λ (k : ℕ). head_of (cast_unsigned w64 (cast_signed w64 (cast_unsigned w64 offset))) k) (sym low-count));
     }

@@ -37,7 +37,8 @@ below_is x (e ∷ es) h = subst (λ r. T (is_lt r && below_all nat_cmp x es)) (s
 
 sorted_is : (es : List (ℕ × ℕ)) → IsStrictlySortedBy nat_cmp (map (λ e. e.0) es) → T (is_sorted nat_cmp es)
 sorted_is [] h = tt
-sorted_is (e ∷ es) h = both _ _ (below_is e.0 es (sorted_head nat_cmp e.0 (map (λ e. e.0) es) h)) (sorted_is es (sorted_tail nat_cmp e.0 (map (λ e. e.0) es) h))
+sorted_is (e ∷ es) h = both _ _ (below_is e.0 es (sorted_head nat_cmp e.0 (map (λ e. e.0) es) h))
+    (sorted_is es (sorted_tail nat_cmp e.0 (map (λ e. e.0) es) h))
 
 -- a map's entries are already in their order
 pub entries-map_of : (m : BTreeMap ℕ ℕ) → tree.IsOrdered nat_cmp m → ledgers.entries (map_of m) ≡ m.entries

@@ -55,20 +55,25 @@ each_at P [] p x h = h.0
 each_at P (q ∷ a) p x h = each_at P a p x h.1
 
 -- a wrong pair isn't among good ones
-no_good : (before a : List (ℕ × ℕ)) (p : ℕ × ℕ) (x : List (ℕ × ℕ)) → IsWrong before a p → AllByRecursion IsPair (a ++ p ∷ x) → AreDistinct (ledgers_of (before ++ (a ++ p ∷ x))) → ⊥
+no_good : (before a : List (ℕ × ℕ)) (p : ℕ × ℕ) (x : List (ℕ × ℕ)) → IsWrong before a p → AllByRecursion IsPair (a ++ p ∷ x)
+    → AreDistinct (ledgers_of (before ++ (a ++ p ∷ x))) → ⊥
 no_good before a p x (inl n) each distinct = n (each_at IsPair a p x each)
 no_good before a p x (inr h) each distinct =
-    AreDistinct-apart (ledgers_of (before ++ a)) p.0 (ledgers_of x) (subst AreDistinct (ap ledgers_of (sym (append_assoc before a (p ∷ x))) ∙ ledgers_of-append (before ++ a) (p ∷ x)) distinct) h
+    AreDistinct-apart (ledgers_of (before ++ a)) p.0 (ledgers_of x)
+    (subst AreDistinct (ap ledgers_of (sym (append_assoc before a (p ∷ x))) ∙ ledgers_of-append (before ++ a) (p ∷ x)) distinct) h
 
 -- the first wrong pair is one
-same_pair : (before : List (ℕ × ℕ)) (bytes : List ℕ) (a b : List (ℕ × ℕ)) (p q : ℕ × ℕ) → ReachesPair before bytes a p → ReachesPair before bytes b q → IsWrong before a p → IsWrong before b q → (a ≡ b) × (p ≡ q)
+same_pair : (before : List (ℕ × ℕ)) (bytes : List ℕ) (a b : List (ℕ × ℕ)) (p q : ℕ × ℕ) → ReachesPair before bytes a p → ReachesPair before bytes b q
+    → IsWrong before a p → IsWrong before b q → (a ≡ b) × (p ≡ q)
 same_pair before bytes a b p q r s wrong-p wrong-q =
     let all : a ++ p ∷ r.later ≡ b ++ q ∷ s.later = same_pairs _ _ r.numbers s.numbers (sym r.bytes_are ∙ s.bytes_are) in
     elim (splits a p r.later b q s.later all) [
       | inl h ↦ h
       | inr o ↦ elim o [
-        | inl h ↦ absurd (no_good before a p h.0 wrong-p (subst (λ (x : List (ℕ × ℕ)). AllByRecursion IsPair x) h.1 s.each) (subst (λ (x : List (ℕ × ℕ)). AreDistinct (ledgers_of (before ++ x))) h.1 s.distinct))
-        | inr h ↦ absurd (no_good before b q h.0 wrong-q (subst (λ (x : List (ℕ × ℕ)). AllByRecursion IsPair x) h.1 r.each) (subst (λ (x : List (ℕ × ℕ)). AreDistinct (ledgers_of (before ++ x))) h.1 r.distinct))
+        | inl h ↦ absurd (no_good before a p h.0 wrong-p (subst (λ (x : List (ℕ × ℕ)). AllByRecursion IsPair x) h.1 s.each)
+            (subst (λ (x : List (ℕ × ℕ)). AreDistinct (ledgers_of (before ++ x))) h.1 s.distinct))
+        | inr h ↦ absurd (no_good before b q h.0 wrong-q (subst (λ (x : List (ℕ × ℕ)). AllByRecursion IsPair x) h.1 r.each)
+            (subst (λ (x : List (ℕ × ℕ)). AreDistinct (ledgers_of (before ++ x))) h.1 r.distinct))
       ]
     ]
 
@@ -106,14 +111,16 @@ pub same_pair_fault : (before : List (ℕ × ℕ)) (bytes : List ℕ) (f g : Hea
 same_pair_fault before bytes f g h k =
     let x = first_wrong before bytes f h in
     let y = first_wrong before bytes g k in
-    let same = same_pair before bytes x.good y.good x.pair y.pair x.reaches y.reaches (wrong before x.good x.pair f x.is_of) (wrong before y.good y.pair g y.is_of) in
+    let same = same_pair before bytes x.good y.good x.pair y.pair x.reaches y.reaches (wrong before x.good x.pair f x.is_of)
+    (wrong before y.good y.pair g y.is_of) in
     told before x.good y.good x.pair y.pair f g same.1 x.is_of y.is_of
 
 -- ---- one batch
 
 -- the payload of a batch with the right length
 for_map_is : (count : ℕ) (bytes : List ℕ) → IsForMap (batch_ids ++ to_be_bytes w32 count ++ bytes)
-for_map_is count bytes = ap (take 16) (append_assoc batch_ids (to_be_bytes w32 count) bytes) ∙ take_at batch_ids (to_be_bytes w32 count ++ bytes) 16 length-batch_ids
+for_map_is count bytes = ap (take 16) (append_assoc batch_ids (to_be_bytes w32 count) bytes)
+    ∙ take_at batch_ids (to_be_bytes w32 count ++ bytes) 16 length-batch_ids
 
 sized_is : (count : ℕ) (bytes : List ℕ) → count < 2 ^ 31 → length bytes ≡ 16 * count → IsSized (batch_ids ++ to_be_bytes w32 count ++ bytes)
 unfolding signed_field
@@ -122,7 +129,8 @@ sized_is count bytes small long =
     ap (drop 16) (append_assoc batch_ids (to_be_bytes w32 count) bytes) ∙ drop_at batch_ids (to_be_bytes w32 count ++ bytes) 16 length-batch_ids in (
       count,
       (
-        ap (λ (x : List ℕ). cast_signed w32 (from_be_bytes w32 x)) behind ∙ ap (cast_signed w32) (again_4 count bytes (omega arith)) ∙ to_z_pos w32 count small,
+        ap (λ (x : List ℕ). cast_signed w32 (from_be_bytes w32 x)) behind ∙ ap (cast_signed w32) (again_4 count bytes (omega arith))
+            ∙ to_z_pos w32 count small,
         omega (arith, length-payload count bytes, long),
       ),
     )
@@ -173,7 +181,8 @@ same_fault at before bytes f g h k = by_kind (kind_of at before bytes f h) (kind
 
 -- ---- a good batch
 
-pub has_pairs_of : (bytes : List ℕ) (pairs : List (ℕ × ℕ)) (behind : List ℕ) → IsBatch pairs → bytes ≡ batch_of pairs ++ behind → HasPairs bytes (flat_map pair_bytes pairs)
+pub has_pairs_of : (bytes : List ℕ) (pairs : List (ℕ × ℕ)) (behind : List ℕ) → IsBatch pairs → bytes ≡ batch_of pairs ++ behind
+    → HasPairs bytes (flat_map pair_bytes pairs)
 unfolding batch_payload
 has_pairs_of bytes pairs behind is e =
     record { count = length pairs; begins = record { behind = behind; legal = is.fits; is = e }; sized = length-pairs pairs }
@@ -189,11 +198,14 @@ no_batch at before bytes fault h pairs behind is distinct e = by_kind (kind_of a
     by_kind : IsKind at before bytes fault → ⊥
     by_kind (IsKind.foreign f some none) = none _ has.begins (for_map_is has.count (flat_map pair_bytes pairs))
     by_kind (IsKind.unsized f payload s for-map n) =
-        n (subst IsSized (same_payload bytes _ payload has.begins s) (sized_is has.count (flat_map pair_bytes pairs) (small_count bytes (flat_map pair_bytes pairs) has) has.sized))
+        n (subst IsSized (same_payload bytes _ payload has.begins s)
+        (sized_is has.count (flat_map pair_bytes pairs) (small_count bytes (flat_map pair_bytes pairs) has) has.sized))
     by_kind (IsKind.of_pair others has' p) =
-        let x = first_wrong before (flat_map pair_bytes pairs) fault (subst (λ (y : List ℕ). PairFault before y fault) (same_bytes bytes others (flat_map pair_bytes pairs) has' has) p) in
+        let x = first_wrong before (flat_map pair_bytes pairs) fault
+        (subst (λ (y : List ℕ). PairFault before y fault) (same_bytes bytes others (flat_map pair_bytes pairs) has' has) p) in
         let all : pairs ≡ x.good ++ x.pair ∷ x.reaches.later = same_pairs _ _ (numbers_of pairs is.each) x.reaches.numbers x.reaches.bytes_are in
-        no_good before x.good x.pair x.reaches.later (wrong before x.good x.pair fault x.is_of) (subst (λ (y : List (ℕ × ℕ)). AllByRecursion IsPair y) all is.each)
+        no_good before x.good x.pair x.reaches.later (wrong before x.good x.pair fault x.is_of)
+        (subst (λ (y : List (ℕ × ℕ)). AllByRecursion IsPair y) all is.each)
         (subst (λ (y : List (ℕ × ℕ)). AreDistinct (ledgers_of (before ++ y))) all distinct)
 
 -- a fault stands in front of some bytes

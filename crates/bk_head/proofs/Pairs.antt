@@ -21,7 +21,8 @@ length-pairs (p ∷ ps) = omega (arith, length-append (pair_bytes p) (flat_map p
 
 pub flat_map-append : (ps qs : List (ℕ × ℕ)) → flat_map pair_bytes (ps ++ qs) ≡ flat_map pair_bytes ps ++ flat_map pair_bytes qs
 flat_map-append [] qs = refl
-flat_map-append (p ∷ ps) qs = ap (λ (x : List ℕ). pair_bytes p ++ x) (flat_map-append ps qs) ∙ sym (append_assoc (pair_bytes p) (flat_map pair_bytes ps) (flat_map pair_bytes qs))
+flat_map-append (p ∷ ps) qs = ap (λ (x : List ℕ). pair_bytes p ++ x) (flat_map-append ps qs)
+    ∙ sym (append_assoc (pair_bytes p) (flat_map pair_bytes ps) (flat_map pair_bytes qs))
 
 -- ---- one pair
 
@@ -37,8 +38,10 @@ pair_at-is bytes each long =
     let whole : to_be_bytes w64 (from_be_bytes w64 bytes) ++ to_be_bytes w64 (from_be_bytes w64 (drop 8 bytes)) ≡ take 8 bytes ++ take 8 (drop 8 bytes) =
     ap (λ (x : List ℕ). x ++ to_be_bytes w64 (from_be_bytes w64 (drop 8 bytes))) first ∙ ap (λ (x : List ℕ). take 8 bytes ++ x) second in
     let again : take 16 bytes ≡ take 8 bytes ++ take 8 (drop 8 bytes) =
-    ap (take 16) (sym (take-append-drop 8 bytes) ∙ ap (λ (x : List ℕ). take 8 bytes ++ x) (sym (take-append-drop 8 (drop 8 bytes))) ∙ sym (append_assoc (take 8 bytes) (take 8 (drop 8 bytes)) (drop 8 (drop 8 bytes))))
-    ∙ take_at (take 8 bytes ++ take 8 (drop 8 bytes)) (drop 8 (drop 8 bytes)) 16 (omega (arith, length-append (take 8 bytes) (take 8 (drop 8 bytes)), length-take 8 bytes, length-take 8 (drop 8 bytes), length-drop 8 bytes)) in
+    ap (take 16) (sym (take-append-drop 8 bytes) ∙ ap (λ (x : List ℕ). take 8 bytes ++ x) (sym (take-append-drop 8 (drop 8 bytes)))
+    ∙ sym (append_assoc (take 8 bytes) (take 8 (drop 8 bytes)) (drop 8 (drop 8 bytes))))
+    ∙ take_at (take 8 bytes ++ take 8 (drop 8 bytes)) (drop 8 (drop 8 bytes)) 16
+    (omega (arith, length-append (take 8 bytes) (take 8 (drop 8 bytes)), length-take 8 bytes, length-take 8 (drop 8 bytes), length-drop 8 bytes)) in
     (whole ∙ sym again, (below_8 bytes each, below_8 (drop 8 bytes) (IsBytes-drop 8 bytes each)))
 
 pub pair_at-again : (p : ℕ × ℕ) (rest : List ℕ) → IsNumbers p → pair_at (pair_bytes p ++ rest) ≡ p
@@ -67,18 +70,21 @@ spelled (suc n) bytes each long =
     let rest = spelled n (drop 16 bytes) (IsBytes-drop 16 bytes each) (omega (arith, length-drop 16 bytes, long)) in
     record {
       pairs = pair_at bytes ∷ rest.pairs;
-      bytes_are = sym (take-append-drop 16 bytes) ∙ ap (λ (x : List ℕ). x ++ drop 16 bytes) (sym first.0) ∙ ap (λ (x : List ℕ). pair_bytes (pair_at bytes) ++ x) rest.bytes_are;
+      bytes_are = sym (take-append-drop 16 bytes) ∙ ap (λ (x : List ℕ). x ++ drop 16 bytes) (sym first.0)
+          ∙ ap (λ (x : List ℕ). pair_bytes (pair_at bytes) ++ x) rest.bytes_are;
       numbers = (first.1, rest.numbers);
       many = ap suc rest.many;
     }
 
 -- the same bytes spell the same pairs
-pub same_pairs : (ps qs : List (ℕ × ℕ)) → AllByRecursion IsNumbers ps → AllByRecursion IsNumbers qs → flat_map pair_bytes ps ≡ flat_map pair_bytes qs → ps ≡ qs
+pub same_pairs : (ps qs : List (ℕ × ℕ)) → AllByRecursion IsNumbers ps → AllByRecursion IsNumbers qs → flat_map pair_bytes ps ≡ flat_map pair_bytes qs
+    → ps ≡ qs
 same_pairs [] [] fits-p fits-q e = refl
 same_pairs [] (q ∷ qs) fits-p fits-q e = absurd (omega (arith, ap length e, length-pairs (q ∷ qs)))
 same_pairs (p ∷ ps) [] fits-p fits-q e = absurd (omega (arith, ap length e, length-pairs (p ∷ ps)))
 same_pairs (p ∷ ps) (q ∷ qs) fits-p fits-q e =
     let head : p ≡ q = sym (pair_at-again p (flat_map pair_bytes ps) fits-p.0) ∙ ap pair_at e ∙ pair_at-again q (flat_map pair_bytes qs) fits-q.0 in
-    let tail : flat_map pair_bytes ps ≡ flat_map pair_bytes qs = sym (drop-pair_bytes p (flat_map pair_bytes ps)) ∙ ap (drop 16) e ∙ drop-pair_bytes q (flat_map pair_bytes qs) in
+    let tail : flat_map pair_bytes ps ≡ flat_map pair_bytes qs = sym (drop-pair_bytes p (flat_map pair_bytes ps)) ∙ ap (drop 16) e
+    ∙ drop-pair_bytes q (flat_map pair_bytes qs) in
     let rest = same_pairs ps qs fits-p.1 fits-q.1 tail in
     λ i. head i ∷ rest i

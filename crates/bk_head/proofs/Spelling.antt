@@ -33,7 +33,8 @@ cut_alike (suc m) (suc n) (p ∷ ps) a b =
     (cut_alike m n (drop batch_pairs (p ∷ ps)) (omega (arith, length-drop batch_pairs (p ∷ ps))) (omega (arith, length-drop batch_pairs (p ∷ ps))))
 
 -- the first batch, and those of the other pairs
-pub written_pairs-cons : (p : ℕ × ℕ) (ps : List (ℕ × ℕ)) → written_pairs (p ∷ ps) ≡ batch_of (take batch_pairs (p ∷ ps)) ++ written_pairs (drop batch_pairs (p ∷ ps))
+pub written_pairs-cons : (p : ℕ × ℕ) (ps : List (ℕ × ℕ)) → written_pairs (p ∷ ps)
+    ≡ batch_of (take batch_pairs (p ∷ ps)) ++ written_pairs (drop batch_pairs (p ∷ ps))
 unfolding written_pairs
 written_pairs-cons p ps =
     ap (λ (x : List (List (ℕ × ℕ))). batch_of (take batch_pairs (p ∷ ps)) ++ flat_map batch_of x)
@@ -67,8 +68,10 @@ length-written_up_to (suc m) (p ∷ ps) few =
     let left : length rest ≡ length (p ∷ ps) - batch_pairs = length-drop batch_pairs (p ∷ ps) in
     let front : length (take batch_pairs (p ∷ ps)) ≡ min batch_pairs (length (p ∷ ps)) = length-take batch_pairs (p ∷ ps) in
     let deep = length-written_up_to m rest (omega (arith, left)) in
-    let whole : length (written_pairs (p ∷ ps)) ≡ (24 + 16 * length (take batch_pairs (p ∷ ps))) + (24 * div_ceil (length rest) batch_pairs + 16 * length rest) =
-    ap length (written_pairs-cons p ps) ∙ length-append (batch_of (take batch_pairs (p ∷ ps))) (written_pairs rest) ∙ ap (λ n. n + length (written_pairs rest)) (length-batch_of (take batch_pairs (p ∷ ps)))
+    let whole : length (written_pairs (p ∷ ps))
+    ≡ (24 + 16 * length (take batch_pairs (p ∷ ps))) + (24 * div_ceil (length rest) batch_pairs + 16 * length rest) =
+    ap length (written_pairs-cons p ps) ∙ length-append (batch_of (take batch_pairs (p ∷ ps))) (written_pairs rest)
+    ∙ ap (λ n. n + length (written_pairs rest)) (length-batch_of (take batch_pairs (p ∷ ps)))
     ∙ ap (λ n. (24 + 16 * length (take batch_pairs (p ∷ ps))) + n) deep in
     elim (cases_lt batch_pairs (length (p ∷ ps))) [
       | inl many ↦ omega (arith, whole, left, front, ceil_large (length (p ∷ ps)) (length rest) (omega (arith, left)))
@@ -96,7 +99,8 @@ written_up_to zero (p ∷ ps) few each = absurd (omega arith)
 written_up_to (suc m) (p ∷ ps) few each =
     let front = take batch_pairs (p ∷ ps) in
     let rest = drop batch_pairs (p ∷ ps) in
-    let fits : IsPayload (batch_payload front) = (omega (arith, length-batch_payload front), omega (arith, length-batch_payload front, length-take batch_pairs (p ∷ ps))) in
+    let fits : IsPayload (batch_payload front) =
+    (omega (arith, length-batch_payload front), omega (arith, length-batch_payload front, length-take batch_pairs (p ∷ ps))) in
     let deep = written_up_to m rest (omega (arith, length-drop batch_pairs (p ∷ ps))) (each-drop batch_pairs (p ∷ ps) each) in
     batches_at _ _ _ _ (sym (written_pairs-cons p ps)) (take-append-drop batch_pairs (p ∷ ps))
     (Batches.more {pairs = front} {others = rest} {behind = written_pairs rest} (record { fits = fits; each = each-take batch_pairs (p ∷ ps) each }) deep)
@@ -124,7 +128,8 @@ sorted_distinct (e ∷ es) h =
     (below_apart e.0 es parts.0, sorted_distinct es parts.1)
 
 -- what holds of each ledger that is found holds of each pair
-each_found : (es : List (ℕ × ℕ)) → AreDistinct (ledgers_of es) → ((ledger size : ℕ) → find nat_cmp ledger es ≡ Some size → IsPair (ledger, size)) → AllByRecursion IsPair es
+each_found : (es : List (ℕ × ℕ)) → AreDistinct (ledgers_of es) → ((ledger size : ℕ) → find nat_cmp ledger es ≡ Some size → IsPair (ledger, size))
+    → AllByRecursion IsPair es
 each_found [] d h = tt
 each_found (e ∷ es) d h = (
   h e.0 e.1 (ap (λ b. cond b (Some e.1) (find nat_cmp e.0 es)) (tied_itself e.0 e.0 refl)),
@@ -143,5 +148,6 @@ written_spells m w =
       pairs = es;
       spelled = written_up_to (length es) es (omega arith) each;
       distinct = distinct;
-      map_is = ledgers.same_map nat_cmp_total ledgers.nat_cmp-IsAntisymmetric m (ledgers.from_entries es) (λ q. ledgers.get-entries m q ∙ sym (ledgers.get-from_entries nat_cmp_total es q));
+      map_is = ledgers.same_map nat_cmp_total ledgers.nat_cmp-IsAntisymmetric m (ledgers.from_entries es)
+          (λ q. ledgers.get-entries m q ∙ sym (ledgers.get-from_entries nat_cmp_total es q));
     }

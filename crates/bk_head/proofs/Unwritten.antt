@@ -26,7 +26,8 @@ unfolding batch_head
 length-batch_head n = omega (arith, length-append batch_ids (to_be_bytes w32 n), length-batch_ids)
 
 -- a batch is begun
-pub unwritten-begin : (p : ℕ × ℕ) (ps : List (ℕ × ℕ)) (n : ℕ) → n ≡ min (length (p ∷ ps)) batch_pairs → unwritten 0 (p ∷ ps) ≡ batch_head n ++ unwritten n (p ∷ ps)
+pub unwritten-begin : (p : ℕ × ℕ) (ps : List (ℕ × ℕ)) (n : ℕ) → n ≡ min (length (p ∷ ps)) batch_pairs → unwritten 0 (p ∷ ps)
+    ≡ batch_head n ++ unwritten n (p ∷ ps)
 unwritten-begin p ps n is =
     let front = take batch_pairs (p ∷ ps) in
     let rest = drop batch_pairs (p ∷ ps) in
@@ -59,13 +60,15 @@ are_written (suc m) (p ∷ ps) few =
     let left : length rest ≡ length (p ∷ ps) - batch_pairs = length-drop batch_pairs (p ∷ ps) in
     elim (cases_lt batch_pairs (length (p ∷ ps))) [
       | inl many ↦
-          written_as (front ++ rest) (p ∷ ps) (batch_of front ++ written_pairs rest) (written_pairs (p ∷ ps)) (take-append-drop batch_pairs (p ∷ ps)) (sym (written_pairs-cons p ps))
+          written_as (front ++ rest) (p ∷ ps) (batch_of front ++ written_pairs rest) (written_pairs (p ∷ ps)) (take-append-drop batch_pairs (p ∷ ps))
+          (sym (written_pairs-cons p ps))
           (AreWritten.full front (omega (arith, long)) (omega (arith, left)) (are_written m rest (omega (arith, left))))
       | inr few' ↦
           let nothing : rest ≡ [] = drop_all batch_pairs (p ∷ ps) few' in
           let all : front ≡ p ∷ ps = take_all batch_pairs (p ∷ ps) few' in
           let bytes : written_pairs (p ∷ ps) ≡ batch_of (p ∷ ps) =
-          written_pairs-cons p ps ∙ ap (λ (x : List (ℕ × ℕ)). batch_of front ++ written_pairs x) nothing ∙ ap (λ (x : List ℕ). batch_of front ++ x) written_pairs-nil ∙ append-nil (batch_of front) ∙ ap (λ (x : List (ℕ × ℕ)). batch_of x) all in
+          written_pairs-cons p ps ∙ ap (λ (x : List (ℕ × ℕ)). batch_of front ++ written_pairs x) nothing
+          ∙ ap (λ (x : List ℕ). batch_of front ++ x) written_pairs-nil ∙ append-nil (batch_of front) ∙ ap (λ (x : List (ℕ × ℕ)). batch_of x) all in
           written_as (p ∷ ps) (p ∷ ps) (batch_of (p ∷ ps)) (written_pairs (p ∷ ps)) refl (sym bytes) (AreWritten.last (p ∷ ps) (omega arith) few')
     ]
 
@@ -79,17 +82,32 @@ pub record Goes (out old : List ℕ) (room left : ℕ) (rest all : List (ℕ × 
 
 pub goes_start : (out old : List ℕ) (left : ℕ) (rest all : List (ℕ × ℕ)) → out ≡ old → left ≡ length all → rest ≡ all → Goes out old 0 left rest all
 goes_start out old left rest all same many is =
-    record { whole = ap (λ (x : List ℕ). x ++ written_pairs rest) same ∙ ap (λ (x : List (ℕ × ℕ)). old ++ written_pairs x) is; left_is = many ∙ sym (ap length is); within = omega arith }
+    record {
+      whole = ap (λ (x : List ℕ). x ++ written_pairs rest) same ∙ ap (λ (x : List (ℕ × ℕ)). old ++ written_pairs x) is;
+      left_is = many
+          ∙ sym (ap length is);
+      within = omega arith;
+    }
 
-pub goes_begin : (out old : List ℕ) (left n : ℕ) (p : ℕ × ℕ) (rest ps all : List (ℕ × ℕ)) → rest ≡ p ∷ ps → n ≡ min left batch_pairs → Goes out old 0 left rest all
+pub goes_begin : (out old : List ℕ) (left n : ℕ) (p : ℕ × ℕ) (rest ps all : List (ℕ × ℕ)) → rest ≡ p ∷ ps → n ≡ min left batch_pairs
+    → Goes out old 0 left rest all
     → Goes (out ++ batch_head n) old n left rest all × (0 < n)
 goes_begin out old left n p rest ps all is few g =
     let many : left ≡ length (p ∷ ps) = g.left_is ∙ ap length is in
     let begun : unwritten 0 rest ≡ batch_head n ++ unwritten n rest =
-    subst (λ (x : List (ℕ × ℕ)). unwritten 0 x ≡ batch_head n ++ unwritten n x) (sym is) (unwritten-begin p ps n (few ∙ ap (λ (k : ℕ). min k batch_pairs) many)) in
-    (record { whole = append_assoc out (batch_head n) (unwritten n rest) ∙ ap (λ (x : List ℕ). out ++ x) (sym begun) ∙ g.whole; left_is = g.left_is; within = omega (arith, few) }, omega (arith, few, many))
+    subst (λ (x : List (ℕ × ℕ)). unwritten 0 x ≡ batch_head n ++ unwritten n x) (sym is)
+    (unwritten-begin p ps n (few ∙ ap (λ (k : ℕ). min k batch_pairs) many)) in (
+      record {
+        whole = append_assoc out (batch_head n) (unwritten n rest) ∙ ap (λ (x : List ℕ). out ++ x) (sym begun)
+            ∙ g.whole;
+        left_is = g.left_is;
+        within = omega (arith, few);
+      },
+      omega (arith, few, many),
+    )
 
-pub goes_pair : (out old : List ℕ) (room left : ℕ) (p : ℕ × ℕ) (rest ps all : List (ℕ × ℕ)) → rest ≡ p ∷ ps → 0 < room → Goes out old room left rest all → Goes (out ++ pair_bytes p) old (room - 1) (left - 1) ps all
+pub goes_pair : (out old : List ℕ) (room left : ℕ) (p : ℕ × ℕ) (rest ps all : List (ℕ × ℕ)) → rest ≡ p ∷ ps → 0 < room
+    → Goes out old room left rest all → Goes (out ++ pair_bytes p) old (room - 1) (left - 1) ps all
 goes_pair out old room left p rest ps all is some g =
     let one : room ≡ suc (room - 1) = omega arith in
     let next : unwritten room rest ≡ pair_bytes p ++ unwritten (room - 1) ps =
@@ -107,10 +125,12 @@ goes_end out old room left rest all is g =
     sym (append-nil out) ∙ ap (λ (x : List ℕ). out ++ x) (sym nothing) ∙ g.whole
 
 -- the room that a step takes was made
-whole_length : (out old : List ℕ) (room left : ℕ) (rest all : List (ℕ × ℕ)) → Goes out old room left rest all → length out + length (unwritten room rest) ≡ length old + length (written_pairs all)
+whole_length : (out old : List ℕ) (room left : ℕ) (rest all : List (ℕ × ℕ)) → Goes out old room left rest all
+    → length out + length (unwritten room rest) ≡ length old + length (written_pairs all)
 whole_length out old room left rest all g = omega (arith, ap length g.whole, length-append out (unwritten room rest), length-append old (written_pairs all))
 
-pub room_for_head : (out old : List ℕ) (left n : ℕ) (p : ℕ × ℕ) (rest ps all : List (ℕ × ℕ)) → rest ≡ p ∷ ps → n ≡ min left batch_pairs → Goes out old 0 left rest all
+pub room_for_head : (out old : List ℕ) (left n : ℕ) (p : ℕ × ℕ) (rest ps all : List (ℕ × ℕ)) → rest ≡ p ∷ ps → n ≡ min left batch_pairs
+    → Goes out old 0 left rest all
     → length out + length (batch_head n) ≤ length old + length (written_pairs all)
 room_for_head out old left n p rest ps all is few g =
     let after = (goes_begin out old left n p rest ps all is few g).0 in
@@ -128,24 +148,29 @@ pub record Wants (out old : List ℕ) (room left : ℕ) (rest all : List (ℕ ×
   pub some : 0 < room
   pub fits : length old + length (written_pairs all) ≤ capacity
 
-pub wants_begun : (out old now head : List ℕ) (room left n : ℕ) (p : ℕ × ℕ) (rest ps all : List (ℕ × ℕ)) (capacity : ℕ) → rest ≡ p ∷ ps → room ≡ 0 → n ≡ min left batch_pairs
-    → Goes out old room left rest all → now ≡ out ++ head → head ≡ batch_head n → length old + length (written_pairs all) ≤ capacity → Wants now old n left rest all capacity
+pub wants_begun : (out old now head : List ℕ) (room left n : ℕ) (p : ℕ × ℕ) (rest ps all : List (ℕ × ℕ)) (capacity : ℕ) → rest ≡ p ∷ ps → room ≡ 0
+    → n ≡ min left batch_pairs
+    → Goes out old room left rest all → now ≡ out ++ head → head ≡ batch_head n → length old + length (written_pairs all) ≤ capacity
+    → Wants now old n left rest all capacity
 wants_begun out old now head room left n p rest ps all capacity is none few g now-is head-is fits =
     let begun = goes_begin out old left n p rest ps all is few (subst (λ (k : ℕ). Goes out old k left rest all) none g) in
     let same : out ++ batch_head n ≡ now = ap (λ (x : List ℕ). out ++ x) (sym head-is) ∙ sym now-is in
     record { goes = subst (λ (x : List ℕ). Goes x old n left rest all) same begun.0; some = begun.1; fits = fits }
 
-pub head_fits : (out old head : List ℕ) (room left n : ℕ) (p : ℕ × ℕ) (rest ps all : List (ℕ × ℕ)) (capacity : ℕ) → rest ≡ p ∷ ps → room ≡ 0 → n ≡ min left batch_pairs
+pub head_fits : (out old head : List ℕ) (room left n : ℕ) (p : ℕ × ℕ) (rest ps all : List (ℕ × ℕ)) (capacity : ℕ) → rest ≡ p ∷ ps → room ≡ 0 → n
+    ≡ min left batch_pairs
     → Goes out old room left rest all → head ≡ batch_head n → length old + length (written_pairs all) ≤ capacity → length out + length head ≤ capacity
 head_fits out old head room left n p rest ps all capacity is none few g head-is fits =
     omega (arith, room_for_head out old left n p rest ps all is few (subst (λ (k : ℕ). Goes out old k left rest all) none g), ap length head-is)
 
-pub pair_fits : (out old pair : List ℕ) (room left : ℕ) (p : ℕ × ℕ) (rest ps all : List (ℕ × ℕ)) (capacity : ℕ) → rest ≡ p ∷ ps → Wants out old room left rest all capacity → pair ≡ pair_bytes p
+pub pair_fits : (out old pair : List ℕ) (room left : ℕ) (p : ℕ × ℕ) (rest ps all : List (ℕ × ℕ)) (capacity : ℕ) → rest ≡ p ∷ ps
+    → Wants out old room left rest all capacity → pair ≡ pair_bytes p
     → length out + length pair ≤ capacity
 pair_fits out old pair room left p rest ps all capacity is w pair-is =
     omega (arith, room_for_pair out old room left p rest ps all is w.some w.goes, ap length pair-is, w.fits)
 
-pub wants_pair : (out old now pair : List ℕ) (room left : ℕ) (p : ℕ × ℕ) (rest ps all : List (ℕ × ℕ)) (capacity : ℕ) → rest ≡ p ∷ ps → Wants out old room left rest all capacity → now ≡ out ++ pair → pair ≡ pair_bytes p
+pub wants_pair : (out old now pair : List ℕ) (room left : ℕ) (p : ℕ × ℕ) (rest ps all : List (ℕ × ℕ)) (capacity : ℕ) → rest ≡ p ∷ ps
+    → Wants out old room left rest all capacity → now ≡ out ++ pair → pair ≡ pair_bytes p
     → Goes now old (room - 1) (left - 1) ps all
 wants_pair out old now pair room left p rest ps all capacity is w now-is pair-is =
     let same : out ++ pair_bytes p ≡ now = ap (λ (x : List ℕ). out ++ x) (sym pair-is) ∙ sym now-is in

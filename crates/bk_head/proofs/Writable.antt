@@ -17,16 +17,21 @@ pub record IsSmall (map : LedgersMap) (most : ℕ) : Type 0 where
 pub small_empty : (map : LedgersMap) → map ≡ ledgers.empty → IsSmall map 0
 small_empty map is = record {
   few = omega (arith, ap (λ (m : LedgersMap). ledgers.len m) is, ledgers.len-empty nat_cmp ℕ);
-  each = λ ledger size found. absurd (none-some size (sym (ledgers.get-empty nat_cmp ledger) ∙ ap (λ (m : LedgersMap). ledgers.get m ledger) (sym is) ∙ found));
+  each = λ ledger size found. absurd (none-some size (sym (ledgers.get-empty nat_cmp ledger) ∙ ap (λ (m : LedgersMap). ledgers.get m ledger) (sym is)
+      ∙ found));
 }
 
-pub small_insert : (old new : LedgersMap) (ledger size most : ℕ) → new ≡ ledgers.insert old ledger size → IsPair (ledger, size) → IsSmall old most → IsSmall new (most + 1)
+pub small_insert : (old new : LedgersMap) (ledger size most : ℕ) → new ≡ ledgers.insert old ledger size → IsPair (ledger, size) → IsSmall old most
+    → IsSmall new (most + 1)
 small_insert old new ledger size most is pair s =
-    let long : ledgers.len new ≡ cond (ledgers.contains_key old ledger) (ledgers.len old) (ledgers.len old + 1) = ap (λ (m : LedgersMap). ledgers.len m) is ∙ ledgers.len-insert nat_cmp_total old ledger size in
+    let long : ledgers.len new ≡ cond (ledgers.contains_key old ledger) (ledgers.len old) (ledgers.len old + 1) = ap
+    (λ (m : LedgersMap). ledgers.len m) is ∙ ledgers.len-insert nat_cmp_total old ledger size in
     record {
-      few = elim (cases_cond (ledgers.contains_key old ledger) (ledgers.len old) (ledgers.len old + 1) (ledgers.len new) long) [ inl e ↦ omega (arith, s.few, e) | inr e ↦ omega (arith, s.few, e) ];
+      few = elim (cases_cond (ledgers.contains_key old ledger) (ledgers.len old) (ledgers.len old + 1) (ledgers.len new) long)
+          [ inl e ↦ omega (arith, s.few, e) | inr e ↦ omega (arith, s.few, e) ];
       each = λ q v found.
-          let at : cond (eq_by_cmp nat_cmp q ledger) (Some size) (ledgers.get old q) ≡ Some v = sym (ledgers.get-insert nat_cmp_total old ledger size q) ∙ ap (λ (m : LedgersMap). ledgers.get m q) (sym is) ∙ found in
+          let at : cond (eq_by_cmp nat_cmp q ledger) (Some size) (ledgers.get old q)
+          ≡ Some v = sym (ledgers.get-insert nat_cmp_total old ledger size q) ∙ ap (λ (m : LedgersMap). ledgers.get m q) (sym is) ∙ found in
           elim (cases_Bool (eq_by_cmp nat_cmp q ledger)) [
             | inl same ↦
                 let value : size ≡ v = same_Some size v (ap (λ b. cond b (Some size) (ledgers.get old q)) (sym same) ∙ at) in

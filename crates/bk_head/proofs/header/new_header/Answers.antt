@@ -8,4 +8,5 @@ unfolding empty_header head_of patch_of
 returns-clause-value c = rw (c.write_u32.ensures, c.copy_from_slice.ensures.after) refl
 
 pub returns-clause-header : goal.returns-clause-header
-returns-clause-header c = subst (λ (x : List ℕ). IsHeader x (record { version = 1; map_offset = pos 0; count = pos 0 })) (sym (returns-clause-value c)) empty_is_header
+returns-clause-header c = subst (λ (x : List ℕ). IsHeader x (record { version = 1; map_offset = pos 0; count = pos 0 }))
+    (sym (returns-clause-value c)) empty_is_header

@@ -8,12 +8,22 @@ returns-then-version-ne-VERSION-clause-ok c =
     (λ h. absurd cc, λ h. absurd (c.if-version-ne-VERSION.true (version ∙ h.1)))
 
 pub returns-then-version-ne-VERSION-clause-err : goal.returns-then-version-ne-VERSION-clause-err
-returns-then-version-ne-VERSION-clause-err c =
-    (magic_is c.args.bytes.now c.starts_with.result c.starts_with.ensures.value c.if-not-starts_with.false, version_read c.args.bytes.now c.read_u32-version.result c.told-bytes c.read_u32-version.ensures, c.if-version-ne-VERSION.true)
+returns-then-version-ne-VERSION-clause-err c = (
+  magic_is c.args.bytes.now c.starts_with.result c.starts_with.ensures.value c.if-not-starts_with.false,
+  version_read c.args.bytes.now
+      c.read_u32-version.result c.told-bytes c.read_u32-version.ensures,
+  c.if-version-ne-VERSION.true,
+)
 
 pub returns-clause-ok : goal.returns-clause-ok
-returns-clause-ok c =
-    (λ _. (magic_is c.args.bytes.now c.starts_with.result c.starts_with.ensures.value c.if-not-starts_with.false, sym (version_read c.args.bytes.now c.read_u32-version.result c.told-bytes c.read_u32-version.ensures) ∙ c.if-version-ne-VERSION.false), λ _. refl)
+returns-clause-ok c = (
+  λ _. (
+    magic_is c.args.bytes.now c.starts_with.result c.starts_with.ensures.value c.if-not-starts_with.false,
+    sym
+        (version_read c.args.bytes.now c.read_u32-version.result c.told-bytes c.read_u32-version.ensures) ∙ c.if-version-ne-VERSION.false,
+  ),
+  λ _. refl,
+)
 
 pub returns-clause-value : goal.returns-clause-value
 returns-clause-value c =

@@ -6,4 +6,5 @@ use Rattle.bk_head.proofs.reading.add_pairs.Given as goal
 
 -- the bytes so far are those of pairs that were added
 abbrev pub invariant-loop-k : goal.invariant-loop-k
-invariant-loop-k l = (before : List (ℕ × ℕ)) → AreDistinct (ledgers_of before) → map_of l.fn.map ≡ from_entries before → Adds before (take (16 * l.k) l.bytes) (map_of l.map)
+invariant-loop-k l = (before : List (ℕ × ℕ)) → AreDistinct (ledgers_of before) → map_of l.fn.map ≡ from_entries before
+    → Adds before (take (16 * l.k) l.bytes) (map_of l.map)

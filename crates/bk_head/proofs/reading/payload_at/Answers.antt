@@ -13,4 +13,5 @@ pub returns-in-Foreign : goal.returns-in-Foreign
 returns-in-Foreign c = cut_out c.args.bytes.now c.in-Foreign.ensures.0 c.in-Foreign.to c.in-Foreign.ensures.1.0 c.in-Foreign.ensures.1.1.1
 
 pub returns-in_default : goal.returns-in_default
-returns-in_default c = λ payload s for_map. no_other_piece c.args.bytes.now payload c.read_record.result c.read_record.ensures c.in_default.not-Foreign s for_map
+returns-in_default c = λ payload s for_map. no_other_piece c.args.bytes.now payload c.read_record.result c.read_record.ensures
+    c.in_default.not-Foreign s for_map

@@ -11,7 +11,8 @@ loop-number-init c = small_empty (map_of c.new-map.result) (ap (Î» (es : List (â
 pub loop-number-preserved : goal.loop-number-preserved
 loop-number-preserved c =
     small_insert (map_of c.loop-number.map) (map_of c.insert.new.self) (c.args.first + c.loop-number.number) c.args.size c.loop-number.number
-    (map_of-insert c.loop-number.map c.insert.new.self (c.args.first + c.loop-number.number) c.args.size c.in_ok-insert.ensures.updates.0) (omega arith, omega arith) c.loop-number.invariant
+    (map_of-insert c.loop-number.map c.insert.new.self (c.args.first + c.loop-number.number) c.args.size c.in_ok-insert.ensures.updates.0)
+    (omega arith, omega arith) c.loop-number.invariant
 
 pub returns : goal.returns
 returns c = writable (map_of c.loop-number.map) c.loop-number.number (omega arith) c.loop-number.invariant
