@@ -21,3 +21,4 @@ pub mod StandingRecords
 pub mod StandingEntries
 pub mod LastEntries
 pub mod EntryLists
+pub mod ReadKeys
