@@ -10,13 +10,14 @@ use Rattle.std.specs.FinMap.{find}
 use Rattle.std.proofs.lemmas.List.{length-append, length-take, length-drop, take-append-drop, drop-drop, take_at, take-take, drop-take, append-nil}
 use Rattle.byteorder.specs.Endian.{big_number}
 use Rattle.bk_record.specs.Files.{In}
+use Rattle.bk_record.proofs.Records.{bytes_drop}
 use Rattle.bk_head.specs.declared.fault.HeadFault.{HeadFault}
 use Rattle.bk_head.specs.declared.fault.HeadFault.TheVariants.{BadMagic, Version, Negative, NotAMap, MapLength, Repeated, CountDiffers, Memory}
 use Rattle.bk_head.specs.Ledgers.{LedgersMap, pair_bytes, IsPair, ledgers_of, AreDistinct}
 use Rattle.bk_head.specs.Faults.{ReachesPair, ReachesNew, PairFault, OrMemory}
 use Rattle.bk_head.specs.Parts.{Adds, PairRefusal}
 use Rattle.bk_record.specs.Spelling.{IsBytes}
-use Rattle.bk_head.proofs.Bytes.{IsBytes-drop, big_number-8, from_be_bytes-take-8}
+use Rattle.bk_head.proofs.Bytes.{big_number-8, from_be_bytes-take-8}
 use Rattle.bk_head.proofs.Distinct.{AreDistinct-push, ledgers_of-append, In-from_find, find_none}
 use Rattle.bk_head.proofs.Pairs.{IsNumbers, pair_at, pair_at-is, flat_map-append, spelled}
 
@@ -37,7 +38,7 @@ pub pair_read : (at : ℕ) (bytes pair : List ℕ) (ledger size : ℕ) → IsByt
     × IsNumbers (ledger, size)
 pair_read at bytes pair ledger size each long is is-ledger is-size =
     let rest = drop at bytes in
-    let whole = pair_at-is rest (IsBytes-drop at bytes each) (omega (arith, length-drop at bytes)) in
+    let whole = pair_at-is rest (bytes_drop at bytes each) (omega (arith, length-drop at bytes)) in
     let sixteen : at + 16 - at ≡ 16 = omega arith in
     let pair-is : pair ≡ take 16 rest = is ∙ ap (λ n. take n rest) sixteen in
     let size-of : length pair - 8 ≡ 8 = omega (arith, ap length pair-is, length-take 16 rest, length-drop at bytes) in
@@ -90,7 +91,7 @@ some_of (Some v) h = (v, refl)
 reaches : (before : List (ℕ × ℕ)) (at left : ℕ) (bytes : List ℕ) (m : LedgersMap) (p : ℕ × ℕ) → IsBytes bytes → at + 16 + 16 * left ≡ length bytes
     → pair_bytes p ≡ take 16 (drop at bytes) → IsNumbers p → (a : Adds before (take at bytes) m) → ReachesPair before bytes a.good p
 reaches before at left bytes m p each long is numbers a =
-    let rest = spelled left (drop (at + 16) bytes) (IsBytes-drop (at + 16) bytes each) (omega (arith, length-drop (at + 16) bytes)) in
+    let rest = spelled left (drop (at + 16) bytes) (bytes_drop (at + 16) bytes each) (omega (arith, length-drop (at + 16) bytes)) in
     record {
       later = rest.pairs;
       bytes_are = sym (take-append-drop at bytes) ∙ ap (λ (x : List ℕ). x ++ drop at bytes) a.bytes_are

@@ -9,11 +9,12 @@ use Rattle.std.proofs.lemmas.Int.{of_z-to_z}
 use Rattle.std.proofs.lemmas.List.{length-take, length-drop, take-append-drop, drop-drop, take_at, take_all, drop-take}
 use Rattle.byteorder.specs.Endian.{big_number}
 use Rattle.bk_record.specs.Record.{record_of, signed_field}
+use Rattle.bk_record.proofs.Records.{bytes_drop, bytes_take}
 use Rattle.bk_head.specs.Ledgers.{batch_ids}
 use Rattle.bk_record.specs.Piece.{BeginsWith}
 use Rattle.bk_head.specs.Faults.{IsForMap, IsSized, HasPairs}
 use Rattle.bk_record.specs.Spelling.{IsBytes}
-use Rattle.bk_head.proofs.Bytes.{IsBytes-drop, IsBytes-take, big_number-4, from_be_bytes-take-4, front_4, below_4}
+use Rattle.bk_head.proofs.Bytes.{big_number-4, from_be_bytes-take-4, front_4, below_4}
 use Rattle.bk_head.proofs.RecordBytes.{same_record}
 
 pub length-batch_ids : length batch_ids ≡ 16
@@ -47,7 +48,7 @@ unfolding record_of
 IsBytes-payload bytes payload each s =
     let at : drop 4 bytes ≡ payload ++ s.behind = ap (drop 4) s.is in
     let front : payload ≡ take (length payload) (drop 4 bytes) = sym (ap (take (length payload)) at ∙ take_at payload s.behind (length payload) refl) in
-    subst IsBytes (sym front) (IsBytes-take (length payload) (drop 4 bytes) (IsBytes-drop 4 bytes each))
+    subst IsBytes (sym front) (bytes_take (length payload) (drop 4 bytes) (bytes_drop 4 bytes each))
 
 -- the count as it is read from a payload's first twenty bytes alone
 pub count_read : (payload head : List ℕ) (n : ℕ) → 20 ≤ length payload → head ≡ take 20 payload → n
@@ -67,7 +68,7 @@ count_is bytes count each e = sym (of_z-to_z w32 (from_be_bytes w32 bytes) (belo
 pub not_sized : (payload pairs : List ℕ) (n : ℕ) → IsBytes payload → pairs ≡ drop 20 payload → n ≡ from_be_bytes w32 (drop 16 payload)
     → (length pairs ≡ 16 * n → ⊥) → IsSized payload → ⊥
 not_sized payload pairs n each is read other s =
-    let same : n ≡ s.0 = read ∙ count_is (drop 16 payload) s.0 (IsBytes-drop 16 payload each) s.1.0 in
+    let same : n ≡ s.0 = read ∙ count_is (drop 16 payload) s.0 (bytes_drop 16 payload each) s.1.0 in
     other (omega (arith, ap length is, length-drop 20 payload, s.1.1, same))
 
 -- ---- the pairs
@@ -77,7 +78,7 @@ pub has_pairs : (bytes payload pairs : List ℕ) (n : ℕ) → IsBytes bytes →
     → n ≡ from_be_bytes w32 (drop 16 payload) → length pairs ≡ 16 * n → HasPairs bytes pairs
 has_pairs bytes payload pairs n each s for_map long is read sized =
     let count : to_be_bytes w32 n ≡ take 4 (drop 16 payload) = ap (to_be_bytes w32) read
-    ∙ front_4 (drop 16 payload) (IsBytes-drop 16 payload (IsBytes-payload bytes payload each s)) (omega (arith, length-drop 16 payload)) in
+    ∙ front_4 (drop 16 payload) (bytes_drop 16 payload (IsBytes-payload bytes payload each s)) (omega (arith, length-drop 16 payload)) in
     let parts : payload ≡ take 16 payload ++ (take 4 (drop 16 payload) ++ drop 20 payload) =
     sym (take-append-drop 16 payload) ∙ ap (λ (x : List ℕ). take 16 payload ++ x) (sym (take-append-drop 4 (drop 16 payload))
     ∙ ap (λ (x : List ℕ). take 4 (drop 16 payload) ++ x) (drop-drop 4 16 payload)) in

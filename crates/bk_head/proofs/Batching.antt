@@ -5,6 +5,7 @@ use Rattle.std.specs.List.{flat_map}
 use Rattle.std.specs.FinMap as ledgers
 use Rattle.std.proofs.lemmas.List.{length-append, length-take, length-drop, take-append-drop, take_at, append-nil}
 use Rattle.bk_record.specs.Record.{record_of, IsPayload}
+use Rattle.bk_record.proofs.Records.{length-record_of}
 use Rattle.bk_head.specs.declared.fault.HeadFault.{HeadFault}
 use Rattle.bk_head.specs.declared.fault.HeadFault.TheVariants.{BadMagic, Version, Negative, NotAMap, MapLength, Repeated, CountDiffers, Memory}
 use Rattle.bk_head.specs.Ledgers.{LedgersMap, batch_ids, pair_bytes, batch_payload, batch_of, IsBatch, Batches, SpellsMap}
@@ -12,7 +13,6 @@ use Rattle.bk_head.specs.Faults.{HasPairs, PairFault, FaultAt, FirstFault, Reach
 use Rattle.bk_head.specs.Parts.{Adds}
 use Rattle.bk_head.proofs.BatchBytes.{length-batch_ids}
 use Rattle.bk_head.proofs.Pairs.{length-pairs}
-use Rattle.bk_head.proofs.RecordBytes.{length-record_of}
 use Rattle.bk_head.proofs.Adding.{take-more}
 
 -- nothing was read yet

@@ -6,16 +6,7 @@ use Rattle.std.proofs.lemmas.List.{length-take, get_or-drop, get_or-take, get_or
 use Rattle.std.proofs.lemmas.Nat.{be_bytes_4, be_bytes_8, from_be_bytes-to_be_bytes_4, from_be_bytes-to_be_bytes_8}
 use Rattle.byteorder.specs.Endian.{big_number}
 use Rattle.bk_record.specs.Spelling.{IsBytes}
-
-pub IsBytes-drop : (n : ℕ) (bytes : List ℕ) → IsBytes bytes → IsBytes (drop n bytes)
-IsBytes-drop n bytes each i = rw get_or-drop (each (n + i))
-
-pub IsBytes-take : (n : ℕ) (bytes : List ℕ) → IsBytes bytes → IsBytes (take n bytes)
-IsBytes-take n bytes each i =
-    elim (cases_lt i n) [
-      | inl lt ↦ rw (get_or-take n bytes i 0 lt) (each i)
-      | inr le ↦ rw (get_or_past (take n bytes) i 0 (omega (arith, length-take n bytes))) (omega arith)
-    ]
+use Rattle.bk_record.proofs.Records.{bytes_take}
 
 -- what `byteorder` reads is the number that the definitions name
 pub big_number-4 : (bytes : List ℕ) → big_number 4 bytes ≡ from_be_bytes w32 bytes
@@ -35,7 +26,7 @@ from_be_bytes-take-4 bytes = rw (
 
 -- the first four bytes are those of the number that they spell
 pub front_4 : (bytes : List ℕ) → IsBytes bytes → 4 ≤ length bytes → to_be_bytes w32 (from_be_bytes w32 bytes) ≡ take 4 bytes
-front_4 bytes each long = be_bytes_4 (take 4 bytes) (from_be_bytes w32 bytes) (omega (arith, length-take 4 bytes)) (IsBytes-take 4 bytes each)
+front_4 bytes each long = be_bytes_4 (take 4 bytes) (from_be_bytes w32 bytes) (omega (arith, length-take 4 bytes)) (bytes_take 4 bytes each)
     (sym (from_be_bytes-take-4 bytes))
 
 pub below_4 : (bytes : List ℕ) → IsBytes bytes → from_be_bytes w32 bytes < 2 ^ 32
@@ -60,7 +51,7 @@ from_be_bytes-take-8 bytes =
     ) refl
 
 pub front_8 : (bytes : List ℕ) → IsBytes bytes → 8 ≤ length bytes → to_be_bytes w64 (from_be_bytes w64 bytes) ≡ take 8 bytes
-front_8 bytes each long = be_bytes_8 (take 8 bytes) (from_be_bytes w64 bytes) (omega (arith, length-take 8 bytes)) (IsBytes-take 8 bytes each)
+front_8 bytes each long = be_bytes_8 (take 8 bytes) (from_be_bytes w64 bytes) (omega (arith, length-take 8 bytes)) (bytes_take 8 bytes each)
     (sym (from_be_bytes-take-8 bytes))
 
 -- a number that is spelled is read again, whatever follows it

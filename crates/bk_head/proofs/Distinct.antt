@@ -8,16 +8,8 @@ use Rattle.std.proofs.lemmas.Bool.{cases_Bool, both_ways, eqb-true, eq-eqb}
 use Rattle.std.proofs.lemmas.List.{map-append}
 use Rattle.std.proofs.lemmas.Option.{none-some}
 use Rattle.bk_record.specs.Files.{In}
+use Rattle.bk_record.proofs.Growth.{In-append_left, In-append_right}
 use Rattle.bk_head.specs.Ledgers.{ledgers_of, AreDistinct}
-
-pub In-append_left : (x : ℕ) (xs ys : List ℕ) → In x xs → In x (xs ++ ys)
-In-append_left x [] ys h = absurd h
-In-append_left x (z ∷ xs) ys (inl e) = inl e
-In-append_left x (z ∷ xs) ys (inr h) = inr (In-append_left x xs ys h)
-
-pub In-append_right : (x : ℕ) (xs ys : List ℕ) → In x ys → In x (xs ++ ys)
-In-append_right x [] ys h = h
-In-append_right x (z ∷ xs) ys h = inr (In-append_right x xs ys h)
 
 In-push_cases : (x y : ℕ) (xs : List ℕ) → In x (xs ++ y ∷ []) → In x xs ⊎ (y ≡ x)
 In-push_cases x y [] (inl e) = inr e

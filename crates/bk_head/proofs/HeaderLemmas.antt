@@ -9,9 +9,10 @@ use Rattle.std.proofs.lemmas.Slice.Eq.{slice_eq-Decides}
 use Rattle.byteorder.specs.Endian.{big_number}
 use borrow.Rule.Slice.PartMut.{mid_of}
 use Rattle.std.proofs.lemmas.Int.{of_z-to_z}
+use Rattle.bk_record.proofs.Records.{bytes_drop}
 use Rattle.bk_head.specs.Header.{IsHeader, magic, head_of, patch_of, version_field}
 use Rattle.bk_record.specs.Spelling.{IsBytes}
-use Rattle.bk_head.proofs.Bytes.{IsBytes-drop, big_number-4, big_number-8, front_4, front_8, below_4, below_8}
+use Rattle.bk_head.proofs.Bytes.{big_number-4, big_number-8, front_4, front_8, below_4, below_8}
 
 -- cut in two, with the second part counted from the front
 cut : (n m : ℕ) (bytes : List ℕ) → drop n bytes ≡ take m (drop n bytes) ++ drop (n + m) bytes
@@ -29,11 +30,11 @@ pub head_is : (bytes : List ℕ) → IsBytes bytes → length bytes ≡ 1024 →
 unfolding head_of patch_of version_field
 head_is bytes each long magic_is version_is =
     let version : take 4 (drop 4 bytes) ≡ to_be_bytes w32 1 = sym
-    (front_4 (drop 4 bytes) (IsBytes-drop 4 bytes each) (omega (arith, length-drop 4 bytes))) ∙ ap (to_be_bytes w32) version_is in
+    (front_4 (drop 4 bytes) (bytes_drop 4 bytes each) (omega (arith, length-drop 4 bytes))) ∙ ap (to_be_bytes w32) version_is in
     let offset : take 8 (drop 8 bytes) ≡ to_be_bytes w64 (from_be_bytes w64 (drop 8 bytes)) = sym
-    (front_8 (drop 8 bytes) (IsBytes-drop 8 bytes each) (omega (arith, length-drop 8 bytes))) in
+    (front_8 (drop 8 bytes) (bytes_drop 8 bytes each) (omega (arith, length-drop 8 bytes))) in
     let count : take 4 (drop 16 bytes) ≡ to_be_bytes w32 (from_be_bytes w32 (drop 16 bytes)) = sym
-    (front_4 (drop 16 bytes) (IsBytes-drop 16 bytes each) (omega (arith, length-drop 16 bytes))) in
+    (front_4 (drop 16 bytes) (bytes_drop 16 bytes each) (omega (arith, length-drop 16 bytes))) in
     joined bytes magic (to_be_bytes w32 1) (to_be_bytes w64 (from_be_bytes w64 (drop 8 bytes)))
     (to_be_bytes w32 (from_be_bytes w32 (drop 16 bytes))) magic_is version offset count
 
@@ -74,8 +75,8 @@ header_read bytes version offset count each long is-magic is-version one is-offs
     let m : ℕ = from_be_bytes w32 (drop 16 bytes) in
     let at-offset : big_number 8 (mid_of 8 1016 bytes) ≡ n = ap (big_number 8) (behind 8 1016 bytes (omega arith)) ∙ big_number-8 (drop 8 bytes) in
     let at-count : big_number 4 (mid_of 16 1008 bytes) ≡ m = ap (big_number 4) (behind 16 1008 bytes (omega arith)) ∙ big_number-4 (drop 16 bytes) in
-    let low-offset = bits_64 n offset (below_8 (drop 8 bytes) (IsBytes-drop 8 bytes each)) (is-offset ∙ ap (cast_signed w64) at-offset) in
-    let low-count = bits_32 m count (below_4 (drop 16 bytes) (IsBytes-drop 16 bytes each)) (is-count ∙ ap (cast_signed w32) at-count) in
+    let low-offset = bits_64 n offset (below_8 (drop 8 bytes) (bytes_drop 8 bytes each)) (is-offset ∙ ap (cast_signed w64) at-offset) in
+    let low-count = bits_32 m count (below_4 (drop 16 bytes) (bytes_drop 16 bytes each)) (is-count ∙ ap (cast_signed w32) at-count) in
     record {
       rest = drop 20 bytes;
       version_is = one;

@@ -2,6 +2,7 @@
 use Rattle.std.proofs.Common.{◌≡◌, ◌≢◌, ℕ, ◌+◌, List, [], ◌++◌, length, Option, Some, None, Result, Ok, Err, refl, sym, ap, subst, ◌∙◌, append_assoc, arith}
 use Rattle.std.specs.FinMap as ledgers
 use Rattle.std.proofs.lemmas.List.{append-nil, length-append}
+use Rattle.bk_record.proofs.Records.{length-record_of}
 use Rattle.bk_head.specs.declared.header.Header.{Header}
 use Rattle.bk_head.specs.declared.fault.HeadFault.{HeadFault}
 use Rattle.bk_head.specs.declared.fault.HeadFault.TheVariants.{BadMagic, Version, Negative, NotAMap, MapLength, Repeated, CountDiffers, Memory}
@@ -11,7 +12,7 @@ use Rattle.bk_head.specs.Reading.{MapAnswer, AnswerAt, TailAnswer, map_place}
 use Rattle.bk_head.proofs.Distinct.{AreDistinct-front, ledgers_of-append}
 use Rattle.bk_head.proofs.Pairs.{same_pairs}
 use Rattle.bk_head.proofs.Adding.{numbers_of}
-use Rattle.bk_head.proofs.RecordBytes.{same_record, length-record_of}
+use Rattle.bk_head.proofs.RecordBytes.{same_record}
 use Rattle.bk_head.proofs.OneFault.{has_pairs_of, same_bytes, same_fault, no_batch, no_end}
 
 -- here no batch stands that could go on: whole, its ledgers new

@@ -3,9 +3,10 @@ use Rattle.std.proofs.Common.{◌≡◌, ℕ, zero, suc, ◌*◌, ◌^◌, ◌<�
 use Rattle.std.specs.Int.{w64, to_be_bytes, from_be_bytes}
 use Rattle.std.specs.List.{flat_map, AllByRecursion}
 use Rattle.std.proofs.lemmas.List.{length-append, length-take, length-drop, take-append-drop, take_at, drop_at, nil_from_length}
+use Rattle.bk_record.proofs.Records.{bytes_drop}
 use Rattle.bk_head.specs.Ledgers.{pair_bytes}
 use Rattle.bk_record.specs.Spelling.{IsBytes}
-use Rattle.bk_head.proofs.Bytes.{IsBytes-drop, front_8, below_8, again_8}
+use Rattle.bk_head.proofs.Bytes.{front_8, below_8, again_8}
 
 -- both numbers are unsigned ones of eight bytes
 abbrev pub IsNumbers : ℕ × ℕ → Type 0
@@ -34,7 +35,7 @@ pub pair_at-is : (bytes : List ℕ) → IsBytes bytes → 16 ≤ length bytes �
 unfolding pair_bytes
 pair_at-is bytes each long =
     let first = front_8 bytes each (omega arith) in
-    let second = front_8 (drop 8 bytes) (IsBytes-drop 8 bytes each) (omega (arith, length-drop 8 bytes)) in
+    let second = front_8 (drop 8 bytes) (bytes_drop 8 bytes each) (omega (arith, length-drop 8 bytes)) in
     let whole : to_be_bytes w64 (from_be_bytes w64 bytes) ++ to_be_bytes w64 (from_be_bytes w64 (drop 8 bytes)) ≡ take 8 bytes ++ take 8 (drop 8 bytes) =
     ap (λ (x : List ℕ). x ++ to_be_bytes w64 (from_be_bytes w64 (drop 8 bytes))) first ∙ ap (λ (x : List ℕ). take 8 bytes ++ x) second in
     let again : take 16 bytes ≡ take 8 bytes ++ take 8 (drop 8 bytes) =
@@ -42,7 +43,7 @@ pair_at-is bytes each long =
     ∙ sym (append_assoc (take 8 bytes) (take 8 (drop 8 bytes)) (drop 8 (drop 8 bytes))))
     ∙ take_at (take 8 bytes ++ take 8 (drop 8 bytes)) (drop 8 (drop 8 bytes)) 16
     (omega (arith, length-append (take 8 bytes) (take 8 (drop 8 bytes)), length-take 8 bytes, length-take 8 (drop 8 bytes), length-drop 8 bytes)) in
-    (whole ∙ sym again, (below_8 bytes each, below_8 (drop 8 bytes) (IsBytes-drop 8 bytes each)))
+    (whole ∙ sym again, (below_8 bytes each, below_8 (drop 8 bytes) (bytes_drop 8 bytes each)))
 
 pub pair_at-again : (p : ℕ × ℕ) (rest : List ℕ) → IsNumbers p → pair_at (pair_bytes p ++ rest) ≡ p
 unfolding pair_bytes
@@ -67,7 +68,7 @@ pub spelled : (count : ℕ) (bytes : List ℕ) → IsBytes bytes → length byte
 spelled zero bytes each long = record { pairs = []; bytes_are = nil_from_length bytes (omega (arith, long)); numbers = tt; many = refl }
 spelled (suc n) bytes each long =
     let first = pair_at-is bytes each (omega (arith, long)) in
-    let rest = spelled n (drop 16 bytes) (IsBytes-drop 16 bytes each) (omega (arith, length-drop 16 bytes, long)) in
+    let rest = spelled n (drop 16 bytes) (bytes_drop 16 bytes each) (omega (arith, length-drop 16 bytes, long)) in
     record {
       pairs = pair_at bytes ∷ rest.pairs;
       bytes_are = sym (take-append-drop 16 bytes) ∙ ap (λ (x : List ℕ). x ++ drop 16 bytes) (sym first.0)

@@ -4,11 +4,8 @@ use Rattle.std.specs.Int.{w32, to_be_bytes, from_be_bytes}
 use Rattle.std.proofs.lemmas.List.{length-append, take_at, drop_at}
 use Rattle.bk_record.specs.Record.{record_of, IsPayload}
 use Rattle.bk_record.specs.Piece.{BeginsWith}
+use Rattle.bk_record.proofs.Records.{length-record_of}
 use Rattle.bk_head.proofs.Bytes.{again_4}
-
-pub length-record_of : (payload : List ℕ) → length (record_of payload) ≡ 4 + length payload
-unfolding record_of
-length-record_of payload = omega (arith, length-append (to_be_bytes w32 (length payload)) payload)
 
 -- what the length field says
 pub field_is : (payload behind : List ℕ) → IsPayload payload → from_be_bytes w32 (record_of payload ++ behind) ≡ length payload

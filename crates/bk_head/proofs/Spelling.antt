@@ -11,12 +11,12 @@ use Rattle.std.proofs.lemmas.Bool.{cases_lt, cases_Bool}
 use Rattle.std.proofs.lemmas.List.{length-append, length-take, length-drop, take-append-drop}
 use Rattle.bk_record.specs.Record.{IsPayload}
 use Rattle.bk_record.specs.Files.{In}
+use Rattle.bk_record.proofs.Records.{length-record_of}
 use Rattle.bk_head.specs.Ledgers.{LedgersMap, pair_bytes, batch_payload, batch_of, IsPair, Batches, ledgers_of, AreDistinct, SpellsMap}
 use Rattle.bk_head.specs.Written.{batch_pairs, batches_in, written_pairs, written_map, IsWritable}
 use Rattle.bk_head.proofs.Distinct.{In-from_find, tied, tied_itself}
 use Rattle.bk_head.proofs.Pairs.{length-pairs}
 use Rattle.bk_head.proofs.Batching.{length-payload, batches_at}
-use Rattle.bk_head.proofs.RecordBytes.{length-record_of}
 
 -- ---- cutting
 
