@@ -1,14 +1,49 @@
-//! The caches by worked examples, at size, and with memory refused.
+//! The caches by worked lists of calls, at size, and with memory refused.
 
 mod memory;
 mod sizes;
 mod worked;
 
-use crate::{CacheFault, Caches};
+use crate::{CacheFault, Caches, Swap};
 use bk_record::{Key, check_add};
 use std::alloc::{AllocError, Global};
 use std::sync::Arc;
 use std::test::Fail;
+
+/// A call, or a look, as a row of a table has it.
+#[derive(Clone, Copy, Debug)]
+enum Call {
+    /// An add of a key with this mark and size.
+    Add(u64, u64, u8, usize),
+    Swap,
+    Done,
+    Drop(u64),
+    Remember(u64, u64, u8),
+    /// What a read finds.
+    Find(u64, u64),
+    /// The entry of the flush behind a key.
+    After(u64, u64),
+    /// The first entry of the flush.
+    First,
+    Used,
+    FlushLen,
+    RecentLen,
+}
+
+/// What a call answered.
+#[derive(Clone, Copy, Debug, PartialEq)]
+enum Answer {
+    Nothing,
+    Taken,
+    Held,
+    Running,
+    Memory,
+    /// A cache is full that has so many bytes.
+    Full(u64),
+    Count(u64),
+    Mark(u8),
+    At(u64, u64),
+}
 
 // Two ids, and 84 data bytes, each the mark.
 fn bytes_of(ledger: u64, entry: u64, mark: u8) -> [u8; 100] {
@@ -18,59 +53,82 @@ fn bytes_of(ledger: u64, entry: u64, mark: u8) -> [u8; 100] {
     bytes
 }
 
-// Adds a payload of so many bytes, and answers whether it did: not one whose key a write cache has.
-fn add(
-    caches: &mut Caches,
-    ledger: u64,
-    entry: u64,
-    mark: u8,
-    size: usize,
-) -> Result<bool, CacheFault> {
+fn add(caches: &mut Caches, ledger: u64, entry: u64, mark: u8, size: usize) -> Answer {
     let bytes = bytes_of(ledger, entry, mark);
-    let Some(payload) = bytes.get(..size) else {
-        return Ok(false);
-    };
+    let payload = &bytes[..size.min(100)];
     let Ok(key) = check_add(payload) else {
-        return Ok(false);
+        return Answer::Nothing;
     };
     if caches.holds(&key) {
-        return Ok(false);
+        return Answer::Held;
     }
-    caches.add(payload)?;
-    Ok(true)
+    match caches.add(payload) {
+        Ok(()) => Answer::Taken,
+        Err(CacheFault::Full { used, .. }) => Answer::Full(used),
+        Err(CacheFault::Memory) => Answer::Memory,
+    }
 }
 
-// The mark of the payload that a read finds.
-fn found(caches: &Caches, ledger: u64, entry: u64) -> Option<u8> {
-    let key = Key::new(ledger, entry)?;
-    let payload = caches.get(&key)?;
-    payload.last().copied()
-}
-
-fn remember(
-    alloc: Global,
-    caches: &mut Caches,
-    ledger: u64,
-    entry: u64,
-    mark: u8,
-) -> Result<(), AllocError> {
-    let Some(key) = Key::new(ledger, entry) else {
-        return Ok(());
-    };
-    let bytes = bytes_of(ledger, entry, mark).to_vec(alloc)?;
+fn remember(alloc: Global, caches: &mut Caches, key: Key, mark: u8) -> Result<(), AllocError> {
+    let bytes = bytes_of(key.ledger(), key.entry(), mark).to_vec(alloc)?;
     caches.remember(key, Arc::new(alloc, bytes)?);
     Ok(())
 }
 
-// The key of the entry behind one of a ledger in the flush, or of the first one.
-fn after(caches: &Caches, ledger: u64, entry: Option<u64>) -> Option<(u64, u64)> {
-    let key = match entry {
-        Some(entry) => Key::new(ledger, entry),
-        None => None,
-    };
+// The mark of the payload that a read finds.
+fn found(caches: &Caches, key: &Key) -> Answer {
+    match caches.get(key) {
+        Some(payload) => Answer::Mark(payload.last().copied().unwrap_or(0)),
+        None => Answer::Nothing,
+    }
+}
+
+fn after(caches: &Caches, key: Option<Key>) -> Answer {
     match caches.flushing_after(key) {
-        Some((next, _)) => Some((next.ledger(), next.entry())),
-        None => None,
+        Some((next, _)) => Answer::At(next.ledger(), next.entry()),
+        None => Answer::Nothing,
+    }
+}
+
+fn swap(caches: &mut Caches) -> Answer {
+    match caches.swap() {
+        Swap::Swapped(count) => Answer::Count(count),
+        Swap::Running => Answer::Running,
+        Swap::Nothing => Answer::Nothing,
+    }
+}
+
+// Calls that name a key.
+fn keyed(alloc: Global, caches: &mut Caches, call: Call, key: Key) -> Answer {
+    match call {
+        Call::Find(_, _) => found(caches, &key),
+        Call::After(_, _) => after(caches, Some(key)),
+        Call::Remember(_, _, mark) if remember(alloc, caches, key, mark).is_err() => Answer::Memory,
+        _ => Answer::Nothing,
+    }
+}
+
+/// Makes a call.
+fn make(alloc: Global, caches: &mut Caches, call: Call) -> Answer {
+    match call {
+        Call::Add(ledger, entry, mark, size) => add(caches, ledger, entry, mark, size),
+        Call::Swap => swap(caches),
+        Call::Done => {
+            caches.done();
+            Answer::Nothing
+        }
+        Call::Drop(ledger) => Answer::Count(caches.drop_ledger(ledger)),
+        Call::First => after(caches, None),
+        Call::Used => Answer::Count(caches.used()),
+        Call::FlushLen => Answer::Count(caches.flush_len()),
+        Call::RecentLen => Answer::Count(caches.recent_len()),
+        Call::Find(ledger, entry) | Call::After(ledger, entry) | Call::Remember(ledger, entry, _) =>
+            {
+                match Key::new(ledger, entry) {
+                    Some(key) => keyed(alloc, caches, call, key),
+                    None => Answer::Nothing,
+                }
+            }
     }
 }
 

@@ -2,8 +2,10 @@
 //!
 //! Run with one allocation refused, this test meets `Memory` once; run without, never.
 
-use super::{add, found};
-use crate::{CacheFault, Caches};
+use super::Answer::{Count, Memory, Nothing, Taken};
+use super::Call::{Add, Find, Used};
+use super::make;
+use crate::Caches;
 use std::test::Fail;
 
 #[test]
@@ -13,14 +15,15 @@ fn a_refused_allocation_leaves_the_caches_as_they_were(rt: HostRuntime) -> Resul
         Err(_) => Caches::new(rt.alloc(), 4000, 3)?,
     };
     for entry in 0..40 {
-        let used = caches.used();
-        let mut answer = add(&mut caches, 1, entry, 9, 100);
-        if answer == Err(CacheFault::Memory) {
-            assert_eq!(rt; (caches.used(), found(&caches, 1, entry)), (used, None));
-            answer = add(&mut caches, 1, entry, 9, 100);
+        let used = make(rt.alloc(), &mut caches, Used);
+        let mut added = make(rt.alloc(), &mut caches, Add(1, entry, 9, 100));
+        if added == Memory {
+            assert_eq!(rt; make(rt.alloc(), &mut caches, Used), used);
+            assert_eq!(rt; make(rt.alloc(), &mut caches, Find(1, entry)), Nothing);
+            added = make(rt.alloc(), &mut caches, Add(1, entry, 9, 100));
         }
-        assert_eq!(rt; answer, Ok(true));
+        assert_eq!(rt; added, Taken);
     }
-    assert_eq!(rt; caches.used(), 4000);
+    assert_eq!(rt; make(rt.alloc(), &mut caches, Used), Count(4000));
     Ok(())
 }

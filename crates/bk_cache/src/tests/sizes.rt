@@ -1,65 +1,90 @@
 //! Thousands of entries, of hundreds of ledgers, with ids up to 2^63 - 1.
 
-use super::{add, after, found, remember};
-use crate::{CacheFault, Caches, Swap};
-use std::alloc::{AllocError, Global};
+use super::Answer::{self, At, Count, Held, Mark, Nothing, Taken};
+use super::Call::{self, Add, After, Drop, Find, First, FlushLen, RecentLen, Remember, Swap, Used};
+use super::make;
+use crate::Caches;
+use std::alloc::Global;
 use std::test::Fail;
 
 const LEDGERS: u64 = 250;
 
 const ENTRIES: u64 = 20;
 
+// The greatest id.
+const LAST: u64 = 0x7fff_ffff_ffff_ffff;
+
 // Ids far apart, the larger number the lower id.
 fn id(number: u64) -> u64 {
-    0x7fff_ffff_ffff_ffff - (number % 4096) * 1_000_000_007
+    LAST - (number % 4096) * 1_000_000_007
 }
 
-// Adds entries of all ledgers in turn, and counts those that were taken.
-fn fill(caches: &mut Caches, mark: u8) -> Result<u64, CacheFault> {
-    let mut taken = 0u64;
+// Adds entries of all ledgers in turn, and counts those that are answered so.
+fn fill(alloc: Global, caches: &mut Caches, expected: Answer) -> u64 {
+    let mut count = 0u64;
     for number in 0..LEDGERS * ENTRIES {
-        let (ledger, entry) = (id(number % LEDGERS), id(number / LEDGERS));
-        if add(caches, ledger, entry, mark, 17)? {
-            taken = taken.saturating_add(1);
+        let call = Add(id(number % LEDGERS), id(number / LEDGERS), 1, 17);
+        if make(alloc, caches, call) == expected {
+            count = count.saturating_add(1);
         }
     }
-    Ok(taken)
+    count
 }
 
 // Remembers an entry of each ledger.
-fn remember_all(alloc: Global, caches: &mut Caches) -> Result<(), AllocError> {
+fn remember_all(alloc: Global, caches: &mut Caches) {
     for number in 0..LEDGERS {
-        remember(alloc, caches, id(number), 5, 3)?;
+        make(alloc, caches, Remember(id(number), 5, 3));
     }
-    Ok(())
 }
+
+// After all entries came in, were swapped and came in again.
+const CALLS: [(Call, Answer); 14] = [
+    (Add(0, 0, 2, 100), Taken),
+    (Drop(LAST), Count(20)),
+    (Drop(LAST), Count(0)),
+    (Drop(LAST - 249 * 1_000_000_007), Count(20)),
+    (Drop(u64::MAX), Count(0)),
+    (Drop(0), Count(1)),
+    (FlushLen, Count(4960)),
+    (Used, Count(0)),
+    (
+        First,
+        At(LAST - 248 * 1_000_000_007, LAST - 19 * 1_000_000_007),
+    ),
+    (
+        After(LAST - 1_000_000_007, LAST - 1_000_000_007),
+        At(LAST - 1_000_000_007, LAST),
+    ),
+    (After(LAST - 1_000_000_007, LAST), Nothing),
+    (
+        Find(LAST - 248 * 1_000_000_007, LAST - 19 * 1_000_000_007),
+        Mark(1),
+    ),
+    (Find(LAST, LAST), Nothing),
+    (Swap, Answer::Running),
+];
+
+// After an entry of each ledger was remembered, of which 200 stay.
+const RECENT: [(Call, Answer); 4] = [
+    (RecentLen, Count(200)),
+    (Find(LAST - 49 * 1_000_000_007, 5), Nothing),
+    (Find(LAST - 50 * 1_000_000_007, 5), Mark(3)),
+    (Find(LAST - 249 * 1_000_000_007, 5), Mark(3)),
+];
 
 #[test]
 fn thousands_of_entries_are_held_flushed_and_dropped(rt: HostRuntime) -> Result<(), Fail> {
     let mut caches = Caches::new(rt.alloc(), 1_073_741_824, 200)?;
-    assert_eq!(rt; fill(&mut caches, 1)?, 5000);
-    assert_eq!(rt; caches.swap(), Swap::Swapped(5000));
-    assert_eq!(rt; fill(&mut caches, 2)?, 0);
-    assert_eq!(rt; add(&mut caches, 0, 0, 2, 100), Ok(true));
-    for (ledger, dropped) in [
-        (id(0), 20),
-        (id(0), 0),
-        (id(249), 20),
-        (u64::MAX, 0),
-        (0, 1),
-    ] {
-        assert_eq!(rt; caches.drop_ledger(ledger), dropped, "of {ledger}");
+    assert_eq!(rt; fill(rt.alloc(), &mut caches, Taken), 5000);
+    assert_eq!(rt; make(rt.alloc(), &mut caches, Swap), Count(5000));
+    assert_eq!(rt; fill(rt.alloc(), &mut caches, Held), 5000);
+    for (call, expected) in CALLS {
+        assert_eq!(rt; make(rt.alloc(), &mut caches, call), expected, "{call:?}");
     }
-    assert_eq!(rt; (caches.flush_len(), caches.used()), (4960, 0));
-    assert_eq!(rt; found(&caches, id(248), id(19)), Some(1));
-    assert_eq!(rt; after(&caches, 0, None), Some((id(248), id(19))));
-    assert_eq!(rt; after(&caches, id(1), Some(id(1))), Some((id(1), id(0))));
-    assert_eq!(rt; after(&caches, id(1), Some(id(0))), None);
-    assert_eq!(rt; caches.flushing().count(), 4960);
-    remember_all(rt.alloc(), &mut caches)?;
-    assert_eq!(rt; caches.recent_len(), 200);
-    for (number, mark) in [(49, None), (50, Some(3)), (249, Some(3))] {
-        assert_eq!(rt; found(&caches, id(number), 5), mark);
+    remember_all(rt.alloc(), &mut caches);
+    for (call, expected) in RECENT {
+        assert_eq!(rt; make(rt.alloc(), &mut caches, call), expected, "{call:?}");
     }
     Ok(())
 }

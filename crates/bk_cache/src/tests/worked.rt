@@ -1,79 +1,74 @@
-//! Worked examples.
+//! Worked lists of calls, each with its answer.
 
-use super::{add, after, found, remember};
-use crate::{CacheFault, Caches, Swap};
+use super::Answer::{At, Count, Full, Held, Mark, Nothing, Running, Taken};
+use super::Call::{Add, After, Done, Drop, Find, First, FlushLen, RecentLen, Remember, Swap, Used};
+use super::make;
+use crate::Caches;
 use std::test::Fail;
 
 #[test]
-fn a_cache_is_full_at_its_limit(rt: HostRuntime) -> Result<(), Fail> {
-    let mut caches = Caches::new(rt.alloc(), 100, 0)?;
-    let full = CacheFault::Full {
-        used: 100,
-        limit: 100,
-    };
-    for (ledger, size, answer) in [(1, 60, Ok(true)), (2, 40, Ok(true)), (3, 16, Err(full))] {
-        assert_eq!(rt; add(&mut caches, ledger, 0, 1, size), answer, "at {ledger}");
-    }
-    assert_eq!(rt; caches.drop_ledger(2), 1);
-    assert_eq!(rt; (caches.used(), caches.limit()), (60, 100));
-    assert_eq!(rt; add(&mut caches, 3, 0, 1, 40), Ok(true));
-    assert_eq!(rt; caches.swap(), Swap::Swapped(2));
-    assert_eq!(rt; add(&mut caches, 2, 0, 1, 100), Ok(true));
-    Ok(())
-}
-
-#[test]
-fn a_flush_goes_by_keys_and_still_runs_without_them(rt: HostRuntime) -> Result<(), Fail> {
-    let mut caches = Caches::new(rt.alloc(), 1000, 0)?;
-    assert_eq!(rt; caches.swap(), Swap::Nothing);
-    for (ledger, entry) in [(1, 5), (1, 2), (2, 0)] {
-        assert_eq!(rt; add(&mut caches, ledger, entry, 7, 20), Ok(true));
-    }
-    assert_eq!(rt; caches.swap(), Swap::Swapped(3));
-    // The first bytes stay.
-    assert_eq!(rt; add(&mut caches, 1, 5, 8, 20), Ok(false));
-    assert_eq!(rt; found(&caches, 1, 5), Some(7));
-    for (behind, next) in [
-        (None, Some((1, 2))),
-        (Some(0), Some((1, 2))),
-        (Some(2), Some((1, 5))),
-        (Some(5), Some((2, 0))),
-    ] {
-        assert_eq!(rt; after(&caches, 1, behind), next);
-    }
-    assert_eq!(rt; after(&caches, 2, Some(0)), None);
-    for (ledger, dropped) in [(1, 2), (1, 0), (2, 1)] {
-        assert_eq!(rt; caches.drop_ledger(ledger), dropped);
-    }
-    assert_eq!(rt; caches.swap(), Swap::Running);
-    assert_eq!(rt; caches.flush_len(), 0);
-    caches.done();
-    assert!(rt; !caches.is_flushing());
-    Ok(())
-}
-
-#[test]
-fn the_entry_remembered_first_goes_first(rt: HostRuntime) -> Result<(), Fail> {
-    // How many recent entries there may be, and what is found of three that are remembered one after another.
-    for (most, marks) in [
-        (0, [None, None, None]),
-        (1, [None, None, Some(3)]),
-        (2, [None, Some(2), Some(3)]),
-        (3, [Some(1), Some(2), Some(3)]),
-    ] {
-        let mut caches = Caches::new(rt.alloc(), 1000, most)?;
-        for ledger in [1, 2, 3] {
-            remember(rt.alloc(), &mut caches, ledger, 0, ledger as u8)?;
-            // A read renews nothing.
-            found(&caches, 1, 0);
-        }
-        for (mark, ledger) in marks.into_iter().zip(1..4) {
-            assert_eq!(rt; found(&caches, ledger, 0), mark, "of ledger {ledger}");
-        }
-        assert_eq!(rt; caches.recent_len(), u64::from(most));
+fn calls_of_caches_of_a_hundred_bytes(rt: HostRuntime) -> Result<(), Fail> {
+    let mut caches = Caches::new(rt.alloc(), 100, 2)?;
+    for (call, expected) in [
+        (Swap, Nothing),
+        (Add(1, 5, 7, 20), Taken),
+        (Add(1, 2, 7, 40), Taken),
+        (Add(2, 0, 7, 40), Taken),
+        // At the limit, exactly.
+        (Add(3, 0, 7, 16), Full(100)),
+        (Add(1, 5, 8, 16), Held),
+        (Drop(2), Count(1)),
+        (Used, Count(60)),
+        (Add(3, 0, 7, 40), Taken),
+        (Swap, Count(3)),
+        (Used, Count(0)),
+        // The first bytes stay, also in the flush.
+        (Add(1, 5, 8, 20), Held),
+        (Find(1, 5), Mark(7)),
+        (First, At(1, 2)),
+        (After(1, 0), At(1, 2)),
+        (After(1, 2), At(1, 5)),
+        (After(1, 5), At(3, 0)),
+        (After(3, 0), Nothing),
+        (Add(2, 0, 9, 100), Taken),
+        (Drop(1), Count(2)),
+        (Drop(1), Count(0)),
+        (Drop(3), Count(1)),
+        // A flush without an entry still runs.
+        (FlushLen, Count(0)),
+        (Swap, Running),
+        (Done, Nothing),
+        (Find(1, 5), Nothing),
+        (Swap, Count(1)),
+        (Find(2, 0), Mark(9)),
+        // Of three the one remembered first goes; reads renew nothing.
+        (Remember(4, 0, 4), Nothing),
+        (Remember(5, 0, 5), Nothing),
+        (Find(4, 0), Mark(4)),
+        (Remember(6, 0, 6), Nothing),
+        (RecentLen, Count(2)),
+        (Find(4, 0), Nothing),
+        (Find(5, 0), Mark(5)),
+        (Find(6, 0), Mark(6)),
         // Recent entries aren't in a write cache.
-        assert_eq!(rt; caches.drop_ledger(3), 0);
-        assert_eq!(rt; found(&caches, 3, 0), None);
+        (Drop(5), Count(0)),
+        (Find(5, 0), Nothing),
+        (RecentLen, Count(1)),
+    ] {
+        assert_eq!(rt; make(rt.alloc(), &mut caches, call), expected, "{call:?}");
+    }
+    Ok(())
+}
+
+#[test]
+fn without_room_nothing_is_remembered(rt: HostRuntime) -> Result<(), Fail> {
+    let mut caches = Caches::new(rt.alloc(), 100, 0)?;
+    for (call, expected) in [
+        (Remember(1, 0, 4), Nothing),
+        (Find(1, 0), Nothing),
+        (RecentLen, Count(0)),
+    ] {
+        assert_eq!(rt; make(rt.alloc(), &mut caches, call), expected, "{call:?}");
     }
     Ok(())
 }
