@@ -1,6 +1,6 @@
 -- Where a record begins: its length field says how long its payload is.
 use Rattle.std.proofs.Common.{◌≡◌, ℕ, ◌+◌, ◌≤◌, List, ◌++◌, length, take, drop, refl, sym, ap, ◌∙◌, arith}
-use Rattle.std.specs.Int.{w32, to_be_bytes, from_be_bytes}
+use Rattle.std.specs.Int.{w32, from_be_bytes}
 use Rattle.std.proofs.lemmas.List.{length-append, take_at, drop_at}
 use Rattle.bk_record.specs.Record.{record_of, IsPayload}
 use Rattle.bk_record.specs.Piece.{BeginsWith}
