@@ -1,11 +1,11 @@
 -- What a scanner keeps, step by step.
-use Rattle.std.proofs.Common.{◌≡◌, ℕ, ◌+◌, ◌-◌, ◌<◌, ◌≤◌, ◌^◌, ◌*◌, ℤ, Bool, true, false, cond, not, List, length, take, drop, Option, Some, None, IsTrue, is_none, is_some, refl, sym, ap, ◌∙◌, subst, arith}
+use Rattle.std.proofs.Common.{◌≡◌, ℕ, ◌+◌, ◌-◌, ◌<◌, ◌≤◌, ◌^◌, ◌*◌, ℤ, Bool, true, false, cond, not, List, ◌++◌, length, take, drop, append_assoc, Option, Some, None, IsTrue, is_none, is_some, refl, sym, ap, ◌∙◌, subst, arith}
 use Rattle.std.proofs.lemmas.Bool.{false≢true, and_parts}
-use Rattle.std.proofs.lemmas.List.{drop-drop, drop-take}
+use Rattle.std.proofs.lemmas.List.{drop-drop, drop-take, take-append-drop}
 use Rattle.std.proofs.lemmas.Int.{of_z-to_z}
 use Rattle.std.specs.Int.{w32, from_be_bytes, cast_signed, cast_unsigned}
 use Rattle.bk_record.specs.Key.{EntryKey}
-use Rattle.bk_record.specs.Record.{key_of, is_foreign, length_field, signed_field}
+use Rattle.bk_record.specs.Record.{record_of, key_of, is_foreign, length_field, signed_field}
 use Rattle.bk_record.specs.Files.{header_length}
 use Rattle.bk_record.specs.Piece.{BeginsWith}
 use Rattle.bk_record.proofs.Records.{drop_record}
@@ -16,7 +16,8 @@ use Rattle.bk_log.specs.declared.front.Front.{Front}
 use Rattle.bk_log.specs.declared.front.Front.TheVariants.{Record, Rest, Bad}
 use Rattle.bk_log.specs.Fronts.{IsFront, FitsIn}
 use Rattle.bk_log.specs.Ahead.{Ahead, AheadFails}
-use Rattle.bk_log.specs.Ranges.{IsPassed}
+use Rattle.bk_log.specs.Places.{HasRecordAt}
+use Rattle.bk_log.specs.Ranges.{IsPassed, part}
 use Rattle.bk_log.specs.Scanning.{Scan, is_going, IsGiven, ScanFails}
 use Rattle.bk_log.specs.Scanned.{scan_of, IsKept}
 use Rattle.bk_log.proofs.Aheads.{length-left}
@@ -139,16 +140,39 @@ kept_entry window from end given foreign torn size ready ended fault key kept go
     (kept_record window from end given foreign torn size ready ended false fault kept going calm least within
     (λ h. let (payload, (begins, (sized, is))) = front h in (payload, (begins, (sized, foreign_some payload key is)))))
 
+-- a record that begins in the part begins in the log
+record_stands : (bytes payload : List ℕ) (at end : ℕ) → header_length ≤ at → BeginsWith (take (end - at) (drop at bytes)) payload → HasRecordAt bytes (at + 4) payload
+record_stands bytes payload at end headed b =
+    let place : at + 4 - 4 ≡ at = omega arith in
+    record {
+      behind_header = omega arith;
+      begins = record {
+        legal = b.legal;
+        behind = b.behind ++ drop (end - at) (drop at bytes);
+        is = ap (λ n. drop n bytes) place ∙ sym (take-append-drop (end - at) (drop at bytes)) ∙ ap (λ x. x ++ drop (end - at) (drop at bytes)) b.is
+            ∙ append_assoc (record_of payload) b.behind (drop (end - at) (drop at bytes));
+      };
+    }
+
 -- the entry that was found is the part's next
 pub given_next : (window : Ahead) (from end given foreign torn size : ℕ) (ended : Bool) (fault : Option ScanFault) (key : EntryKey)
-    → IsKept window from end given foreign torn ended fault → IsTrue window.honest → IsFront (here window end) (Record size (Some key))
-    → IsGiven (scan_of window from end given foreign torn ended fault) (record { key = key; at = window.at + 4; size = size })
-given_next window from end given foreign torn size ended fault key kept h (payload, (begins, (sized, is))) = record {
-  payload = payload;
-  stands = entry_at from window.at given foreign (take (end - from) (drop from window.bytes)) (here window end) payload (kept.scanned h).passed begins (foreign_some payload key is);
-  keyed = sym is;
-  sized = sized;
-}
+    → IsKept window from end given foreign torn ended fault → IsTrue window.honest → size ≤ end - window.at → IsFront (here window end) (Record size (Some key))
+    → IsGiven (scan_of window from end given foreign torn ended fault) (record { key = key; at = window.at + 4; size = size }) foreign
+given_next window from end given foreign torn size ended fault key kept h within (payload, (begins, (sized, is))) =
+    let bytes = part window.bytes from end in
+    let entry = foreign_some payload key is in
+    let place : window.at + (4 + length payload) ≡ window.at + 4 + length payload = omega arith in
+    let none : foreign + 0 ≡ foreign = omega arith in
+    let passed = passed_more from window.at given foreign bytes (here window end) _ payload false (kept.scanned h).passed begins
+    (behind_record window.bytes payload window.at end begins (omega arith)) entry in
+    record {
+      payload = payload;
+      listed = entry_at from window.at given foreign bytes (here window end) payload (kept.scanned h).passed begins entry;
+      stands = record { here = record_stands window.bytes payload window.at end (omega (arith, kept.headed, kept.placed.begun)) begins; keyed = sym is };
+      sized = sized;
+      passed = subst (λ n. IsPassed from bytes n (part window.bytes n end) (given + 1) foreign) place
+          (subst (λ n. IsPassed from bytes (window.at + (4 + length payload)) (part window.bytes (window.at + (4 + length payload)) end) (given + 1) n) none passed);
+    }
 
 -- the end was reached
 pub kept_rest : (window : Ahead) (from end given foreign torn ready : ℕ) (ended : Bool) (fault : Option ScanFault)

@@ -1,6 +1,6 @@
 -- A scan's position: the records before it, and what the piece that stands there means for the whole part.
 use Rattle.std.proofs.Common.{◌≡◌, ◌⊎◌, inl, inr, ℕ, ◌+◌, ◌≤◌, ℤ, pos, ◌<ℤ◌, Bool, true, false, cond, not, List, [], ◌∷◌, ◌++◌, length, take, drop, Some, slice_get, refl, sym, ap, ◌∙◌, subst, arith, length-append, append_assoc}
-use Rattle.std.proofs.lemmas.List.{append-nil, length-take-le, take-append-drop}
+use Rattle.std.proofs.lemmas.List.{append-nil, length-take-le, take-append-drop, drop_at}
 use Rattle.std.proofs.lemmas.List.Elements.{filter-append}
 use Rattle.std.proofs.lemmas.Bool.{false_from_ne_true}
 use Rattle.std.proofs.lemmas.Int.{ints, to_z_pos}
@@ -12,8 +12,9 @@ use Rattle.bk_record.specs.Body.Body.{done, torn}
 use Rattle.bk_record.specs.Piece.{BeginsWith}
 use Rattle.bk_record.proofs.Records.{Starts, starts_only, starts-torn, starts-nil, length-record_of, length_field-take}
 use Rattle.bk_record.proofs.Bodies.{body_append, body_record}
+use Rattle.bk_record.proofs.Spellings.{bad_append}
 use Rattle.bk_record.specs.Spelling.{all_pieces, all_leftover}
-use Rattle.bk_log.specs.Ranges.{IsPassed, entries_in, foreign_in}
+use Rattle.bk_log.specs.Ranges.{IsPassed, GoesOn, entries_in, foreign_in, part}
 use Rattle.bk_log.proofs.Ranges.{all_pieces-behind, all_leftover-behind, all_pieces-record, all_pieces-stop, all_leftover-stop}
 
 abbrev is_entry : ℕ × List ℕ → Bool
@@ -78,6 +79,23 @@ entry_at from at given foreign bytes left payload p b is =
     ap (filter is_entry) list ∙ filter-append is_entry p.records _
     ∙ ap (λ c. filter is_entry p.records ++ cond (not c) ((at + 4, payload) ∷ filter is_entry (all_pieces (at + 4 + length payload) b.behind)) (filter is_entry (all_pieces (at + 4 + length payload) b.behind))) is in
     ap (λ l. slice_get l given) kept ∙ ap (slice_get _) p.entries ∙ seam (filter is_entry p.records) (at + 4, payload) _
+
+-- a scan that begins at the position goes on with the part's
+pub goes_on : (file : List ℕ) (from end at given foreign : ℕ) → IsPassed from (part file from end) at (part file at end) given foreign → GoesOn file from end at given foreign
+unfolding entries_in foreign_in
+goes_on file from end at given foreign p =
+    let bytes = part file from end in
+    let left = part file at end in
+    let list = all_pieces-passed from at given foreign bytes left p in
+    record {
+      entries = sym (ap (λ l. drop given (filter is_entry l)) list ∙ ap (drop given) (filter-append is_entry p.records (all_pieces at left))
+          ∙ drop_at (filter is_entry p.records) (filter is_entry (all_pieces at left)) given (sym p.entries));
+      others = ap (λ l. length (filter is_other l)) list ∙ ap length (filter-append is_other p.records (all_pieces at left))
+          ∙ length-append (filter is_other p.records) (filter is_other (all_pieces at left)) ∙ ap (λ n. n + length (filter is_other (all_pieces at left))) (sym p.others);
+      rest = sym (all_leftover-passed from at given foreign bytes left p);
+      bad = λ place value is. subst (λ b. IsBadAt from b place value) (sym p.split)
+          (bad_append left place value p.whole (subst (λ n. IsBadAt n left place value) p.place is));
+    }
 
 -- where no record stands at the position, all of the part's were passed
 records_all : (from at given foreign : ℕ) (bytes left : List ℕ) (p : IsPassed from bytes at left given foreign) → starts_with_record left ≡ false

@@ -1,11 +1,15 @@
 -- A part of a log: the entries that stand in it, how many records are foreign, and what is left behind them.
-use Rattle.std.specs.Prelude.{◌≡◌, ℕ, ◌+◌, List, [], ◌++◌, length, drop, not}
+use Rattle.std.specs.Prelude.{◌≡◌, ℕ, ℤ, ◌+◌, ◌-◌, List, [], ◌++◌, length, take, drop, not}
 use Rattle.std.specs.List.{filter}
 use Rattle.bk_record.specs.Record.{is_foreign}
-use Rattle.bk_record.specs.Body.{Body}
+use Rattle.bk_record.specs.Body.{Body, IsBadAt}
 use Rattle.bk_record.specs.Spelling.{all_pieces, all_leftover}
 use Rattle.bk_record.specs.Files.{header_length, rest_of}
 use Rattle.bk_record.specs.Scan.{entries_of, foreign_of}
+
+-- the bytes of a log from one position to another
+abbrev pub part : List ℕ → ℕ → ℕ → List ℕ
+part file from end = take (end - from) (drop from file)
 
 -- the entries: the records without the foreign ones
 unfoldable pub entries_in : ℕ → List ℕ → List (ℕ × List ℕ)
@@ -30,3 +34,11 @@ pub record IsWholePart (file : List ℕ) : Type 0 where
   pub entries : entries_in header_length (drop header_length file) ≡ entries_of file
   pub foreign : foreign_in header_length (drop header_length file) ≡ foreign_of file
   pub rest : all_leftover (drop header_length file) ≡ rest_of file
+
+-- A scan that begins where another one of a part has come to, and goes to the same end: it gives the entries that the
+-- other has not given, in their order, and comes to the same end or bad length.
+pub record GoesOn (file : List ℕ) (from end at given foreign : ℕ) : Type 0 where
+  pub entries : entries_in at (part file at end) ≡ drop given (entries_in from (part file from end))
+  pub others : foreign_in from (part file from end) ≡ foreign + foreign_in at (part file at end)
+  pub rest : all_leftover (part file at end) ≡ all_leftover (part file from end)
+  pub bad : (place : ℕ) (value : ℤ) → IsBadAt at (part file at end) place value → IsBadAt from (part file from end) place value

@@ -12,7 +12,7 @@ abbrev pub scan_of : Ahead → ℕ → ℕ → ℕ → ℕ → ℕ → Bool → 
 scan_of window from end given foreign torn ended fault = record {
   from = from;
   end = end;
-  bytes = take (end - from) (drop from window.bytes);
+  file = window.bytes;
   honest = window.honest;
   sound = window.sound;
   left = end - window.at;

@@ -1,20 +1,20 @@
 -- A scan of a part of a log: its entries one after another, then the end or a bad length.
 use Rattle.std.specs.Prelude.{◌≡◌, ℕ, ◌+◌, ◌≤◌, Bool, true, false, ◌&&◌, not, IsTrue, List, length, Option, Some, None, is_none, ◌*◌, ◌<◌, ◌^◌, Result, Ok, Err, slice_get}
-use Rattle.bk_record.specs.Record.{key_of}
 use Rattle.bk_record.specs.Body.{Body, IsBadAt}
 use Rattle.bk_log.specs.declared.fault.ScanFault.{ScanFault}
 use Rattle.bk_log.specs.declared.fault.ScanFault.TheVariants.{BadLength, Disk, Memory, Odd}
 use Rattle.bk_log.specs.declared.found.Found.{Found}
 use Rattle.bk_record.specs.Spelling.{all_pieces, all_leftover}
-use Rattle.bk_log.specs.Ranges.{IsPassed, entries_in, foreign_in}
+use Rattle.bk_log.specs.Places.{HasEntryAt}
+use Rattle.bk_log.specs.Ranges.{IsPassed, entries_in, foreign_in, part}
 
--- What a scanner shows. The part: where it begins and ends, its bytes, whether the view is honest and sound. Where the
--- scan is: how many bytes are left, how many entries were given and foreign records passed, how many bytes were found torn
--- at the end, whether the end was reached, and the fault that ended the scan.
+-- What a scanner shows. The part: where it begins and ends in the view's log, whose bytes these are, whether the view is
+-- honest and sound. Where the scan is: how many bytes are left, how many entries were given and foreign records passed,
+-- how many bytes were found torn at the end, whether the end was reached, and the fault that ended the scan.
 pub record Scan : Type 0 where
   pub from : ℕ
   pub end : ℕ
-  pub bytes : List ℕ
+  pub file : List ℕ
   pub honest : Bool
   pub sound : Bool
   pub left : ℕ
@@ -28,37 +28,50 @@ pub record Scan : Type 0 where
 abbrev pub is_going : Scan → Bool
 is_going s = not s.ended && is_none s.fault
 
--- the next entry of the part, in order
-pub record IsGiven (s : Scan) (found : Found) : Type 0 where
+-- the bytes of the part
+abbrev pub part_of : Scan → List ℕ
+part_of s = part s.file s.from s.end
+
+-- The next entry of the part, in order. It stands in the log, and all before it and itself was passed, with so many
+-- foreign records.
+pub record IsGiven (s : Scan) (found : Found) (foreign : ℕ) : Type 0 where
   pub payload : List ℕ
-  pub stands : slice_get (entries_in s.from s.bytes) s.given ≡ Some (found.at, payload)
-  pub keyed : key_of payload ≡ Some found.key
+  pub listed : slice_get (entries_in s.from (part_of s)) s.given ≡ Some (found.at, payload)
+  pub stands : HasEntryAt s.file found.at found.key payload
   pub sized : found.size ≡ 4 + length payload
+  pub passed : IsPassed s.from (part_of s) (found.at + length payload) (part s.file (found.at + length payload) s.end) (s.given + 1) foreign
 
 -- all entries were given, the part is spelled to its end, and the counts are its
 pub record IsFinished (s : Scan) : Type 0 where
-  pub given : s.given ≡ length (entries_in s.from s.bytes)
-  pub spelled : Body s.from s.bytes (all_pieces s.from s.bytes) (all_leftover s.bytes)
-  pub foreign : s.foreign ≡ foreign_in s.from s.bytes
-  pub torn : s.torn ≡ length (all_leftover s.bytes)
+  pub given : s.given ≡ length (entries_in s.from (part_of s))
+  pub spelled : Body s.from (part_of s) (all_pieces s.from (part_of s)) (all_leftover (part_of s))
+  pub foreign : s.foreign ≡ foreign_in s.from (part_of s)
+  pub torn : s.torn ≡ length (all_leftover (part_of s))
 
 -- the fault of a scan of an honest view: a bad length exactly where the part has one, behind all its entries
 abbrev pub ScanFails : Scan → ScanFault → Type 0
-ScanFails s (BadLength at value) = (s.given ≡ length (entries_in s.from s.bytes)) × IsBadAt s.from s.bytes at value
+ScanFails s (BadLength at value) = (s.given ≡ length (entries_in s.from (part_of s))) × IsBadAt s.from (part_of s) at value
 ScanFails s Disk = Unit {0}
 ScanFails s Memory = Unit {0}
 ScanFails s Odd = ⊥
 
 -- `next`, on an honest view
 abbrev pub NextTurn : Scan → Result (Option Found) ScanFault → Scan → Type 0
-NextTurn s (Ok (Some found)) s' = IsGiven s found
+NextTurn s (Ok (Some found)) s' = IsGiven s found s'.foreign
 NextTurn s (Ok None) s' = IsFinished s'
 NextTurn s (Err fault) s' = ScanFails s' fault
 
--- `next`, on any view: what it moves. An entry has twenty bytes or more and lies in the part, and so many bytes
--- less are left.
+-- An entry that was found in the part: its record has twenty bytes or more, begins in the part, and behind it are the
+-- bytes that are left now, so many fewer.
+pub record IsWithin (s : Scan) (found : Found) (left : ℕ) : Type 0 where
+  pub long : 20 ≤ found.size
+  pub begins : s.from + 4 ≤ found.at
+  pub ends : found.at + found.size + left ≡ s.end + 4
+  pub fewer : left + found.size ≤ s.left
+
+-- `next`, on any view: what it moves
 abbrev pub NextMoves : Scan → Result (Option Found) ScanFault → Scan → Type 0
-NextMoves s (Ok (Some found)) s' = IsTrue (is_going s) × (20 ≤ found.size) × (found.at + found.size ≤ s.end + 4) × (s'.left + found.size ≤ s.left)
+NextMoves s (Ok (Some found)) s' = IsTrue (is_going s) × IsWithin s found s'.left
     × (s' ≡ record s { left = s'.left; given = s.given + 1; foreign = s'.foreign })
 NextMoves s (Ok None) s' = (s.fault ≡ None) × (s' ≡ record s { left = s'.left; foreign = s'.foreign; torn = s'.torn; ended = true })
 NextMoves s (Err fault) s' = s' ≡ record s { left = s'.left; foreign = s'.foreign; fault = Some fault }
@@ -89,6 +102,6 @@ pub record IsPlaced (from end at given foreign : ℕ) : Type 0 where
 
 -- what it keeps of an honest view: the whole records before the position were given or passed, and how the scan ended is so
 pub record IsScanned (s : Scan) (at : ℕ) (here : List ℕ) : Type 0 where
-  pub passed : IsPassed s.from s.bytes at here s.given s.foreign
+  pub passed : IsPassed s.from (part_of s) at here s.given s.foreign
   pub finished : s.ended ≡ true → IsFinished s
   pub stopped : (fault : ScanFault) → s.fault ≡ Some fault → ScanFails s fault

@@ -2,12 +2,19 @@
 
 ghost use Rattle.std.specs.Prelude.{ℕ, List};
 ghost use Rattle.bk_log.specs.Places.{StandsOnce};
-ghost use Rattle.bk_log.specs.Ranges.{IsWholePart};
+ghost use Rattle.bk_log.specs.Ranges.{GoesOn, IsPassed, IsWholePart, part};
 ghost use Rattle.bk_log.specs.Sizes.{AddsUp};
 
 /// A scan from the header's end to a log's end is a scan of the log: the same entries, foreign records and rest.
 pub fn whole_log_is_one_part()
     ensures { (file : List ℕ) → IsWholePart file }
+{}
+
+/// A scan that begins behind an entry that another one gave, and goes to the same end, gives the entries behind it and comes
+/// to the same end or bad length. (`next` says of each entry that it gives that all before it and itself are passed.)
+pub fn a_scan_goes_on()
+    ensures { (file : List ℕ) (from end at given foreign : ℕ)
+        → IsPassed from (part file from end) at (part file at end) given foreign → GoesOn file from end at given foreign }
 {}
 
 /// At each position of a log stands one record at most, so a fetch has one answer; and where a record of the log's list

@@ -13,7 +13,7 @@ impl<'a, V: LogView> Scanner<'a, V> {
     pub(super) fn step(&mut self) -> Option<Found>
         requires { IsTrue (is_going self.old) }
         ensures moves { StepMoves self.old result self.new }
-        ensures turn { IsTrue self.old.honest → IfSome result (IsGiven self.old) }
+        ensures turn { IsTrue self.old.honest → IfSome result (λ found. IsGiven self.old found self.new.foreign) }
     {
         let at = self.window.at();
         let left = self.end - at;

@@ -36,9 +36,10 @@ returns-in-Some-clause-turn g c = λ h.
     let shown = c.in-Ok-Record.field-0-is ∙ ap (Record c.in-Ok-Record.size) c.in-Some.is in
     let honest = ap (λ (v : Scan). v.honest) c.self.view_is ∙ h in
     let front = front_here s.window s.end _ _ _ c.at-at.ensures shown c.in-Ok-Record.ensures.turn honest in
-    subst (λ (v : Scan). IsGiven v (record { key = c.in-Some.key; at = c.at-at.result + 4; size = c.in-Ok-Record.size })) c.self.view_is
-    (subst (λ n. IsGiven (scan_of s.window s.from s.end s.given s.foreign s.torn s.ended s.fault) (record { key = c.in-Some.key; at = n + 4; size = c.in-Ok-Record.size })) (sym c.at-at.ensures)
-    (given_next s.window s.from s.end s.given s.foreign s.torn c.in-Ok-Record.size s.ended s.fault c.in-Some.key c.self.invariant honest front))
+    let fits = fits_here s.window s.end _ _ _ c.at-at.ensures shown c.in-Ok-Record.ensures.fits in
+    subst (λ (v : Scan). IsGiven v (record { key = c.in-Some.key; at = c.at-at.result + 4; size = c.in-Ok-Record.size }) s.foreign) c.self.view_is
+    (subst (λ n. IsGiven (scan_of s.window s.from s.end s.given s.foreign s.torn s.ended s.fault) (record { key = c.in-Some.key; at = n + 4; size = c.in-Ok-Record.size }) s.foreign) (sym c.at-at.ensures)
+    (given_next s.window s.from s.end s.given s.foreign s.torn c.in-Ok-Record.size s.ended s.fault c.in-Some.key c.self.invariant honest fits.1 front))
 
 pub invariant_of-self-in-Ok-Rest : goal.invariant_of-self-in-Ok-Rest
 invariant_of-self-in-Ok-Rest g c =
