@@ -134,8 +134,8 @@ created_files files files' id false logs.Disk none fails = inl fails
 created_files files files' id true logs.Disk none fails = inr (take fails.1.0 empty_header, fails.1.1)
 created_files files files' id false logs.Memory none fails = inl fails
 created_files files files' id true logs.Memory none fails = inr ([], fails.1)
-created_files files files' id false logs.Odd none fails = absurd fails
-created_files files files' id true logs.Odd none fails = inl fails.1
+created_files files files' id false logs.Odd none fails = inl fails.1
+created_files files files' id true logs.Odd none fails = absurd fails
 created_files files files' id false logs.Failed none fails = absurd fails
 created_files files files' id true logs.Failed none fails = absurd fails
 
@@ -147,7 +147,7 @@ pub half_file : (files files' : Files) (id : ℕ) (made : Bool) (fault : LogFaul
 half_file files files' id false fault is fails = cc
 half_file files files' id true logs.Disk is fails = ap is_some (ap (λ (fs : Files). finite.get fs id) fails.1.1 ∙ get-insert_here nat_cmp_total nat_cmp-IsAntisymmetric files id (take fails.1.0 empty_header))
 half_file files files' id true logs.Memory is fails = ap is_some (ap (λ (fs : Files). finite.get fs id) fails.1 ∙ get-insert_here nat_cmp_total nat_cmp-IsAntisymmetric files id [])
-half_file files files' id true logs.Odd is fails = ap is_some (ap (λ (fs : Files). finite.get fs id) fails.1) ∙ fails.0
+half_file files files' id true logs.Odd is fails = absurd fails
 half_file files files' id true logs.Failed is fails = absurd fails
 
 -- each log has its file, when one more is held

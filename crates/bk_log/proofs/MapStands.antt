@@ -1,5 +1,5 @@
 -- A sealed log has its map: the header says where, and there stands what the entries' sizes add up to.
-use Rattle.std.proofs.Common.{◌≡◌, ℕ, pos, true, false, cond, not, List, [], ◌∷◌, ◌++◌, length, take, drop, IsSome, OnOk, Result, Ok, Err, unwrap_or, refl, sym, ap, ◌∙◌, subst, arith, length-append, append_assoc}
+use Rattle.std.proofs.Common.{◌≡◌, ℕ, pos, true, false, cond, not, List, [], ◌∷◌, ◌++◌, length, take, drop, IsSome, OnOk, Result, Ok, Err, unwrap_or, refl, sym, ap, ◌∙◌, subst, arith, length-append, length-drop, append_assoc}
 use Rattle.std.proofs.lemmas.Bool.{le-leb}
 use Rattle.std.proofs.lemmas.List.{take-append-drop, length-take-le, drop_at}
 use Rattle.std.proofs.lemmas.Slice.{drop-append-drop}
@@ -76,6 +76,8 @@ map_stands files w file writes writable is =
     ∙ drop_at writes.file (map_bytes w) w.end (sym writes.long) in
     record {
       offset = w.end;
+      behind = omega (arith, writes.long, text_is_long writes.file writes.records writes.text);
+      within = omega (arith, writes.long, ap length open_is, length-append front (drop 20 whole), twenty, length-drop 20 whole, length-append writes.file (map_bytes w), long);
       header = subst (λ b. IsHeader b (record { version = 1; map_offset = pos w.end; count = pos (len (sizes_of (entries_of file))) })) (sym open_is)
           (subst (λ s. IsHeader (front ++ drop 20 whole) (record { version = 1; map_offset = pos w.end; count = pos (len s) })) (sym sizes)
           (patched_again whole unsealed w.end (len w.sizes) (header-append writes.file (map_bytes w) unsealed (header_put files w writes))));

@@ -1,7 +1,7 @@
 -- A log that is sealed: the ledgers map behind its records, and the header that says where it stands.
-use Rattle.std.specs.Prelude.{◌≡◌, ℕ, ◌+◌, ◌^◌, Bool, true, nat_lt, if◌then◌else◌, List, length, take, drop, pos, Result, Ok, Err, ◌⊎◌}
+use Rattle.std.specs.Prelude.{◌≡◌, ℕ, ◌+◌, ◌≤◌, ◌^◌, Bool, true, nat_lt, if◌then◌else◌, List, length, take, drop, pos, Result, Ok, Err, ◌⊎◌}
 use Rattle.std.specs.FinMap as map
-use Rattle.bk_record.specs.Files.{Files, file_of}
+use Rattle.bk_record.specs.Files.{Files, file_of, header_length}
 use Rattle.bk_record.specs.Scan.{entries_of}
 use Rattle.bk_disk.specs.Disk.{grown, patched}
 use Rattle.bk_head.specs.Header.{patch_of, IsHeader}
@@ -46,8 +46,11 @@ SealTurn files w (Err Odd) files' = ⊥
 abbrev pub KeepsEntries : Files → Files → Type 0
 KeepsEntries files files' = (log : ℕ) → entries_of (file_of files' log) ≡ entries_of (file_of files log)
 
--- A log with a ledgers map: from its header's offset on stands the map of the sizes of its entries by ledger.
+-- A log with a ledgers map: from its header's offset on, behind the header and in the file, stands the map of the sizes of
+-- its entries by ledger. The map of a log without entries has no bytes, and stands at the file's end.
 pub record HasMap (file : List ℕ) : Type 0 where
   pub offset : ℕ
+  pub behind : header_length ≤ offset
+  pub within : offset ≤ length file
   pub header : IsHeader file (record { version = 1; map_offset = pos offset; count = pos (map.len (sizes_of (entries_of file))) })
   pub spelled : SpellsMap (drop offset file) (sizes_of (entries_of file))

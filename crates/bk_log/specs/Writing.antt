@@ -62,14 +62,15 @@ PutTurn files w payload (Err Failed) files' = files' ≡ files
 PutTurn files w payload (Err Memory) files' = files' ≡ files
 PutTurn files w payload (Err Odd) files' = ⊥
 
--- what a refused `create` leaves, by whether the file stands: nothing, or a file with a prefix of the header
+-- What a refused `create` leaves, by whether it made the file: a file with a prefix of the header, where there was none; or
+-- the files as they were.
 abbrev pub CreateFails : Files → ℕ → Bool → LogFault → Files → Type 0
-CreateFails files log false Disk files' = files' ≡ files
 CreateFails files log true Disk files' = IsNone (map.get files log) × ((n : ℕ) × (files' ≡ map.insert files log (take n empty_header)))
-CreateFails files log false Memory files' = files' ≡ files
 CreateFails files log true Memory files' = IsNone (map.get files log) × (files' ≡ map.insert files log [])
-CreateFails files log false Odd files' = ⊥
-CreateFails files log true Odd files' = IsSome (map.get files log) × (files' ≡ files)
+CreateFails files log false Disk files' = files' ≡ files
+CreateFails files log false Memory files' = files' ≡ files
+CreateFails files log false Odd files' = IsSome (map.get files log) × (files' ≡ files)
+CreateFails files log true Odd files' = ⊥
 CreateFails files log _ Failed files' = ⊥
 
 -- `create`, on an honest disk: a file with a new log's header, where there was none

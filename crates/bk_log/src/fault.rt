@@ -35,10 +35,11 @@ impl LogFault {
     }
 }
 
-/// Why a log could not be made, and whether its file stands nevertheless.
+/// Why a log could not be made, and whether its file was made nevertheless.
 #[derive(Clone, Copy, Debug, PartialEq, Eq)]
 pub struct CreateFault {
-    /// Whether a file of the log's id stands after the call.
+    /// Whether the call made the log's file, which stands then with a part of the header or none of it. Otherwise the
+    /// call changed no file: there may have been one of the id before, and where the fault is `Odd` there was.
     pub made: bool,
     /// What went wrong.
     pub fault: LogFault,

@@ -216,7 +216,7 @@ fn a_log_that_is_there_is_not_made_again(rt: HostRuntime) -> Result<(), Fail> {
     disk.create(rt.alloc(), 3)?;
     let refused = LogWriter::create(&mut disk, rt.alloc(), 3);
     let fault = CreateFault {
-        made: true,
+        made: false,
         fault: LogFault::Odd,
     };
     assert_eq!(rt; refused.err(), Some(fault));
