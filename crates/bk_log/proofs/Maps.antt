@@ -1,12 +1,12 @@
 -- Finite maps made of a `BTreeMap`'s entries, at keys that are numbers; a number put back.
-use Rattle.std.proofs.Common.{◌≡◌, ℕ, Bool, true, false, cond, List, [], ◌∷◌, Some, None, Option, nat_cmp, refl, sym, ap, ◌∙◌}
+use Rattle.std.proofs.Common.{◌≡◌, ℕ, Bool, true, false, cond, List, [], ◌∷◌, Some, Option, nat_cmp, refl, sym, ap, ◌∙◌}
 use Rattle.std.specs.Cmp.{nat_cmp_total, eq_by_cmp_equiv}
 use Rattle.std.specs.BTreeMap.{is_at}
 use Rattle.std.specs.Map.{lookup}
 use Rattle.std.specs.Ordering.{eq_by_cmp}
 use Rattle.std.proofs.lemmas.Map.Views.{tells_apart}
 use Rattle.std.proofs.lemmas.Map.Lookups.{exact_unsigned}
-use Rattle.std.specs.FinMap.{FinMap, find, get, insert, remove, from_entries, get-insert, get-remove, get-from_entries, same_map, nat_cmp-IsAntisymmetric}
+use Rattle.std.specs.FinMap.{FinMap, find, get, insert, from_entries, get-insert, get-from_entries, same_map, nat_cmp-IsAntisymmetric}
 
 find-lookup : {X : Type 0} (es : List (ℕ × X)) (q : ℕ) → find nat_cmp q es ≡ lookup (is_at (nat_cmp q)) es
 find-lookup [] q = refl
@@ -32,14 +32,6 @@ inserted es fs k v at = same_by_get _ _ (λ q.
     get-entries fs q ∙ at q ∙ ap (λ b. cond b (Some v) (lookup (is_at (nat_cmp q)) es)) ((eq_by_cmp_equiv nat_cmp_total).symm k q)
     ∙ sym (get-insert nat_cmp_total (from_entries es) k v q ∙ ap (cond (is_at (nat_cmp q) k) (Some v)) (get-entries es q)))
 
--- entries that lack one key make the map without it
-pub removed : {X : Type 0} (es fs : List (ℕ × X)) (k : ℕ)
-    → ((q : ℕ) → lookup (is_at (nat_cmp q)) fs ≡ cond (is_at (nat_cmp k) q) None (lookup (is_at (nat_cmp q)) es))
-    → from_entries {R = nat_cmp} fs ≡ remove (from_entries es) k
-removed es fs k at = same_by_get _ _ (λ q.
-    get-entries fs q ∙ at q ∙ ap (λ b. cond b None (lookup (is_at (nat_cmp q)) es)) ((eq_by_cmp_equiv nat_cmp_total).symm k q)
-    ∙ sym (get-remove nat_cmp_total (from_entries es) k q ∙ ap (cond (is_at (nat_cmp q) k) None) (get-entries es q)))
-
 twice : {A : Type 0} (b : Bool) (v w x : A) → cond b w (cond b v x) ≡ cond b w x
 twice true v w x = refl
 twice false v w x = refl
@@ -61,10 +53,3 @@ at_key m k q o is =
 -- a key that is there, put in again
 pub insert_same : {X : Type 0} (m : FinMap nat_cmp X) (k : ℕ) (v : X) → get m k ≡ Some v → insert m k v ≡ m
 insert_same m k v is = same_by_get _ _ (λ q. get-insert nat_cmp_total m k v q ∙ at_key m k q (Some v) is)
-
--- a new key, taken out again
-pub remove-insert : {X : Type 0} (m : FinMap nat_cmp X) (k : ℕ) (v : X) → get m k ≡ None → remove (insert m k v) k ≡ m
-remove-insert m k v is = same_by_get _ _ (λ q.
-    let here = eq_by_cmp nat_cmp q k in
-    get-remove nat_cmp_total (insert m k v) k q ∙ ap (cond here None) (get-insert nat_cmp_total m k v q)
-    ∙ twice here (Some v) None (get m q) ∙ at_key m k q None is)

@@ -1,5 +1,5 @@
 -- The sizes by ledger, after a record more.
-use Rattle.std.proofs.Common.{◌≡◌, ℕ, ◌+◌, ◌<◌, ◌≤◌, ◌^◌, true, false, cond, List, [], ◌∷◌, ◌++◌, Some, None, Option, IsSome, nat_cmp, refl, sym, ap, subst, ◌∙◌, arith, is_some, unwrap_or}
+use Rattle.std.proofs.Common.{◌≡◌, ℕ, ◌+◌, ◌<◌, ◌≤◌, ◌^◌, true, false, cond, List, [], ◌∷◌, ◌++◌, Some, IsSome, nat_cmp, refl, sym, ap, subst, ◌∙◌, arith, is_some, unwrap_or}
 use Rattle.std.specs.Cmp.{nat_cmp_total}
 use Rattle.std.specs.Ordering.{eq_by_cmp}
 use Rattle.std.specs.FinMap.{empty, get, len, contains_key, get-empty, get-insert, len-empty, len-insert}
@@ -8,28 +8,8 @@ use Rattle.std.proofs.lemmas.List.Sums.{fold-append}
 use Rattle.std.proofs.lemmas.Map.Lookups.{exact_unsigned}
 use Rattle.std.proofs.lemmas.Map.Views.{tells_apart}
 use Rattle.bk_head.specs.Written.{IsWritable}
-use Rattle.bk_log.specs.Sizes.{Sizes, size_in, with_size, put_back, with_record, sizes_of}
+use Rattle.bk_log.specs.Sizes.{Sizes, size_in, with_size, with_record, sizes_of}
 use Rattle.bk_log.specs.Writing.{IsCounted}
-use Rattle.bk_log.proofs.Maps.{insert-insert, insert_same, remove-insert}
-use Rattle.bk_log.proofs.Files.{stands-insert}
-
--- what was counted is taken back
-pub put_back-with_size : (sizes : Sizes) (ledger size : ℕ) → put_back (with_size sizes ledger size) ledger (get sizes ledger) ≡ sizes
-put_back-with_size sizes ledger size =
-    elim (get sizes ledger) as (λ o. get sizes ledger ≡ o → put_back (with_size sizes ledger size) ledger o ≡ sizes) [
-      | Some was ↦ λ is. insert-insert sizes ledger _ was ∙ insert_same sizes ledger was is
-      | None ↦ λ is. remove-insert sizes ledger _ is
-    ] refl
-
--- the same, with what the calls said between
-pub restored : (sizes counted back : Sizes) (ledger size : ℕ) (was : Option ℕ) → was ≡ get sizes ledger → counted ≡ with_size sizes ledger size
-    → back ≡ put_back counted ledger was → back ≡ sizes
-restored sizes counted back ledger size was met added taken =
-    taken ∙ ap (put_back counted ledger) met ∙ ap (λ s. put_back s ledger (get sizes ledger)) added ∙ put_back-with_size sizes ledger size
-
--- a ledger that was counted is there
-pub counted_is_there : (sizes : Sizes) (ledger size : ℕ) → IsSome (get (with_size sizes ledger size) ledger)
-counted_is_there sizes ledger size = ap is_some (stands-insert sizes ledger (size_in sizes ledger + size))
 
 -- no ledger has more than before and the new bytes
 pub size_in-with_size : (sizes : Sizes) (ledger size most other : ℕ) → ((q : ℕ) → size_in sizes q ≤ most)

@@ -1,85 +1,109 @@
-//! The sizes of a log's records by ledger, as its map will tell them.
+//! The sizes of a log's records by ledger, as its map tells them.
 
-ghost use Rattle.std.specs.Prelude.{◌≡◌, ◌+◌, ◌<◌, ◌^◌, IfOk, OnErr, IsSome};
+ghost use Rattle.std.specs.Prelude.{◌≡◌, ◌+◌, ◌<◌, ◌^◌, IfOk, OnOk, OnErr};
 ghost use Rattle.std.specs.FinMap as map;
-ghost use Rattle.bk_head.specs.Written.{written_map, IsWritable};
+ghost use Rattle.bk_head.specs.Ledgers.{map_of};
+ghost use Rattle.bk_log.specs.Sizes.{size_in, with_size};
 
-use bk_head::{HeadFault, write_map};
+use crate::Found;
 use std::alloc::{AllocError, Global};
 use std::collections::BTreeMap;
 use std::marker::Model;
 
-/// For each ledger that has a record in the log, the bytes of its records. A contract sees a finite map.
+/// For each ledger that has a record among those counted, the bytes of its records, the four of each length field
+/// included (the BookKeeper ledgers map). A contract sees a finite map and the ledger that was counted last:
+/// `specs/Sizes.antt`.
+///
+/// The last ledger's bytes stand beside the map, so that a record of the same ledger as the one before costs no look-up.
 #[derive(Drop)]
-pub(crate) struct LedgerSizes {
-    bytes: BTreeMap<u64, u64>,
+pub struct LedgerSizes {
+    others: BTreeMap<u64, u64>,
+    ledger: u64,
+    size: u64,
 }
 
 impl Model for LedgerSizes {
     ghost use Rattle.std.specs.FinMap as map;
-    ghost use Rattle.bk_log.specs.Sizes.{Sizes, sizes_code};
+    ghost use Rattle.bk_log.specs.Sizes.{Tally, tally_code, with_last, IsLast};
 
-    ghost Value = { Sizes };
+    ghost Value = { Tally };
 
-    ghost coded = { sizes_code };
+    ghost coded = { tally_code };
 
-    ghost view = { λ a. map.from_entries a.bytes.entries };
+    ghost view = { λ a. record { sizes = with_last (map.from_entries a.others.entries) a.ledger a.size; ledger = a.ledger } };
+
+    ghost invariant = { λ a. IsLast (map.from_entries a.others.entries) a.ledger a.size };
 }
 
 impl LedgerSizes {
-    ghost use Rattle.bk_log.specs.Sizes.{size_in, with_size, put_back};
+    ghost use Rattle.bk_log.specs.Sizes.{CountsNext, AreWithin};
 
     /// No ledger. It takes no memory.
-    pub(crate) fn new(alloc: Global) -> LedgerSizes
-        ensures { result ≡ map.empty }
+    pub fn new(alloc: Global) -> LedgerSizes
+        ensures { result ≡ record { sizes = map.empty; ledger = 0 } }
     {
         LedgerSizes {
-            bytes: BTreeMap::new(alloc),
+            others: BTreeMap::new(alloc),
+            ledger: 0,
+            size: 0,
         }
     }
 
-    /// Adds to a ledger's bytes, and gives what it had before. A refusal changes nothing.
-    pub(crate) fn count(&mut self, ledger: u64, size: u64) -> Result<Option<u64>, AllocError>
-        requires { size_in self.old ledger + size < 2 ^ 64 }
-        ensures was { IfOk result (λ was. was ≡ map.get self.old ledger) }
-        ensures ok { IfOk result (λ _. self.new ≡ with_size self.old ledger size) }
+    /// Counts an entry that a scan found. The caller keeps a ledger's bytes below 2^64, as they are where the entries are
+    /// those of one log (`within`). The only fault is want of memory, which changes nothing.
+    pub fn count(&mut self, found: Found) -> Result<(), AllocError>
+        requires sized { 0 < found.size }
+        requires room { size_in self.old.sizes found.key.ledger + found.size < 2 ^ 64 }
+        ensures ok { OnOk result (self.new ≡ record {
+          sizes = with_size self.old.sizes found.key.ledger found.size;
+          ledger = found.key.ledger;
+        }) }
+        ensures err { OnErr result (self.new ≡ self.old) }
+        ensures within { OnOk result (AreWithin self.old.sizes found.size self.new.sizes) }
+        ensures next { OnOk result (CountsNext self.old.sizes found self.new.sizes) }
+    {
+        self.turn_to(found.key.ledger())?;
+        self.add(u64::from(found.size));
+        Ok(())
+    }
+
+    /// Makes ready for bytes of a ledger, so that adding them takes no memory. No ledger's bytes change.
+    pub(crate) fn turn_to(&mut self, ledger: u64) -> Result<(), AllocError>
+        ensures ok { OnOk result (self.new ≡ record self.old { ledger = ledger }) }
         ensures err { OnErr result (self.new ≡ self.old) }
     {
-        let was = self.bytes.get(&ledger).copied();
-        self.bytes.insert(ledger, was.unwrap_or(0) + size)?;
-        Ok(was)
-    }
-
-    /// Gives a ledger back what it had before a `count`. It takes no memory.
-    pub(crate) fn restore(&mut self, ledger: u64, was: Option<u64>)
-        requires { IsSome (map.get self.old ledger) }
-        ensures { self.new ≡ put_back self.old ledger was }
-    {
-        match was {
-            Some(size) => {
-                let _ = self.bytes.insert(ledger, size);
-            }
-            None => {
-                let _ = self.bytes.remove(&ledger);
-            }
+        if ledger == self.ledger {
+            return Ok(());
         }
+        if self.size > 0 {
+            self.others.insert(self.ledger, self.size)?;
+        }
+        self.size = self.others.get(&ledger).copied().unwrap_or(0);
+        self.ledger = ledger;
+        Ok(())
     }
 
-    /// How many ledgers have bytes.
-    pub(crate) fn len(&self) -> u32
-        requires { map.len self.now < 2 ^ 32 }
-        ensures { result ≡ map.len self.now }
+    /// Adds to the bytes of the ledger that was turned to.
+    pub(crate) fn add(&mut self, size: u64)
+        requires some { 0 < size }
+        requires room { size_in self.old.sizes self.old.ledger + size < 2 ^ 64 }
+        ensures { self.new ≡ record self.old { sizes = with_size self.old.sizes self.old.ledger size } }
     {
-        self.bytes.len() as u32
+        self.size += size;
     }
 
-    /// The ledgers map, as it is written behind a log's records.
-    pub(crate) fn map_bytes(&self, alloc: Global) -> Result<Vec<u8>, HeadFault>
-        requires { IsWritable self.now }
-        ensures { IfOk result (λ v. v.items ≡ written_map self.now) }
+    /// The sizes as a map. The only fault is want of memory.
+    pub fn into_map(self) -> Result<BTreeMap<u64, u64>, AllocError>
+        ensures { IfOk result (λ tree. map_of tree ≡ self.sizes) }
     {
-        let mut bytes = Vec::new(alloc);
-        write_map(&self.bytes, &mut bytes)?;
-        Ok(bytes)
+        let LedgerSizes {
+            mut others,
+            ledger,
+            size,
+        } = self;
+        if size > 0 {
+            others.insert(ledger, size)?;
+        }
+        Ok(others)
     }
 }

@@ -12,7 +12,7 @@ use crate::calls::append;
 use crate::fault::log_fault;
 use crate::sizes::LedgerSizes;
 use crate::{CreateFault, LogFault};
-use bk_disk::{DiskFault, LogDisk};
+use bk_disk::LogDisk;
 use bk_head::new_header;
 use std::alloc::Global;
 use std::marker::Model;
@@ -21,7 +21,8 @@ use std::marker::Model;
 const HEADER_LENGTH: u32 = 1024;
 
 /// The writer of one log. A contract sees its id, its length, the number of records put and their sizes by ledger,
-/// and whether a write failed: `specs/Writing.antt`.
+/// and whether a write failed: `specs/Writing.antt`. `buffer` has memory for one record, so that a `put` takes none of its
+/// own where the records are alike.
 #[derive(Drop)]
 pub struct LogWriter {
     log: u32,
@@ -29,6 +30,7 @@ pub struct LogWriter {
     count: u32,
     sizes: LedgerSizes,
     failed: bool,
+    buffer: Vec<u8>,
 }
 
 impl Model for LogWriter {
@@ -38,9 +40,9 @@ impl Model for LogWriter {
 
     ghost coded = { writing_code };
 
-    ghost view = { λ w. record { log = w.log; end = w.end; count = w.count; sizes = w.sizes; failed = w.failed } };
+    ghost view = { λ w. record { log = w.log; end = w.end; count = w.count; sizes = w.sizes.sizes; failed = w.failed } };
 
-    ghost invariant = { λ w. IsCounted w.log w.end w.count w.sizes };
+    ghost invariant = { λ w. IsCounted w.log w.end w.count w.sizes.sizes };
 }
 
 impl LogWriter {
@@ -49,8 +51,8 @@ impl LogWriter {
     /// Makes the log's file and writes its header.
     ///
     /// The caller gives an id of at most 2^31 - 1. Faults: `Disk`, `Memory`, and `Odd` where a file of that id is
-    /// there already; each with `made`, whether a file of the id stands afterwards. One that this call made then has
-    /// a part of the header, or none of it.
+    /// there already; each with `made`, whether this call made the file. It then stands, and has a part of the header,
+    /// or none of it; otherwise the files are as they were.
     pub fn create<D: LogDisk>(
         disk: &mut D,
         alloc: Global,
@@ -66,7 +68,7 @@ impl LogWriter {
     {
         if let Err(fault) = disk.create(alloc, log) {
             return Err(CreateFault {
-                made: fault == DiskFault::Exists,
+                made: false,
                 fault: log_fault(fault),
             });
         }
@@ -79,6 +81,7 @@ impl LogWriter {
             count: 0,
             sizes: LedgerSizes::new(alloc),
             failed: false,
+            buffer: Vec::new(alloc),
         })
     }
 

@@ -1,6 +1,6 @@
 //! Writing one record. What can be refused comes first, so that a refusal leaves the writer as it was.
 
-ghost use Rattle.std.specs.Prelude.{◌≡◌, ◌+◌, ◌<◌, ◌^◌, false, IsTrue, IsSome, IsErrOf, IfOk, length};
+ghost use Rattle.std.specs.Prelude.{◌≡◌, ◌+◌, ◌<◌, ◌^◌, false, IsTrue, IsSome, IsErrOf, OnOk, length};
 ghost use Rattle.bk_record.specs.Record.{IsPayload, key_of as payload_key, ledger_field, record_of};
 ghost use Rattle.bk_disk.specs.Disk.{IsCaused};
 
@@ -44,17 +44,17 @@ impl LogWriter {
         let size = payload.len() as u32 + 4;
         let location = Location::pack(self.log, self.end + 4).unwrap();
         let ledger = ledger_of(payload);
-        let Ok(record) = record_bytes(alloc, payload) else {
+        let Ok(()) = set_record(&mut self.buffer, payload) else {
             return Err(LogFault::Memory);
         };
-        let Ok(was) = self.sizes.count(ledger, u64::from(size)) else {
+        let Ok(()) = self.sizes.turn_to(ledger) else {
             return Err(LogFault::Memory);
         };
-        if let Err(fault) = append(disk, alloc, self.log, &record) {
-            self.sizes.restore(ledger, was);
+        if let Err(fault) = append(disk, alloc, self.log, &self.buffer) {
             self.failed = fault.is_lasting();
             return Err(fault);
         }
+        self.sizes.add(u64::from(size));
         self.end += size;
         self.count += 1;
         Ok(location)
@@ -71,12 +71,11 @@ fn ledger_of(payload: &[u8]) -> u64
     key_of(payload).unwrap().ledger()
 }
 
-/// The record of a payload, as bytes of its own.
-fn record_bytes(alloc: Global, payload: &[u8]) -> Result<Vec<u8>, RecordFault>
+/// Puts the record of a payload in place of what the buffer has.
+fn set_record(buffer: &mut Vec<u8>, payload: &[u8]) -> Result<(), RecordFault>
     requires { IsPayload payload.now }
-    ensures { IfOk result (λ v. v.items ≡ record_of payload.now) }
+    ensures { OnOk result (buffer.new.items ≡ record_of payload.now) }
 {
-    let mut record = Vec::new(alloc);
-    write_record(payload, &mut record)?;
-    Ok(record)
+    buffer.clear();
+    write_record(payload, buffer)
 }

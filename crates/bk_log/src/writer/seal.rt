@@ -1,18 +1,24 @@
 //! Sealing: the ledgers map goes behind the records, then the header says where it stands. Only then is the log taken
 //! for a sealed one, so a map that was written in part misleads nobody.
 
-ghost use Rattle.std.specs.Prelude.{◌≡◌, ◌↔◌, false, true, IsTrue, IsErrOf, OnOk};
+ghost use Rattle.std.specs.Prelude.{◌≡◌, ◌↔◌, false, true, IsTrue, IsErrOf, IfOk, OnOk};
 ghost use Rattle.bk_record.specs.Files.{file_of};
 ghost use Rattle.bk_disk.specs.Disk.{IsCaused};
+ghost use Rattle.std.specs.FinMap as map;
+ghost use Rattle.bk_head.specs.Header.{patch_of};
+ghost use Rattle.bk_head.specs.Ledgers.{map_of};
+ghost use Rattle.bk_head.specs.Written.{IsWritable, written_map};
 
 use crate::calls::{append_any, patch};
 use crate::{LogFault, LogWriter};
 use bk_disk::LogDisk;
-use bk_head::patch_bytes;
+use bk_head::{HeadFault, patch_bytes, write_map};
 use std::alloc::Global;
+use std::collections::BTreeMap;
 
 impl LogWriter {
     ghost use Rattle.bk_log.specs.Writing.{Writes};
+    ghost use Rattle.bk_log.specs.Growing.{SealGains};
     ghost use Rattle.bk_log.specs.Sealing.{SealTurn, KeepsEntries, HasMap, map_fits};
 
     /// Seals the log: appends the ledgers map of the records that were put, which has no bytes where none was, and
@@ -31,25 +37,47 @@ impl LogWriter {
         ensures untouched { IsErrOf result LogFault.Failed → disk.new ≡ disk.old }
         ensures turn { IsTrue (D.honest disk.old) → SealTurn (D.files disk.old) self result (D.files disk.new) }
 
-        // What follows for the log: no entry comes or goes, and a log that was sealed has its map.
+        // What follows for the log: no entry comes or goes, no record goes, and a log that was sealed has its map.
         ensures entries { IsTrue (D.honest disk.old) → KeepsEntries (D.files disk.old) (D.files disk.new) }
+        ensures gains { IsTrue (D.honest disk.old) → SealGains (D.files disk.old) self (D.files disk.new) }
         ensures map { IsTrue (D.honest disk.old) → map_fits self ≡ true
             → OnOk result (HasMap (file_of (D.files disk.new) self.log)) }
     {
         if self.failed {
             return Err(LogFault::Failed);
         }
-        let Ok(map) = self.sizes.map_bytes(alloc) else {
+        let end = self.length();
+        let Ok(sizes) = self.sizes.into_map() else {
             return Err(LogFault::Memory);
         };
-        let end = self.length();
+        let Ok(map) = map_bytes(alloc, &sizes) else {
+            return Err(LogFault::Memory);
+        };
         if end + map.len() as u64 > u64::from(u32::MAX) {
             return Ok(());
         }
         if let Err(fault) = append_any(disk, alloc, self.log, &map) {
             return Err(fault);
         }
-        let header = patch_bytes(end, self.sizes.len());
+        let header = header_patch(end, &sizes);
         patch(disk, alloc, self.log, &header)
     }
+}
+
+/// The ledgers map of these sizes, as it is written behind a log's records.
+fn map_bytes(alloc: Global, sizes: &BTreeMap<u64, u64>) -> Result<Vec<u8>, HeadFault>
+    requires { IsWritable (map_of sizes.now) }
+    ensures { IfOk result (λ v. v.items ≡ written_map (map_of sizes.now)) }
+{
+    let mut bytes = Vec::new(alloc);
+    write_map(sizes, &mut bytes)?;
+    Ok(bytes)
+}
+
+/// What a sealed log's header has at 8 to 20: the position of its map, and how many ledgers that has.
+fn header_patch(offset: u64, sizes: &BTreeMap<u64, u64>) -> [u8; 12]
+    requires { IsWritable (map_of sizes.now) }
+    ensures { result ≡ patch_of offset (map.len (map_of sizes.now)) }
+{
+    patch_bytes(offset, sizes.len() as u32)
 }

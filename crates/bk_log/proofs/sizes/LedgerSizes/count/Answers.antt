@@ -1,21 +1,17 @@
-use Rattle.std.proofs.Common.{◌+◌, ap, ◌∙◌, rules}
-use Rattle.std.specs.FinMap as map
-use Rattle.std.specs.Option.{unwrap_or}
+use Rattle.std.proofs.Common.{◌≡◌, sym, ap, ◌∙◌, subst, ◌+◌, ◌≤◌}
 use Rattle.bk_log.specs.Sizes.{size_in}
-use Rattle.bk_log.proofs.Maps.{get-made, inserted}
+use Rattle.bk_log.proofs.Sums.{size_in-with_size}
+use Rattle.bk_log.proofs.Tallies.{counted, counts_next}
 use Rattle.bk_log.proofs.sizes.LedgerSizes.count.Goals as goal
 
-pub overflow_add-unwrap_or : goal.overflow_add-unwrap_or
-overflow_add-unwrap_or c =
-    let was = c.get.ensures.value ∙ get-made _ _ _ c.self.view_is in
-    rw (c.unwrap_or.ensures ∙ ap (λ o. unwrap_or o 0) (c.copied-was.ensures ∙ was)) (search (rules, c.requires))
+-- the ledger is the entry's
+ready : (c : goal.After-add) → c.turn_to.new.self ≡ record c.args.self.now { ledger = c.args.found.key.ledger }
+ready c = c.in_ok-turn_to.ensures.ok ∙ ap (λ l. record c.args.self.now { ledger = l }) c.ledger.ensures.value
 
-pub returns-clause-was : goal.returns-clause-was
-returns-clause-was c = c.copied-was.ensures ∙ c.get.ensures.value ∙ get-made _ _ _ c.self.view_is
+pub returns-clause-within : goal.returns-clause-within
+returns-clause-within c = λ most before ledger.
+    subst (λ s. size_in s ledger ≤ most + c.args.found.size) (sym (counted c.args.self.now _ _ _ _ _ (ready c) c.add.ensures c.from.ensures))
+    (size_in-with_size c.args.self.now.sizes c.args.found.key.ledger c.args.found.size most ledger before)
 
-pub returns-clause-ok : goal.returns-clause-ok
-returns-clause-ok c =
-    let was = c.copied-was.ensures ∙ c.get.ensures.value ∙ get-made _ _ _ c.self.view_is in
-    inserted _ _ _ _ c.in_ok-insert.ensures.updates.0
-    ∙ ap (λ n. map.insert (map.from_entries c.self.inside.bytes.entries) c.args.ledger (n + c.args.size)) (c.unwrap_or.ensures ∙ ap (λ o. unwrap_or o 0) was)
-    ∙ ap (λ m. map.insert m c.args.ledger (size_in c.args.self.now c.args.ledger + c.args.size)) c.self.view_is
+pub returns-clause-next : goal.returns-clause-next
+returns-clause-next c = counts_next _ _ c.args.found (counted c.args.self.now _ _ _ _ _ (ready c) c.add.ensures c.from.ensures)

@@ -15,7 +15,7 @@ returns-in-Err-append-clause-turn g c = λ h.
     create_fails _ _ _ _ _ _ made.0 made.1 c.header_bytes.ensures (c.in-Err-append.ensures.turn (c.in_default.ensures.honest ∙ h))
 
 pub invariant_of-result : goal.invariant_of-result
-invariant_of-result g c = counted_none _ _ _ c.requires (omega arith) c.new.ensures
+invariant_of-result g c = counted_none _ _ _ c.requires (omega arith) (ap (λ t. t.sizes) c.new.ensures)
 
 pub returns-clause-turn : goal.returns-clause-turn
 returns-clause-turn g c = λ h.

@@ -1,8 +1,12 @@
 use Rattle.std.proofs.Common.{sym, ◌∙◌, ap, arith, Err}
+use Rattle.std.specs.FinMap as map
 use Rattle.bk_head.specs.Header.{patch_of}
+use Rattle.bk_head.specs.Written.{written_map}
+use Rattle.bk_head.specs.Ledgers.{map_of}
 use Rattle.bk_log.proofs.Sums.{counted_is_writable}
 use Rattle.bk_log.proofs.Sealed.{seal_keeps}
 use Rattle.bk_log.proofs.MapStands.{seal_map}
+use Rattle.bk_log.proofs.SealGains.{seal_gains_of}
 use Rattle.bk_log.proofs.Seals.{seal_room, header_there, seal_append, seal_patch}
 use Rattle.bk_log.proofs.writer.LogWriter.seal.Goals as goal
 
@@ -13,7 +17,7 @@ append_any-requires-after_bounds g c = λ ls bounds h.
 
 pub returns-in-Err-clause-turn : goal.returns-in-Err-clause-turn
 returns-in-Err-clause-turn g c = λ h.
-    seal_append _ _ _ _ _ _ c.self.view_is (c.deref.ensures.value ∙ c.in-Ok.ensures)
+    seal_append _ _ _ _ _ _ c.self.view_is (c.deref.ensures.value ∙ c.in-Ok-map_bytes.ensures ∙ ap written_map c.in-Ok.ensures)
     (omega (arith, c.deref.ensures.len, c.len.ensures, c.length-end.ensures.value, c.from.ensures, c.if-end-len.false, ap (λ w. w.end) c.self.view_is)) (c.in-Err.ensures.turn h)
 
 pub patch-requires-after_bounds : goal.patch-requires-after_bounds
@@ -24,9 +28,9 @@ patch-requires-after_bounds g c = λ ls bounds h.
 
 pub returns-clause-turn : goal.returns-clause-turn
 returns-clause-turn g c = λ h.
-    seal_patch _ _ _ _ _ _ _ _ c.self.view_is (c.deref.ensures.value ∙ c.in-Ok.ensures)
+    seal_patch _ _ _ _ _ _ _ _ c.self.view_is (c.deref.ensures.value ∙ c.in-Ok-map_bytes.ensures ∙ ap written_map c.in-Ok.ensures)
     (omega (arith, c.deref.ensures.len, c.len.ensures, c.length-end.ensures.value, c.from.ensures, c.if-end-len.false, ap (λ w. w.end) c.self.view_is)) (c.in_default-append_any.ensures.turn h)
-    (c.patch_bytes-header.ensures ∙ ap (λ n. patch_of n c.len-2.result) (c.length-end.ensures.value ∙ sym (ap (λ w. w.end) c.self.view_is)) ∙ ap (patch_of c.self.inside.end) c.len-2.ensures) (c.patch.ensures.turn (c.in_default-append_any.ensures.honest ∙ h))
+    (c.header_patch-header.ensures ∙ ap (λ n. patch_of n (map.len (map_of c.in-Ok.sizes))) (c.length-end.ensures.value ∙ sym (ap (λ w. w.end) c.self.view_is)) ∙ ap (λ m. patch_of c.self.inside.end (map.len m)) c.in-Ok.ensures) (c.patch.ensures.turn (c.in_default-append_any.ensures.honest ∙ h))
 
 pub returns-in-Err-clause-entries : goal.returns-in-Err-clause-entries
 returns-in-Err-clause-entries g c = λ h.
@@ -45,3 +49,15 @@ returns-clause-map g c = λ h fits.
     let whole = sym (ap (λ w. w.failed) c.self.view_is) ∙ c.if-self.false in
     let writable = counted_is_writable _ _ _ _ c.self.invariant (omega (arith, c.length-end.ensures.value, c.length-end.ensures.bound, ap (λ w. w.end) c.self.view_is)) in
     seal_map _ _ _ _ _ c.self.view_is (c.requires h whole) writable (returns-clause-turn g c h) fits
+
+pub returns-in-Err-clause-gains : goal.returns-in-Err-clause-gains
+returns-in-Err-clause-gains g c = λ h.
+    let whole = sym (ap (λ w. w.failed) c.self.view_is) ∙ c.if-self.false in
+    let writable = counted_is_writable _ _ _ _ c.self.invariant (omega (arith, c.length-end.ensures.value, c.length-end.ensures.bound, ap (λ w. w.end) c.self.view_is)) in
+    seal_gains_of _ _ _ _ (Err c.in-Err.fault) c.self.view_is (c.requires h whole) writable (returns-in-Err-clause-turn g c h)
+
+pub returns-clause-gains : goal.returns-clause-gains
+returns-clause-gains g c = λ h.
+    let whole = sym (ap (λ w. w.failed) c.self.view_is) ∙ c.if-self.false in
+    let writable = counted_is_writable _ _ _ _ c.self.invariant (omega (arith, c.length-end.ensures.value, c.length-end.ensures.bound, ap (λ w. w.end) c.self.view_is)) in
+    seal_gains_of _ _ _ _ c.patch.result c.self.view_is (c.requires h whole) writable (returns-clause-turn g c h)
