@@ -2,6 +2,7 @@ pub mod Maps
 pub mod Keys
 pub mod Files
 pub mod Sums
+pub mod Tallies
 pub mod Makes
 pub mod Writes
 pub mod Others
@@ -17,3 +18,5 @@ pub mod Passes
 pub mod Kept
 pub mod OneRecord
 pub mod SizeSums
+pub mod Gains
+pub mod SealGains

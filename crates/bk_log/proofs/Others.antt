@@ -85,16 +85,19 @@ keeps_append file bytes whole others =
     ∙ append-nil (filter is_entry (records_of file))
 
 -- a file with another header
-pub keeps_patch : (file left : List ℕ) → length left ≡ 12 → 20 ≤ length file → entries_of (patched_file file left) ≡ entries_of file
-unfolding entries_of records_of
-keeps_patch file left twelve long =
+pub records_of-patch : (file left : List ℕ) → length left ≡ 12 → 20 ≤ length file → records_of (patched_file file left) ≡ records_of file
+unfolding records_of
+records_of-patch file left twelve long =
     let front = take 8 file ++ left in
     let twenty : length front ≡ 20 = omega (arith, length-append (take 8 file) left, length-take-le 8 file (omega arith)) in
     let size : length (front ++ drop 20 file) ≡ length file = omega (arith, length-append front (drop 20 file), length-drop 20 file) in
     let behind : drop 1024 (front ++ drop 20 file) ≡ drop 1024 file = drop-append-drop 20 file front 1024 (omega arith) twenty in
-    let list : List ℕ → List (ℕ × List ℕ) = λ f. filter is_entry (pieces (length f) 1024 (drop 1024 f)) in
-    ap (λ b. list (cond b (front ++ drop 20 file) file)) (le-leb 20 (length file) long)
-    ∙ ap (λ n. filter is_entry (pieces n 1024 (drop 1024 (front ++ drop 20 file)))) size ∙ ap (λ b. filter is_entry (pieces (length file) 1024 b)) behind
+    ap (λ b. pieces (length (cond b (front ++ drop 20 file) file)) 1024 (drop 1024 (cond b (front ++ drop 20 file) file))) (le-leb 20 (length file) long)
+    ∙ ap (λ n. pieces n 1024 (drop 1024 (front ++ drop 20 file))) size ∙ ap (pieces (length file) 1024) behind
+
+pub keeps_patch : (file left : List ℕ) → length left ≡ 12 → 20 ≤ length file → entries_of (patched_file file left) ≡ entries_of file
+unfolding entries_of
+keeps_patch file left twelve long = ap (filter is_entry) (records_of-patch file left twelve long)
 
 -- files with one log changed so
 pub keeps_insert : (files : Files) (log : ℕ) (file file' : List ℕ) → IsFile files log file → entries_of file' ≡ entries_of file → KeepsEntries files (insert files log file')

@@ -17,7 +17,7 @@ use Rattle.bk_log.proofs.Maps.{insert-insert}
 use Rattle.bk_log.proofs.Writes.{text_is_long}
 use Rattle.bk_log.proofs.Others.{batches_prefix, keeps_append, keeps_patch, keeps_insert}
 
-whole_of : (files : Files) (w : Writing) (writes : Writes files w) → IsWhole writes.file
+pub whole_of : (files : Files) (w : Writing) (writes : Writes files w) → IsWhole writes.file
 whole_of files w writes = record { headed = text_is_long writes.file writes.records writes.text; records = writes.records; spelled = writes.text.spelled }
 
 -- a prefix of the map behind the records

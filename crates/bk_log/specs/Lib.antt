@@ -6,6 +6,7 @@ pub mod Writing
 pub mod Sealing
 pub mod Reads
 pub mod Places
+pub mod Growing
 pub mod Ranges
 pub mod Fronts
 pub mod Ahead

@@ -1,9 +1,16 @@
 //! Laws of the definitions that contracts cite, stated once for every file; the functions do nothing.
 
-ghost use Rattle.std.specs.Prelude.{ℕ, List};
+ghost use Rattle.std.specs.Prelude.{ℕ, List, [], Result};
+ghost use Rattle.bk_record.specs.Files.{Files};
+ghost use Rattle.bk_record.specs.Location.{Place};
+ghost use Rattle.bk_record.specs.Record.{IsPayload};
+ghost use Rattle.bk_log.specs.declared.fault.CreateFault.{CreateFault};
+ghost use Rattle.bk_log.specs.declared.fault.LogFault.{LogFault};
+ghost use Rattle.bk_log.specs.Growing.{Gains, PutGains};
 ghost use Rattle.bk_log.specs.Places.{StandsOnce};
 ghost use Rattle.bk_log.specs.Ranges.{GoesOn, IsPassed, IsWholePart, part};
 ghost use Rattle.bk_log.specs.Sizes.{AddsUp};
+ghost use Rattle.bk_log.specs.Writing.{CreateTurn, PutTurn, Writes, Writing};
 
 /// A scan from the header's end to a log's end is a scan of the log: the same entries, foreign records and rest.
 pub fn whole_log_is_one_part()
@@ -27,4 +34,13 @@ pub fn one_record_at_a_place()
 /// each length field included.
 pub fn sizes_are_sums()
     ensures { (records : List (ℕ × List ℕ)) (ledger : ℕ) → AddsUp records ledger }
+{}
+
+/// Making a log and writing a record leave every other log, and put no record before one that stands: whatever they answer,
+/// a new log has none, and the log that is written has one more at most, the put one at its place.
+pub fn logs_only_grow()
+    ensures created { (files files' : Files) (log : ℕ) (result : Result Writing CreateFault)
+        → CreateTurn files log result files' → Gains files log [] files' }
+    ensures put { (files files' : Files) (w : Writing) (payload : List ℕ) (result : Result Place LogFault) → Writes files w
+        → IsPayload payload → PutTurn files w payload result files' → PutGains files w payload result files' }
 {}

@@ -1,0 +1,152 @@
+-- Calls that write a log leave the other logs, and put records only behind those of the log.
+use Rattle.std.proofs.Common.{◌≡◌, ◌⊎◌, inl, inr, ℕ, ◌+◌, ◌-◌, ◌≤◌, Bool, true, false, cond, List, [], ◌∷◌, ◌++◌, length, take, drop, Option, Some, None, IsNone, is_some, Result, Ok, Err, nat_cmp, unwrap_or, refl, sym, ap, ◌∙◌, subst, arith, length-append, append_assoc}
+use Rattle.std.proofs.lemmas.Bool.{le-leb}
+use Rattle.std.proofs.lemmas.List.{append-nil, drop-append-le, length-take, length-take-le}
+use Rattle.std.proofs.lemmas.Slice.{drop-append-drop}
+use Rattle.std.proofs.lemmas.Map.Lookups.{exact_unsigned}
+use Rattle.std.proofs.lemmas.Map.Views.{tells_apart}
+use Rattle.std.specs.Cmp.{nat_cmp_total}
+use Rattle.std.specs.Ordering.{eq_by_cmp}
+use Rattle.std.specs.FinMap.{get, insert, get-insert}
+use Rattle.bk_record.specs.Location.{Place}
+use Rattle.bk_record.specs.Record.{record_of, IsPayload}
+use Rattle.bk_record.specs.Files.{Files, file_of, records_of}
+use Rattle.bk_record.proofs.Growth.{records_of-short, records_of-record, records_of-prefix}
+use Rattle.bk_disk.specs.Disk.{IsFile, grown, patched_file}
+use Rattle.bk_head.specs.Header.{empty_header}
+use Rattle.bk_log.specs.declared.fault.LogFault.{LogFault}
+use Rattle.bk_log.specs.declared.fault.LogFault.TheVariants.{Disk, Failed, Memory, Odd}
+use Rattle.bk_log.specs.declared.fault.CreateFault.{CreateFault}
+use Rattle.bk_log.specs.Places.{HasRecordAt}
+use Rattle.bk_log.specs.Writing.{Writing, Writes, CreateTurn, CreateFails, PutTurn}
+use Rattle.bk_log.specs.Growing.{Gains, PutGains, put_record}
+use Rattle.bk_log.proofs.Fetches.{record_fits}
+use Rattle.bk_log.proofs.Files.{stands-insert, grown-stands}
+use Rattle.bk_log.proofs.Makes.{length-empty_header}
+use Rattle.bk_log.proofs.Sealed.{whole_of}
+
+-- ---- one file
+
+-- each record stays at its place
+unfoldable pub Stays : List ℕ → List ℕ → Type 0
+Stays file file' = (at : ℕ) (payload : List ℕ) → HasRecordAt file at payload → HasRecordAt file' at payload
+
+-- behind more bytes
+pub stays_append : (file more : List ℕ) → Stays file (file ++ more)
+unfolding Stays
+stays_append file more at payload here = record {
+  behind_header = here.behind_header;
+  begins = record {
+    legal = here.begins.legal;
+    behind = here.begins.behind ++ more;
+    is = drop-append-le (at - 4) file more (omega (arith, record_fits file payload at here)) ∙ ap (λ b. b ++ more) here.begins.is
+        ∙ append_assoc (record_of payload) here.begins.behind more;
+  };
+}
+
+-- under another header
+pub stays_patch : (file left : List ℕ) → length left ≡ 12 → 20 ≤ length file → Stays file (patched_file file left)
+unfolding Stays
+stays_patch file left twelve long at payload here =
+    let front = take 8 file ++ left in
+    let twenty : length front ≡ 20 = omega (arith, length-append (take 8 file) left, length-take-le 8 file (omega arith)) in
+    record {
+      behind_header = here.behind_header;
+      begins = record {
+        legal = here.begins.legal;
+        behind = here.begins.behind;
+        is = ap (λ b. drop (at - 4) (cond b (front ++ drop 20 file) file)) (le-leb 20 (length file) long)
+            ∙ drop-append-drop 20 file front (at - 4) (omega (arith, here.behind_header)) twenty ∙ here.begins.is;
+      };
+    }
+
+-- a log without a byte has none
+stays_none : (file' : List ℕ) → Stays [] file'
+unfolding Stays
+stays_none file' at payload here = absurd (omega (arith, here.behind_header, record_fits [] payload at here))
+
+-- ---- the files
+
+-- nothing changed
+pub gains_same : (files files' : Files) (log : ℕ) → files' ≡ files → Gains files log [] files'
+gains_same files files' log is = record {
+  only = λ id apart. ap (λ m. get m id) is;
+  stands = λ there. ap (λ m. is_some (get m log)) is ∙ there;
+  records = ap (λ m. records_of (file_of m log)) is ∙ sym (append-nil (records_of (file_of files log)));
+  stays = λ at payload here. subst (λ m. HasRecordAt (file_of m log) at payload) (sym is) here;
+}
+
+pub file_at : (files : Files) (log : ℕ) (file : List ℕ) → IsFile files log file → file_of files log ≡ file
+file_at files log file is = ap (λ o. unwrap_or o []) is
+
+-- one log's file changed
+pub gains_file : (files files' : Files) (log : ℕ) (file file' : List ℕ) (others : List (ℕ × List ℕ)) → file_of files log ≡ file → files' ≡ insert files log file'
+    → records_of file' ≡ records_of file ++ others → Stays file file' → Gains files log others files'
+unfolding Stays
+gains_file files files' log file file' others was is records stays =
+    let stands : IsFile files' log file' = ap (λ m. get m log) is ∙ stands-insert files log file' in
+    let now = file_at files' log file' stands in
+    record {
+      only = λ id apart. ap (λ m. get m id) is ∙ elim (eq_by_cmp nat_cmp id log) as (λ b. eq_by_cmp nat_cmp id log ≡ b → get (insert files log file') id ≡ get files id) [
+        | true ↦ λ here. absurd (apart (tells_apart exact_unsigned id log here))
+        | false ↦ λ other. get-insert nat_cmp_total files log file' id ∙ ap (λ b. cond b (Some file') (get files id)) other
+      ] refl;
+      stands = λ there. ap is_some stands;
+      records = ap records_of now ∙ records ∙ ap (λ f. records_of f ++ others) (sym was);
+      stays = λ at payload here. subst (λ f. HasRecordAt f at payload) (sym now) (stays at payload (subst (λ f. HasRecordAt f at payload) was here));
+    }
+
+-- ---- making a log
+
+none_value : {X : Type 0} (o : Option X) → IsNone o → o ≡ None
+none_value None is = refl
+none_value (Some x) is = cc
+
+gains_made : (files files' : Files) (log : ℕ) (bytes : List ℕ) → IsNone (get files log) → files' ≡ insert files log bytes → length bytes ≤ 1024 → Gains files log [] files'
+gains_made files files' log bytes none is short =
+    gains_file files files' log [] bytes [] (ap (λ o. unwrap_or o []) (none_value (get files log) none)) is
+    (records_of-short bytes short ∙ sym (ap (λ l. l ++ []) (records_of-short [] (omega arith)))) (stays_none bytes)
+
+create_fault : (files files' : Files) (log : ℕ) (made : Bool) (fault : LogFault) → CreateFails files log made fault files' → Gains files log [] files'
+create_fault files files' log true Disk (none, (n, is)) = gains_made files files' log (take n empty_header) none is (omega (arith, length-take n empty_header, length-empty_header))
+create_fault files files' log true Memory (none, is) = gains_made files files' log [] none is (omega arith)
+create_fault files files' log true Odd never = absurd never
+create_fault files files' log true Failed never = absurd never
+create_fault files files' log false Disk is = gains_same files files' log is
+create_fault files files' log false Memory is = gains_same files files' log is
+create_fault files files' log false Odd is = gains_same files files' log is.1
+create_fault files files' log false Failed never = absurd never
+
+pub create_gains : {W : Type 0} (files files' : Files) (log : ℕ) (result : Result W CreateFault) → CreateTurn files log result files' → Gains files log [] files'
+create_gains files files' log (Ok w) (none, is) = gains_made files files' log empty_header none is (omega (arith, length-empty_header))
+create_gains files files' log (Err f) fails = create_fault files files' log f.made f.fault fails
+
+-- ---- writing a record
+
+put_whole : (files files' : Files) (w : Writing) (payload : List ℕ) → Writes files w → IsPayload payload → files' ≡ grown files w.log (record_of payload)
+    → Gains files w.log (put_record w payload) files'
+put_whole files files' w payload writes legal is =
+    gains_file files files' w.log writes.file (writes.file ++ record_of payload) (put_record w payload) (file_at files w.log writes.file writes.stands)
+    (is ∙ grown-stands files w.log writes.file (record_of payload) writes.stands)
+    (records_of-record writes.file payload (whole_of files w writes) legal ∙ ap (λ n. records_of writes.file ++ (n + 4, payload) ∷ []) (sym writes.long))
+    (stays_append writes.file (record_of payload))
+
+put_part : (files files' : Files) (w : Writing) (payload : List ℕ) (n : ℕ) → Writes files w → IsPayload payload → files' ≡ grown files w.log (take n (record_of payload))
+    → Gains files w.log (put_record w payload) files' ⊎ Gains files w.log [] files'
+put_part files files' w payload n writes legal is =
+    let piece = take n (record_of payload) in
+    let grew = is ∙ grown-stands files w.log writes.file piece writes.stands in
+    let was = file_at files w.log writes.file writes.stands in
+    elim (records_of-prefix writes.file payload n (whole_of files w writes) legal) [
+      | inl none ↦ inr (gains_file files files' w.log writes.file (writes.file ++ piece) [] was grew (none ∙ sym (append-nil (records_of writes.file))) (stays_append writes.file piece))
+      | inr one ↦ inl (gains_file files files' w.log writes.file (writes.file ++ piece) (put_record w payload) was grew
+          (one ∙ ap (λ n. records_of writes.file ++ (n + 4, payload) ∷ []) (sym writes.long)) (stays_append writes.file piece))
+    ]
+
+pub put_gains : (files files' : Files) (w : Writing) (payload : List ℕ) (result : Result Place LogFault) → Writes files w → IsPayload payload
+    → PutTurn files w payload result files' → PutGains files w payload result files'
+put_gains files files' w payload (Ok place) writes legal is = put_whole files files' w payload writes legal is
+put_gains files files' w payload (Err Disk) writes legal (n, is) = put_part files files' w payload n writes legal is
+put_gains files files' w payload (Err Failed) writes legal is = gains_same files files' w.log is
+put_gains files files' w payload (Err Memory) writes legal is = gains_same files files' w.log is
+put_gains files files' w payload (Err Odd) writes legal never = absurd never

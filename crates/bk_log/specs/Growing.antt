@@ -1,0 +1,37 @@
+-- What calls that write a log leave of the files: the other logs stay, and records come only behind those of the log.
+use Rattle.std.specs.Prelude.{◌≡◌, ◌≢◌, ℕ, ◌+◌, List, [], ◌∷◌, ◌++◌, not, IsSome, Result, Ok, Err, ◌⊎◌}
+use Rattle.std.specs.List.{filter}
+use Rattle.std.specs.FinMap as map
+use Rattle.bk_record.specs.Location.{Place}
+use Rattle.bk_record.specs.Record.{is_foreign}
+use Rattle.bk_record.specs.Files.{Files, file_of, records_of}
+use Rattle.bk_log.specs.declared.fault.LogFault.{LogFault}
+use Rattle.bk_log.specs.declared.fault.LogFault.TheVariants.{Disk, Failed, Memory, Odd}
+use Rattle.bk_log.specs.Places.{HasRecordAt}
+use Rattle.bk_log.specs.Writing.{Writing}
+
+-- The other logs are as they were, and the log stands where it stood. Each of its records stays at its place, and behind
+-- them are these.
+pub record Gains (files : Files) (log : ℕ) (others : List (ℕ × List ℕ)) (files' : Files) : Type 0 where
+  pub only : (id : ℕ) → id ≢ log → map.get files' id ≡ map.get files id
+  pub stands : IsSome (map.get files log) → IsSome (map.get files' log)
+  pub records : records_of (file_of files' log) ≡ records_of (file_of files log) ++ others
+  pub stays : (at : ℕ) (payload : List ℕ) → HasRecordAt (file_of files log) at payload → HasRecordAt (file_of files' log) at payload
+
+-- the record of a payload that is put, with its place
+abbrev pub put_record : Writing → List ℕ → List (ℕ × List ℕ)
+put_record w payload = (w.end + 4, payload) ∷ []
+
+-- `put`: one record more, with its place; where the device failed, that or none; else none
+abbrev pub PutGains : Files → Writing → List ℕ → Result Place LogFault → Files → Type 0
+PutGains files w payload (Ok place) files' = Gains files w.log (put_record w payload) files'
+PutGains files w payload (Err Disk) files' = Gains files w.log (put_record w payload) files' ⊎ Gains files w.log [] files'
+PutGains files w payload (Err Failed) files' = Gains files w.log [] files'
+PutGains files w payload (Err Memory) files' = Gains files w.log [] files'
+PutGains files w payload (Err Odd) files' = ⊥
+
+-- `seal`, whatever it answers: foreign records, possibly none
+pub record SealGains (files : Files) (w : Writing) (files' : Files) : Type 0 where
+  pub others : List (ℕ × List ℕ)
+  pub foreign : filter (λ r. not (is_foreign r.1)) others ≡ []
+  pub gains : Gains files w.log others files'
