@@ -132,7 +132,7 @@ fits_restarted settings honest files flush index logs writing next fits =
 pub created_files : (files files' : Files) (id : ℕ) (made : Bool) (fault : LogFault) → finite.get files id ≡ None → CreateFails files id made fault files' → OneFile files id files'
 created_files files files' id false logs.Disk none fails = inl fails
 created_files files files' id true logs.Disk none fails = inr (take fails.1.0 empty_header, fails.1.1)
-created_files files files' id false logs.Memory none fails = inl fails
+created_files files files' id false logs.Memory none fails = inl fails.1
 created_files files files' id true logs.Memory none fails = inr ([], fails.1)
 created_files files files' id false logs.Odd none fails = inl fails.1
 created_files files files' id true logs.Odd none fails = absurd fails

@@ -120,7 +120,7 @@ kept_make_memory p s t true kept m =
     let is = m.left ∙ ap (λ (fs : Files). record s { files = fs; failures = t.failures; logs = s.logs ++ (s.next, made_log Readable) ∷ []; writing = None; next = s.next + 1 }) m.created.1 in
     subst (λ (x : State). Kept p x) (sym is) (kept_half_made p s t.failures [] kept (omega arith))
 kept_make_memory p s t false kept m =
-    let is = m.left ∙ ap (λ (fs : Files). record s { files = fs; failures = t.failures; logs = s.logs; writing = None; next = s.next + 1 }) m.created in
+    let is = m.left ∙ ap (λ (fs : Files). record s { files = fs; failures = t.failures; logs = s.logs; writing = None; next = s.next + 1 }) m.created.1 in
     subst (λ (x : State). Kept p x) (sym is) (kept_not_made p s t.failures kept)
 
 pub kept_make : (p : Plain) (s t : State) (fault : FlushFault) → Kept p s → MakeTurn {T = Unit {0}} s (Err fault) t → Kept p t

@@ -68,12 +68,12 @@ long_as file payload at from n read here =
 
 -- a read that a record of the key would need, and that is refused
 pub fetch_refused : (file : List ℕ) (at from n : ℕ) (key : EntryKey) (fault : ReadFault)
-    → ReadFails file from n fault → ((payload : List ℕ) → HasEntryAt file at key payload → IsInView file from n)
+    → ReadFails file from n fault → ((payload : List ℕ) → HasEntryAt file at key payload → IsInView file from n) → (IsInView file from n → IsInView file (at - 4) 4)
     → FetchFails file at key (missed fault)
-fetch_refused file at from n key Disk shows needs = tt
-fetch_refused file at from n key PastEnd shows needs = λ payload here. shows (needs payload here)
-fetch_refused file at from n key Memory shows needs = tt
-fetch_refused file at from n key Odd shows needs = shows
+fetch_refused file at from n key Disk shows needs field = tt
+fetch_refused file at from n key PastEnd shows needs field = λ payload here. shows (needs payload here)
+fetch_refused file at from n key Memory shows needs field = field shows
+fetch_refused file at from n key Odd shows needs field = shows
 
 -- the field of a record lies in the view
 pub needs_field : (file : List ℕ) (at from : ℕ) (key : EntryKey) → from ≡ at → (payload : List ℕ) → HasEntryAt file at key payload → IsInView file (from - 4) 4

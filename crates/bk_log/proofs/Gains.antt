@@ -113,7 +113,7 @@ create_fault files files' log true Memory (none, is) = gains_made files files' l
 create_fault files files' log true Odd never = absurd never
 create_fault files files' log true Failed never = absurd never
 create_fault files files' log false Disk is = gains_same files files' log is
-create_fault files files' log false Memory is = gains_same files files' log is
+create_fault files files' log false Memory is = gains_same files files' log is.1
 create_fault files files' log false Odd is = gains_same files files' log is.1
 create_fault files files' log false Failed never = absurd never
 

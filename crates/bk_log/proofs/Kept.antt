@@ -233,15 +233,15 @@ kept_bad window from end given foreign torn ready value ended fault kept going f
       };
 }
 
-fails_here : (s : Scan) (fault : ScanFault) → AheadFails fault → ScanFails s fault
+fails_here : (s : Scan) (fault : ScanFault) → AheadFails s.left fault → ScanFails s fault
 fails_here s (BadLength at value) never = absurd never
 fails_here s Disk fine = tt
-fails_here s Memory fine = tt
+fails_here s Memory some = some
 fails_here s Odd never = absurd never
 
 -- the view could not be read
 pub kept_fault : (window : Ahead) (from end given foreign torn ready : ℕ) (ended : Bool) (fault : Option ScanFault) (met : ScanFault)
-    → IsKept window from end given foreign torn ended fault → ended ≡ false → (met ≡ Disk → window.sound ≡ false) → (IsTrue window.honest → AheadFails met)
+    → IsKept window from end given foreign torn ended fault → ended ≡ false → (met ≡ Disk → window.sound ≡ false) → (IsTrue window.honest → AheadFails (end - window.at) met)
     → IsKept (record window { ready = ready }) from end given foreign torn ended (Some met)
 kept_fault window from end given foreign torn ready ended fault met kept going cause fails = record {
   placed = kept.placed;

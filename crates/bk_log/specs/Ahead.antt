@@ -1,5 +1,5 @@
 -- Reading ahead in a view: a position, and how many bytes from there on are at hand.
-use Rattle.std.specs.Prelude.{◌≡◌, ℕ, ◌-◌, ◌≤◌, Bool, IsTrue, List, length, take, drop, Result, Ok, Err}
+use Rattle.std.specs.Prelude.{◌≡◌, ℕ, ◌-◌, ◌≤◌, ◌<◌, Bool, IsTrue, List, length, take, drop, Result, Ok, Err}
 use Rattle.std.proofs.Common.{refl}
 use Rattle.std.specs.Coded.{Coded, code_by, coded×, coded_ℕ, coded_bool, coded_list}
 use Rattle.bk_log.specs.declared.fault.ScanFault.{ScanFault}
@@ -29,12 +29,12 @@ pub record ShowsAhead (honest : Bool) (bytes : List ℕ) (at offset : ℕ) (read
   pub within : offset ≤ length read
   pub shown : IsTrue honest → drop offset read ≡ take (length read - offset) (drop at bytes)
 
--- a refused read ahead: an honest view shows what lies in it
-abbrev pub AheadFails : ScanFault → Type 0
-AheadFails (BadLength at length) = ⊥
-AheadFails Disk = Unit {0}
-AheadFails Memory = Unit {0}
-AheadFails Odd = ⊥
+-- a refused read ahead, where so many bytes are left: an honest view shows what lies in it, and no bytes need no memory
+abbrev pub AheadFails : ℕ → ScanFault → Type 0
+AheadFails left (BadLength at length) = ⊥
+AheadFails left Disk = Unit {0}
+AheadFails left Memory = 0 < left
+AheadFails left Odd = ⊥
 
 -- what a refused read means for a scan
 abbrev pub stopped : ReadFault → ScanFault
@@ -43,7 +43,7 @@ stopped reads.PastEnd = Odd
 stopped reads.Memory = Memory
 stopped reads.Odd = Odd
 
--- what stands at the position, of so many bytes
-abbrev pub ShowsFront : List ℕ → Result Front ScanFault → Type 0
-ShowsFront here (Ok front) = IsFront here front
-ShowsFront here (Err fault) = AheadFails fault
+-- what stands at the position, where so many bytes are left, and these
+abbrev pub ShowsFront : ℕ → List ℕ → Result Front ScanFault → Type 0
+ShowsFront left here (Ok front) = IsFront here front
+ShowsFront left here (Err fault) = AheadFails left fault

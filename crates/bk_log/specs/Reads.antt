@@ -4,11 +4,12 @@ use Rattle.bk_disk.specs.Disk.{IsInView}
 use Rattle.bk_log.specs.declared.reading.ReadFault.{ReadFault}
 use Rattle.bk_log.specs.declared.reading.ReadFault.TheVariants.{Disk, PastEnd, Memory, Odd}
 
--- a refused read of an honest view of a log with these bytes: `PastEnd` only where so many don't lie in it from there on
+-- a refused read of an honest view of a log with these bytes: `PastEnd` only where so many don't lie in it from there on,
+-- `Memory` only where they do
 abbrev pub ReadFails : List ℕ → ℕ → ℕ → ReadFault → Type 0
 ReadFails file at n Disk = Unit {0}
 ReadFails file at n PastEnd = ¬ (IsInView file at n)
-ReadFails file at n Memory = Unit {0}
+ReadFails file at n Memory = IsInView file at n
 ReadFails file at n Odd = ⊥
 
 -- a read: so many bytes from a position on

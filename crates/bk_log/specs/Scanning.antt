@@ -48,11 +48,12 @@ pub record IsFinished (s : Scan) : Type 0 where
   pub foreign : s.foreign ≡ foreign_in s.from (part_of s)
   pub torn : s.torn ≡ length (all_leftover (part_of s))
 
--- the fault of a scan of an honest view: a bad length exactly where the part has one, behind all its entries
+-- the fault of a scan of an honest view: a bad length exactly where the part has one, behind all its entries; want of
+-- memory only where bytes are left
 abbrev pub ScanFails : Scan → ScanFault → Type 0
 ScanFails s (BadLength at value) = (s.given ≡ length (entries_in s.from (part_of s))) × IsBadAt s.from (part_of s) at value
 ScanFails s Disk = Unit {0}
-ScanFails s Memory = Unit {0}
+ScanFails s Memory = 0 < s.left
 ScanFails s Odd = ⊥
 
 -- `next`, on an honest view

@@ -63,12 +63,12 @@ PutTurn files w payload (Err Memory) files' = files' ≡ files
 PutTurn files w payload (Err Odd) files' = ⊥
 
 -- What a refused `create` leaves, by whether it made the file: a file with a prefix of the header, where there was none; or
--- the files as they were.
+-- the files as they were. Want of memory is told only where there was no such file.
 abbrev pub CreateFails : Files → ℕ → Bool → LogFault → Files → Type 0
 CreateFails files log true Disk files' = IsNone (map.get files log) × ((n : ℕ) × (files' ≡ map.insert files log (take n empty_header)))
 CreateFails files log true Memory files' = IsNone (map.get files log) × (files' ≡ map.insert files log [])
 CreateFails files log false Disk files' = files' ≡ files
-CreateFails files log false Memory files' = files' ≡ files
+CreateFails files log false Memory files' = IsNone (map.get files log) × (files' ≡ files)
 CreateFails files log false Odd files' = IsSome (map.get files log) × (files' ≡ files)
 CreateFails files log true Odd files' = ⊥
 CreateFails files log _ Failed files' = ⊥

@@ -73,7 +73,7 @@ impl<'a, V: LogView> Window<'a, V> {
         ensures same { self.new ≡ record self.old { ready = self.new.ready } }
         ensures cause { IsErrOf result ScanFault.Disk → self.old.sound ≡ false }
         ensures fits { IfOk result (FitsIn left) }
-        ensures turn { IsTrue self.old.honest → ShowsFront (take left (drop self.old.at self.old.bytes)) result }
+        ensures turn { IsTrue self.old.honest → ShowsFront left (take left (drop self.old.at self.old.bytes)) result }
     {
         let wanted = left.min(HEAD);
         self.fill(wanted, left)?;
@@ -89,7 +89,7 @@ impl<'a, V: LogView> Window<'a, V> {
         ensures same { self.new ≡ record self.old { ready = self.new.ready } }
         ensures cause { IsErrOf result ScanFault.Disk → self.old.sound ≡ false }
         ensures ready { OnOk result (wanted ≤ self.new.ready) }
-        ensures turn { IsTrue self.old.honest → IfErr result AheadFails }
+        ensures turn { IsTrue self.old.honest → IfErr result (AheadFails left) }
     {
         let ready = (self.read.len() - self.offset) as u64;
         if wanted <= ready {

@@ -1,4 +1,5 @@
-use Rattle.std.proofs.Common.{sym, ◌∙◌, ap, subst, arith, take, refl}
+use Rattle.std.proofs.Common.{sym, ◌∙◌, ap, subst, arith, take, refl, ◌-◌}
+use Rattle.bk_disk.specs.Disk.{IsInView}
 use Rattle.bk_log.specs.Places.{FetchFails}
 use Rattle.std.proofs.lemmas.Bool.{false≢true}
 use Rattle.std.specs.Int.{w32, to_be_bytes}
@@ -9,7 +10,8 @@ use Rattle.bk_log.proofs.fetching.fetch.Goals as goal
 pub returns-in-Err-clause-turn : goal.returns-in-Err-clause-turn
 returns-in-Err-clause-turn g c = λ h.
     subst (λ f. FetchFails (g.V.LogView.bytes c.args.view.now) c.args.location.at c.args.key f) (sym c.fetch_fault.ensures)
-    (fetch_refused _ _ _ _ _ _ (c.in-Err.ensures.turn h) (needs_field _ _ _ _ (c.from-at.ensures ∙ c.at.ensures.value)))
+    (fetch_refused _ _ _ _ _ _ (c.in-Err.ensures.turn h) (needs_field _ _ _ _ (c.from-at.ensures ∙ c.at.ensures.value))
+    (λ view. subst (λ a. IsInView (g.V.LogView.bytes c.args.view.now) (a - 4) 4) (c.from-at.ensures ∙ c.at.ensures.value) view))
 
 pub returns-then-not-is_payload_length-clause-turn : goal.returns-then-not-is_payload_length-clause-turn
 returns-then-not-is_payload_length-clause-turn g c = λ h.
@@ -30,7 +32,8 @@ returns-in-Err-read-clause-turn g c = λ h.
       shown = (c.in-Ok.ensures.turn h).1;
       number = c.from.ensures ∙ c.length_in-length.ensures.value ∙ ap length_field c.deref.ensures.value;
       written = ap (to_be_bytes w32) c.from.ensures ∙ c.length_in-length.ensures.written ∙ ap (take 4) c.deref.ensures.value;
-    })))
+    }))
+    (λ view. subst (λ a. IsInView (g.V.LogView.bytes c.args.view.now) (a - 4) 4) (c.from-at.ensures ∙ c.at.ensures.value) (c.in-Ok.ensures.turn h).0))
 
 pub returns-then-not-is_of_key-clause-turn : goal.returns-then-not-is_of_key-clause-turn
 returns-then-not-is_of_key-clause-turn g c = λ h.
