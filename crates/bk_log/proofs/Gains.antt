@@ -1,7 +1,7 @@
 -- Calls that write a log leave the other logs, and put records only behind those of the log.
 use Rattle.std.proofs.Common.{◌≡◌, ◌⊎◌, inl, inr, ℕ, ◌+◌, ◌-◌, ◌≤◌, Bool, true, false, cond, List, [], ◌∷◌, ◌++◌, length, take, drop, Option, Some, None, IsNone, is_some, Result, Ok, Err, nat_cmp, unwrap_or, refl, sym, ap, ◌∙◌, subst, arith, length-append, append_assoc}
 use Rattle.std.proofs.lemmas.Bool.{le-leb}
-use Rattle.std.proofs.lemmas.List.{append-nil, drop-append-le, length-take, length-take-le}
+use Rattle.std.proofs.lemmas.List.{append-nil, drop-drop, length-drop, drop-append-le, length-take, length-take-le}
 use Rattle.std.proofs.lemmas.Slice.{drop-append-drop}
 use Rattle.std.proofs.lemmas.Map.Lookups.{exact_unsigned}
 use Rattle.std.proofs.lemmas.Map.Views.{tells_apart}
@@ -11,6 +11,8 @@ use Rattle.std.specs.FinMap.{get, insert, get-insert}
 use Rattle.bk_record.specs.Location.{Place}
 use Rattle.bk_record.specs.Record.{record_of, IsPayload}
 use Rattle.bk_record.specs.Files.{Files, file_of, records_of}
+use Rattle.bk_record.specs.Longer.{IsLonger}
+use Rattle.bk_record.proofs.Longer.{longer_same, longer_append, longer_empty}
 use Rattle.bk_record.proofs.Growth.{records_of-short, records_of-record, records_of-prefix}
 use Rattle.bk_disk.specs.Disk.{IsFile, grown, patched_file}
 use Rattle.bk_head.specs.Header.{empty_header}
@@ -27,43 +29,33 @@ use Rattle.bk_log.proofs.Sealed.{whole_of}
 
 -- ---- one file
 
--- each record stays at its place
-unfoldable pub Stays : List ℕ → List ℕ → Type 0
-Stays file file' = (at : ℕ) (payload : List ℕ) → HasRecordAt file at payload → HasRecordAt file' at payload
-
--- behind more bytes
-pub stays_append : (file more : List ℕ) → Stays file (file ++ more)
-unfolding Stays
-stays_append file more at payload here = record {
-  behind_header = here.behind_header;
-  begins = record {
-    legal = here.begins.legal;
-    behind = here.begins.behind ++ more;
-    is = drop-append-le (at - 4) file more (omega (arith, record_fits file payload at here)) ∙ ap (λ b. b ++ more) here.begins.is
-        ∙ append_assoc (record_of payload) here.begins.behind more;
-  };
-}
-
--- under another header
-pub stays_patch : (file left : List ℕ) → length left ≡ 12 → 20 ≤ length file → Stays file (patched_file file left)
-unfolding Stays
-stays_patch file left twelve long at payload here =
-    let front = take 8 file ++ left in
-    let twenty : length front ≡ 20 = omega (arith, length-append (take 8 file) left, length-take-le 8 file (omega arith)) in
+-- a record that stands at a position stands there in the longer log
+pub longer_stays : (front whole : List ℕ) (at : ℕ) (payload : List ℕ) → IsLonger front whole → HasRecordAt front at payload → HasRecordAt whole at payload
+longer_stays front whole at payload longer here =
+    let skip = at - 4 - 1024 in
+    let count : 1024 + skip ≡ at - 4 = omega (arith, here.behind_header) in
+    let split : (file : List ℕ) → drop skip (drop 1024 file) ≡ drop (at - 4) file = λ file. drop-drop skip 1024 file ∙ ap (λ n. drop n file) count in
+    let within : skip ≤ length (drop 1024 front) = omega (arith, record_fits front payload at here, length-drop 1024 front, here.behind_header) in
     record {
       behind_header = here.behind_header;
       begins = record {
         legal = here.begins.legal;
-        behind = here.begins.behind;
-        is = ap (λ b. drop (at - 4) (cond b (front ++ drop 20 file) file)) (le-leb 20 (length file) long)
-            ∙ drop-append-drop 20 file front (at - 4) (omega (arith, here.behind_header)) twenty ∙ here.begins.is;
+        behind = here.begins.behind ++ longer.behind;
+        is = sym (split whole) ∙ ap (drop skip) longer.is ∙ drop-append-le skip (drop 1024 front) longer.behind within
+            ∙ ap (λ l. l ++ longer.behind) (split front ∙ here.begins.is) ∙ append_assoc (record_of payload) here.begins.behind longer.behind;
       };
     }
 
--- a log without a byte has none
-stays_none : (file' : List ℕ) → Stays [] file'
-unfolding Stays
-stays_none file' at payload here = absurd (omega (arith, here.behind_header, record_fits [] payload at here))
+-- a log under another header
+pub longer_patch : (file left : List ℕ) → length left ≡ 12 → 20 ≤ length file → IsLonger file (patched_file file left)
+longer_patch file left twelve long =
+    let front = take 8 file ++ left in
+    let twenty : length front ≡ 20 = omega (arith, length-append (take 8 file) left, length-take-le 8 file (omega arith)) in
+    record {
+      behind = [];
+      is = ap (λ b. drop 1024 (cond b (front ++ drop 20 file) file)) (le-leb 20 (length file) long)
+          ∙ drop-append-drop 20 file front 1024 (omega arith) twenty ∙ sym (append-nil (drop 1024 file));
+    }
 
 -- ---- the files
 
@@ -73,6 +65,7 @@ gains_same files files' log is = record {
   only = λ id apart. ap (λ m. get m id) is;
   stands = λ there. ap (λ m. is_some (get m log)) is ∙ there;
   records = ap (λ m. records_of (file_of m log)) is ∙ sym (append-nil (records_of (file_of files log)));
+  longer = subst (λ m. IsLonger (file_of files log) (file_of m log)) (sym is) (longer_same (file_of files log));
   stays = λ at payload here. subst (λ m. HasRecordAt (file_of m log) at payload) (sym is) here;
 }
 
@@ -81,11 +74,12 @@ file_at files log file is = ap (λ o. unwrap_or o []) is
 
 -- one log's file changed
 pub gains_file : (files files' : Files) (log : ℕ) (file file' : List ℕ) (others : List (ℕ × List ℕ)) → file_of files log ≡ file → files' ≡ insert files log file'
-    → records_of file' ≡ records_of file ++ others → Stays file file' → Gains files log others files'
-unfolding Stays
-gains_file files files' log file file' others was is records stays =
+    → records_of file' ≡ records_of file ++ others → IsLonger file file' → Gains files log others files'
+gains_file files files' log file file' others was is records longer =
     let stands : IsFile files' log file' = ap (λ m. get m log) is ∙ stands-insert files log file' in
     let now = file_at files' log file' stands in
+    let grown_file : IsLonger (file_of files log) (file_of files' log) =
+    subst (λ f. IsLonger f (file_of files' log)) (sym was) (subst (λ f. IsLonger file f) (sym now) longer) in
     record {
       only = λ id apart. ap (λ m. get m id) is ∙ elim (eq_by_cmp nat_cmp id log) as (λ b. eq_by_cmp nat_cmp id log ≡ b → get (insert files log file') id ≡ get files id) [
         | true ↦ λ here. absurd (apart (tells_apart exact_unsigned id log here))
@@ -93,7 +87,8 @@ gains_file files files' log file file' others was is records stays =
       ] refl;
       stands = λ there. ap is_some stands;
       records = ap records_of now ∙ records ∙ ap (λ f. records_of f ++ others) (sym was);
-      stays = λ at payload here. subst (λ f. HasRecordAt f at payload) (sym now) (stays at payload (subst (λ f. HasRecordAt f at payload) was here));
+      longer = grown_file;
+      stays = λ at payload here. longer_stays (file_of files log) (file_of files' log) at payload grown_file here;
     }
 
 -- ---- making a log
@@ -105,7 +100,7 @@ none_value (Some x) is = cc
 gains_made : (files files' : Files) (log : ℕ) (bytes : List ℕ) → IsNone (get files log) → files' ≡ insert files log bytes → length bytes ≤ 1024 → Gains files log [] files'
 gains_made files files' log bytes none is short =
     gains_file files files' log [] bytes [] (ap (λ o. unwrap_or o []) (none_value (get files log) none)) is
-    (records_of-short bytes short ∙ sym (ap (λ l. l ++ []) (records_of-short [] (omega arith)))) (stays_none bytes)
+    (records_of-short bytes short ∙ sym (ap (λ l. l ++ []) (records_of-short [] (omega arith)))) (longer_empty bytes)
 
 create_fault : (files files' : Files) (log : ℕ) (made : Bool) (fault : LogFault) → CreateFails files log made fault files' → Gains files log [] files'
 create_fault files files' log true Disk (none, (n, is)) = gains_made files files' log (take n empty_header) none is (omega (arith, length-take n empty_header, length-empty_header))
@@ -129,7 +124,7 @@ put_whole files files' w payload writes legal is =
     gains_file files files' w.log writes.file (writes.file ++ record_of payload) (put_record w payload) (file_at files w.log writes.file writes.stands)
     (is ∙ grown-stands files w.log writes.file (record_of payload) writes.stands)
     (records_of-record writes.file payload (whole_of files w writes) legal ∙ ap (λ n. records_of writes.file ++ (n + 4, payload) ∷ []) (sym writes.long))
-    (stays_append writes.file (record_of payload))
+    (longer_append writes.file (record_of payload))
 
 put_part : (files files' : Files) (w : Writing) (payload : List ℕ) (n : ℕ) → Writes files w → IsPayload payload → files' ≡ grown files w.log (take n (record_of payload))
     → Gains files w.log (put_record w payload) files' ⊎ Gains files w.log [] files'
@@ -138,9 +133,9 @@ put_part files files' w payload n writes legal is =
     let grew = is ∙ grown-stands files w.log writes.file piece writes.stands in
     let was = file_at files w.log writes.file writes.stands in
     elim (records_of-prefix writes.file payload n (whole_of files w writes) legal) [
-      | inl none ↦ inr (gains_file files files' w.log writes.file (writes.file ++ piece) [] was grew (none ∙ sym (append-nil (records_of writes.file))) (stays_append writes.file piece))
+      | inl none ↦ inr (gains_file files files' w.log writes.file (writes.file ++ piece) [] was grew (none ∙ sym (append-nil (records_of writes.file))) (longer_append writes.file piece))
       | inr one ↦ inl (gains_file files files' w.log writes.file (writes.file ++ piece) (put_record w payload) was grew
-          (one ∙ ap (λ n. records_of writes.file ++ (n + 4, payload) ∷ []) (sym writes.long)) (stays_append writes.file piece))
+          (one ∙ ap (λ n. records_of writes.file ++ (n + 4, payload) ∷ []) (sym writes.long)) (longer_append writes.file piece))
     ]
 
 pub put_gains : (files files' : Files) (w : Writing) (payload : List ℕ) (result : Result Place LogFault) → Writes files w → IsPayload payload

@@ -3,6 +3,7 @@ use Rattle.std.proofs.Common.{◌≡◌, inl, inr, ℕ, Bool, true, false, cond,
 use Rattle.std.proofs.lemmas.List.{take_all}
 use Rattle.std.specs.FinMap.{len}
 use Rattle.bk_record.specs.Files.{Files, records_of}
+use Rattle.bk_record.proofs.Longer.{longer_append, longer_trans}
 use Rattle.bk_record.proofs.Growth.{records_of-behind}
 use Rattle.bk_disk.specs.Disk.{grown, patched, patched_file}
 use Rattle.bk_head.specs.Header.{patch_of}
@@ -14,7 +15,7 @@ use Rattle.bk_log.specs.Writing.{Writing, Writes}
 use Rattle.bk_log.specs.Sealing.{map_bytes, map_fits, mapped, SealTurn}
 use Rattle.bk_log.specs.Growing.{SealGains}
 use Rattle.bk_log.proofs.Files.{grown-stands}
-use Rattle.bk_log.proofs.Gains.{Stays, stays_append, stays_patch, gains_same, gains_file, file_at}
+use Rattle.bk_log.proofs.Gains.{longer_patch, gains_same, gains_file, file_at}
 use Rattle.bk_log.proofs.Others.{Others, batches_prefix, records_of-patch}
 use Rattle.bk_log.proofs.Sealed.{whole_of, patched-mapped, long_enough, length-patch_of}
 
@@ -35,7 +36,7 @@ module _ (files files' : Files) (w : Writing) (writes : Writes files w) (writabl
     others = (batches n).records;
     foreign = (batches n).foreign;
     gains = gains_file files files' w.log writes.file (writes.file ++ take n (map_bytes w)) (batches n).records (file_at files w.log writes.file writes.stands)
-        (is ∙ grown-stands files w.log writes.file (take n (map_bytes w)) writes.stands) (came n) (stays_append writes.file (take n (map_bytes w)));
+        (is ∙ grown-stands files w.log writes.file (take n (map_bytes w)) writes.stands) (came n) (longer_append writes.file (take n (map_bytes w)));
   }
 
   all_map : take (length (map_bytes w)) (map_bytes w) ≡ map_bytes w
@@ -45,7 +46,6 @@ module _ (files files' : Files) (w : Writing) (writes : Writes files w) (writabl
   seal_map_alone is = seal_part (length (map_bytes w)) (is ∙ ap (grown files w.log) (sym all_map))
 
   seal_patched : (left : List ℕ) → length left ≡ 12 → files' ≡ patched (mapped files w) w.log left → SealGains files w files'
-  unfolding Stays
   seal_patched left twelve is =
       let n = length (map_bytes w) in
       let whole = writes.file ++ map_bytes w in
@@ -56,7 +56,7 @@ module _ (files files' : Files) (w : Writing) (writes : Writes files w) (writabl
         gains = gains_file files files' w.log writes.file (patched_file whole left) (batches n).records (file_at files w.log writes.file writes.stands)
             (is ∙ patched-mapped files w left writes)
             (records_of-patch whole left twelve long ∙ ap (λ b. records_of (writes.file ++ b)) (sym all_map) ∙ came n)
-            (λ at payload here. stays_patch whole left twelve long at payload (stays_append writes.file (map_bytes w) at payload here));
+            (longer_trans writes.file whole (patched_file whole left) (longer_append writes.file (map_bytes w)) (longer_patch whole left twelve long));
       }
 
   seal_done : (b : Bool) → files' ≡ cond b (patched (mapped files w) w.log (patch_of w.end (len w.sizes))) files → SealGains files w files'

@@ -5,17 +5,19 @@ use Rattle.std.specs.FinMap as map
 use Rattle.bk_record.specs.Location.{Place}
 use Rattle.bk_record.specs.Record.{is_foreign}
 use Rattle.bk_record.specs.Files.{Files, file_of, records_of}
+use Rattle.bk_record.specs.Longer.{IsLonger}
 use Rattle.bk_log.specs.declared.fault.LogFault.{LogFault}
 use Rattle.bk_log.specs.declared.fault.LogFault.TheVariants.{Disk, Failed, Memory, Odd}
 use Rattle.bk_log.specs.Places.{HasRecordAt}
 use Rattle.bk_log.specs.Writing.{Writing}
 
--- The other logs are as they were, and the log stands where it stood. Each of its records stays at its place, and behind
--- them are these.
+-- The other logs are as they were, and the log stands where it stood and goes on behind its old end. Each of its records
+-- stays at its place, and behind them are these.
 pub record Gains (files : Files) (log : ℕ) (others : List (ℕ × List ℕ)) (files' : Files) : Type 0 where
   pub only : (id : ℕ) → id ≢ log → map.get files' id ≡ map.get files id
   pub stands : IsSome (map.get files log) → IsSome (map.get files' log)
   pub records : records_of (file_of files' log) ≡ records_of (file_of files log) ++ others
+  pub longer : IsLonger (file_of files log) (file_of files' log)
   pub stays : (at : ℕ) (payload : List ℕ) → HasRecordAt (file_of files log) at payload → HasRecordAt (file_of files' log) at payload
 
 -- the record of a payload that is put, with its place
