@@ -1,6 +1,1 @@
-pub mod Number
-pub mod Line
-pub mod Text
-pub mod Script
-pub mod Run
 pub mod CommandLine

@@ -2,17 +2,9 @@
 #![tactic(auto)]
 
 mod cli;
-mod fault;
-mod input;
-mod line;
-mod number;
-mod run;
-mod script;
-mod text;
 
+pub use bk_script::run_script;
 use clap::error::ErrorKind;
-use fault::ScriptFault;
-pub use run::run_script;
 use std::io::BufWriter;
 use std::process::ExitCode;
 use std::{env, io};

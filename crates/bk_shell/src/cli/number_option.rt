@@ -5,7 +5,7 @@ ghost use Rattle.clap.specs.Matches.{found_of};
 ghost use Rattle.clap.specs.Walk.{first_of, rows_of, rule_of};
 ghost use Rattle.bk_shell.specs.CommandLine.{option_rule, IsNumberIn, AsksNumber};
 
-use crate::number::number;
+use bk_script::number;
 use clap::{Arg, ArgMatches};
 use std::alloc::Global;
 use thiserror::Error;

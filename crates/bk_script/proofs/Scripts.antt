@@ -1,0 +1,75 @@
+-- A script read line by line: what the lines so far spell, and where the first bad one is.
+use Rattle.std.proofs.Common.{◌≡◌, ◌≢◌, ℕ, ◌+◌, ◌<◌, true, List, [], ◌∷◌, ◌++◌, length, take, drop, get_or, All, arith, refl, sym, ◌∙◌, ap, subst, zero-add}
+use Rattle.std.specs.List.{AllZip, filter, enumerate_from}
+use Rattle.std.proofs.lemmas.List.{drop_more, take_all, take-append-drop, length-take, append-nil}
+use Rattle.std.proofs.lemmas.List.Elements.{filter_more, All-more}
+use Rattle.std.proofs.lemmas.List.FromFn.{length-enumerate_from, get_or-enumerate_from}
+use Rattle.std.proofs.Math.Dec.{eqb-suc-zero}
+use Rattle.bk_drive.specs.declared.step.Step.{Step}
+use Rattle.bk_script.specs.Line.{Spells}
+use Rattle.bk_script.specs.Script.{lines_in, is_filled, IsGood, IsBad, IsFirstBad}
+
+-- lines of which each that isn't empty spells a step, with these steps
+abbrev pub Spell : List (List ℕ) → List Step → Type 0
+Spell lines steps = AllZip Spells (filter is_filled lines) steps
+
+zip_push : (lines : List (List ℕ)) (steps : List Step) (line : List ℕ) (step : Step) → AllZip Spells lines steps → Spells line step
+    → AllZip Spells (lines ++ line ∷ []) (steps ++ step ∷ [])
+zip_push [] [] line step all one = (one, tt)
+zip_push [] (s ∷ steps) line step all one = absurd all
+zip_push (l ∷ lines) [] line step all one = absurd all
+zip_push (l ∷ lines) (s ∷ steps) line step all one = (all.0, zip_push lines steps line step all.1 one)
+
+filled_test : (line : List ℕ) → line ≢ [] → is_filled line ≡ true
+filled_test [] filled = absurd (filled refl)
+filled_test (x ∷ xs) filled = rw (eqb-suc-zero (length xs)) refl
+
+-- the line at n is empty, and spells nothing
+pub spell_skip : (lines : List (List ℕ)) (n : ℕ) (line : List ℕ) (steps : List Step) → n < length lines → line ≡ get_or lines n line
+    → line ≡ [] → Spell (take n lines) steps → Spell (take (n + 1) lines) steps
+spell_skip lines n line steps inside here empty so_far =
+    let at_n : get_or lines n line ≡ [] = sym here ∙ empty in
+    let same : filter is_filled (take (n + 1) lines) ≡ filter is_filled (take n lines) =
+    filter_more is_filled lines n line inside ∙ rw at_n (append-nil (filter is_filled (take n lines))) in
+    rw same so_far
+
+-- the line at n spells a step
+pub spell_more : (lines : List (List ℕ)) (n : ℕ) (line : List ℕ) (steps : List Step) (step : Step) → n < length lines → line ≡ get_or lines n line
+    → line ≢ [] → Spells line step → Spell (take n lines) steps → Spell (take (n + 1) lines) (steps ++ step ∷ [])
+spell_more lines n line steps step inside here filled one so_far =
+    let test : is_filled (get_or lines n line) ≡ true = rw (← here) (filled_test line filled) in
+    let longer : filter is_filled (take (n + 1) lines) ≡ filter is_filled (take n lines) ++ line ∷ [] =
+    filter_more is_filled lines n line inside ∙ rw (test, ← here) refl in
+    rw longer (zip_push (filter is_filled (take n lines)) steps line step so_far one)
+
+-- all lines so far are good
+pub good_more : (lines : List (List ℕ)) (n : ℕ) (line : List ℕ) → n < length lines → line ≡ get_or lines n line
+    → IsGood line → All IsGood (take n lines) → All IsGood (take (n + 1) lines)
+good_more lines n line inside here good so_far = All-more IsGood lines n line inside so_far (subst IsGood here good)
+
+-- the line at n is the first bad one
+pub first_bad : (input : List ℕ) (n : ℕ) (line : List ℕ) → n < length (lines_in input) → line ≡ get_or (lines_in input) n line
+    → IsBad line → All IsGood (take n (lines_in input)) → IsFirstBad input (n + 1)
+first_bad input n line inside here bad so_far = record {
+  before = take n (lines_in input);
+  line = line;
+  behind = drop (n + 1) (lines_in input);
+  whole = sym (take-append-drop n (lines_in input)) ∙ ap (λ (rest : List (List ℕ)). take n (lines_in input) ++ rest)
+      (drop_more (lines_in input) n line inside ∙ ap (λ (x : List ℕ). x ∷ drop (n + 1) (lines_in input)) (sym here));
+  good = so_far;
+  bad = bad;
+  counted = omega (arith, length-take n (lines_in input));
+}
+
+-- the line of a turn is the one at its number
+pub numbered_turn : (lines : List (List ℕ)) (n index : ℕ) (line : List ℕ)
+    → (n < length (enumerate_from 0 lines)) × ((index, line) ≡ get_or (enumerate_from 0 lines) n (index, line))
+    → (n < length lines) × (index ≡ n) × (line ≡ get_or lines n line)
+numbered_turn lines n index line turn =
+    let inside : n < length lines = omega (arith, turn.0, length-enumerate_from 0 lines) in
+    let same = turn.1 ∙ get_or-enumerate_from 0 lines n (index, line) inside in
+    (inside, ap (λ (p : ℕ × List ℕ). p.0) same ∙ zero-add n, ap (λ (p : ℕ × List ℕ). p.1) same)
+
+-- at the end every line was met
+pub spell_all : (lines : List (List ℕ)) (n : ℕ) (steps : List Step) → n ≡ length (enumerate_from 0 lines) → Spell (take n lines) steps → Spell lines steps
+spell_all lines n steps all so_far = rw (take_all n lines (omega (arith, all, length-enumerate_from 0 lines))) at so_far

@@ -1,0 +1,11 @@
+use Rattle.bk_script.proofs.Parts.{release_text_of}
+use Rattle.bk_script.proofs.Lines.{spelled_release}
+use Rattle.bk_script.proofs.line.calls.read_release.Goals as goal
+
+pub returns-in-Some-clause-ok : goal.returns-in-Some-clause-ok
+returns-in-Some-clause-ok c = spelled_release _ _ c.in-Some.ensures.value.0 c.in-Some.ensures.value.1
+
+pub returns-in-None-clause-err : goal.returns-in-None-clause-err
+returns-in-None-clause-err c = λ step spells.
+    let t = release_text_of _ step spells in
+    c.in-None.ensures.none t.reader t.fits t.is

@@ -1,0 +1,12 @@
+use Rattle.std.proofs.Common.{inl, inr}
+use Rattle.bk_script.proofs.Parts.{name_of}
+use Rattle.bk_script.proofs.line.read_call.Goals as goal
+
+pub returns-in_default-clause-bad : goal.returns-in_default-clause-bad
+returns-in_default-clause-bad c = λ _ step spells. elim (name_of _ _ step c.requires.word spells) [
+  | inl adds ↦ c.in_default.not-add adds
+  | inr (inl pads) ↦ c.in_default.not-pad pads
+  | inr (inr (inl takes)) ↦ c.in_default.not-take takes
+  | inr (inr (inr (inl fetches))) ↦ c.in_default.not-fetch fetches
+  | inr (inr (inr (inr releases))) ↦ c.in_default.not-release releases
+]

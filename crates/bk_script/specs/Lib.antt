@@ -1,0 +1,5 @@
+pub mod Number
+pub mod Line
+pub mod Text
+pub mod Script
+pub mod Run

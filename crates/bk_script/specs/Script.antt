@@ -1,0 +1,33 @@
+-- A script: its lines, and the steps that they spell.
+use Rattle.std.specs.Prelude.{◌≡◌, ◌≢◌, ℕ, ◌+◌, ◌==◌, ◌⊎◌, List, [], ◌∷◌, ◌++◌, length, Bool, not}
+use Rattle.std.specs.List.{All, AllZip, filter, slice_split}
+use Rattle.bk_drive.specs.declared.step.Step.{Step}
+use Rattle.bk_script.specs.Line.{Spells}
+
+-- what stands between line feeds
+abbrev pub lines_in : List ℕ → List (List ℕ)
+lines_in = slice_split (λ byte. byte == 10)
+
+abbrev pub is_filled : List ℕ → Bool
+is_filled line = not (length line == 0)
+
+-- The input spells the steps: its lines do, one each, but for empty lines, which are passed over.
+abbrev pub IsScript : List ℕ → List Step → Type 0
+IsScript input steps = AllZip Spells (filter is_filled (lines_in input)) steps
+
+-- the line spells a step, or is empty; the line does neither
+abbrev pub IsGood : List ℕ → Type 0
+IsGood line = (line ≡ []) ⊎ ((step : Step) × Spells line step)
+
+abbrev pub IsBad : List ℕ → Type 0
+IsBad line = (line ≢ []) × ((step : Step) → ¬ (Spells line step))
+
+-- the first bad line is the one of this number, counted from 1
+pub record IsFirstBad (input : List ℕ) (number : ℕ) : Type 0 where
+  pub before : List (List ℕ)
+  pub line : List ℕ
+  pub behind : List (List ℕ)
+  pub whole : lines_in input ≡ before ++ line ∷ behind
+  pub good : All IsGood before
+  pub bad : IsBad line
+  pub counted : number ≡ length before + 1

@@ -1,0 +1,89 @@
+//! The steps whose line goes on behind its first word: what stands behind that word and a space.
+
+ghost use Rattle.std.specs.Prelude.{◌≡◌, ◌∷◌, ◌++◌, codes, All, IfOk, OnErr};
+ghost use Rattle.bk_script.specs.Line.{IsPrintable, Spells};
+
+use crate::line::LineFault;
+use crate::line::payload::{add, pad};
+use crate::line::words::{split_number, split_word, three_numbers};
+use crate::number;
+use bk_drive::Step;
+use bk_record::Key;
+use std::alloc::Global;
+
+/// The greatest ledger or entry id (this project's rule).
+const MAX_ID: u64 = i64::MAX as u64;
+
+/// The greatest number of a reader.
+const MAX_READER: u64 = 3;
+
+/// The most zero bytes that a pad asks for (this project's rule): more than an entry may have, so that a script can
+/// show the refusal.
+const MAX_PAD: u64 = 2_097_152;
+
+/// The add of what follows `add` and a space.
+pub(crate) fn read_add(alloc: Global, text: &str) -> Result<Step, LineFault>
+    requires { All IsPrintable text.now }
+    ensures ok { IfOk result (Spells (codes "add" ++ 32 ∷ text.now)) }
+    ensures bad { result ≡ Err LineFault.Bad → (step : _) → ¬ (Spells (codes "add" ++ 32 ∷ text.now) step) }
+{
+    let Some((ledger, text)) = split_number(text, MAX_ID) else {
+        return Err(LineFault::Bad);
+    };
+    let (entry, data) = split_word(text);
+    let Some(entry) = number(entry, MAX_ID) else {
+        return Err(LineFault::Bad);
+    };
+    match data {
+        None => add(alloc, ledger, entry, ""),
+        Some(text) if text.is_empty() => Err(LineFault::Bad),
+        Some(text) => add(alloc, ledger, entry, text),
+    }
+}
+
+/// The add of zero bytes of what follows `pad` and a space.
+pub(crate) fn read_pad(alloc: Global, text: &str) -> Result<Step, LineFault>
+    ensures ok { IfOk result (Spells (codes "pad" ++ 32 ∷ text.now)) }
+    ensures bad { result ≡ Err LineFault.Bad → (step : _) → ¬ (Spells (codes "pad" ++ 32 ∷ text.now) step) }
+{
+    match three_numbers(text, MAX_ID, MAX_ID, MAX_PAD) {
+        Some((ledger, entry, size)) => pad(alloc, ledger, entry, size as usize),
+        None => Err(LineFault::Bad),
+    }
+}
+
+/// The take of what follows `take` and a space.
+pub(crate) fn read_take(text: &str) -> Result<Step, LineFault>
+    ensures ok { IfOk result (Spells (codes "take" ++ 32 ∷ text.now)) }
+    ensures err { OnErr result ((step : _) → ¬ (Spells (codes "take" ++ 32 ∷ text.now) step)) }
+{
+    let Some((reader, ledger, entry)) = three_numbers(text, MAX_READER, MAX_ID, MAX_ID) else {
+        return Err(LineFault::Bad);
+    };
+    match Key::new(ledger, entry) {
+        Some(key) => Ok(Step::Take(reader as u32, key)),
+        None => Err(LineFault::Bad),
+    }
+}
+
+/// The fetch of what follows `fetch` and a space.
+pub(crate) fn read_fetch(text: &str) -> Result<Step, LineFault>
+    ensures ok { IfOk result (Spells (codes "fetch" ++ 32 ∷ text.now)) }
+    ensures err { OnErr result ((step : _) → ¬ (Spells (codes "fetch" ++ 32 ∷ text.now) step)) }
+{
+    match number(text, MAX_READER) {
+        Some(reader) => Ok(Step::Fetch(reader as u32)),
+        None => Err(LineFault::Bad),
+    }
+}
+
+/// The release of what follows `release` and a space.
+pub(crate) fn read_release(text: &str) -> Result<Step, LineFault>
+    ensures ok { IfOk result (Spells (codes "release" ++ 32 ∷ text.now)) }
+    ensures err { OnErr result ((step : _) → ¬ (Spells (codes "release" ++ 32 ∷ text.now) step)) }
+{
+    match number(text, MAX_READER) {
+        Some(reader) => Ok(Step::Release(reader as u32)),
+        None => Err(LineFault::Bad),
+    }
+}

@@ -1,0 +1,64 @@
+//! The payloads that lines ask to be added. The room for one is asked for at once.
+
+ghost use Rattle.std.specs.Prelude.{◌≡◌, ◌+◌, ◌≤◌, ◌++◌, ◌^◌, replicate, IfOk, MatchResult};
+ghost use Rattle.std.specs.Int.{w64, to_be_bytes};
+ghost use Rattle.bk_script.specs.Line.{IsAdd, payload_of};
+
+use crate::line::LineFault;
+use bk_drive::Step;
+use std::alloc::{AllocError, Global};
+
+/// How many bytes the two ids at the front of a payload take.
+const IDS: usize = 16;
+
+/// The add of an entry with these ids and this text as its data.
+pub(crate) fn add(alloc: Global, ledger: u64, entry: u64, text: &str) -> Result<Step, LineFault>
+    ensures { MatchResult result (IsAdd ledger entry text.now) (λ fault. fault ≡ LineFault.Memory) }
+{
+    match text_payload(alloc, ledger, entry, text.as_bytes()) {
+        Ok(payload) => Ok(Step::Add(payload)),
+        Err(_) => Err(LineFault::Memory),
+    }
+}
+
+/// The add of an entry with these ids and `size` zero bytes as its data. At most 2^32 is the caller's condition.
+pub(crate) fn pad(alloc: Global, ledger: u64, entry: u64, size: usize) -> Result<Step, LineFault>
+    requires { size ≤ 2 ^ 32 }
+    ensures { MatchResult result (IsAdd ledger entry (replicate size 0)) (λ fault. fault ≡ LineFault.Memory) }
+{
+    match zero_payload(alloc, ledger, entry, size) {
+        Ok(payload) => Ok(Step::Add(payload)),
+        Err(_) => Err(LineFault::Memory),
+    }
+}
+
+/// The payload of an entry: the ledger id and the entry id, eight bytes each, big-endian, then the data.
+#[tactic(auto, unfolding(crate::specs::Line::payload_of))]
+fn text_payload(alloc: Global, ledger: u64, entry: u64, data: &[u8]) -> Result<Vec<u8>, AllocError>
+    ensures { IfOk result (λ payload. payload.items ≡ payload_of ledger entry «data».now) }
+{
+    let mut payload = ids(alloc, ledger, entry, IDS + data.len())?;
+    payload.extend_from_slice(data)?;
+    Ok(payload)
+}
+
+/// The payload of an entry of zero bytes.
+#[tactic(auto, unfolding(crate::specs::Line::payload_of))]
+fn zero_payload(alloc: Global, ledger: u64, entry: u64, size: usize) -> Result<Vec<u8>, AllocError>
+    requires { size ≤ 2 ^ 32 }
+    ensures { IfOk result (λ payload. payload.items ≡ payload_of ledger entry (replicate size 0)) }
+{
+    let mut payload = ids(alloc, ledger, entry, IDS + size)?;
+    payload.resize(IDS + size, 0)?;
+    Ok(payload)
+}
+
+/// The two ids at the front of a payload, with room for `room` bytes in all.
+fn ids(alloc: Global, ledger: u64, entry: u64, room: usize) -> Result<Vec<u8>, AllocError>
+    ensures { IfOk result (λ ids. ids.items ≡ to_be_bytes w64 ledger ++ to_be_bytes w64 entry) }
+{
+    let mut ids = Vec::with_capacity(alloc, room)?;
+    ids.extend_from_slice(&ledger.to_be_bytes())?;
+    ids.extend_from_slice(&entry.to_be_bytes())?;
+    Ok(ids)
+}

@@ -1,0 +1,70 @@
+ghost use Rattle.bk_drive.specs.Limits.{IsAllowed};
+
+mod lines;
+mod streams;
+mod worked;
+
+use super::run_script;
+use bk_drive::Settings;
+use std::alloc::Global;
+use std::io::Read;
+use std::process::Abort;
+
+/// The settings of a store without options.
+const DEFAULTS: Settings = Settings {
+    log_limit: 1_073_741_824,
+    cache_limit: 16_777_216,
+    recent: 0,
+    slots: 1024,
+    leases: 1024,
+    minor: 200,
+    major: 800,
+};
+
+/// What a run of a script left: its status, and the texts on the two streams.
+#[derive(Debug, PartialEq, Eq, Drop)]
+struct Shown {
+    status: u8,
+    output: Vec<u8>,
+    errors: Vec<u8>,
+}
+
+/// Runs a script on a store without options.
+fn run(alloc: Global, script: &str) -> Shown {
+    run_from(alloc, DEFAULTS, &mut script.as_bytes())
+}
+
+/// Runs the script that a reader gives on a store with these settings.
+fn run_from<R: Read>(alloc: Global, settings: Settings, reader: &mut R) -> Shown
+    requires { IsAllowed settings }
+{
+    let mut output = Vec::new(alloc);
+    let mut errors = Vec::new(alloc);
+    let status = run_script(alloc, settings, reader, &mut output, &mut errors);
+    Shown {
+        status,
+        output,
+        errors,
+    }
+}
+
+fn assert_shown(
+    rt: &impl Abort,
+    shown: &Shown,
+    status: u8,
+    output: &str,
+    errors: &str,
+    about: &str,
+) {
+    assert_eq!(rt; shown.status, status, "the status of {about:?}");
+    assert_eq!(rt;
+        shown.output.as_slice(),
+        output.as_bytes(),
+        "the output of {about:?}"
+    );
+    assert_eq!(rt;
+        shown.errors.as_slice(),
+        errors.as_bytes(),
+        "the errors of {about:?}"
+    );
+}

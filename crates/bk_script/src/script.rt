@@ -1,0 +1,31 @@
+//! A script: lines that spell steps.
+
+ghost use Rattle.std.specs.Prelude.{◌≡◌, ℕ, IfOk};
+ghost use Rattle.bk_script.specs.Script.{IsScript, IsFirstBad};
+
+use crate::ScriptFault;
+use crate::line::{LineFault, read_step};
+use bk_drive::Step;
+use std::alloc::Global;
+
+/// The steps that a script spells, one for each line that isn't empty. `Bad` where a line spells none; `Memory`.
+pub(crate) fn read_steps(alloc: Global, input: &[u8]) -> Result<Vec<Step>, ScriptFault>
+    ensures ok { IfOk result (λ steps. IsScript input.now steps.items) }
+    ensures bad { (number : ℕ) → result ≡ Err (ScriptFault.Bad number) → IsFirstBad input.now number }
+{
+    let mut steps = Vec::new(alloc);
+    for (index, line) in input.split(|byte| *byte == b'\n').enumerate() {
+        if line.is_empty() {
+            continue;
+        }
+        match read_step(alloc, line) {
+            Ok(step) => match steps.push(step) {
+                Ok(()) => {}
+                Err(_) => return Err(ScriptFault::Memory),
+            },
+            Err(LineFault::Bad) => return Err(ScriptFault::Bad(index as u64 + 1)),
+            Err(LineFault::Memory) => return Err(ScriptFault::Memory),
+        }
+    }
+    Ok(steps)
+}

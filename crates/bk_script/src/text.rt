@@ -1,0 +1,205 @@
+//! The texts of answers and faults: one line for each step.
+
+ghost use Rattle.std.specs.Prelude.{◌≡◌, Some, drop};
+ghost use Rattle.std.specs.Fmt.{WritesOnOk};
+ghost use Rattle.bk_script.specs.Text.{add_text, data_text, fetch_fault_text, fetch_text, flush_fault_text, publish_text, record_fault_text, release_text, roll_text, swap_text, take_text, text_of, write_text};
+
+use bk_drive::{
+    AddFault, Added, Answer, FetchAnswer, FlushFault, PublishAnswer, ReleaseAnswer, RollAnswer,
+    SwapAnswer, TakeAnswer, TakeFault, WriteAnswer,
+};
+use bk_log::FetchFault;
+use bk_record::RecordFault;
+use std::fmt;
+use std::fmt::{Display, Formatter};
+
+/// A value as its text.
+#[derive(Drop)]
+pub(crate) struct Text<'a, T>(pub(crate) &'a T);
+
+impl Display for Text<'_, Answer> {
+    ghost output = { λ text. Some (text_of text.0.now) };
+
+    fn fmt<W: fmt::Write>(&self, f: &mut Formatter<W>) -> fmt::Result {
+        match self.0 {
+            Answer::Add(answer) => write!(f, "{}", Text(answer)),
+            Answer::Take(answer) => write!(f, "{}", Text(answer)),
+            Answer::Fetch(answer) => write!(f, "{}", Text(answer)),
+            Answer::Release(answer) => write!(f, "{}", Text(answer)),
+            Answer::Swap(answer) => write!(f, "{}", Text(answer)),
+            Answer::Write(answer) => write!(f, "{}", Text(answer)),
+            Answer::Publish(answer) => write!(f, "{}", Text(answer)),
+            Answer::Roll(answer) => write!(f, "{}", Text(answer)),
+        }
+    }
+}
+
+impl Display for Text<'_, Result<Added, AddFault>> {
+    ghost output = { λ text. Some (add_text text.0.now) };
+
+    fn fmt<W: fmt::Write>(&self, f: &mut Formatter<W>) -> fmt::Result {
+        match self.0 {
+            Ok(Added::Accepted) => write!(f, "accepted"),
+            Ok(Added::Held) => write!(f, "held"),
+            Err(AddFault::Bad(fault)) => write!(f, "fault {}", Text(fault)),
+            Err(AddFault::Memory) => write!(f, "fault memory"),
+        }
+    }
+}
+
+impl Display for Text<'_, RecordFault> {
+    ghost output = { λ text. Some (record_fault_text text.0.now) };
+
+    fn fmt<W: fmt::Write>(&self, f: &mut Formatter<W>) -> fmt::Result {
+        match self.0 {
+            RecordFault::Short(length) => write!(f, "short {length}"),
+            RecordFault::Negative => write!(f, "negative number"),
+            RecordFault::TooLong(length) => write!(f, "too long {length}"),
+            RecordFault::Memory => write!(f, "memory"),
+        }
+    }
+}
+
+impl Display for Text<'_, Result<TakeAnswer, TakeFault>> {
+    ghost output = { λ text. Some (take_text text.0.now) };
+
+    fn fmt<W: fmt::Write>(&self, f: &mut Formatter<W>) -> fmt::Result {
+        match self.0 {
+            Ok(TakeAnswer::NoReader) => write!(f, "no reader"),
+            Ok(TakeAnswer::ReaderBusy) => write!(f, "reader busy"),
+            Ok(TakeAnswer::NotHeld) => write!(f, "not held"),
+            Ok(TakeAnswer::Cached(payload)) => {
+                write!(f, "cached ")?;
+                write_data(f, data_of(payload))
+            }
+            Ok(TakeAnswer::Leased(location)) => write!(f, "leased {}", location.value()),
+            Err(TakeFault::Memory) => write!(f, "fault memory"),
+        }
+    }
+}
+
+impl Display for Text<'_, Result<FetchAnswer, FetchFault>> {
+    ghost output = { λ text. Some (fetch_text text.0.now) };
+
+    fn fmt<W: fmt::Write>(&self, f: &mut Formatter<W>) -> fmt::Result {
+        match self.0 {
+            Ok(FetchAnswer::NoReader) => write!(f, "no reader"),
+            Ok(FetchAnswer::NoLease) => write!(f, "no lease"),
+            Ok(FetchAnswer::Bytes(bytes)) => {
+                write!(f, "bytes ")?;
+                write_data(f, data_of(bytes))
+            }
+            Err(fault) => write!(f, "fault {}", Text(fault)),
+        }
+    }
+}
+
+impl Display for Text<'_, FetchFault> {
+    ghost output = { λ text. Some (fetch_fault_text text.0.now) };
+
+    fn fmt<W: fmt::Write>(&self, f: &mut Formatter<W>) -> fmt::Result {
+        match self.0 {
+            FetchFault::Disk => write!(f, "disk"),
+            FetchFault::NotThere => write!(f, "not there"),
+            FetchFault::Memory => write!(f, "memory"),
+            FetchFault::Odd => write!(f, "odd disk"),
+        }
+    }
+}
+
+impl Display for Text<'_, ReleaseAnswer> {
+    ghost output = { λ text. Some (release_text text.0.now) };
+
+    fn fmt<W: fmt::Write>(&self, f: &mut Formatter<W>) -> fmt::Result {
+        match self.0 {
+            ReleaseAnswer::NoReader => write!(f, "no reader"),
+            ReleaseAnswer::NoLease => write!(f, "no lease"),
+            ReleaseAnswer::Released => write!(f, "released"),
+        }
+    }
+}
+
+impl Display for Text<'_, SwapAnswer> {
+    ghost output = { λ text. Some (swap_text text.0.now) };
+
+    fn fmt<W: fmt::Write>(&self, f: &mut Formatter<W>) -> fmt::Result {
+        match self.0 {
+            SwapAnswer::Running => write!(f, "running"),
+            SwapAnswer::Nothing => write!(f, "nothing"),
+            SwapAnswer::Swapped(count) => write!(f, "swapped {count}"),
+        }
+    }
+}
+
+impl Display for Text<'_, Result<WriteAnswer, FlushFault>> {
+    ghost output = { λ text. Some (write_text text.0.now) };
+
+    fn fmt<W: fmt::Write>(&self, f: &mut Formatter<W>) -> fmt::Result {
+        match self.0 {
+            Ok(WriteAnswer::NoFlush) => write!(f, "no flush"),
+            Ok(WriteAnswer::AllWritten) => write!(f, "all written"),
+            Ok(WriteAnswer::Wrote(location)) => write!(f, "wrote {}", location.value()),
+            Err(fault) => write!(f, "fault {}", Text(fault)),
+        }
+    }
+}
+
+impl Display for Text<'_, Result<PublishAnswer, FlushFault>> {
+    ghost output = { λ text. Some (publish_text text.0.now) };
+
+    fn fmt<W: fmt::Write>(&self, f: &mut Formatter<W>) -> fmt::Result {
+        match self.0 {
+            Ok(PublishAnswer::NoFlush) => write!(f, "no flush"),
+            Ok(PublishAnswer::NotAllWritten) => write!(f, "not all written"),
+            Ok(PublishAnswer::Published(count)) => write!(f, "published {count}"),
+            Err(fault) => write!(f, "fault {}", Text(fault)),
+        }
+    }
+}
+
+impl Display for Text<'_, Result<RollAnswer, FlushFault>> {
+    ghost output = { λ text. Some (roll_text text.0.now) };
+
+    fn fmt<W: fmt::Write>(&self, f: &mut Formatter<W>) -> fmt::Result {
+        match self.0 {
+            Ok(RollAnswer::FlushRunning) => write!(f, "flush running"),
+            Ok(RollAnswer::NothingOpen) => write!(f, "nothing open"),
+            Ok(RollAnswer::Sealed(log)) => write!(f, "sealed {log}"),
+            Err(fault) => write!(f, "fault {}", Text(fault)),
+        }
+    }
+}
+
+impl Display for Text<'_, FlushFault> {
+    ghost output = { λ text. Some (flush_fault_text text.0.now) };
+
+    fn fmt<W: fmt::Write>(&self, f: &mut Formatter<W>) -> fmt::Result {
+        match self.0 {
+            FlushFault::Disk => write!(f, "disk"),
+            FlushFault::Memory { done } => write!(f, "memory after {done}"),
+            FlushFault::LogsFull => write!(f, "logs full"),
+            FlushFault::NoMoreIds => write!(f, "no more ids"),
+            FlushFault::Odd => write!(f, "odd disk"),
+        }
+    }
+}
+
+/// The data of a payload, behind its two ids.
+fn data_of(payload: &[u8]) -> &[u8]
+    ensures { result.now ≡ drop 16 payload.now }
+{
+    payload.get(16..).unwrap_or(&[])
+}
+
+/// Writes data in lower-case hexadecimal, or `-` where there is none.
+fn write_data<W: fmt::Write>(f: &mut Formatter<W>, bytes: &[u8]) -> fmt::Result
+    ensures { WritesOnOk W.write_str_gives f.old result (data_text bytes.now) f.new }
+{
+    if bytes.is_empty() {
+        return write!(f, "-");
+    }
+    for byte in bytes {
+        write!(f, "{byte:02x}")?;
+    }
+    Ok(())
+}
