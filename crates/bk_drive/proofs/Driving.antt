@@ -1,5 +1,7 @@
 -- The run that a machine has made so far.
-use Rattle.std.proofs.Common.{◌≡◌, ℕ, ◌<◌, List, [], ◌∷◌, ◌++◌, length, take, replicate, Option, None, IsTrue, get_or, ◌+◌, add-one, refl, sym, ap, ◌∙◌, subst}
+use Rattle.std.proofs.Common.{◌≡◌, ℕ, ◌<◌, ◌≤◌, List, [], ◌∷◌, ◌++◌, length, take, replicate, Option, None, IsTrue, get_or, ◌+◌, add-one, refl, sym, ap, ◌∙◌, subst, arith}
+use Rattle.std.specs.List.{All}
+use Rattle.std.proofs.lemmas.List.Elements.{All-nil, All-cons, All-append, All-weaker}
 use Rattle.std.proofs.Math.Seq.{take-suc}
 use Rattle.std.specs.FinMap as finite
 use Rattle.std.specs.FinSet as set
@@ -10,7 +12,26 @@ use Rattle.bk_drive.specs.Headline.{opened, first_desk, first_plain, reader_coun
 use Rattle.bk_drive.specs.declared.settings.Settings.{Settings}
 use Rattle.bk_drive.specs.declared.step.Step.{Step}
 use Rattle.bk_drive.specs.declared.step.Answer.{Answer}
+use Rattle.bk_drive.specs.Failing.{IsDiskFault, NoneIsDiskFault}
 use Rattle.bk_drive.proofs.Runs.{Goes, goes_first, goes_on, kept_agrees}
+
+-- a device fault among the answers was counted by then
+abbrev pub AreCounted : ℕ → List Answer → Type 0
+AreCounted failures = All (λ answer. IsDiskFault answer → 0 < failures)
+
+pub counted_none : (failures : ℕ) (answers : List Answer) → answers ≡ [] → AreCounted failures answers
+counted_none failures answers none = subst (λ as'. AreCounted failures as') (sym none) (All-nil (λ answer. IsDiskFault answer → 0 < failures))
+
+pub counted_on : (before now : ℕ) (answers answers' : List Answer) (a : Answer) → AreCounted before answers → before ≤ now
+    → (IsDiskFault a → before < now) → answers' ≡ answers ++ a ∷ [] → AreCounted now answers'
+counted_on before now answers answers' a counted later told more =
+    let was : AreCounted now answers = All-weaker (λ x. IsDiskFault x → 0 < before) (λ x. IsDiskFault x → 0 < now) (λ x h is. omega (arith, h is)) answers counted in
+    let one : AreCounted now (a ∷ []) = All-cons (λ x. IsDiskFault x → 0 < now) a [] (λ is. omega (arith, told is)) (All-nil (λ x. IsDiskFault x → 0 < now)) in
+    subst (λ as'. AreCounted now as') (sym more) (All-append (λ x. IsDiskFault x → 0 < now) answers (a ∷ []) was one)
+
+pub counted_never : (failures : ℕ) (answers : List Answer) → AreCounted failures answers → failures ≡ 0 → NoneIsDiskFault answers
+counted_never failures answers counted never =
+    All-weaker (λ x. IsDiskFault x → 0 < failures) (λ x. ¬ (IsDiskFault x)) (λ x h is. absurd (omega (arith, h is))) answers counted
 
 -- these steps were answered so, from a disk of these files on, by a store that asks an honest disk
 pub record IsDriven (settings : Settings) (files : Files) (steps : List Step) (answers : List Answer) (store : State) (readers : List (Option Hold)) : Type 0 where

@@ -197,7 +197,7 @@ kept_publish p s t (Ok (publishes.Published n)) kept (flush, written, count, (sh
     (ended_kept p _ now flush written.runs each)
 kept_publish p s t (Err Disk) kept (flush, written, (shown, some, is)) =
     subst (λ (x : State). Kept p x) (sym is) (shown_kept p s kept flush written.runs shown some 0 (λ none. absurd (omega arith)) t.failures)
-kept_publish p s t (Err (Memory done)) kept (flush, written, (shown, some, all, is)) =
+kept_publish p s t (Err (Memory done)) kept (flush, written, most, (shown, some, all, is)) =
     subst (λ (x : State). Kept p x) (sym is) (shown_kept p s kept flush written.runs shown some done all t.failures)
 kept_publish p s t (Err LogsFull) kept turn = absurd turn
 kept_publish p s t (Err NoMoreIds) kept turn = absurd turn

@@ -104,7 +104,7 @@ module _ (settings : Settings) (honest honest' : Bool) (files files' : Files) (f
   named_viewed (Ok x) turn key place is =
       beside_viewed (finite.keys f.pairs) f.places (λ i p at. at) key place (ap (λ (m : Places). finite.get m key) (sym turn) ∙ is)
   named_viewed (Err (Memory done)) turn key place is =
-      beside_viewed (take done (finite.keys f.pairs)) (take done f.places) (λ i p at. (slice_get-take done f.places i p at).0) key place (ap (λ (m : Places). finite.get m key) (sym turn) ∙ is)
+      beside_viewed (take done (finite.keys f.pairs)) (take done f.places) (λ i p at. (slice_get-take done f.places i p at).0) key place (ap (λ (m : Places). finite.get m key) (sym turn.1) ∙ is)
   named_viewed (Err Disk) turn key place is = absurd turn
   named_viewed (Err LogsFull) turn key place is = absurd turn
   named_viewed (Err NoMoreIds) turn key place is = absurd turn
@@ -132,6 +132,7 @@ module _ (s : State) (f : Flush) (files' : Files) (honest' : Bool) (failures' : 
       subst (λ (n : ℕ). PublishTurn s (Err (Memory n)) (record s { files = files'; honest = honest'; failures = failures'; logs = ls' })) (sym is) (
         f,
         written,
+        omega arith,
         (
           ls',
           shows_are s.honest s.files f.places h s.logs ls' are,
@@ -153,11 +154,12 @@ module _ (s : State) (f : Flush) (files' : Files) (honest' : Bool) (failures' : 
     named_fault (Memory done) turn = (
       f,
       written,
+      turn.0,
       (
         ls',
         shows_are s.honest s.files f.places h s.logs ls' (length s.logs, all),
         (λ _. shows_all s.honest s.files f.places h s.logs ls' all),
-        λ i. record s { files = same h i; honest = stays i; failures = failures'; logs = ls'; index = turn i },
+        λ i. record s { files = same h i; honest = stays i; failures = failures'; logs = ls'; index = turn.1 i },
       ),
     )
     named_fault Disk turn = absurd turn

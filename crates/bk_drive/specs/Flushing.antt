@@ -194,7 +194,7 @@ PublishTurn s (Ok (publishes.Published n)) t = (flush : Flush) × IsWritten s fl
     }))
 PublishTurn s (Err Disk) t = (flush : Flush) × IsWritten s flush
     × ((shown : Logs) × ShowsSome s.files flush.places s.logs shown × (t ≡ record s { failures = t.failures; logs = shown }))
-PublishTurn s (Err (Memory done)) t = (flush : Flush) × IsWritten s flush
+PublishTurn s (Err (Memory done)) t = (flush : Flush) × IsWritten s flush × (done ≤ finite.len flush.pairs)
     × ((shown : Logs) × ShowsSome s.files flush.places s.logs shown × (0 < done → ShowsAll s.files flush.places s.logs shown)
     × (t ≡ record s {
       failures = t.failures;

@@ -14,3 +14,4 @@ pub mod Headline
 pub mod Publishing
 pub mod Limits
 pub mod Held
+pub mod Failing

@@ -1,5 +1,5 @@
 -- Showing the logs that a flush wrote, and naming its entries.
-use Rattle.std.specs.Prelude.{◌≡◌, ℕ, zero, suc, Bool, List, [], ◌∷◌, length, take, slice_get, slice_set, Some, IsSome, Result, Ok, Err, IsTrue, MatchBool}
+use Rattle.std.specs.Prelude.{◌≡◌, ℕ, ◌≤◌, zero, suc, Bool, List, [], ◌∷◌, length, take, slice_get, slice_set, Some, IsSome, Result, Ok, Err, IsTrue, MatchBool}
 use Rattle.std.specs.FinMap as finite
 use Rattle.bk_record.specs.Location.{Place}
 use Rattle.bk_record.specs.Files.{Files}
@@ -72,7 +72,8 @@ IsShowFault (Err Odd) = ⊥
 -- Each key of a flush is sent to its place; want of memory says how many were.
 abbrev pub NameTurn : {T : Type 0} → Places → Flush → Result T FlushFault → Places → Type 0
 NameTurn index flush (Ok x) index' = index' ≡ named index (finite.keys flush.pairs) flush.places
-NameTurn index flush (Err (Memory done)) index' = index' ≡ named index (take done (finite.keys flush.pairs)) (take done flush.places)
+NameTurn index flush (Err (Memory done)) index' = (done ≤ finite.len flush.pairs)
+    × (index' ≡ named index (take done (finite.keys flush.pairs)) (take done flush.places))
 NameTurn index flush (Err Disk) index' = ⊥
 NameTurn index flush (Err LogsFull) index' = ⊥
 NameTurn index flush (Err NoMoreIds) index' = ⊥

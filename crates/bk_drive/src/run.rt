@@ -1,9 +1,10 @@
 //! The machine: a store and its readers take the steps of a script, one after another.
 
-ghost use Rattle.std.specs.Prelude.{◌≡◌, ◌≤◌, ℕ, None, List, Option, IsTrue, IfOk, IsErrOf, length};
+ghost use Rattle.std.specs.Prelude.{◌≡◌, ◌<◌, ◌≤◌, ℕ, None, List, Option, IsTrue, IfOk, IsErrOf, length};
 ghost use Rattle.std.specs.FinMap as map;
 ghost use Rattle.bk_drive.specs.Machine.{Hold, ReaderFetch, ReaderRelease, ReaderTake, Turn};
 ghost use Rattle.bk_drive.specs.Headline.{Headline};
+ghost use Rattle.bk_drive.specs.Failing.{IsDiskFault, NoneIsDiskFault, NeverFails, AreSound};
 ghost use Rattle.bk_drive.specs.Limits.{IsAllowed};
 ghost use Rattle.bk_drive.specs.declared.step.Step.TheVariants as steps;
 
@@ -28,6 +29,7 @@ pub struct Ran<D: LogDisk> {
 pub fn apply<D: LogDisk>(store: &mut Store<D>, work: Work) -> Answer
     ensures honest { store.new.honest ≡ store.old.honest }
     ensures later { store.old.failures ≤ store.new.failures }
+    ensures disk { IsDiskFault result → store.old.failures < store.new.failures }
     ensures turn { IsTrue store.old.honest → (readers : List (Option Hold))
         → Turn (record { store = store.old; readers = readers }) (steps.Work work) result
         (record { store = store.new; readers = readers }) }
@@ -53,6 +55,8 @@ pub fn drive<D: LogDisk>(
     requires allowed { IsAllowed settings }
     ensures headline { IsTrue (D.honest disk)
         → IfOk result (λ ran. Headline settings (D.files disk) steps.now ran.answers.items ran.store ran.readers) }
+    ensures unfailing { NeverFails D.failures → AreSound D.View.sound
+        → IfOk result (λ ran. NoneIsDiskFault ran.answers.items) }
     ensures one_answer { IfOk result (λ ran. length ran.answers.items ≡ length steps.now) }
     ensures never_odd { IsTrue (D.honest disk) → ¬ (IsErrOf result OpenFault.Odd) }
 {
@@ -64,6 +68,8 @@ pub fn drive<D: LogDisk>(
     for step in steps {
         answers.push(turn(&mut store, &mut readers, step)).unwrap();
     }
+    // What the store counts are the failures of its disk.
+    let _ = store.disk();
     Ok(Ran {
         store,
         answers,
@@ -74,6 +80,8 @@ pub fn drive<D: LogDisk>(
 /// One step of the machine, and its answer.
 fn turn<D: LogDisk>(store: &mut Store<D>, readers: &mut Readers<D::View>, step: &Step) -> Answer
     ensures honest { store.new.honest ≡ store.old.honest }
+    ensures later { store.old.failures ≤ store.new.failures }
+    ensures disk { AreSound D.View.sound → IsDiskFault result → store.old.failures < store.new.failures }
     ensures turn { IsTrue store.old.honest → Turn (record { store = store.old; readers = readers.old }) step.now result
         (record { store = store.new; readers = readers.new }) }
 {
@@ -125,7 +133,8 @@ fn fetch_by<V: LogView>(
     readers: &Readers<V>,
     reader: u32,
 ) -> Result<FetchAnswer, FetchFault>
-    ensures { ReaderFetch readers.now reader result }
+    ensures turn { ReaderFetch readers.now reader result }
+    ensures disk { AreSound V.sound → ¬ (IsErrOf result FetchFault.Disk) }
 {
     if !readers.has(reader) {
         return Ok(FetchAnswer::NoReader);

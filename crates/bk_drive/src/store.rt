@@ -71,6 +71,15 @@ impl<D: LogDisk> Model for Store<D> {
 }
 
 impl<D: LogDisk> Store<D> {
+    /// The disk as it is: its files are those of the store's state, and so are its honesty and its count of failures.
+    pub fn disk(&self) -> &D
+        ensures files { D.files result.now ≡ self.now.files }
+        ensures honest { D.honest result.now ≡ self.now.honest }
+        ensures failures { D.failures result.now ≡ self.now.failures }
+    {
+        &self.disk
+    }
+
     /// What the write caches have of a key.
     fn cached(&self, key: &Key) -> Option<&Arc<Vec<u8>>>
         ensures { option_map (λ payload. payload.now.value.items) result ≡ cached self.now key.now }

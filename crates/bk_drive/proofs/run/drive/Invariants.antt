@@ -1,11 +1,13 @@
 use Rattle.std.proofs.Common.{◌≡◌, ◌≤◌, IsTrue, length, take, vec_len, vec_capacity}
-use Rattle.bk_drive.proofs.Driving.{IsDriven}
+use Rattle.bk_drive.specs.Failing.{AreSound}
+use Rattle.bk_drive.proofs.Driving.{IsDriven, AreCounted}
 use Rattle.bk_drive.proofs.run.drive.Given as goal
 
 abbrev pub invariant-loop-step : goal.invariant-loop-step
 invariant-loop-step g l = record {
   counted : vec_len l.answers ≡ l.step-index;
   room : length l.steps ≤ vec_capacity l.answers;
+  counted_faults : AreSound g.D.View.LogView.sound → AreCounted l.store.failures l.answers.items;
   driven : IsTrue (g.D.LogDisk.honest l.fn.disk)
       → IsDriven l.fn.settings (g.D.LogDisk.files l.fn.disk) (take l.step-index l.steps) l.answers.items l.store l.readers;
 }

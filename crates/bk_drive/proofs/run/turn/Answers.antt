@@ -11,7 +11,7 @@ pub returns-in-Take-clause-turn : goal.returns-in-Take-clause-turn
 returns-in-Take-clause-turn g c = λ honest. rw c.in-Take.is (taken c.take.ensures)
 
 pub returns-in-Fetch-clause-turn : goal.returns-in-Fetch-clause-turn
-returns-in-Fetch-clause-turn g c = λ honest. rw c.in-Fetch.is (fetched c.fetch_by.ensures)
+returns-in-Fetch-clause-turn g c = λ honest. rw c.in-Fetch.is (fetched c.fetch_by.ensures.turn)
 
 pub returns-in-Release-clause-turn : goal.returns-in-Release-clause-turn
 returns-in-Release-clause-turn g c = λ honest. rw c.in-Release.is (released c.release.ensures)
