@@ -1,5 +1,6 @@
 -- A script read line by line: what the lines so far spell, and where the first bad one is.
-use Rattle.std.proofs.Common.{◌≡◌, ◌≢◌, ℕ, ◌+◌, ◌<◌, true, List, [], ◌∷◌, ◌++◌, length, take, drop, get_or, All, arith, refl, sym, ◌∙◌, ap, subst, zero-add}
+use Rattle.std.proofs.Common.{◌≡◌, ◌≢◌, ℕ, ◌+◌, ◌<◌, true, Option, Some, None, IfSome, List, [], ◌∷◌, ◌++◌, length, take, drop, get_or, All, arith, refl, sym, ◌∙◌, ap, subst, zero-add}
+use Rattle.std.specs.Io.KnownBytes.{Consumes, IsAtEnd}
 use Rattle.std.specs.List.{AllZip, filter, enumerate_from}
 use Rattle.std.proofs.lemmas.List.{drop_more, take_all, take-append-drop, length-take, append-nil}
 use Rattle.std.proofs.lemmas.List.Elements.{filter_more, All-more}
@@ -7,7 +8,7 @@ use Rattle.std.proofs.lemmas.List.FromFn.{length-enumerate_from, get_or-enumerat
 use Rattle.std.proofs.Math.Dec.{eqb-suc-zero}
 use Rattle.bk_drive.specs.declared.step.Step.{Step}
 use Rattle.bk_script.specs.Line.{Spells}
-use Rattle.bk_script.specs.Script.{lines_in, is_filled, IsGood, IsBad, IsFirstBad}
+use Rattle.bk_script.specs.Script.{lines_in, is_filled, IsScript, IsGood, IsBad, IsFirstBad}
 
 -- lines of which each that isn't empty spells a step, with these steps
 abbrev pub Spell : List (List ℕ) → List Step → Type 0
@@ -73,3 +74,12 @@ numbered_turn lines n index line turn =
 -- at the end every line was met
 pub spell_all : (lines : List (List ℕ)) (n : ℕ) (steps : List Step) → n ≡ length (enumerate_from 0 lines) → Spell (take n lines) steps → Spell lines steps
 spell_all lines n steps all so_far = rw (take_all n lines (omega (arith, all, length-enumerate_from 0 lines))) at so_far
+
+-- an input that was read to its end and spells steps was not one that spells none
+pub spelled_never_bad : (Q : Type 0) (unread read : Option (List ℕ)) (input : List ℕ) (steps : List Step) → Consumes unread read input → IsAtEnd read
+    → IsScript input steps → IfSome unread (λ xs. ((ss : List Step) → ¬ (IsScript xs ss)) → Q)
+spelled_never_bad Q None read input steps taken ended spells = tt
+spelled_never_bad Q (Some xs) None input steps taken ended spells = absurd taken
+spelled_never_bad Q (Some xs) (Some ys) input steps taken ended spells = λ bad.
+    let whole : xs ≡ input = taken ∙ (ap (λ (l : List ℕ). input ++ l) ended ∙ append-nil input) in
+    absurd (bad steps (subst (λ (l : List ℕ). IsScript l steps) (sym whole) spells))

@@ -8,23 +8,32 @@ use Rattle.bk_drive.specs.declared.settings.Settings.{Settings}
 use Rattle.bk_drive.specs.State.{State}
 use Rattle.bk_drive.specs.Machine.{Hold}
 use Rattle.bk_drive.specs.Headline.{Headline}
+use Rattle.bk_drive.specs.Failing.{NoneIsDiskFault}
 use Rattle.std.specs.FinMap as finite
 use Rattle.bk_script.specs.Script.{IsScript}
 use Rattle.bk_script.specs.Text.{lines_of}
 
--- Known bytes of the reader and of the writer, before and after.
-pub record RunsScript (settings : Settings) (unread read shown written : Option (List ℕ)) : Type 0 where
+-- The answers to the steps, on a disk without files.
+pub record AnswersSteps (settings : Settings) (steps : List Step) (answers : List Answer) : Type 0 where
+  pub store : State
+  pub readers : List (Option Hold)
+  -- each is as the headline allows
+  pub allowed : Headline settings finite.empty steps answers store readers
+  -- none tells of a failing device: the disk is one that never fails, and its views are sound
+  pub unfailing : NoneIsDiskFault answers
+
+-- The answers to the steps that the input spells, with known bytes of the reader, before and after.
+pub record AnswersScript (settings : Settings) (unread read : Option (List ℕ)) (answers : List Answer) : Type 0 where
   pub input : List ℕ
   pub steps : List Step
-  pub answers : List Answer
   -- the reader gave the input, and has no more
   pub taken : Consumes unread read input
   pub ended : IsAtEnd read
-  -- it spells the steps
   pub spelled : IsScript input steps
-  pub store : State
-  pub readers : List (Option Hold)
-  -- each is answered as the headline allows, from a disk without files
-  pub answered : Headline settings finite.empty steps answers store readers
-  -- the writer got a line for each answer
+  pub answered : AnswersSteps settings steps answers
+
+-- The same, with known bytes of the writer, which got a line for each answer.
+pub record RunsScript (settings : Settings) (unread read shown written : Option (List ℕ)) : Type 0 where
+  pub answers : List Answer
+  pub answered : AnswersScript settings unread read answers
   pub printed : Appends shown written (lines_of answers)

@@ -18,7 +18,4 @@ pub(crate) enum ScriptFault {
     /// No memory was to be had.
     #[error("fault memory")]
     Memory,
-    /// A write failed.
-    #[error("write fault")]
-    Write,
 }

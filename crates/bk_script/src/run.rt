@@ -1,11 +1,11 @@
 //! Running a script: the whole input is read and understood before the first step, and the answers are printed after
 //! the last.
 
-ghost use Rattle.std.specs.Prelude.{◌≡◌, ◌≤◌, List, IfSome, OnOk};
+ghost use Rattle.std.specs.Prelude.{◌≡◌, ◌≤◌, List, IfOk, IfSome, IsErr, OnOk};
 ghost use Rattle.std.specs.Io.KnownBytes.{Appends, Keeps};
 ghost use Rattle.bk_drive.specs.Limits.{IsAllowed};
 ghost use Rattle.bk_drive.specs.declared.step.Step.{Step};
-ghost use Rattle.bk_script.specs.Run.{RunsScript};
+ghost use Rattle.bk_script.specs.Run.{AnswersScript, AnswersSteps, RunsScript};
 ghost use Rattle.bk_script.specs.Script.{IsScript};
 ghost use Rattle.bk_script.specs.Text.{lines_of};
 
@@ -14,7 +14,7 @@ use crate::input::read_input;
 use crate::script::read_steps;
 use crate::text::Text;
 use bk_disk::MemDisk;
-use bk_drive::{Answer, Settings, drive};
+use bk_drive::{Answer, OpenFault, Settings, Step, drive};
 use std::alloc::Global;
 use std::io;
 use std::io::{Read, Write};
@@ -40,40 +40,50 @@ pub fn run_script<R: Read, W: Write, E: Write>(
     ensures bad { IfSome (R.remaining reader.old) (λ input. ((steps : List Step) → ¬ (IsScript input steps))
         → (result ≡ 1) × Keeps (W.contents writer.old) (W.contents writer.new)) }
 {
-    match run(alloc, settings, reader, writer) {
-        Ok(()) => 0,
-        Err(ScriptFault::Write) => 1,
+    match answers_to(alloc, settings, reader) {
+        Ok(answers) => match write_answers(writer, &answers) {
+            Ok(()) => 0,
+            Err(_) => 1,
+        },
         Err(fault) => {
-            // The status is 1 whether or not this line comes through.
-            let _ = writeln!(errors, "{fault}");
+            tell(fault, errors);
             1
         }
     }
 }
 
-/// Reads the script, runs its steps and prints their answers.
-fn run<R: Read, W: Write>(
+/// Tells on the error stream why a script is not run. The status is the same whether or not this line comes through.
+fn tell<E: Write>(fault: ScriptFault, errors: &mut E) {
+    let _ = writeln!(errors, "{fault}");
+}
+
+/// Reads the script and runs its steps: their answers.
+fn answers_to<R: Read>(
     alloc: Global,
     settings: Settings,
     reader: &mut R,
-    writer: &mut W,
-) -> Result<(), ScriptFault>
+) -> Result<Vec<Answer>, ScriptFault>
     requires allowed { IsAllowed settings }
-    ensures ok { OnOk result (RunsScript settings (R.remaining reader.old) (R.remaining reader.new)
-        (W.contents writer.old) (W.contents writer.new)) }
+    ensures ok { IfOk result (λ answers. AnswersScript settings (R.remaining reader.old) (R.remaining reader.new)
+        answers.items) }
     ensures bad { IfSome (R.remaining reader.old) (λ input. ((steps : List Step) → ¬ (IsScript input steps))
-        → Keeps (W.contents writer.old) (W.contents writer.new)) }
+        → IsErr result) }
 {
     let input = read_input(alloc, reader)?;
     let steps = read_steps(alloc, &input)?;
-    let ran = match drive(alloc, MemDisk::new(alloc), settings, &steps) {
-        Ok(ran) => ran,
-        Err(fault) => return Err(ScriptFault::Open(fault)),
-    };
-    match write_answers(writer, &ran.answers) {
-        Ok(()) => Ok(()),
-        Err(_) => Err(ScriptFault::Write),
+    match answers_of(alloc, settings, &steps) {
+        Ok(answers) => Ok(answers),
+        Err(fault) => Err(ScriptFault::Open(fault)),
     }
+}
+
+/// Runs steps on a new disk in memory: their answers.
+fn answers_of(alloc: Global, settings: Settings, steps: &[Step]) -> Result<Vec<Answer>, OpenFault>
+    requires allowed { IsAllowed settings }
+    ensures { IfOk result (λ answers. AnswersSteps settings steps.now answers.items) }
+{
+    let ran = drive(alloc, MemDisk::new(alloc), settings, steps)?;
+    Ok(ran.answers)
 }
 
 /// Writes one line for each answer, and then everything that the writer has kept back.

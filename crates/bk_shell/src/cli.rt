@@ -7,7 +7,7 @@ ghost use Rattle.clap.specs.Values.{kind_of};
 ghost use Rattle.clap.specs.Walk.{rows_of};
 ghost use Rattle.bk_drive.specs.Limits.{IsAllowed};
 ghost use Rattle.bk_drive.specs.declared.settings.Settings.{Settings};
-ghost use Rattle.bk_shell.specs.CommandLine.{program, Asks, AsksSettings};
+ghost use Rattle.bk_shell.specs.CommandLine.{program, script, Asks, AsksSettings};
 
 mod help;
 mod number_option;
@@ -21,6 +21,7 @@ use help::{ABOUT_SCRIPT, SCRIPT_HELP};
 use number_option::{BadValue, NumberOption};
 use std::alloc::{AllocError, Global};
 use std::convert::AsStr;
+use strsim::osa_distance;
 
 /// The settings of a store that a command line without options asks for.
 pub(crate) const DEFAULTS: Settings = Settings {
@@ -68,7 +69,7 @@ pub(crate) fn settings_of<'a, S: AsStr>(alloc: Global, words: &'a [S]) -> Result
         Ok(settings) => Ok(settings),
         Err(bad) => {
             let told = format!(in alloc; "{bad}")?;
-            Err(command.error(ErrorKind::ValueValidation, told.as_str())?)
+            Err(script_error(alloc, ErrorKind::ValueValidation, &told)?)
         }
     }
 }
@@ -87,15 +88,65 @@ fn read_options<'a>(script: &ArgMatches<'a>) -> Result<Settings, BadValue<'a>>
     })
 }
 
+/// What the program tells of an error. Of a word that is no option it names an option only where the two are nearly the
+/// same word.
+pub(crate) fn text_of(alloc: Global, error: &Error) -> Result<String, AllocError> {
+    let text = format!(in alloc; "{error}")?;
+    let Some(word) = unknown_word(error, &text) else {
+        return Ok(text);
+    };
+    let told = match near_option(alloc, word)? {
+        Some(name) => format!(in alloc; "unexpected argument '{word}' found; there is '--{name}'")?,
+        None => format!(in alloc; "unexpected argument '{word}' found")?,
+    };
+    let error = script_error(alloc, ErrorKind::UnknownArgument, &told)?;
+    format!(in alloc; "{error}")
+}
+
+/// The word of an error's text that is told to be no option.
+fn unknown_word<'t>(error: &Error, text: &'t str) -> Option<&'t str> {
+    if error.kind() != ErrorKind::UnknownArgument {
+        return None;
+    }
+    let (_, rest) = text.split_once("unexpected argument '")?;
+    let (word, _) = rest.split_once("' found")?;
+    Some(word)
+}
+
+/// The option of `script` that is this word but for one slip: a letter too many, too few, another, or two exchanged.
+fn near_option(alloc: Global, word: &str) -> Result<Option<&'static str>, AllocError> {
+    for option in [LOG_LIMIT, SLOTS] {
+        if osa_distance(alloc, word.trim_start_matches('-'), option.name)? <= 1 {
+            return Ok(Some(option.name));
+        }
+    }
+    Ok(None)
+}
+
+/// An error that the program found itself in the words behind `script`.
+fn script_error(alloc: Global, kind: ErrorKind, told: &str) -> Result<Error, AllocError>
+    ensures { IfOk result (λ error. kind_of error ≡ kind) }
+{
+    let mut script = script_command(alloc)?.bin_name("bk_shell script")?;
+    script.error(kind, told)
+}
+
+/// The command `script` with its options.
+fn script_command<'a>(alloc: Global) -> Result<Command<'a>, AllocError>
+    ensures { IfOk result (λ command. app_of command ≡ script) }
+{
+    Command::new(alloc, "script")
+        .about(ABOUT_SCRIPT)
+        .after_help(SCRIPT_HELP)
+        .arg(LOG_LIMIT.arg(alloc))?
+        .arg(SLOTS.arg(alloc))
+}
+
 /// The program's command line.
 fn command<'a>(alloc: Global) -> Result<Command<'a>, AllocError>
     ensures { IfOk result (λ command. app_of command ≡ program) }
 {
-    let script = Command::new(alloc, "script")
-        .about(ABOUT_SCRIPT)
-        .after_help(SCRIPT_HELP)
-        .arg(LOG_LIMIT.arg(alloc))?
-        .arg(SLOTS.arg(alloc))?;
+    let script = script_command(alloc)?;
     Command::new(alloc, "bk_shell")
         .about("Entry log storage of a bookie")
         .after_help(SCRIPT_HELP)

@@ -1,6 +1,8 @@
 ghost use Rattle.bk_drive.specs.Limits.{IsAllowed};
 
+mod faults;
 mod lines;
+mod long;
 mod streams;
 mod worked;
 

@@ -10,7 +10,8 @@ pub(crate) const SCRIPT_HELP: &str = "\
   add LEDGER ENTRY [TEXT]   accepted | held
                             adds an entry; the rest of the line is its data
   pad LEDGER ENTRY SIZE     accepted | held
-                            adds an entry of SIZE zero bytes, at most 2097152
+                            adds an entry of SIZE zero bytes: up to 1048560 are
+                            accepted, and 2097152 may be asked for
   take READER LEDGER ENTRY  cached DATA | leased LOCATION | not held | reader busy
                             reads an entry, from a cache or by a lease on its log
   fetch READER              bytes DATA | no lease
@@ -34,8 +35,9 @@ A flush goes on in the log that is written. A record that would take that log pa
 log's first record goes in whatever its length. With as many logs as --slots says, a write that needs a new log answers
 `fault logs full`.
 
-The status is 0 where every step was answered, 1 where the input could not be read or spells no script, and 2 where
-the command line is wrong.
+The status is 0 where every step was answered. It is 1 where a read fails, the input has more than 16777216 bytes or
+takes more than 1048576 reads, or a line spells no step; where the store is not opened; where no memory is to be had
+outside a step; and where answers or this help cannot be written. It is 2 where the command line is wrong.
 
 Example:
   $ printf 'add 1 0 hello\\nswap\\nwrite\\npublish\\ntake 0 1 0\\nfetch 0\\nrelease 0\\nroll\\n' | bk_shell script

@@ -1,4 +1,4 @@
-use super::{DEFAULTS, settings_of};
+use super::{DEFAULTS, settings_of, text_of};
 use bk_drive::Settings;
 use std::alloc::Global;
 use std::process::Abort;
@@ -101,34 +101,84 @@ fn told(rt: &impl Abort, alloc: Global, words: &[&str]) -> String {
             assert!(rt; false, "{words:?} is a call of the program");
             String::new(alloc)
         }
-        Err(error) => format!(in alloc; "{error}").expect(rt, "memory"),
+        Err(error) => text_of(alloc, &error).expect(rt, "memory"),
     }
 }
 
+/// What is told of a wrong value and of an unknown word: the part that it has, and one that it has not.
+const TOLD: [(&[&str], &str, &str); 7] = [
+    (
+        &["bk_shell", "script", "--slots", "0"],
+        "'0' for '--slots <NUMBER>': not a number from 1 to 65536",
+        "<COMMAND>",
+    ),
+    (
+        &["bk_shell", "script", "--slots", "0"],
+        "\n\nUsage: bk_shell script [OPTIONS]\n",
+        "--log-limit",
+    ),
+    (
+        &["bk_shell", "script", "--slot", "5"],
+        "unexpected argument '--slot' found; there is '--slots'\n",
+        "tip",
+    ),
+    (
+        &["bk_shell", "script", "--log_limit=5"],
+        "unexpected argument '--log_limit' found; there is '--log-limit'\n",
+        "tip",
+    ),
+    (
+        &["bk_shell", "script", "--cache-limit", "100"],
+        "unexpected argument '--cache-limit' found\n\nUsage: bk_shell script [OPTIONS]\n",
+        "--log-limit",
+    ),
+    (
+        &["bk_shell", "script", "5"],
+        "unexpected argument '5' found\n\nUsage: bk_shell script [OPTIONS]\n",
+        "tip",
+    ),
+    (
+        &["bk_shell", "scrip"],
+        "similar subcommand exists: 'script'",
+        "OPTIONS",
+    ),
+];
+
 #[test]
-fn a_bad_value_is_told_with_its_option_and_range(rt: HostRuntime) {
-    let text = told(&rt, rt.alloc(), &["bk_shell", "script", "--slots", "0"]);
-    assert!(rt; text.contains("'0' for '--slots <NUMBER>'"), "{text}");
-    assert!(rt; text.contains("from 1 to 65536"), "{text}");
+fn a_wrong_word_is_told_and_no_other_option_is_named(rt: HostRuntime) {
+    for (words, part, other) in TOLD {
+        let text = told(&rt, rt.alloc(), words);
+        assert!(rt; text.contains(part), "{part:?} in {text:?}");
+        assert!(rt; !text.contains(other), "{other:?} in {text:?}");
+    }
 }
+
+/// Parts of the help: each step and option, the largest payload of a pad, each way to status 1.
+const SHOWN: [&str; 18] = [
+    "add LEDGER ENTRY [TEXT]",
+    "pad LEDGER ENTRY SIZE",
+    "1048560",
+    "take READER LEDGER ENTRY",
+    "fetch READER",
+    "release READER",
+    "swap ",
+    "write ",
+    "publish ",
+    "roll ",
+    "--log-limit <NUMBER>",
+    "--slots <NUMBER>",
+    "a read fails",
+    "16777216 bytes",
+    "1048576 reads",
+    "the store is not opened",
+    "no memory",
+    "cannot be written",
+];
 
 #[test]
 fn help_shows_each_step_and_option(rt: HostRuntime) {
     let text = told(&rt, rt.alloc(), &["bk_shell", "help", "script"]);
-    let shown = [
-        "add LEDGER ENTRY [TEXT]",
-        "pad LEDGER ENTRY SIZE",
-        "take READER LEDGER ENTRY",
-        "fetch READER",
-        "release READER",
-        "swap ",
-        "write ",
-        "publish ",
-        "roll ",
-        "--log-limit <NUMBER>",
-        "--slots <NUMBER>",
-    ];
-    for part in shown {
+    for part in SHOWN {
         assert!(rt; text.contains(part), "{part:?} in the help");
     }
 }

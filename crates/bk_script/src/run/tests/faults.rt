@@ -1,0 +1,74 @@
+//! The texts of faults: those that the program prints are those that the faults have by themselves.
+
+use crate::ScriptFault;
+use crate::run::tell;
+use crate::text::Text;
+use bk_drive::{FlushFault, OpenFault};
+use bk_log::FetchFault;
+use bk_record::RecordFault;
+use std::alloc::Global;
+use std::fmt::Display;
+use std::process::Abort;
+
+#[test]
+fn why_a_script_is_not_run_goes_to_the_error_stream(rt: HostRuntime) {
+    let faults = [
+        (ScriptFault::Read, "read fault\n"),
+        (ScriptFault::Bad(3), "line 3: bad command\n"),
+        (ScriptFault::Open(OpenFault::Disk), "fault disk\n"),
+        (ScriptFault::Open(OpenFault::Memory), "fault memory\n"),
+        (ScriptFault::Open(OpenFault::Odd), "fault odd disk\n"),
+        (ScriptFault::Memory, "fault memory\n"),
+    ];
+    for (fault, text) in faults {
+        let mut errors = Vec::new(rt.alloc());
+        tell(fault, &mut errors);
+        assert_eq!(rt; errors.as_slice(), text.as_bytes(), "{fault:?}");
+    }
+}
+
+/// Compares the text of a fault, as the program prints it and as the fault has it.
+fn assert_text<P: Display + Drop, F: Display + Drop>(
+    rt: &impl Abort,
+    alloc: Global,
+    printed: P,
+    fault: F,
+    text: &str,
+) {
+    let printed = format!(in alloc; "{printed}").expect(rt, "memory");
+    let own = format!(in alloc; "{fault}").expect(rt, "memory");
+    assert_eq!(rt; printed.as_str(), text);
+    assert_eq!(rt; own.as_str(), text);
+}
+
+#[test]
+fn faults_of_steps_print_their_own_texts(rt: HostRuntime) {
+    let records = [
+        (RecordFault::Short(15), "short 15"),
+        (RecordFault::Negative, "negative number"),
+        (RecordFault::TooLong(1_048_577), "too long 1048577"),
+        (RecordFault::Memory, "memory"),
+    ];
+    for (fault, text) in records {
+        assert_text(&rt, rt.alloc(), Text(&fault), fault, text);
+    }
+    let fetches = [
+        (FetchFault::Disk, "disk"),
+        (FetchFault::NotThere, "not there"),
+        (FetchFault::Memory, "memory"),
+        (FetchFault::Odd, "odd disk"),
+    ];
+    for (fault, text) in fetches {
+        assert_text(&rt, rt.alloc(), Text(&fault), fault, text);
+    }
+    let flushes = [
+        (FlushFault::Disk, "disk"),
+        (FlushFault::Memory { done: 7 }, "memory after 7"),
+        (FlushFault::LogsFull, "logs full"),
+        (FlushFault::NoMoreIds, "no more ids"),
+        (FlushFault::Odd, "odd disk"),
+    ];
+    for (fault, text) in flushes {
+        assert_text(&rt, rt.alloc(), Text(&fault), fault, text);
+    }
+}

@@ -1,0 +1,108 @@
+//! What the program does with the words that it is called with, on any streams.
+
+ghost use Rattle.std.specs.Prelude.{◌≡◌, ◌≤◌, map};
+ghost use Rattle.bk_drive.specs.declared.settings.Settings.{Settings};
+ghost use Rattle.bk_script.specs.Run.{RunsScript};
+ghost use Rattle.bk_shell.specs.CommandLine.{Asks};
+ghost use Rattle.clap.specs.Values.{kind_of};
+
+#[cfg(test)]
+mod tests;
+
+use crate::cli::{settings_of, text_of};
+use bk_script::run_script;
+use clap::Error;
+use clap::error::ErrorKind;
+use std::alloc::{AllocGlobal, Global};
+use std::convert::AsStr;
+use std::env::Env;
+use std::io::{Read, Write};
+use std::{env, io};
+use thiserror::Error;
+
+/// Why the program does nothing that its command line asks for. Its text is what the program tells of it.
+#[derive(Clone, Copy, Debug, PartialEq, Eq, Error)]
+pub(crate) enum StartFault {
+    /// A word of the command line isn't UTF-8, so that it is no command line of the program.
+    #[error("error: a word of the command line is not UTF-8\n\nFor more information, try '--help'.")]
+    NotText,
+    /// No memory was to be had.
+    #[error("fault memory")]
+    Memory,
+    /// Help that was asked for could not be written.
+    #[error("fault output")]
+    Output,
+}
+
+/// The words of the command line, the first being the program's name. `NotText`, `Memory`.
+pub(crate) fn words_of<R: Env + AllocGlobal>(rt: &R) -> Result<Vec<String>, StartFault> {
+    let args = match env::args(rt) {
+        Ok(args) => args,
+        Err(error) if error.kind() == io::ErrorKind::InvalidData => {
+            return Err(StartFault::NotText);
+        }
+        Err(_) => return Err(StartFault::Memory),
+    };
+    args.collect(rt.alloc()).map_err(|_| StartFault::Memory)
+}
+
+/// Tells a fault on the error stream. Returns the status: 2 for a wrong command line, else 1.
+pub(crate) fn tell_fault<E: Write>(fault: StartFault, errors: &mut E) -> u8
+    ensures { 1 ≤ result }
+{
+    // The status is the same whether or not this line comes through.
+    let _ = writeln!(errors, "{fault}");
+    match fault {
+        StartFault::NotText => 2,
+        StartFault::Memory | StartFault::Output => 1,
+    }
+}
+
+/// Does what the words ask for: runs the script that the reader gives with the settings of its options, or writes the
+/// help that was asked for. Returns the program's status: 0, 1 as `run_script` says, or where no memory is to be had
+/// or the help can't be written, and 2 where the words are a wrong command line. The error stream gets the reason,
+/// `writer` nothing but answers and help.
+pub(crate) fn run_words<S: AsStr, R: Read, W: Write, E: Write>(
+    alloc: Global,
+    words: &[S],
+    reader: &mut R,
+    writer: &mut W,
+    errors: &mut E,
+) -> u8
+    ensures done { (asked : Settings) → Asks (map S.text words.now) asked → result ≡ 0
+        → (settings : Settings) × Asks (map S.text words.now) settings
+        × RunsScript settings (R.remaining reader.old) (R.remaining reader.new)
+        (W.contents writer.old) (W.contents writer.new) }
+    ensures right { (asked : Settings) → Asks (map S.text words.now) asked → result ≤ 1 }
+{
+    match settings_of(alloc, words) {
+        Ok(settings) => run_script(alloc, settings, reader, writer, errors),
+        Err(error) => tell(alloc, &error, writer, errors),
+    }
+}
+
+/// Writes help that was asked for, or tells on the error stream what is wrong with the words. Returns the status.
+fn tell<W: Write, E: Write>(alloc: Global, error: &Error, writer: &mut W, errors: &mut E) -> u8
+    ensures { kind_of error.now ≡ ErrorKind.OutOfMemory → result ≡ 1 }
+{
+    if error.kind() == ErrorKind::OutOfMemory {
+        return tell_fault(StartFault::Memory, errors);
+    }
+    let Ok(text) = text_of(alloc, error) else {
+        return tell_fault(StartFault::Memory, errors);
+    };
+    if error.use_stderr() {
+        let _ = errors.write_all(text.as_bytes());
+        return 2;
+    }
+    match write_help(text.as_str(), writer) {
+        Ok(()) => 0,
+        Err(_) => tell_fault(StartFault::Output, errors),
+    }
+}
+
+/// Writes help, and everything that the writer has kept back.
+fn write_help<W: Write>(text: &str, writer: &mut W) -> io::Result<()> {
+    writer.write_all(text.as_bytes())?;
+    writer.flush()
+}

@@ -1,0 +1,201 @@
+use super::{StartFault, run_words, words_of};
+use std::alloc::Global;
+use std::env::{Env, FillError};
+use std::io;
+use std::io::{Read, Write};
+
+/// What a call of the program left: its status, and the texts on the two streams.
+#[derive(Debug, Drop)]
+struct Shown {
+    status: u8,
+    output: Vec<u8>,
+    errors: Vec<u8>,
+}
+
+fn run(alloc: Global, words: &[&str], input: &str) -> Shown {
+    let mut output = Vec::new(alloc);
+    let mut errors = Vec::new(alloc);
+    let mut reader = input.as_bytes();
+    let status = run_words(alloc, words, &mut reader, &mut output, &mut errors);
+    Shown {
+        status,
+        output,
+        errors,
+    }
+}
+
+/// A flush of two records of 500 bytes, and one of 20 bytes for the next log where 2048 bytes are the limit.
+const FLUSH: &str = "pad 1 0 480\npad 1 1 504\npad 1 2 0\nswap\nwrite\nwrite\nwrite\n";
+
+/// A second log after a roll.
+const ROLL: &str = "add 1 0 a\nswap\nwrite\npublish\nroll\nadd 1 1 b\nswap\nwrite\n";
+
+#[test]
+fn options_are_used(rt: HostRuntime) {
+    let runs: [(&[&str], &str, &str); 4] = [
+        (
+            &["bk_shell", "script"],
+            FLUSH,
+            "accepted\naccepted\naccepted\nswapped 3\nwrote 1028\nwrote 1528\nwrote 2052\n",
+        ),
+        (
+            &["bk_shell", "script", "--log-limit", "2048"],
+            FLUSH,
+            "accepted\naccepted\naccepted\nswapped 3\nwrote 1028\nwrote 1528\nwrote 4294968324\n",
+        ),
+        (
+            &["bk_shell", "script"],
+            ROLL,
+            "accepted\nswapped 1\nwrote 1028\npublished 1\nsealed 0\naccepted\nswapped 1\nwrote 4294968324\n",
+        ),
+        (
+            &["bk_shell", "script", "--slots=1"],
+            ROLL,
+            "accepted\nswapped 1\nwrote 1028\npublished 1\nsealed 0\naccepted\nswapped 1\nfault logs full\n",
+        ),
+    ];
+    for (words, input, output) in runs {
+        let shown = run(rt.alloc(), words, input);
+        assert_eq!(rt; shown.status, 0, "the status of {words:?}");
+        assert_eq!(rt;
+            shown.output.as_slice(),
+            output.as_bytes(),
+            "the output of {words:?}"
+        );
+        assert_eq!(rt; shown.errors.len(), 0, "the errors of {words:?}");
+    }
+}
+
+/// Fails at each call.
+#[derive(Drop)]
+struct Closed;
+
+impl Read for Closed {
+    fn read(&mut self, _buf: &mut [u8]) -> io::Result<usize> {
+        Err(io::Error::from(io::ErrorKind::Other))
+    }
+}
+
+impl Write for Closed {
+    fn write(&mut self, _buf: &[u8]) -> io::Result<usize> {
+        Err(io::Error::from(io::ErrorKind::Other))
+    }
+
+    fn flush(&mut self) -> io::Result<()> {
+        Err(io::Error::from(io::ErrorKind::Other))
+    }
+}
+
+/// Takes all that is written and fails at the flush.
+#[derive(Drop)]
+struct Full;
+
+impl Write for Full {
+    fn write(&mut self, buf: &[u8]) -> io::Result<usize> {
+        Ok(buf.len())
+    }
+
+    fn flush(&mut self) -> io::Result<()> {
+        Err(io::Error::from(io::ErrorKind::Other))
+    }
+}
+
+#[test]
+fn a_wrong_command_line_is_told_with_status_2_and_reads_no_input(rt: HostRuntime) {
+    let lines: [(&[&str], &str); 6] = [
+        (&[], "error: "),
+        (&["bk_shell"], "error: "),
+        (
+            &["bk_shell", "frob"],
+            "error: unrecognized subcommand 'frob'",
+        ),
+        (
+            &["bk_shell", "script", "5"],
+            "error: unexpected argument '5' found\n\nUsage: bk_shell script [OPTIONS]\n",
+        ),
+        (
+            &["bk_shell", "script", "--slots", "0"],
+            "error: invalid value '0' for '--slots <NUMBER>'",
+        ),
+        (
+            &["bk_shell", "script", "--slots", "1", "--slots", "1"],
+            "error: ",
+        ),
+    ];
+    for (words, told) in lines {
+        let mut output = Vec::new(rt.alloc());
+        let mut errors = Vec::new(rt.alloc());
+        let status = run_words(rt.alloc(), words, &mut Closed, &mut output, &mut errors);
+        assert_eq!(rt; status, 2, "the status of {words:?}");
+        assert_eq!(rt; output.len(), 0, "the output of {words:?}");
+        assert!(rt;
+            errors.as_slice().starts_with(told.as_bytes()),
+            "the errors of {words:?}"
+        );
+    }
+}
+
+#[test]
+fn help_goes_to_the_output_or_is_a_fault_of_its_own(rt: HostRuntime) {
+    let shown = run(rt.alloc(), &["bk_shell", "--help"], "");
+    assert_eq!(rt; shown.status, 0);
+    assert!(rt;
+        shown
+            .output
+            .as_slice()
+            .starts_with(b"Entry log storage of a bookie")
+    );
+    assert_eq!(rt; shown.errors.len(), 0);
+    let mut errors = Vec::new(rt.alloc());
+    let words: [&str; 3] = ["bk_shell", "help", "script"];
+    let closed = run_words(rt.alloc(), &words, &mut Closed, &mut Closed, &mut errors);
+    let full = run_words(rt.alloc(), &words, &mut Closed, &mut Full, &mut errors);
+    assert_eq!(rt; (closed, full), (1, 1));
+    assert_eq!(rt;
+        errors.as_slice(),
+        b"fault output\nfault output\n".as_slice()
+    );
+}
+
+/// An environment in which the program is called with these words.
+#[derive(Drop)]
+struct Called<'a> {
+    words: &'a [&'a [u8]],
+}
+
+impl Env for Called<'_> {
+    fn arg(&self, i: usize, buf: &mut [u8]) -> Result<usize, FillError> {
+        let Some(word) = self.words.get(i) else {
+            return Err(FillError::NotPresent);
+        };
+        let Some(room) = buf.get_mut(..word.len()) else {
+            return Err(FillError::TooLong);
+        };
+        room.copy_from_slice(word);
+        Ok(word.len())
+    }
+
+    fn var(&self, _name: &str, _buf: &mut [u8]) -> Result<usize, FillError> {
+        Err(FillError::NotPresent)
+    }
+
+    fn var_at(&self, _i: usize, _buf: &mut [u8]) -> Result<usize, FillError> {
+        Err(FillError::NotPresent)
+    }
+}
+
+#[test]
+fn a_word_that_is_not_utf_8_is_a_wrong_command_line(rt: HostRuntime) {
+    let calls: [(&[&[u8]], bool); 4] = [
+        (&[b"bk_shell", b"script"], true),
+        (&[b"bk_shell", "\u{e9}".as_bytes()], true),
+        (&[b"bk_shell", b"script", b"\xff"], false),
+        (&[b"\x80", b"script"], false),
+    ];
+    for (words, is_text) in calls {
+        match words_of(&(Called { words }, rt.alloc())) {
+            Ok(found) => assert_eq!(rt; (found.len(), is_text), (words.len(), true)),
+            Err(fault) => assert_eq!(rt; (fault, is_text), (StartFault::NotText, false)),
+        }
+    }
+}
