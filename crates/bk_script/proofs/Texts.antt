@@ -1,9 +1,8 @@
 -- Data in hexadecimal, written a byte at a time.
-use Rattle.std.proofs.Common.{◌≡◌, ℕ, ◌+◌, ◌-◌, ◌^◌, ◌<◌, List, [], ◌++◌, length, take, get_or, false, Option, Some, Result, IsOk}
+use Rattle.std.proofs.Common.{◌≡◌, ℕ, ◌+◌, ◌<◌, List, [], ◌++◌, length, take, get_or, Result, IsOk}
 use Rattle.std.specs.declared.fmt.Formatter.{Formatter}
 use Rattle.std.specs.declared.fmt.Error.{Error}
-use Rattle.std.specs.Fmt.{HasWritten, DisplaysOnOk, digits, format_spec, padded_integral}
-use Rattle.std.proofs.lemmas.Fmt.{hex_byte}
+use Rattle.std.specs.Fmt.{HasWritten, WritesOnOk}
 use Rattle.std.proofs.lemmas.List.{take_more, flat_map_more}
 use Rattle.std.proofs.lemmas.Grind.{put_two}
 use Rattle.bk_script.specs.Text.{digit_pair, hex_of}
@@ -11,11 +10,9 @@ use Rattle.bk_script.specs.Text.{digit_pair, hex_of}
 hex_of-take : (bytes : List ℕ) (i : ℕ) → i < length bytes → hex_of (take i bytes) ++ digit_pair (get_or bytes i 0) ≡ hex_of (take (i + 1) bytes)
 hex_of-take bytes i inside = rw (take_more bytes i 0 inside) (flat_map_more digit_pair [] (take i bytes) (get_or bytes i 0))
 
--- one byte more, by a write of two padded digits
-pub hex_more : {W : Type 0} (took : W → List ℕ → W → Type 0) (start f g : Formatter W) (bytes : List ℕ) (i : ℕ) (o : Option (List ℕ))
-    (r : Result (Unit {0}) Error) → i < length bytes → get_or bytes i 0 < 256 → HasWritten took start (hex_of (take i bytes)) f
-    → o ≡ Some (padded_integral (format_spec 32 0 4 2 (2 ^ 64 - 1)) false [] (digits 16 false (get_or bytes i 0)))
-    → DisplaysOnOk took f r o g → IsOk r → HasWritten took start (hex_of (take (i + 1) bytes)) g
-hex_more took start f g bytes i o r inside small before gives writes ok =
-    let wrote = rw (hex_byte false (get_or bytes i 0) small) at (rw gives at writes) in
-    put_two took start f g _ (digit_pair (get_or bytes i 0)) _ before (wrote before.plain ok) (hex_of-take bytes i inside)
+-- one byte more
+pub hex_more : {W : Type 0} (took : W → List ℕ → W → Type 0) (start f g : Formatter W) (bytes : List ℕ) (i : ℕ)
+    (r : Result (Unit {0}) Error) → i < length bytes → HasWritten took start (hex_of (take i bytes)) f
+    → WritesOnOk took f r (digit_pair (get_or bytes i 0)) g → IsOk r → HasWritten took start (hex_of (take (i + 1) bytes)) g
+hex_more took start f g bytes i r inside before writes ok =
+    put_two took start f g _ (digit_pair (get_or bytes i 0)) _ before (writes before.plain ok) (hex_of-take bytes i inside)

@@ -7,7 +7,7 @@ ghost use Rattle.clap.specs.Values.{kind_of};
 ghost use Rattle.clap.specs.Walk.{rows_of};
 ghost use Rattle.bk_drive.specs.Limits.{IsAllowed};
 ghost use Rattle.bk_drive.specs.declared.settings.Settings.{Settings};
-ghost use Rattle.bk_shell.specs.CommandLine.{program, script, Asks, AsksSettings};
+ghost use Rattle.bk_shell.specs.CommandLine.{program, Asks, AsksSettings};
 
 mod help;
 mod number_option;
@@ -127,26 +127,19 @@ fn near_option(alloc: Global, word: &str) -> Result<Option<&'static str>, AllocE
 fn script_error(alloc: Global, kind: ErrorKind, told: &str) -> Result<Error, AllocError>
     ensures { IfOk result (λ error. kind_of error ≡ kind) }
 {
-    let mut script = script_command(alloc)?.bin_name("bk_shell script")?;
+    let mut script = Command::new(alloc, "script").override_usage("bk_shell script [OPTIONS]");
     script.error(kind, told)
-}
-
-/// The command `script` with its options.
-fn script_command<'a>(alloc: Global) -> Result<Command<'a>, AllocError>
-    ensures { IfOk result (λ command. app_of command ≡ script) }
-{
-    Command::new(alloc, "script")
-        .about(ABOUT_SCRIPT)
-        .after_help(SCRIPT_HELP)
-        .arg(LOG_LIMIT.arg(alloc))?
-        .arg(SLOTS.arg(alloc))
 }
 
 /// The program's command line.
 fn command<'a>(alloc: Global) -> Result<Command<'a>, AllocError>
     ensures { IfOk result (λ command. app_of command ≡ program) }
 {
-    let script = script_command(alloc)?;
+    let script = Command::new(alloc, "script")
+        .about(ABOUT_SCRIPT)
+        .after_help(SCRIPT_HELP)
+        .arg(LOG_LIMIT.arg(alloc))?
+        .arg(SLOTS.arg(alloc))?;
     Command::new(alloc, "bk_shell")
         .about("Entry log storage of a bookie")
         .after_help(SCRIPT_HELP)

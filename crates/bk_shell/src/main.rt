@@ -6,23 +6,26 @@ mod program;
 
 pub use bk_script::run_script;
 use program::{StartFault, run_words, tell_fault, words_of};
-use std::io::BufWriter;
+use std::io::{BufWriter, Stderr};
 use std::process::ExitCode;
 
 fn main(rt: HostRuntime) -> ExitCode {
-    let alloc = rt.alloc();
     let mut errors = rt.stderr();
-    let Ok(mut writer) = BufWriter::new(alloc, rt.stdout()) else {
-        return ExitCode::from(tell_fault(StartFault::Memory, &mut errors));
-    };
-    match words_of(&rt) {
-        Ok(words) => ExitCode::from(run_words(
-            alloc,
-            &words,
-            &mut rt.stdin(),
-            &mut writer,
-            &mut errors,
-        )),
-        Err(fault) => ExitCode::from(tell_fault(fault, &mut errors)),
+    match run(&rt, &mut errors) {
+        Ok(status) => ExitCode::from(status),
+        Err(fault) => {
+            tell_fault(fault, &mut errors);
+            ExitCode::from(fault.status())
+        }
     }
+}
+
+/// Does what the command line of the process asks for, and returns the status.
+fn run(rt: &HostRuntime, errors: &mut Stderr) -> Result<u8, StartFault> {
+    let alloc = rt.alloc();
+    let words = words_of(rt)?;
+    let Ok(mut writer) = BufWriter::new(alloc, rt.stdout()) else {
+        return Err(StartFault::Memory);
+    };
+    Ok(run_words(alloc, &words, &mut rt.stdin(), &mut writer, errors))
 }

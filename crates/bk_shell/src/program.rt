@@ -34,6 +34,16 @@ pub(crate) enum StartFault {
     Output,
 }
 
+impl StartFault {
+    /// The program's status: 2 for a wrong command line, else 1.
+    pub(crate) fn status(self) -> u8 {
+        match self {
+            StartFault::NotText => 2,
+            StartFault::Memory | StartFault::Output => 1,
+        }
+    }
+}
+
 /// The words of the command line, the first being the program's name. `NotText`, `Memory`.
 pub(crate) fn words_of<R: Env + AllocGlobal>(rt: &R) -> Result<Vec<String>, StartFault> {
     let args = match env::args(rt) {
@@ -46,16 +56,9 @@ pub(crate) fn words_of<R: Env + AllocGlobal>(rt: &R) -> Result<Vec<String>, Star
     args.collect(rt.alloc()).map_err(|_| StartFault::Memory)
 }
 
-/// Tells a fault on the error stream. Returns the status: 2 for a wrong command line, else 1.
-pub(crate) fn tell_fault<E: Write>(fault: StartFault, errors: &mut E) -> u8
-    ensures { 1 ≤ result }
-{
-    // The status is the same whether or not this line comes through.
+/// Tells a fault on the error stream. The status is the same whether or not this line comes through.
+pub(crate) fn tell_fault<E: Write>(fault: StartFault, errors: &mut E) {
     let _ = writeln!(errors, "{fault}");
-    match fault {
-        StartFault::NotText => 2,
-        StartFault::Memory | StartFault::Output => 1,
-    }
 }
 
 /// Does what the words ask for: runs the script that the reader gives with the settings of its options, or writes the
@@ -86,19 +89,22 @@ fn tell<W: Write, E: Write>(alloc: Global, error: &Error, writer: &mut W, errors
     ensures { kind_of error.now ≡ ErrorKind.OutOfMemory → result ≡ 1 }
 {
     if error.kind() == ErrorKind::OutOfMemory {
-        return tell_fault(StartFault::Memory, errors);
+        tell_fault(StartFault::Memory, errors);
+        return 1;
     }
     let Ok(text) = text_of(alloc, error) else {
-        return tell_fault(StartFault::Memory, errors);
+        tell_fault(StartFault::Memory, errors);
+        return 1;
     };
     if error.use_stderr() {
         let _ = errors.write_all(text.as_bytes());
         return 2;
     }
-    match write_help(text.as_str(), writer) {
-        Ok(()) => 0,
-        Err(_) => tell_fault(StartFault::Output, errors),
+    if write_help(text.as_str(), writer).is_err() {
+        tell_fault(StartFault::Output, errors);
+        return 1;
     }
+    0
 }
 
 /// Writes help, and everything that the writer has kept back.

@@ -15,8 +15,8 @@ returns-in_err-error-clause-refused g c = refused_for_memory _ (map g.S.AsStr.te
 pub returns-in_err-told-in-Err-clause-refused : goal.returns-in_err-told-in-Err-clause-refused
 returns-in_err-told-in-Err-clause-refused g c = refused_for_memory _ (map g.S.AsStr.text c.args.words.now) c.from_residual-in_err-told-in-Err.ensures.1
 
-pub returns-in_err-error-in-Err-clause-refused : goal.returns-in_err-error-in-Err-clause-refused
-returns-in_err-error-in-Err-clause-refused g c = refused_for_memory _ (map g.S.AsStr.text c.args.words.now) c.from_residual-in_err-error-in-Err.ensures.1
+pub returns-in_err-script_error-in-Err-clause-refused : goal.returns-in_err-script_error-in-Err-clause-refused
+returns-in_err-script_error-in-Err-clause-refused g c = refused_for_memory _ (map g.S.AsStr.text c.args.words.now) c.from_residual-in_err-script_error-in-Err.ensures.1
 
 pub returns-in-Ok-clause-asked : goal.returns-in-Ok-clause-asked
 returns-in-Ok-clause-asked g c =
