@@ -184,15 +184,17 @@ impl Env for Called<'_> {
     }
 }
 
+/// Words of a call, and whether all of them are UTF-8.
+const CALLS: [(&[&[u8]], bool); 4] = [
+    (&[b"bk_shell", b"script"], true),
+    (&[b"bk_shell", b"\xc3\xa9"], true),
+    (&[b"bk_shell", b"script", b"\xff"], false),
+    (&[b"\x80", b"script"], false),
+];
+
 #[test]
 fn a_word_that_is_not_utf_8_is_a_wrong_command_line(rt: HostRuntime) {
-    let calls: [(&[&[u8]], bool); 4] = [
-        (&[b"bk_shell", b"script"], true),
-        (&[b"bk_shell", "\u{e9}".as_bytes()], true),
-        (&[b"bk_shell", b"script", b"\xff"], false),
-        (&[b"\x80", b"script"], false),
-    ];
-    for (words, is_text) in calls {
+    for (words, is_text) in CALLS {
         match words_of(&(Called { words }, rt.alloc())) {
             Ok(found) => assert_eq!(rt; (found.len(), is_text), (words.len(), true)),
             Err(fault) => assert_eq!(rt; (fault, is_text), (StartFault::NotText, false)),
