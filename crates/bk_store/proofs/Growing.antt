@@ -1,0 +1,126 @@
+-- The bytes of logs grow, or go, and carry the same map.
+use Rattle.std.proofs.Common.{◌≡◌, ◌≢◌, ◌⊎◌, inl, inr, ℕ, List, [], ◌∷◌, ◌++◌, Some, false, sym, ap, ◌∙◌, subst, arith}
+use Rattle.std.specs.FinMap as finite
+use Rattle.std.specs.FinSet as set
+use Rattle.bk_record.specs.Key.{EntryKey}
+use Rattle.bk_record.specs.Location.{Place}
+use Rattle.bk_record.specs.Record.{key_of}
+use Rattle.bk_record.specs.Files.{records_of, In}
+use Rattle.bk_record.specs.Scan.{Payloads, Ledgers}
+use Rattle.std.proofs.lemmas.List.{append-nil}
+use Rattle.std.proofs.lemmas.Option.{same_Some}
+use Rattle.bk_record.proofs.Growth.{In-append_left, In-append_cases, records_of-short}
+use Rattle.bk_store.specs.Entries.{Bytes, Places, HasEntry}
+use Rattle.bk_store.specs.Carried.{Cached, Carries}
+use Rattle.bk_store.proofs.Cases.{same_or_apart}
+
+-- each entry of the first bytes stands in the second
+abbrev pub EntriesStay : Bytes → Bytes → Type 0
+EntriesStay bytes bytes' = (place : Place) (key : EntryKey) (payload : List ℕ) → HasEntry bytes place key payload → HasEntry bytes' place key payload
+
+-- Each entry of the old bytes stands in the new; each new entry of a live ledger has what the map has.
+pub record Grows (dead : Ledgers) (map : Payloads) (bytes bytes' : Bytes) : Type 0 where
+  pub stood : EntriesStay bytes bytes'
+  pub fresh : (place : Place) (key : EntryKey) (payload : List ℕ) → HasEntry bytes' place key payload → set.contains dead key.ledger ≡ false
+      → HasEntry bytes place key payload ⊎ (finite.get map key ≡ Some payload)
+
+-- the bytes of the other logs are the same
+abbrev pub OnlyIn : ℕ → Bytes → Bytes → Type 0
+OnlyIn log bytes bytes' = (id : ℕ) → id ≢ log → bytes' id ≡ bytes id
+
+-- an entry stands by its log's bytes alone
+pub entry_same : {bytes bytes' : Bytes} (place : Place) (key : EntryKey) (payload : List ℕ) → bytes place.log ≡ bytes' place.log
+    → HasEntry bytes place key payload → HasEntry bytes' place key payload
+entry_same place key payload same entry =
+    record { stands = subst (λ (b : List ℕ). In (place.at, payload) (records_of b)) same entry.stands; keyed = entry.keyed }
+
+-- ---- the bytes grow
+
+module _ {bytes bytes' : Bytes} {index : Places} {cached : Cached} {dead : Ledgers} {map : Payloads} where
+  pub carries_grown : Grows dead map bytes bytes' → Carries bytes index cached dead map → Carries bytes' index cached dead map
+  carries_grown grows carries = record {
+    lives = carries.lives;
+    cached_is = carries.cached_is;
+    covered = carries.covered;
+    indexed = λ key place named.
+        let old = carries.indexed key place named in
+        record { payload = old.payload; stands = grows.stood place key old.payload old.stands; mapped = old.mapped };
+    recorded = λ place key payload entry lives. elim (grows.fresh place key payload entry lives) [
+      | inl old ↦ carries.recorded place key payload old lives
+      | inr mapped ↦ inl mapped
+    ];
+  }
+
+module _ {bytes bytes' : Bytes} (dead : Ledgers) (map : Payloads) where
+  pub grows_same : EntriesStay bytes bytes' → EntriesStay bytes' bytes → Grows dead map bytes bytes'
+  grows_same stood was = record { stood = stood; fresh = λ place key payload entry lives. inl (was place key payload entry) }
+
+  -- In one log others stand behind the old records, and those of them that have keys of live ledgers have what the map has.
+  pub grows_behind : (log : ℕ) → OnlyIn log bytes bytes' → (others : List (ℕ × List ℕ)) → records_of (bytes' log) ≡ records_of (bytes log) ++ others
+      → ((at : ℕ) (payload : List ℕ) (key : EntryKey) → In (at, payload) others → key_of payload ≡ Some key → set.contains dead key.ledger ≡ false
+      → finite.get map key ≡ Some payload)
+      → Grows dead map bytes bytes'
+  grows_behind log only others are each = record {
+    stood = λ place key payload entry. elim (same_or_apart place.log log) [
+      | inr apart ↦ entry_same place key payload (sym (only place.log apart)) entry
+      | inl here ↦ record {
+        stands =
+            let old = subst (λ id. In (place.at, payload) (records_of (bytes id))) here entry.stands in
+            let there = subst (λ rs. In (place.at, payload) rs) (sym are) (In-append_left (place.at, payload) (records_of (bytes log)) others old) in
+            subst (λ id. In (place.at, payload) (records_of (bytes' id))) (sym here) there;
+        keyed = entry.keyed;
+      }
+    ];
+    fresh = λ place key payload entry lives. elim (same_or_apart place.log log) [
+      | inr apart ↦ inl (entry_same place key payload (only place.log apart) entry)
+      | inl here ↦
+          let there = subst (λ rs. In (place.at, payload) rs) are (subst (λ id. In (place.at, payload) (records_of (bytes' id))) here entry.stands) in
+          elim (In-append_cases (place.at, payload) (records_of (bytes log)) others there) [
+            | inl old ↦ inl (record { stands = subst (λ id. In (place.at, payload) (records_of (bytes id))) (sym here) old; keyed = entry.keyed })
+            | inr new ↦ inr (each place.at payload key new entry.keyed lives)
+          ]
+    ];
+  }
+
+  -- the log has the records that it had
+  pub grows_as_is : (log : ℕ) → OnlyIn log bytes bytes' → records_of (bytes' log) ≡ records_of (bytes log) → Grows dead map bytes bytes'
+  grows_as_is log only are = grows_behind log only [] (are ∙ sym (append-nil (records_of (bytes log)))) (λ at payload key never. absurd never)
+
+  -- the log has one record more, with what the map has of its key
+  pub grows_by_one : (log : ℕ) → OnlyIn log bytes bytes' → (at : ℕ) (payload : List ℕ) (key : EntryKey)
+      → records_of (bytes' log) ≡ records_of (bytes log) ++ (at, payload) ∷ [] → key_of payload ≡ Some key → finite.get map key ≡ Some payload
+      → Grows dead map bytes bytes'
+  grows_by_one log only at payload key are keyed mapped = grows_behind log only ((at, payload) ∷ []) are (λ at' payload' key' there keyed' _. elim there [
+    | inr never ↦ absurd never
+    | inl here ↦
+        let same : payload ≡ payload' = ap (λ (r : ℕ × List ℕ). r.1) here in
+        let one : key ≡ key' = same_Some key key' (sym keyed ∙ ap key_of same ∙ keyed') in
+        ap (λ k. finite.get map k) (sym one) ∙ mapped ∙ ap Some same
+  ])
+
+-- ---- a log's bytes go
+
+pub none_stands : {bytes : Bytes} (place : Place) (key : EntryKey) (payload : List ℕ) → bytes place.log ≡ [] → HasEntry bytes place key payload → ⊥
+none_stands place key payload empty entry =
+    subst (λ (rs : List (ℕ × List ℕ)). In (place.at, payload) rs) (ap records_of empty ∙ records_of-short [] (omega arith)) entry.stands
+
+module _ {bytes bytes' : Bytes} {index : Places} {cached : Cached} {dead : Ledgers} {map : Payloads} where
+  pub carries_removed : (log : ℕ) → OnlyIn log bytes bytes' → bytes' log ≡ []
+      → ((key : EntryKey) (place : Place) → finite.get index key ≡ Some place → place.log ≢ log)
+      → Carries bytes index cached dead map → Carries bytes' index cached dead map
+  carries_removed log only gone unnamed carries = record {
+    lives = carries.lives;
+    cached_is = carries.cached_is;
+    covered = carries.covered;
+    indexed = λ key place named.
+        let old = carries.indexed key place named in
+        record {
+          payload = old.payload;
+          stands = entry_same place key old.payload (sym (only place.log (unnamed key place named))) old.stands;
+          mapped = old.mapped;
+        };
+    recorded = λ place key payload entry lives. elim (same_or_apart place.log log) [
+      | inl here ↦ absurd (none_stands place key payload (ap bytes' here ∙ gone) entry)
+      | inr apart ↦ carries.recorded place key payload (entry_same place key payload (only place.log apart) entry) lives
+    ];
+  }

@@ -1,0 +1,96 @@
+-- An add keeps what a store keeps.
+use Rattle.std.proofs.Common.{◌≡◌, ◌≢◌, ℕ, List, Option, Some, None, false, Result, Ok, Err, is_some, ◌||◌, refl, sym, ap, subst, ◌∙◌}
+use Rattle.std.specs.Option.{option_or}
+use Rattle.std.specs.Result.{result_unwrap_or}
+use Rattle.std.specs.FinMap as finite
+use Rattle.std.specs.FinSet as set
+use Rattle.bk_record.specs.Key.{EntryKey}
+use Rattle.bk_record.specs.Record.{read_added}
+use Rattle.bk_cache.specs.Caches as caches
+use Rattle.bk_store.specs.State.{State, Parts}
+use Rattle.bk_store.specs.Meaning.{written_at, holds}
+use Rattle.bk_store.specs.Turns.{AddTurn}
+use Rattle.bk_store.specs.Kept.{Keeps, Promises}
+use Rattle.bk_store.specs.declared.answer.Added.{Added}
+use Rattle.bk_store.specs.declared.answer.Added.TheVariants.{Accepted, Held}
+use Rattle.bk_store.specs.declared.answer.AddFault.{AddFault}
+use Rattle.bk_store.specs.declared.answer.AddFault.TheVariants as add_faults
+use Rattle.bk_store.proofs.KeyMaps.{get-insert_other, inserted_here}
+use Rattle.bk_store.proofs.Meaning.{unheld_unmapped}
+use Rattle.bk_store.proofs.CachedMoves.{carries_added}
+use Rattle.bk_store.proofs.KeptParts.{with_state, keeps_same}
+
+not_held : (s : State) (key : EntryKey) → holds s key ≡ false → (written_at s key ≡ None) × (finite.get s.index key ≡ None)
+not_held s key is =
+    elim (written_at s key) as (λ o. (is_some o || is_some (finite.get s.index key)) ≡ false → (o ≡ None) × (finite.get s.index key ≡ None)) [
+      | Some b ↦ λ wrong. cc
+      | None ↦ elim (finite.get s.index key) as (λ o. is_some o ≡ false → (◌≡◌ {A = Option (List ℕ)} None None) × (o ≡ None)) [
+        | Some b ↦ λ wrong. cc
+        | None ↦ λ _. (refl, refl)
+      ]
+    ] is
+
+module _ (p : Parts) (payload : List ℕ) (key : EntryKey) (reads : read_added payload ≡ Ok key) (keeps : Keeps p)
+    (alive : set.contains p.state.dead key.ledger ≡ false) (unheld : holds p.state key ≡ false) where
+  abbrev added : Parts
+  added = with_state p (record p.state { caches = caches.with_added p.state.caches payload })
+
+  is_key : caches.added_key payload ≡ key
+  is_key = ap (λ r. result_unwrap_or r (record { ledger = 0; entry = 0 })) reads
+
+  cached_here : written_at added.state key ≡ Some payload
+  cached_here =
+      ap (λ o. option_or o (finite.get (caches.flush_of p.state.caches) key))
+      (inserted_here p.state.caches.active (caches.added_key payload) payload key (sym is_key))
+
+  cached_else : (other : EntryKey) → other ≢ key → written_at added.state other ≡ written_at p.state other
+  cached_else other apart =
+      ap (λ o. option_or o (finite.get (caches.flush_of p.state.caches) other))
+      (get-insert_other p.state.caches.active (caches.added_key payload) payload other (λ same. apart (same ∙ is_key)))
+
+  promised : Promises p → Promises added
+  promised promise =
+      let none = not_held p.state key unheld in
+      record {
+        carried = finite.insert promise.carried key payload;
+        carries = carries_added promise.carries (written_at added.state) key payload alive none.0 none.1 cached_here cached_else;
+        shows = promise.shows;
+        recent = λ k b is.
+            let old = promise.recent k b is in
+            let missing = unheld_unmapped promise.carries key none.0 none.1 in
+            get-insert_other promise.carried key payload k
+            (λ same. let wrong : ◌≡◌ {A = Option (List ℕ)} (Some b) None = sym old ∙ ap (finite.get promise.carried) same ∙ missing in cc) ∙ old;
+        counted = promise.counted;
+        backed = promise.backed;
+        fresh = promise.fresh;
+        placed = λ k place is. let old = promise.placed k place is in record { payload = old.payload; flushing = old.flushing; stands = old.stands };
+      }
+
+  added_kept : Keeps added
+  added_kept =
+      let fits = keeps.fits in
+      record {
+        fits = record {
+          allowed = fits.allowed;
+          limit = fits.limit;
+          ids = fits.ids;
+          slots = fits.slots;
+          held = fits.held;
+          sent = fits.sent;
+          placed = record { idle = fits.placed.idle; flushing = fits.placed.flushing; logs = fits.placed.logs; front = fits.placed.front };
+          writing = fits.writing;
+          filled = fits.filled;
+          named = fits.named;
+          total = fits.total;
+        };
+        promises = λ honest. promised (keeps.promises honest);
+      }
+
+pub keeps_add : (p q : Parts) (payload : List ℕ) (result : Result Added AddFault) → Keeps p → AddTurn p.state payload result q.state → q ≡ with_state p q.state → Keeps q
+keeps_add p q payload (Err (add_faults.Bad fault)) keeps turn beside = keeps_same p q keeps beside turn.1
+keeps_add p q payload (Err add_faults.Deleted) keeps turn beside = keeps_same p q keeps beside turn.3
+keeps_add p q payload (Ok Held) keeps turn beside = keeps_same p q keeps beside turn.1
+keeps_add p q payload (Err (add_faults.Full used limit)) keeps turn beside = keeps_same p q keeps beside turn.4
+keeps_add p q payload (Err add_faults.Memory) keeps turn beside = keeps_same p q keeps beside turn.2
+keeps_add p q payload (Ok Accepted) keeps turn beside =
+    subst Keeps (sym (beside ∙ ap (with_state p) turn.2)) (added_kept p payload turn.0.key turn.0.reads keeps turn.0.lives turn.0.held)

@@ -1,0 +1,21 @@
+-- What a step that asks no device keeps of a store's parts.
+use Rattle.std.proofs.Common.{◌≡◌, Option, Some, None, sym, ap, subst, ◌∙◌}
+use Rattle.std.specs.FinMap as finite
+use Rattle.bk_record.specs.Key.{EntryKey, key_cmp}
+use Rattle.bk_record.specs.Location.{Place}
+use Rattle.bk_store.specs.Entries.{Places}
+use Rattle.bk_store.specs.State.{State, Parts}
+use Rattle.bk_store.specs.Kept.{Keeps}
+
+-- the parts with another visible state
+abbrev pub with_state : Parts → State → Parts
+with_state p s = record p { state = s }
+
+-- a step that leaves the state as it was
+pub keeps_same : (p q : Parts) → Keeps p → q ≡ with_state p q.state → q.state ≡ p.state → Keeps q
+keeps_same p q keeps beside same = subst Keeps (sym (beside ∙ ap (with_state p) same)) keeps
+
+-- where no entry has a place, none has this one
+pub none_placed : (places : Places) (key : EntryKey) (place : Place) → places ≡ finite.empty → finite.get places key ≡ Some place → ⊥
+none_placed places key place none is =
+    let wrong : ◌≡◌ {A = Option Place} (Some place) None = sym is ∙ ap (λ m. finite.get m key) none ∙ finite.get-empty key_cmp key in cc

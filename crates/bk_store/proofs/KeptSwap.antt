@@ -1,0 +1,75 @@
+-- A swap keeps what a store keeps.
+use Rattle.std.proofs.Common.{◌≡◌, ℕ, List, Option, Some, None, refl, sym, ap, subst, ◌∙◌}
+use Rattle.std.specs.Option.{option_or}
+use Rattle.std.specs.FinMap as finite
+use Rattle.bk_record.specs.Key.{EntryKey, key_cmp}
+use Rattle.bk_cache.specs.Caches as caches
+use Rattle.bk_store.specs.State.{Parts}
+use Rattle.bk_store.specs.Meaning.{written_at}
+use Rattle.bk_store.specs.Turns.{SwapTurn}
+use Rattle.bk_store.specs.Kept.{Keeps, Promises}
+use Rattle.bk_store.specs.declared.answer.SwapAnswer.{SwapAnswer}
+use Rattle.bk_store.specs.declared.answer.SwapAnswer.TheVariants.{Running, Nothing, Swapped}
+use Rattle.bk_store.proofs.CachedMoves.{carries_same_cached}
+use Rattle.bk_store.proofs.KeptParts.{with_state, keeps_same, none_placed}
+
+module _ (p : Parts) (keeps : Keeps p) (idle : p.state.caches.flush ≡ None) where
+  abbrev swapped : Parts
+  swapped = with_state p (record p.state { caches = record p.state.caches { active = finite.empty; flush = Some p.state.caches.active } })
+
+  no_places : p.state.places ≡ finite.empty
+  no_places = keeps.fits.placed.idle idle
+
+  -- a cached key was in the active cache, and is in the flushing one
+  same_cached : (key : EntryKey) → written_at swapped.state key ≡ written_at p.state key
+  same_cached key =
+      ap (λ o. option_or o (finite.get p.state.caches.active key)) (finite.get-empty key_cmp key)
+      ∙ either (finite.get p.state.caches.active key)
+      ∙ ap (option_or (finite.get p.state.caches.active key)) (sym (ap (λ f. finite.get (caches.flush_of (record p.state.caches { flush = f })) key) idle
+      ∙ finite.get-empty key_cmp key))
+    where
+      either : (o : Option (List ℕ)) → o ≡ option_or o None
+      either None = refl
+      either (Some b) = refl
+
+  promised : Promises p → Promises swapped
+  promised promise = record {
+    carried = promise.carried;
+    carries = carries_same_cached promise.carries (written_at swapped.state) same_cached;
+    shows = promise.shows;
+    recent = promise.recent;
+    counted = promise.counted;
+    backed = promise.backed;
+    fresh = promise.fresh;
+    placed = λ key place is. absurd (none_placed p.state.places key place no_places is);
+  }
+
+  swapped_kept : Keeps swapped
+  swapped_kept =
+      let fits = keeps.fits in
+      record {
+        fits = record {
+          allowed = fits.allowed;
+          limit = fits.limit;
+          ids = fits.ids;
+          slots = fits.slots;
+          held = fits.held;
+          sent = fits.sent;
+          placed = record {
+            idle = λ _. no_places;
+            flushing = λ key place is. absurd (none_placed p.state.places key place no_places is);
+            logs = λ key place is. absurd (none_placed p.state.places key place no_places is);
+            front = λ key earlier place is. absurd (none_placed p.state.places key place no_places is);
+          };
+          writing = fits.writing;
+          filled = fits.filled;
+          named = fits.named;
+          total = fits.total;
+        };
+        promises = λ honest. promised (keeps.promises honest);
+      }
+
+pub keeps_swap : (p q : Parts) (answer : SwapAnswer) → Keeps p → SwapTurn p.state answer q.state → q ≡ with_state p q.state → Keeps q
+keeps_swap p q Running keeps turn beside = keeps_same p q keeps beside turn.1
+keeps_swap p q Nothing keeps turn beside = keeps_same p q keeps beside turn.2
+keeps_swap p q (Swapped n) keeps turn beside = subst Keeps (sym (beside ∙ ap (with_state p) turn.3)) (swapped_kept p keeps turn.0)

@@ -1,0 +1,8 @@
+use Rattle.std.proofs.Common.{ap, ◌∙◌}
+use Rattle.std.specs.FinMap.{from_sorted}
+use Rattle.bk_record.specs.Key.{key_cmp}
+use Rattle.bk_record.proofs.SortedMaps.{from_sorted-nil}
+use Rattle.bk_store.proofs.places.FlushPlaces.clear.Goals as goal
+
+pub returns : goal.returns
+returns c = ap from_sorted c.clear.ensures.items ∙ from_sorted-nil key_cmp

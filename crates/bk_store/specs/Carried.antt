@@ -1,0 +1,37 @@
+-- What files, index, write caches and dead ledgers carry: a map from keys to payloads.
+use Rattle.std.specs.Prelude.{◌≡◌, ◌⊎◌, false, List, Option, Some, None, IsSome}
+use Rattle.std.specs.FinMap as finite
+use Rattle.std.specs.FinSet as set
+use Rattle.std.specs.Prelude.{ℕ}
+use Rattle.bk_record.specs.Key.{EntryKey}
+use Rattle.bk_record.specs.Location.{Place, Precedes}
+use Rattle.bk_record.specs.Scan.{Payloads, Ledgers}
+use Rattle.bk_store.specs.Entries.{Bytes, Places, HasEntry}
+
+-- what the write caches have of each key
+abbrev pub Cached : Type 0
+Cached = EntryKey → Option (List ℕ)
+
+-- An entry at the place is passed by: no write cache has its key, and the index sends the key to a place behind it.
+pub record IsStale (index : Places) (cached : Cached) (key : EntryKey) (place : Place) : Type 0 where
+  pub uncached : cached key ≡ None
+  pub behind : Place
+  pub sent : finite.get index key ≡ Some behind
+  pub later : Precedes place behind
+
+-- the key has an entry at the place, and it has what the map has
+pub record IsIndexed (bytes : Bytes) (map : Payloads) (key : EntryKey) (place : Place) : Type 0 where
+  pub payload : List ℕ
+  pub stands : HasEntry bytes place key payload
+  pub mapped : finite.get map key ≡ Some payload
+
+-- The files' bytes, the index, the write caches and the dead ledgers carry the map: its keys are of live ledgers; what is
+-- cached is the map's; a key of the map is cached or indexed; an indexed key stands at its place, with what the map has;
+-- and an entry of a live ledger, in whatever file, has what the map has, or is stale.
+pub record Carries (bytes : Bytes) (index : Places) (cached : Cached) (dead : Ledgers) (map : Payloads) : Type 0 where
+  pub lives : (key : EntryKey) (payload : List ℕ) → finite.get map key ≡ Some payload → set.contains dead key.ledger ≡ false
+  pub cached_is : (key : EntryKey) (payload : List ℕ) → cached key ≡ Some payload → finite.get map key ≡ Some payload
+  pub covered : (key : EntryKey) (payload : List ℕ) → finite.get map key ≡ Some payload → cached key ≡ None → IsSome (finite.get index key)
+  pub indexed : (key : EntryKey) (place : Place) → finite.get index key ≡ Some place → IsIndexed bytes map key place
+  pub recorded : (place : Place) (key : EntryKey) (payload : List ℕ) → HasEntry bytes place key payload → set.contains dead key.ledger ≡ false
+      → (finite.get map key ≡ Some payload) ⊎ IsStale index cached key place

@@ -1,0 +1,112 @@
+-- What a store keeps at every moment, whoever holds it.
+use Rattle.std.specs.Prelude.{◌≡◌, ◌⊎◌, ℕ, ◌+◌, ◌<◌, ◌≤◌, ◌^◌, true, false, IsTrue, List, length, Option, Some, None, IsSome, ◌↔◌, option_map}
+use Rattle.std.specs.FinMap as finite
+use Rattle.std.specs.FinSet as set
+use Rattle.std.specs.declared.cmp.Ordering.TheVariants.{Less}
+use Rattle.bk_record.specs.Key.{EntryKey, key_cmp}
+use Rattle.bk_record.specs.Location.{Place}
+use Rattle.bk_record.specs.Record.{ledger_field}
+use Rattle.bk_record.specs.Files.{Files, file_of, header_length, In}
+use Rattle.bk_record.specs.Scan.{Payloads, entries_of}
+use Rattle.bk_log.specs.Writing as writers
+use Rattle.bk_record.specs.Keyed.{log_count}
+use Rattle.bk_cache.specs.Caches as caches
+use Rattle.bk_cache.specs.Recents.{recent_of}
+use Rattle.bk_accounts.specs.Book.{named_in, total_at}
+use Rattle.bk_accounts.specs.Sums.{Measure, AreSums}
+use Rattle.bk_store.specs.Entries.{HasEntry}
+use Rattle.bk_store.specs.Carried.{Carries}
+use Rattle.bk_store.specs.Shown.{Shows}
+use Rattle.bk_store.specs.Logs.{View, Log, Logs, is_open, is_written, open_parts, acknowledged_part}
+use Rattle.bk_store.specs.State.{State, Parts}
+use Rattle.bk_store.specs.Meaning.{written_at}
+use Rattle.bk_store.specs.Limits.{IsAllowed}
+use Rattle.bk_store.specs.declared.log.LogState.TheVariants.{Writing, Filled}
+
+-- the log is held, keys may be sent to it, and this is its last view
+pub record HasOpenView (logs : Logs) (id : ℕ) : Type 0 where
+  pub log : Log
+  pub view : View
+  pub held : finite.get logs id ≡ Some log
+  pub opened : is_open log.state ≡ true
+  pub view_is : log.view ≡ Some view
+
+-- a log that the running flush wrote: it is Writing or Filled
+pub record IsFlushLog (logs : Logs) (id : ℕ) : Type 0 where
+  pub log : Log
+  pub held : finite.get logs id ≡ Some log
+  pub flushed : (log.state ≡ Writing) ⊎ (log.state ≡ Filled)
+
+-- the log is written by this writer, which has not failed and is as long as what is acknowledged
+pub record IsWrittenBy (id : ℕ) (log : Log) (w : writers.Writing) : Type 0 where
+  pub state : is_written log.state ≡ true
+  pub own : w.log ≡ id
+  pub going : w.failed ≡ false
+  pub long : log.acknowledged ≡ w.end
+  pub empty : w.count ≡ 0 → w.end ≡ header_length
+
+-- what each log that is held keeps, by its id
+pub record IsHeld (next id : ℕ) (log : Log) : Type 0 where
+  pub below : id < next
+  pub written : is_written log.state ≡ true → IsSome log.writer
+  pub by : (w : writers.Writing) → log.writer ≡ Some w → IsWrittenBy id log w
+
+-- the places of a flush are of its entries, in logs that it wrote; an entry before one with a place has one too
+pub record IsPlaced (s : State) : Type 0 where
+  pub idle : s.caches.flush ≡ None → s.places ≡ finite.empty
+  pub flushing : (key : EntryKey) (place : Place) → finite.get s.places key ≡ Some place → IsSome (finite.get (caches.flush_of s.caches) key)
+  pub logs : (key : EntryKey) (place : Place) → finite.get s.places key ≡ Some place → IsFlushLog s.logs place.log
+  pub front : (key earlier : EntryKey) (place : Place) → finite.get s.places key ≡ Some place → key_cmp earlier key ≡ Less
+      → IsSome (finite.get (caches.flush_of s.caches) earlier) → IsSome (finite.get s.places earlier)
+
+-- What is kept beside any disk.
+pub record Fits (p : Parts) : Type 0 where
+  pub allowed : IsAllowed p.state.settings
+  pub limit : p.state.caches.limit ≡ p.state.settings.cache_limit
+  pub ids : p.state.next ≤ 2 ^ 31
+  pub slots : finite.len p.state.logs ≤ p.state.settings.slots
+  pub held : (id : ℕ) (log : Log) → finite.get p.state.logs id ≡ Some log → IsHeld p.state.next id log
+  pub sent : (key : EntryKey) (place : Place) → finite.get p.state.index key ≡ Some place → HasOpenView p.state.logs place.log
+  pub placed : IsPlaced p.state
+  -- what is kept so that no call has to look for it
+  pub writing : (id : ℕ) → (p.writing ≡ Some id) ↔ ((log : Log) × (finite.get p.state.logs id ≡ Some log) × (log.state ≡ Writing))
+  pub filled : (id : ℕ) (log : Log) → finite.get p.state.logs id ≡ Some log → log.state ≡ Filled → In id p.filled
+  pub named : (id : ℕ) → named_in p.accounts id ≡ option_map (λ _. log_count p.state.index id) (finite.get p.state.logs id)
+  pub total : (id : ℕ) (log : Log) → finite.get p.state.logs id ≡ Some log → total_at p.accounts id + header_length ≤ log.acknowledged
+
+-- how an entry is measured: by its ledger and the size of its record
+abbrev pub entry_measure : Measure (ℕ × List ℕ)
+entry_measure = record { ledger = λ entry. ledger_field entry.1; size = λ entry. 4 + length entry.1 }
+
+-- the entries of the acknowledged part of a log that is held
+abbrev pub acknowledged_entries : Files → Logs → ℕ → Option (List (ℕ × List ℕ))
+acknowledged_entries files logs id = option_map (λ log. entries_of (acknowledged_part files id log)) (finite.get logs id)
+
+-- beside an honest disk, a log has its file, its writer is that file's, and its view shows what the log held
+pub record IsBacked (files : Files) (id : ℕ) (log : Log) : Type 0 where
+  pub stands : IsSome (finite.get files id)
+  pub writes : (w : writers.Writing) → log.writer ≡ Some w → writers.Writes files w
+  pub honest : (view : View) → log.view ≡ Some view → IsTrue view.is_honest
+
+-- an entry of the flush that has a place stands there
+pub record IsWrittenAt (s : State) (key : EntryKey) (place : Place) : Type 0 where
+  pub payload : List ℕ
+  pub flushing : finite.get (caches.flush_of s.caches) key ≡ Some payload
+  pub stands : HasEntry (file_of s.files) place key payload
+
+-- What is kept beside an honest disk: the files, the index and the caches carry a map, the logs show what the index names,
+-- each recent entry is a pair of the map, and the accounts are those of the acknowledged parts.
+pub record Promises (p : Parts) : Type 0 where
+  pub carried : Payloads
+  pub carries : Carries (file_of p.state.files) p.state.index (written_at p.state) p.state.dead carried
+  pub shows : Shows (file_of p.state.files) (open_parts p.state.logs) p.state.index
+  pub recent : (key : EntryKey) (payload : List ℕ) → recent_of p.state.caches.recent key ≡ Some payload → finite.get carried key ≡ Some payload
+  pub counted : AreSums entry_measure (set.contains p.state.dead) (acknowledged_entries p.state.files p.state.logs) (log_count p.state.index) p.accounts
+  pub backed : (id : ℕ) (log : Log) → finite.get p.state.logs id ≡ Some log → IsBacked p.state.files id log
+  pub fresh : (id : ℕ) → p.state.next ≤ id → finite.get p.state.files id ≡ None
+  pub placed : (key : EntryKey) (place : Place) → finite.get p.state.places key ≡ Some place → IsWrittenAt p.state key place
+
+-- a store's parts keep both
+pub record Keeps (p : Parts) : Type 0 where
+  pub fits : Fits p
+  pub promises : IsTrue p.state.honest → Promises p

@@ -1,0 +1,11 @@
+pub mod Entries
+pub mod Carried
+pub mod Shown
+pub mod Logs
+pub mod State
+pub mod Meaning
+pub mod Limits
+pub mod Kept
+pub mod Turns
+pub mod Doors
+pub mod Placed

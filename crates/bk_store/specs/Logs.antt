@@ -1,0 +1,123 @@
+-- What a store shows of the logs that it holds.
+use Rattle.std.specs.Prelude.{◌≡◌, ℕ, Bool, true, false, if◌then◌else◌, List, [], Option, Some, None, option_map, take}
+use Rattle.std.specs.Option.{option_map_or, option_and_then}
+use Rattle.std.specs.Ordering.{nat_cmp}
+use Rattle.std.specs.FinMap as finite
+use Rattle.std.specs.declared.alloc.Global.{Global}
+use Rattle.std.specs.declared.sync.Arc.{Arc}
+use Rattle.bk_record.specs.Files.{Files, file_of, header_length}
+use Rattle.bk_log.specs.Writing as writers
+use Rattle.bk_store.specs.Entries.{Bytes}
+use Rattle.bk_store.specs.declared.log.LogState.{LogState}
+use Rattle.bk_store.specs.declared.log.LogState.TheVariants.{Writing, Filled, Copying, Readable, Retired, Closed}
+
+-- a view of a log: the bytes that it shows, whether it shows what the log held, and whether it can be read
+pub record View : Type 0 where
+  pub bytes : List ℕ
+  pub is_honest : Bool
+  pub is_sound : Bool
+
+-- One log: its state; its last view, none before the first; how many bytes of its file are acknowledged; its writer while
+-- it is written.
+pub record Log : Type 0 where
+  pub state : LogState
+  pub view : Option View
+  pub acknowledged : ℕ
+  pub writer : Option writers.Writing
+
+-- the logs that a store holds, by id
+abbrev pub Logs : Type 0
+Logs = finite.FinMap nat_cmp Log
+
+-- what is to be seen of a view
+abbrev pub view_of : {V : Type 0} → (V → List ℕ) → (V → Bool) → (V → Bool) → V → View
+view_of bytes honest sound view = record { bytes = bytes view; is_honest = honest view; is_sound = sound view }
+
+-- what is to be seen of a log that is held
+abbrev pub seen_log : {V : Type 0} → (V → List ℕ) → (V → Bool) → (V → Bool) → LogState → Option (Arc V Global) → ℕ → Option writers.Writing → Log
+seen_log bytes honest sound state view acknowledged writer = record {
+  state = state;
+  view = option_map (λ v. view_of bytes honest sound v.value) view;
+  acknowledged = acknowledged;
+  writer = writer;
+}
+
+-- a log that was found when the store was opened, with a view of all its bytes, of which all are acknowledged
+abbrev pub found_log : View → ℕ → Log
+found_log view length = record { state = Readable; view = Some view; acknowledged = length; writer = None }
+
+-- a log that was just made, in a state in which it is written: nothing of it is published
+abbrev pub made_log : LogState → ℕ → Log
+made_log state id = record { state = state; view = None; acknowledged = header_length; writer = Some (writers.new_writing id) }
+
+-- a log whose making failed when its file stood: it is read, and has no record
+abbrev pub unmade_log : Log
+unmade_log = record { state = Readable; view = None; acknowledged = header_length; writer = None }
+
+-- the log in another state, written no more
+abbrev pub closed_log : LogState → Log → Log
+closed_log state log = record log { state = state; writer = None }
+
+-- the log in another state
+abbrev pub in_state : LogState → Log → Log
+in_state state log = record log { state = state }
+
+-- the log with its next view
+abbrev pub with_view : View → Log → Log
+with_view view log = record log { view = Some view }
+
+-- whether keys may be sent to a log: it is neither retired nor closed
+abbrev pub is_open : LogState → Bool
+is_open Writing = true
+is_open Filled = true
+is_open Copying = true
+is_open Readable = true
+is_open Retired = false
+is_open Closed = false
+
+-- whether a log is written
+abbrev pub is_written : LogState → Bool
+is_written Writing = true
+is_written Filled = false
+is_written Copying = true
+is_written Readable = false
+is_written Retired = false
+is_written Closed = false
+
+-- the published part of a log: the bytes that its last view shows
+abbrev pub published_part : Log → List ℕ
+published_part log = option_map_or (λ v. v.bytes) log.view []
+
+-- the last view of a log, none where the log is not held or has none
+abbrev pub last_view : Logs → ℕ → Option View
+last_view logs id = option_and_then (λ log. log.view) (finite.get logs id)
+
+-- what the last views show of the logs that keys may be sent to
+abbrev pub open_parts : Logs → Bytes
+open_parts logs id = option_map_or (λ log. if is_open log.state then published_part log else []) (finite.get logs id) []
+
+-- the acknowledged part of a log
+abbrev pub acknowledged_part : Files → ℕ → Log → List ℕ
+acknowledged_part files id log = take log.acknowledged (file_of files id)
+
+-- when the flush starts again, a log that it wrote is written no more (this project's rule)
+abbrev pub settled_as : LogState → Log → Log
+settled_as Writing log = closed_log Readable log
+settled_as Filled log = in_state Readable log
+settled_as Copying log = log
+settled_as Readable log = log
+settled_as Retired log = log
+settled_as Closed log = log
+
+-- when the flush is over, a log that it filled is Readable; the one that it writes goes on
+abbrev pub unfilled_as : LogState → Log → Log
+unfilled_as Writing log = log
+unfilled_as Filled log = in_state Readable log
+unfilled_as Copying log = log
+unfilled_as Readable log = log
+unfilled_as Retired log = log
+unfilled_as Closed log = log
+
+-- each log is changed by a rule that goes by its state
+abbrev pub AllChanged : (LogState → Log → Log) → Logs → Logs → Type 0
+AllChanged rule old new = (id : ℕ) → finite.get new id ≡ option_map (λ log. rule log.state log) (finite.get old id)

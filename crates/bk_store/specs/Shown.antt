@@ -1,0 +1,12 @@
+-- What the logs show, and that the index names nothing else.
+use Rattle.std.specs.Prelude.{◌≡◌, ℕ, List, Some}
+use Rattle.std.specs.FinMap as finite
+use Rattle.bk_record.specs.Key.{EntryKey}
+use Rattle.bk_record.specs.Location.{Place}
+use Rattle.bk_store.specs.Entries.{Bytes, Places, HasEntry}
+
+-- The parts are what the last views of the logs show that keys may be sent to. Each entry of the parts stands in the
+-- files, and each key of the index has its entry in the parts.
+pub record Shows (bytes parts : Bytes) (index : Places) : Type 0 where
+  pub stands : (place : Place) (key : EntryKey) (payload : List ℕ) → HasEntry parts place key payload → HasEntry bytes place key payload
+  pub shown : (key : EntryKey) (place : Place) → finite.get index key ≡ Some place → (payload : List ℕ) × HasEntry parts place key payload

@@ -1,0 +1,94 @@
+-- Turns of a store that ask no device: an add, a take, a deletion, a swap.
+use Rattle.std.specs.Prelude.{◌≡◌, ◌⊎◌, ℕ, ◌+◌, ◌<◌, ◌^◌, nat_lt, Bool, true, false, not, ◌==◌, ◌&&◌, List, Some, None, IsSome, is_some, Result, Ok, Err}
+use Rattle.std.specs.List.{count_by, filter}
+use Rattle.std.specs.FinMap as finite
+use Rattle.std.specs.FinSet as set
+use Rattle.bk_record.specs.Key.{EntryKey}
+use Rattle.bk_record.specs.Record.{read_added}
+use Rattle.bk_record.specs.Scan.{Ledgers}
+use Rattle.bk_record.specs.Keyed.{ledger_count, without_ledger}
+use Rattle.bk_cache.specs.Caches as caches
+use Rattle.bk_store.specs.Logs.{View, Log, view_of, is_open}
+use Rattle.bk_store.specs.State.{State}
+use Rattle.bk_store.specs.Meaning.{written_at, cached_at, holds}
+use Rattle.bk_store.specs.declared.answer.Added.{Added}
+use Rattle.bk_store.specs.declared.answer.Added.TheVariants.{Accepted, Held}
+use Rattle.bk_store.specs.declared.answer.AddFault.{AddFault}
+use Rattle.bk_store.specs.declared.answer.AddFault.TheVariants as add_faults
+use Rattle.bk_store.specs.declared.answer.Taken.{Taken}
+use Rattle.bk_store.specs.declared.answer.Taken.TheVariants.{Deleted, Cached, NotHeld, Leased}
+use Rattle.bk_store.specs.declared.answer.TakeFault.{TakeFault}
+use Rattle.bk_store.specs.declared.answer.TakeFault.TheVariants as take_faults
+use Rattle.bk_store.specs.declared.answer.DeleteFault.{DeleteFault}
+use Rattle.bk_store.specs.declared.answer.DeleteFault.TheVariants as delete_faults
+use Rattle.bk_store.specs.declared.answer.SwapAnswer.{SwapAnswer}
+use Rattle.bk_store.specs.declared.answer.SwapAnswer.TheVariants.{Running, Nothing, Swapped}
+
+-- the ledger was deleted
+abbrev pub is_dead : State → ℕ → Bool
+is_dead s ledger = set.contains s.dead ledger
+
+-- a payload that may be added, of a key whose ledger lives and which the store has, or has not
+pub record Asks (s : State) (payload : List ℕ) (has : Bool) : Type 0 where
+  pub key : EntryKey
+  pub reads : read_added payload ≡ Ok key
+  pub lives : is_dead s key.ledger ≡ false
+  pub held : holds s key ≡ has
+
+-- An add is kept in the active cache where its payload is an entry's of a live ledger, its key is new and there is room.
+abbrev pub AddTurn : State → List ℕ → Result Added AddFault → State → Type 0
+AddTurn s payload (Err (add_faults.Bad fault)) t = (read_added payload ≡ Err fault) × (t ≡ s)
+AddTurn s payload (Err add_faults.Deleted) t = (key : EntryKey) × (read_added payload ≡ Ok key) × (is_dead s key.ledger ≡ true) × (t ≡ s)
+AddTurn s payload (Ok Held) t = Asks s payload true × (t ≡ s)
+AddTurn s payload (Err (add_faults.Full used limit)) t = Asks s payload false × caches.IsFull s.caches payload
+    × (used ≡ caches.used_of s.caches.active) × (limit ≡ s.caches.limit) × (t ≡ s)
+AddTurn s payload (Err add_faults.Memory) t = Asks s payload false × (¬ (caches.IsFull s.caches payload)) × (t ≡ s)
+AddTurn s payload (Ok Accepted) t = Asks s payload false × (¬ (caches.IsFull s.caches payload))
+    × (t ≡ record s { caches = caches.with_added s.caches payload })
+
+-- the log of this id is held, keys may be sent to it, and this is its view
+pub record IsOpenView (s : State) (id : ℕ) (view : View) : Type 0 where
+  pub log : Log
+  pub held : finite.get s.logs id ≡ Some log
+  pub opened : is_open log.state ≡ true
+  pub view_is : log.view ≡ Some view
+
+-- A take looks into the caches first, then into the index; of a dead ledger it tells that. It leaves the store as it was.
+abbrev pub TakeTurn : {V : Type 0} → (V → List ℕ) → (V → Bool) → (V → Bool) → State → EntryKey → Result (Taken V) TakeFault → Type 0
+TakeTurn bytes honest sound s key (Ok Deleted) = is_dead s key.ledger ≡ true
+TakeTurn bytes honest sound s key (Ok (Cached payload)) = (is_dead s key.ledger ≡ false) × (cached_at s key ≡ Some payload.value.items)
+TakeTurn bytes honest sound s key (Ok NotHeld) = (is_dead s key.ledger ≡ false) × (cached_at s key ≡ None) × (finite.get s.index key ≡ None)
+TakeTurn bytes honest sound s key (Ok (Leased lease place)) = (is_dead s key.ledger ≡ false) × (cached_at s key ≡ None)
+    × (finite.get s.index key ≡ Some place) × (lease.log ≡ place.log) × IsOpenView s place.log (view_of bytes honest sound lease.view.value)
+TakeTurn bytes honest sound s key (Err take_faults.Memory) = (is_dead s key.ledger ≡ false) × (IsSome (cached_at s key) ⊎ IsSome (finite.get s.index key))
+
+-- how many keys of a ledger the store has: those of the write caches, and those that the index alone has
+abbrev pub held_count : State → ℕ → ℕ
+held_count s ledger = ledger_count s.caches.active ledger + ledger_count (caches.flush_of s.caches) ledger
+    + count_by (λ e. (e.0.ledger == ledger) && not (is_some (written_at s e.0))) (finite.entries s.index)
+
+-- the state without a ledger, which is dead from then on
+abbrev pub deleted : State → ℕ → State
+deleted s ledger = record s {
+  caches = caches.without s.caches ledger;
+  places = without_ledger s.places ledger;
+  index = without_ledger s.index ledger;
+  dead = set.insert s.dead ledger;
+}
+
+-- A deletion takes the entries of a ledger out, and tells how many there were.
+abbrev pub DeleteTurn : State → ℕ → Result ℕ DeleteFault → State → Type 0
+DeleteTurn s ledger (Err delete_faults.AlreadyDeleted) t = (is_dead s ledger ≡ true) × (t ≡ s)
+DeleteTurn s ledger (Err delete_faults.Memory) t = (is_dead s ledger ≡ false) × (t ≡ s)
+DeleteTurn s ledger (Ok n) t = (is_dead s ledger ≡ false) × (n ≡ held_count s ledger) × (t ≡ deleted s ledger)
+
+-- A swap makes the active cache the flushing one, unless a flush runs or there is nothing to flush.
+abbrev pub SwapTurn : State → SwapAnswer → State → Type 0
+SwapTurn s Running t = IsSome s.caches.flush × (t ≡ s)
+SwapTurn s Nothing t = (s.caches.flush ≡ None) × (finite.len s.caches.active ≡ 0) × (t ≡ s)
+SwapTurn s (Swapped n) t = (s.caches.flush ≡ None) × (0 < n) × (n ≡ finite.len s.caches.active)
+    × (t ≡ record s { caches = record s.caches { active = finite.empty; flush = Some s.caches.active } })
+
+-- the ledgers that a list names: those up to the greatest id
+abbrev pub ledgers_of : List ℕ → Ledgers
+ledgers_of listed = set.from_list (filter (λ ledger. nat_lt ledger (2 ^ 63)) listed)

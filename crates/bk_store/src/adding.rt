@@ -1,0 +1,79 @@
+//! The calls that ask no device: an add, a take, a swap.
+
+ghost use Rattle.std.specs.Prelude.{◌≡◌};
+ghost use Rattle.bk_store.specs.Turns.{AddTurn, TakeTurn, SwapTurn};
+ghost use Rattle.bk_store.specs.Meaning.{holds};
+ghost use Rattle.bk_store.specs.Kept.{Keeps};
+
+use crate::fields::Fields;
+use crate::{AddFault, Added, Lease, SwapAnswer, TakeFault, Taken};
+use bk_cache::{CacheFault, Swap};
+use bk_disk::LogDisk;
+use bk_record::{Key, check_add};
+
+impl<D: LogDisk> Fields<D> {
+    /// Whether there is an entry of the key.
+    fn holds(&self, key: &Key) -> bool
+        ensures { result ≡ holds self.now.state key.now }
+    {
+        self.caches.holds(key) || self.index.get(key).is_some()
+    }
+
+    pub fn add(&mut self, payload: &[u8]) -> Result<Added, AddFault>
+        ensures turn { AddTurn self.old.state payload.now result self.new.state }
+        ensures beside { self.new ≡ record self.old { state = self.new.state } }
+    {
+        let key = match check_add(payload) {
+            Ok(key) => key,
+            Err(fault) => return Err(AddFault::Bad(fault)),
+        };
+        if self.dead.contains(key.ledger()) {
+            return Err(AddFault::Deleted);
+        }
+        if self.holds(&key) {
+            return Ok(Added::Held);
+        }
+        match self.caches.add(payload) {
+            Ok(()) => Ok(Added::Accepted),
+            Err(CacheFault::Full { used, limit }) => Err(AddFault::Full { used, limit }),
+            Err(CacheFault::Memory) => Err(AddFault::Memory),
+        }
+    }
+
+    pub fn take(&self, key: Key) -> Result<Taken<D::View>, TakeFault>
+        requires { Keeps self.now }
+        ensures { TakeTurn D.View.bytes D.View.honest D.View.sound self.now.state key result }
+    {
+        if self.dead.contains(key.ledger()) {
+            return Ok(Taken::Deleted);
+        }
+        if let Some(payload) = self.caches.get(&key) {
+            return match payload.clone() {
+                Ok(payload) => Ok(Taken::Cached(payload)),
+                Err(_) => Err(TakeFault::Memory),
+            };
+        }
+        let Some(location) = self.index.get(&key) else {
+            return Ok(Taken::NotHeld);
+        };
+        let Some(view) = self.logs.view(location.log()) else {
+            unreachable!();
+        };
+        match view.clone() {
+            Ok(view) => Ok(Taken::Leased(Lease::new(location.log(), view), location)),
+            Err(_) => Err(TakeFault::Memory),
+        }
+    }
+
+    pub fn swap(&mut self) -> SwapAnswer
+        requires { Keeps self.old }
+        ensures turn { SwapTurn self.old.state result self.new.state }
+        ensures beside { self.new ≡ record self.old { state = self.new.state } }
+    {
+        match self.caches.swap() {
+            Swap::Running => SwapAnswer::Running,
+            Swap::Nothing => SwapAnswer::Nothing,
+            Swap::Swapped(entries) => SwapAnswer::Swapped(entries),
+        }
+    }
+}

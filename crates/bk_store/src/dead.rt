@@ -1,0 +1,64 @@
+//! The ledgers that were deleted.
+
+ghost use Rattle.std.specs.Prelude.{◌≡◌, ◌<◌, ◌^◌, OnOk, OnErr, IfOk, nat_lt};
+ghost use Rattle.std.specs.List.{filter};
+ghost use Rattle.std.specs.FinSet as set;
+
+use std::alloc::{AllocError, Global};
+use std::collections::BTreeSet;
+use std::marker::Model;
+
+/// The greatest ledger id (this project's rule).
+const LAST_LEDGER: u64 = (1 << 63) - 1;
+
+/// A set of ledgers.
+#[derive(Drop)]
+pub(crate) struct DeadLedgers {
+    ledgers: BTreeSet<u64>,
+}
+
+impl Model for DeadLedgers {
+    ghost use Rattle.std.specs.Coded.{coded_ℕ};
+    ghost use Rattle.std.specs.FinSet as set;
+    ghost use Rattle.bk_record.specs.Scan.{Ledgers};
+
+    ghost Value = { Ledgers };
+
+    ghost coded = { set.code coded_ℕ };
+
+    ghost view = { λ dead. set.from_list dead.ledgers.keys };
+}
+
+impl DeadLedgers {
+    ghost use Rattle.bk_store.specs.Turns.{ledgers_of};
+
+    /// The ledgers of a list; one that is past the greatest id, or that stands in it again, means nothing. The only error
+    /// is want of memory.
+    pub fn of(alloc: Global, listed: &[u64]) -> Result<DeadLedgers, AllocError>
+        ensures { IfOk result (λ dead. dead ≡ ledgers_of listed.now) }
+    {
+        let mut ledgers = BTreeSet::new(alloc);
+        for ledger in listed {
+            if *ledger <= LAST_LEDGER {
+                ledgers.insert(*ledger)?;
+            }
+        }
+        Ok(DeadLedgers { ledgers })
+    }
+
+    /// Whether the ledger is one of them.
+    pub fn contains(&self, ledger: u64) -> bool
+        ensures { result ≡ set.contains self.now ledger }
+    {
+        self.ledgers.contains(&ledger)
+    }
+
+    /// Takes a ledger in. The only error is want of memory, which leaves the set as it was.
+    pub fn insert(&mut self, ledger: u64) -> Result<(), AllocError>
+        ensures ok { OnOk result (self.new ≡ set.insert self.old ledger) }
+        ensures err { OnErr result (self.new ≡ self.old) }
+    {
+        self.ledgers.insert(ledger)?;
+        Ok(())
+    }
+}

@@ -1,0 +1,60 @@
+//! The fields of a store, and what each call does to them.
+//!
+//! Nothing ties the fields together here: a `Store` has the promise that they keep, and each of its calls is one of these.
+
+ghost use Rattle.std.specs.Prelude.{◌≡◌};
+
+use crate::Settings;
+use crate::dead::DeadLedgers;
+use crate::logs::LogTable;
+use crate::places::FlushPlaces;
+use bk_accounts::Accounts;
+use bk_cache::Caches;
+use bk_disk::LogDisk;
+use bk_index::Index;
+use std::alloc::Global;
+use std::marker::Model;
+
+/// What a store is made of. `writing` is the log that flushes write, and `filled` the logs that the running flush filled;
+/// both only save a search.
+#[derive(Drop)]
+pub(crate) struct Fields<D: LogDisk> {
+    pub disk: D,
+    pub alloc: Global,
+    pub settings: Settings,
+    pub caches: Caches,
+    pub places: FlushPlaces,
+    pub index: Index,
+    pub accounts: Accounts,
+    pub logs: LogTable<D::View>,
+    pub writing: Option<u32>,
+    pub filled: Vec<u32>,
+    pub next: u32,
+    pub dead: DeadLedgers,
+}
+
+impl<D: LogDisk> Model for Fields<D> {
+    ghost use Rattle.bk_store.specs.State.{Parts, parts_code};
+
+    ghost Value = { Parts };
+
+    ghost coded = { parts_code };
+
+    ghost view = { λ f. record {
+      state = record {
+        settings = f.settings;
+        files = D.files f.disk;
+        honest = D.honest f.disk;
+        failures = D.failures f.disk;
+        caches = f.caches;
+        places = f.places;
+        index = f.index;
+        logs = f.logs;
+        next = f.next;
+        dead = f.dead;
+      };
+      accounts = f.accounts;
+      writing = f.writing;
+      filled = f.filled.items;
+    } };
+}

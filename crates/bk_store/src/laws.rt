@@ -1,0 +1,67 @@
+//! Laws of the definitions that contracts cite, stated once for all stores; the functions do nothing.
+
+ghost use Rattle.std.specs.Prelude.{◌≡◌, ◌≢◌, ℕ, None, ◌||◌, is_some, if◌then◌else◌};
+ghost use Rattle.std.specs.FinMap as finite;
+ghost use Rattle.std.specs.FinSet as set;
+ghost use Rattle.std.specs.Option.{option_or};
+ghost use Rattle.bk_record.specs.Files.{Files, file_of};
+ghost use Rattle.bk_record.specs.Key.{EntryKey};
+ghost use Rattle.bk_record.specs.Keyed.{without_ledger};
+ghost use Rattle.bk_record.specs.Scan.{Payloads, Ledgers, scan_of, live};
+ghost use Rattle.bk_store.specs.Entries.{Bytes, Places, IsIndexOf};
+ghost use Rattle.bk_store.specs.Carried.{Cached, Carries};
+ghost use Rattle.bk_store.specs.Shown.{Shows};
+
+/// What files, index, write caches and dead ledgers carry is what they mean: in a ledger that lives, what the caches
+/// have of a key, else the payload of its last record in the files; in a dead ledger nothing.
+pub fn carried_is_meaning()
+    ensures { (files : Files) (index : Places) (cached : Cached) (dead : Ledgers) (map : Payloads)
+        → Carries (file_of files) index cached dead map → (key : EntryKey)
+        → finite.get map key ≡ (if set.contains dead key.ledger then None else option_or (cached key) (finite.get (scan_of files) key)) }
+{}
+
+/// The same bytes, index, caches and dead ledgers carry one map.
+pub fn carried_is_one_map()
+    ensures { (bytes : Bytes) (index : Places) (cached : Cached) (dead : Ledgers) (first second : Payloads)
+        → Carries bytes index cached dead first → Carries bytes index cached dead second → first ≡ second }
+{}
+
+/// The map that is carried has a key exactly where a cache has it or the index.
+pub fn carried_is_held()
+    ensures { (bytes : Bytes) (index : Places) (cached : Cached) (dead : Ledgers) (map : Payloads)
+        → Carries bytes index cached dead map → (key : EntryKey)
+        → is_some (finite.get map key) ≡ (is_some (cached key) || is_some (finite.get index key)) }
+{}
+
+/// Bytes and dead ledgers have one index.
+pub fn index_is_one()
+    ensures { (bytes : Bytes) (dead : Ledgers) (first second : Places)
+        → IsIndexOf bytes dead first → IsIndexOf bytes dead second → first ≡ second }
+{}
+
+/// The index of all entries of the files, with nothing cached, carries the scan of the files without the dead ledgers.
+pub fn opened_index_carries()
+    ensures { (files : Files) (dead : Ledgers) (index : Places) → IsIndexOf (file_of files) dead index
+        → Carries (file_of files) index (λ _. None) dead (live (scan_of files) dead) }
+{}
+
+/// An index made anew of what the logs show carries the map that was carried, whatever older entries stand beside it.
+pub fn rebuilt_index_carries()
+    ensures { (bytes parts : Bytes) (index rebuilt : Places) (cached : Cached) (dead : Ledgers) (map : Payloads)
+        → Carries bytes index cached dead map → Shows bytes parts index → IsIndexOf parts dead rebuilt
+        → Carries bytes rebuilt cached dead map }
+{}
+
+/// The entries of any files have an index, whatever ledgers are dead.
+pub fn files_have_an_index()
+    ensures { (files : Files) (dead : Ledgers) → (index : Places) × IsIndexOf (file_of files) dead index }
+{}
+
+/// A ledger that leaves index and caches, and is dead from then on, leaves the map that is carried, and nothing else does.
+pub fn deleted_ledger_leaves()
+    ensures { (bytes : Bytes) (index : Places) (cached left : Cached) (dead : Ledgers) (map : Payloads) (ledger : ℕ)
+        → Carries bytes index cached dead map
+        → ((key : EntryKey) → key.ledger ≡ ledger → left key ≡ None)
+        → ((key : EntryKey) → key.ledger ≢ ledger → left key ≡ cached key)
+        → Carries bytes (without_ledger index ledger) left (set.insert dead ledger) (without_ledger map ledger) }
+{}

@@ -1,0 +1,26 @@
+//! The one state of a bookie's storage.
+#![tactic(auto)]
+
+mod adding;
+mod answer;
+mod dead;
+mod fields;
+mod laws;
+mod lease;
+mod log;
+mod logs;
+mod places;
+mod settings;
+mod store;
+
+pub use answer::{
+    AddFault, Added, DeleteFault, LogCause, MakeFault, OpenFault, SwapAnswer, TakeFault, Taken,
+};
+pub use laws::{
+    carried_is_held, carried_is_meaning, carried_is_one_map, deleted_ledger_leaves,
+    files_have_an_index, index_is_one, opened_index_carries, rebuilt_index_carries,
+};
+pub use lease::Lease;
+pub use log::LogState;
+pub use settings::Settings;
+pub use store::Store;

@@ -1,0 +1,20 @@
+//! What a store is opened with.
+
+/// The limits and thresholds of a store (this project's rule).
+#[derive(Clone, Copy, Debug, PartialEq, Eq)]
+pub struct Settings {
+    /// A log with a record is sealed before one that would take it past this many bytes: 2,048 to 1,073,741,824.
+    pub log_limit: u32,
+    /// The most payload bytes of one write cache: 16 to 1,073,741,824.
+    pub cache_limit: u32,
+    /// How many recently flushed entries are kept in memory: 0 to 65,536.
+    pub recent: u32,
+    /// How many logs are held at once: 1 to 65,536.
+    pub slots: u32,
+    /// How many leases are out on one log at once: 1 to 65,535.
+    pub leases: u32,
+    /// A minor compaction takes a log of which fewer than this many thousandths remain: 0 to 1,000.
+    pub minor: u32,
+    /// The same for a major compaction: 0 to 1,000.
+    pub major: u32,
+}

@@ -1,0 +1,71 @@
+//! The store: one state, which keeps its promise whoever holds it.
+//!
+//! Its visible state is the record of `specs/State.antt`; each call is one turn from such a state to the next. What the
+//! type promises stands in `specs/Kept.antt`: beside an honest disk the files, the index and the write caches carry a map,
+//! and the accounts are those of the acknowledged parts.
+
+ghost use Rattle.std.specs.Prelude.{◌≡◌, Some, option_map};
+ghost use Rattle.std.specs.FinMap as map;
+ghost use Rattle.bk_store.specs.Turns.{AddTurn, TakeTurn, SwapTurn};
+
+use crate::fields::Fields;
+use crate::{AddFault, Added, LogState, SwapAnswer, TakeFault, Taken};
+use bk_disk::LogDisk;
+use bk_record::Key;
+use std::marker::Model;
+
+/// A store of entries over a disk of entry logs.
+#[derive(Drop)]
+pub struct Store<D: LogDisk> {
+    pub(crate) fields: Fields<D>,
+}
+
+impl<D: LogDisk> Model for Store<D> {
+    ghost use Rattle.bk_store.specs.State.{State, state_code};
+
+    ghost Value = { State };
+
+    ghost coded = { state_code };
+
+    ghost use Rattle.bk_store.specs.Kept.{Keeps};
+
+    ghost view = { λ s. s.fields.state };
+
+    ghost invariant = { λ s. Keeps s.fields };
+}
+
+impl<D: LogDisk> Store<D> {
+    /// Adds an entry, unless one of its key is held: the first bytes of a key stay (this project's rule). The payload
+    /// is the ledger id and the entry id, eight bytes each, big-endian, then the data.
+    ///
+    /// Faults, tried in this order, the last two only where the key is new; each leaves the store as it was: `Bad` with
+    /// the payload's fault, `Deleted` where the ledger was deleted, `Full` where the active cache has no room for the
+    /// payload, `Memory`.
+    pub fn add(&mut self, payload: &[u8]) -> Result<Added, AddFault>
+        ensures { AddTurn self.old payload.now result self.new }
+    {
+        self.fields.add(payload)
+    }
+
+    /// The entry of a key: its payload where a cache has it, else a lease on the log where the index says that it
+    /// stands. The fault, `Memory`, comes only where the entry is held, and no lease is out then.
+    pub fn take(&self, key: Key) -> Result<Taken<D::View>, TakeFault>
+        ensures { TakeTurn D.View.bytes D.View.honest D.View.sound self.now key result }
+    {
+        self.fields.take(key)
+    }
+
+    /// Makes the active cache the flushing one, unless a flush runs or there is nothing to flush.
+    pub fn swap(&mut self) -> SwapAnswer
+        ensures { SwapTurn self.old result self.new }
+    {
+        self.fields.swap()
+    }
+
+    /// The state of a log, `None` where no such log is held.
+    pub fn log_state(&self, id: u32) -> Option<LogState>
+        ensures { result ≡ option_map (λ log. log.state) (map.get self.now.logs id) }
+    {
+        Some(self.fields.logs.get(id)?.state)
+    }
+}
