@@ -30,10 +30,10 @@ module _ {K X : Type 0} {R : K → K → Ordering} (o : IsTotalOrder R) (es : Li
       ap is_lt (o.antisymm (get_or es (i + 1) d).0 (get_or es i d).0 ∙ ap ordering_reverse less)
 
 -- what an index reads is the pair at the place
-read_there : {A : Type 0} (es : List A) (i : ℕ) (e held : A) → held ≡ get_or es i held → slice_get es i ≡ Some e → e ≡ held
+pub read_there : {A : Type 0} (es : List A) (i : ℕ) (e held : A) → held ≡ get_or es i held → slice_get es i ≡ Some e → e ≡ held
 read_there es i e held read there = sym (read ∙ get_or_from_slice_get es i e held there)
 
-named : {K X : Type 0} (found : Option (K × X)) (k : K) (held : K × X) → option_map (λ e. e.0) found ≡ Some k → ((e : K × X) → found ≡ Some e → e ≡ held) → found ≡ Some (k, held.1)
+pub named : {K X : Type 0} (found : Option (K × X)) (k : K) (held : K × X) → option_map (λ e. e.0) found ≡ Some k → ((e : K × X) → found ≡ Some e → e ≡ held) → found ≡ Some (k, held.1)
 named None k held has_key read = cc
 named (Some e) k held has_key read = let pair : e ≡ (k, held.1) = λ i. (Some-same has_key i, (read e refl i).1) in ap Some pair
 

@@ -1,4 +1,13 @@
 pub mod KeyOrder
+pub mod CutPairs
+pub mod PagePairs
+pub mod Homes
+pub mod FencedPages
+pub mod HomePages
+pub mod RisingFences
+pub mod LedgerPages
+pub mod LedgerFences
+pub mod CountedPages
 pub mod SortedPairs
 pub mod SortedMaps
 pub mod KeyPlaces

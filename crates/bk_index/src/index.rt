@@ -1,14 +1,12 @@
-//! The index: pairs of a key and a location in one list, in the order of the keys, each key once. A look-up is a
-//! binary search; a new key moves what stands behind it by one place.
+//! The index: a finite map from keys to locations, kept in pages of up to 256 entries.
 
-ghost use Rattle.std.specs.Prelude.{◌≡◌, ◌↔◌, Some, IsTrue, ◌==◌, count_by, IsSome, IsOk, IfOk, IfErr, OnOk, OnErr};
+ghost use Rattle.std.specs.Prelude.{◌≡◌, ◌↔◌, ℕ, List, length, sum, slice_get, Some, IsTrue, IsSome, IsOk, IfOk, OnOk, OnErr};
 ghost use Rattle.std.specs.Bool.{OnTrue, OnFalse};
 ghost use Rattle.std.specs.FinMap as map;
-ghost use Rattle.bk_record.specs.Key.{key_cmp};
 ghost use Rattle.bk_index.specs.Keyed.{without_ledger, ledger_count, log_count};
-ghost use Rattle.bk_index.specs.Sorted.{IsAt, IsGapFor};
+ghost use Rattle.bk_index.specs.Pages.{all_pairs, ArePageLens};
 
-use crate::Walk;
+use crate::{Pages, Walk};
 use bk_record::{Key, Location};
 use std::alloc::{AllocError, Global};
 use std::marker::Model;
@@ -16,22 +14,22 @@ use std::marker::Model;
 /// Where each entry stands: a location for each of finitely many keys.
 #[derive(Debug, Drop)]
 pub struct Index {
-    pairs: Vec<(Key, Location)>,
+    pages: Pages,
+    len: usize,
 }
 
 impl Model for Index {
-    ghost use Rattle.std.specs.Prelude.{IsTrue};
     ghost use Rattle.std.specs.FinMap as map;
-    ghost use Rattle.bk_record.specs.Key.{key_cmp};
     ghost use Rattle.bk_index.specs.Keyed.{Places, places_code};
+    ghost use Rattle.bk_index.specs.Pages.{all_pairs, AreCounted};
 
     ghost Value = { Places };
 
     ghost coded = { places_code };
 
-    ghost view = { λ index. map.from_sorted index.pairs.items };
+    ghost view = { λ index. map.from_sorted (all_pairs index.pages) };
 
-    ghost invariant = { λ index. IsTrue (map.is_sorted key_cmp index.pairs.items) };
+    ghost invariant = { λ index. AreCounted index.pages index.len };
 }
 
 impl Index {
@@ -40,7 +38,8 @@ impl Index {
         ensures { result ≡ map.empty }
     {
         Index {
-            pairs: Vec::new(alloc),
+            pages: Pages::new(alloc),
+            len: 0,
         }
     }
 
@@ -48,24 +47,21 @@ impl Index {
     pub fn len(&self) -> usize
         ensures { result ≡ map.len self.now }
     {
-        self.pairs.len()
+        self.len
     }
 
     /// Whether the index has no key.
     pub fn is_empty(&self) -> bool
         ensures { IsTrue result ↔ (self.now ≡ map.empty) }
     {
-        self.pairs.is_empty()
+        self.len == 0
     }
 
     /// The location of a key, `None` where the index has none.
     pub fn get(&self, key: &Key) -> Option<Location>
         ensures { result ≡ map.get self.now key.now }
     {
-        match place_of(&self.pairs, key) {
-            Ok(at) => Some(self.pairs[at].1),
-            Err(_) => None,
-        }
+        self.pages.get(key)
     }
 
     /// Sends a key to a location, and answers its location before. The only error is want of memory, which leaves the
@@ -76,14 +72,10 @@ impl Index {
         ensures err { OnErr result (self.new ≡ self.old) }
         ensures held { IsSome (map.get self.old key) → IsOk result }
     {
-        match place_of(&self.pairs, &key) {
-            Ok(at) => {
-                let before = self.pairs[at].1;
-                self.pairs[at] = (key, location);
-                Ok(Some(before))
-            }
-            Err(at) => {
-                self.pairs.insert(at, (key, location))?;
+        match self.pages.insert(key, location)? {
+            Some(before) => Ok(Some(before)),
+            None => {
+                self.len += 1;
                 Ok(None)
             }
         }
@@ -96,13 +88,7 @@ impl Index {
         ensures replaced { OnTrue result (self.new ≡ map.insert self.old key.now to) }
         ensures kept { OnFalse result (self.new ≡ self.old) }
     {
-        match place_of(&self.pairs, key) {
-            Ok(at) if self.pairs[at].1 == from => {
-                self.pairs[at] = (*key, to);
-                true
-            }
-            _ => false,
-        }
+        self.pages.replace_if(key, from, to)
     }
 
     /// Takes the keys of a ledger out, and answers how many there were.
@@ -110,41 +96,44 @@ impl Index {
         ensures left { self.new ≡ without_ledger self.old ledger }
         ensures count { result ≡ ledger_count self.old ledger }
     {
-        let before = self.len();
-        self.pairs.retain(|(key, _)| key.ledger() != ledger);
-        (before - self.len()) as u64
+        let dropped = self.pages.drop_ledger(ledger);
+        self.len -= dropped;
+        dropped as u64
     }
 
     /// The keys and their locations, in the order of ledger, then entry.
     pub fn walk(&self) -> Walk<'_>
         ensures { result ≡ map.entries self.now }
     {
-        Walk { rest: &self.pairs }
+        Walk::over(self.pages.list())
     }
 
     /// How many keys the index sends to a log.
     pub fn count_in(&self, log: u32) -> u64
         ensures { result ≡ log_count self.now log }
     {
-        count_log(&self.pairs, log) as u64
+        self.pages.count_in(log) as u64
     }
-}
 
-// Where the key is, or where it would go.
-fn place_of(pairs: &[(Key, Location)], key: &Key) -> Result<usize, usize>
-    requires { IsTrue (map.is_sorted key_cmp pairs.now) }
-    ensures found { IfOk result (IsAt pairs.now key.now) }
-    ensures absent { IfErr result (IsGapFor pairs.now key.now) }
-{
-    pairs.binary_search_by_key(key, |&(held, _)| held)
-}
+    /// The pages in which the entries are kept. What is asked of them until the index changes is of the same pages.
+    pub fn as_pages(&self) -> &Pages
+        ensures { all_pairs result.now ≡ map.entries self.now }
+    {
+        &self.pages
+    }
 
-// How many of the pairs stand in a log.
-fn count_log(pairs: &[(Key, Location)], log: u32) -> usize
-    ensures { result ≡ count_by (λ pair. pair.1.log == log) pairs.now }
-{
-    pairs
-        .iter()
-        .filter(|(_, location)| location.log() == log)
-        .count()
+    /// How many pages there are: `as_pages` says of which.
+    pub fn pages(&self) -> usize
+        ensures { (lens : List ℕ) × ArePageLens lens (map.len self.now) × (result ≡ length lens) }
+    {
+        self.pages.len()
+    }
+
+    /// How many entries the page of this number has, from 1 to 256; `None` exactly from the number of pages on.
+    /// `as_pages` says of which pages.
+    pub fn page_len(&self, number: usize) -> Option<usize>
+        ensures { (lens : List ℕ) × ArePageLens lens (map.len self.now) × (result ≡ slice_get lens number) }
+    {
+        self.pages.page_len(number)
+    }
 }

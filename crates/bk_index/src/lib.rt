@@ -2,9 +2,12 @@
 #![tactic(auto)]
 
 mod index;
+mod page;
+mod pages;
 mod walk;
 
 pub use index::Index;
+pub use pages::Pages;
 pub use walk::Walk;
 
 #[cfg(test)]

@@ -1,13 +1,6 @@
-use Rattle.std.proofs.Common.{sym}
-use Rattle.bk_index.proofs.KeyPlaces.{get_held, get_gap}
+use Rattle.std.proofs.Common.{◌∙◌}
+use Rattle.bk_index.proofs.CountedPages.{get_seen}
 use Rattle.bk_index.proofs.index.Index.get.Goals as goal
 
-pub returns-in-Ok : goal.returns-in-Ok
-returns-in-Ok c =
-    let here = rw c.deref.ensures.value at c.in-Ok.ensures.found in
-    sym (get_held _ c.self.invariant _ c.self.view_is c.args.key.now c.in-Ok.at c.index.result.now here c.index.ensures)
-
-pub returns-in-Err : goal.returns-in-Err
-returns-in-Err c =
-    let gap = rw c.deref.ensures.value at c.in-Err.ensures.absent in
-    sym (get_gap _ c.self.invariant _ c.self.view_is c.args.key.now _ gap)
+pub returns : goal.returns
+returns c = c.get.ensures ∙ get_seen c.self.inside.pages c.self.invariant.sorted c.args.self.now c.self.view_is c.args.key.now

@@ -1,41 +1,43 @@
-use Rattle.std.proofs.Common.{sym}
+use Rattle.std.proofs.Common.{◌+◌, length, sym, ap, ◌∙◌, arith}
 use mathlib.Core.Bool.{false≢true}
-use Rattle.bk_index.proofs.KeyPlaces.{get_held, insert_held, is_sorted_held, get_gap, insert_gap, is_sorted_gap}
+use Rattle.bk_index.proofs.CountedPages.{get_seen, insert_seen, counted_put, length_new, length_held}
 use Rattle.bk_index.proofs.index.Index.insert.Goals as goal
 
--- the key is held: its pair is written over
-pub invariant_of-self : goal.invariant_of-self
-invariant_of-self c =
-    let here = rw c.deref.ensures.value at c.in-Ok.ensures.found in
-    is_sorted_held _ c.self.invariant _ c.self.view_is c.args.key _ c.index.result.now here c.index.ensures c.args.location
+-- memory was refused: the key is new
+pub returns-in_err-before-clause-held : goal.returns-in_err-before-clause-held
+returns-in_err-before-clause-held c held =
+    absurd (false≢true (c.in_err-before.ensures.held (rw (get_seen c.self.inside.pages c.self.invariant.sorted c.args.self.now c.self.view_is c.args.key) held)))
 
-pub returns-in-Ok-clause-ok : goal.returns-in-Ok-clause-ok
-returns-in-Ok-clause-ok c =
-    let here = rw c.deref.ensures.value at c.in-Ok.ensures.found in
-    insert_held _ c.self.invariant _ c.self.view_is c.args.key _ c.index.result.now here c.index.ensures c.args.location
+-- the key was held
+pub invariant_of-self-in-Some : goal.invariant_of-self-in-Some
+invariant_of-self-in-Some c =
+    let pages = c.self.inside.pages in
+    let found = sym c.in_ok-before.ensures.before ∙ c.in-Some.is in
+    let many = ap length c.in_ok-before.ensures.ok ∙ length_held pages c.self.invariant.sorted c.args.key c.args.location c.in-Some.before found in
+    counted_put pages c.self.invariant.sorted c.args.key c.args.location c.insert.new.self c.self.inside.len c.in_ok-before.ensures.ok (c.self.invariant.counted ∙ sym many)
 
-pub returns-in-Ok-clause-before : goal.returns-in-Ok-clause-before
-returns-in-Ok-clause-before c =
-    let here = rw c.deref.ensures.value at c.in-Ok.ensures.found in
-    sym (get_held _ c.self.invariant _ c.self.view_is c.args.key _ c.index.result.now here c.index.ensures)
+pub returns-in-Some-clause-ok : goal.returns-in-Some-clause-ok
+returns-in-Some-clause-ok c = insert_seen c.self.inside.pages c.self.invariant.sorted c.args.self.now c.self.view_is c.args.key c.args.location c.insert.new.self c.in_ok-before.ensures.ok
 
--- the key is new: its pair goes into the gap
-pub invariant_of-self-in-Err : goal.invariant_of-self-in-Err
-invariant_of-self-in-Err c =
-    let gap = rw c.deref.ensures.value at c.in-Err.ensures.absent in
-    rw c.in_ok-insert-in-Err.ensures.items (is_sorted_gap _ c.self.invariant _ c.self.view_is c.args.key _ gap c.args.location)
+pub returns-in-Some-clause-before : goal.returns-in-Some-clause-before
+returns-in-Some-clause-before c = sym c.in-Some.is ∙ c.in_ok-before.ensures.before ∙ get_seen c.self.inside.pages c.self.invariant.sorted c.args.self.now c.self.view_is c.args.key
 
-pub returns-in_ok-insert-in-Err-clause-ok : goal.returns-in_ok-insert-in-Err-clause-ok
-returns-in_ok-insert-in-Err-clause-ok c =
-    let gap = rw c.deref.ensures.value at c.in-Err.ensures.absent in
-    rw c.in_ok-insert-in-Err.ensures.items (insert_gap _ c.self.invariant _ c.self.view_is c.args.key _ gap c.args.location)
+-- the key is new
+pub overflow_add-self : goal.overflow_add-self
+overflow_add-self c =
+    let found = sym c.in_ok-before.ensures.before ∙ c.in-None.is in
+    let many = ap length c.in_ok-before.ensures.ok ∙ length_new c.self.inside.pages c.self.invariant.sorted c.args.key c.args.location found in
+    omega (arith, many, c.self.invariant.counted, c.in_ok-before.ensures.bound)
 
-pub returns-in_ok-insert-in-Err-clause-before : goal.returns-in_ok-insert-in-Err-clause-before
-returns-in_ok-insert-in-Err-clause-before c =
-    let gap = rw c.deref.ensures.value at c.in-Err.ensures.absent in
-    sym (get_gap _ c.self.invariant _ c.self.view_is c.args.key _ gap)
+pub invariant_of-self-in-None : goal.invariant_of-self-in-None
+invariant_of-self-in-None c =
+    let pages = c.self.inside.pages in
+    let found = sym c.in_ok-before.ensures.before ∙ c.in-None.is in
+    let many = ap length c.in_ok-before.ensures.ok ∙ length_new pages c.self.invariant.sorted c.args.key c.args.location found in
+    counted_put pages c.self.invariant.sorted c.args.key c.args.location c.insert.new.self (c.self.inside.len + 1) c.in_ok-before.ensures.ok (omega (arith, many, c.self.invariant.counted))
 
-pub returns-in_err-insert-in-Err-clause-held : goal.returns-in_err-insert-in-Err-clause-held
-returns-in_err-insert-in-Err-clause-held c held =
-    let gap = rw c.deref.ensures.value at c.in-Err.ensures.absent in
-    absurd (false≢true (rw (get_gap _ c.self.invariant _ c.self.view_is c.args.key _ gap) at held))
+pub returns-in-None-clause-ok : goal.returns-in-None-clause-ok
+returns-in-None-clause-ok c = insert_seen c.self.inside.pages c.self.invariant.sorted c.args.self.now c.self.view_is c.args.key c.args.location c.insert.new.self c.in_ok-before.ensures.ok
+
+pub returns-in-None-clause-before : goal.returns-in-None-clause-before
+returns-in-None-clause-before c = sym c.in-None.is ∙ c.in_ok-before.ensures.before ∙ get_seen c.self.inside.pages c.self.invariant.sorted c.args.self.now c.self.view_is c.args.key

@@ -1,9 +1,6 @@
-use Rattle.std.proofs.Common.{ap, sym, ◌∙◌}
-use Rattle.std.specs.FinMap as map
-use Rattle.bk_record.specs.Key.{key_cmp}
-use Rattle.bk_index.proofs.SortedMaps.{len-sorted}
+use Rattle.std.proofs.Common.{◌∙◌}
+use Rattle.bk_index.proofs.CountedPages.{len_seen}
 use Rattle.bk_index.proofs.index.Index.len.Goals as goal
 
 pub returns : goal.returns
-returns c =
-    c.len.ensures ∙ c.self.inside.pairs.ok.0 ∙ sym (len-sorted key_cmp c.self.inside.pairs.items c.self.invariant) ∙ ap map.len c.self.view_is
+returns c = c.self.invariant.counted ∙ len_seen c.self.inside.pages c.self.invariant.sorted c.args.self.now c.self.view_is

@@ -1,37 +1,21 @@
-use Rattle.std.proofs.Common.{◌≡◌, Some, None, refl, sym, ap, ◌∙◌}
-use mathlib.Core.Bool.{false≢true}
-use Rattle.bk_index.proofs.SortedPairs.{Some-same}
-use Rattle.bk_index.proofs.KeyPlaces.{get_held, insert_held, is_sorted_held, get_gap}
-use Rattle.bk_index.proofs.PlaceEq.{place_eq_decides}
+use Rattle.std.proofs.Common.{◌≡◌, ◌∙◌}
+use Rattle.std.specs.FinMap as map
+use Rattle.std.specs.FinMap.{from_sorted}
+use Rattle.std.proofs.lemmas.Bool.{OnTrue_at, OnTrue_from}
+use Rattle.bk_index.specs.Pages.{all_pairs}
+use Rattle.bk_index.proofs.CountedPages.{get_seen, insert_seen, counted_either}
 use Rattle.bk_index.proofs.index.Index.replace_if.Goals as goal
 
--- the key is sent to `from`
 pub invariant_of-self : goal.invariant_of-self
 invariant_of-self c =
-    let here = rw c.deref.ensures.value at c.in-Ok.ensures.found in
-    is_sorted_held _ c.self.invariant _ c.self.view_is c.args.key.now _ c.index.result.now here c.index.ensures c.args.to
+    counted_either c.self.inside.pages c.self.invariant.sorted c.args.key.now c.replace_if.result c.args.to c.replace_if.new.self c.self.inside.len
+    c.replace_if.ensures.replaced c.replace_if.ensures.kept c.self.invariant.counted c.replace_if.ensures.len
 
-pub returns-in-Ok-clause-replaced : goal.returns-in-Ok-clause-replaced
-returns-in-Ok-clause-replaced c =
-    let here = rw c.deref.ensures.value at c.in-Ok.ensures.found in
-    insert_held _ c.self.invariant _ c.self.view_is c.args.key.now _ c.index.result.now here c.index.ensures c.args.to
+pub returns-clause-condition : goal.returns-clause-condition
+returns-clause-condition c =
+    rw (← get_seen c.self.inside.pages c.self.invariant.sorted c.args.self.now c.self.view_is c.args.key.now) c.replace_if.ensures.condition
 
-pub returns-in-Ok-clause-condition : goal.returns-in-Ok-clause-condition
-returns-in-Ok-clause-condition c =
-    let here = rw c.deref.ensures.value at c.in-Ok.ensures.found in
-    let held = get_held _ c.self.invariant _ c.self.view_is c.args.key.now _ c.index.result.now here c.index.ensures in
-    (λ _. held ∙ ap Some ((place_eq_decides c.index.result.now.1 c.args.from).0 (sym c.if-eq.ensures)), λ _. refl)
-
--- it is sent elsewhere
-pub returns-in_default-clause-condition : goal.returns-in_default-clause-condition
-returns-in_default-clause-condition c =
-    let here = rw c.deref.ensures.value at c.in-Ok.ensures.found in
-    let held = get_held _ c.self.invariant _ c.self.view_is c.args.key.now _ c.index.result.now here c.index.ensures in
-    (λ is. absurd (false≢true is), λ is. c.if-eq.ensures ∙ (place_eq_decides c.index.result.now.1 c.args.from).1 (Some-same (sym held ∙ is)))
-
--- the index has no such key
-pub returns-in_default-2-clause-condition : goal.returns-in_default-2-clause-condition
-returns-in_default-2-clause-condition c =
-    let gap = rw c.deref.ensures.value at c.in_default.ensures.absent in
-    let none = get_gap _ c.self.invariant _ c.self.view_is c.args.key.now _ gap in
-    (λ is. absurd (false≢true is), λ is. absurd (let clash : None ≡ Some c.args.from = sym none ∙ is in cc))
+pub returns-clause-replaced : goal.returns-clause-replaced
+returns-clause-replaced c =
+    OnTrue_from c.replace_if.result (from_sorted (all_pairs c.replace_if.new.self) ≡ map.insert c.args.self.now c.args.key.now c.args.to)
+    (λ moved. insert_seen c.self.inside.pages c.self.invariant.sorted c.args.self.now c.self.view_is c.args.key.now c.args.to c.replace_if.new.self (OnTrue_at moved c.replace_if.ensures.replaced))

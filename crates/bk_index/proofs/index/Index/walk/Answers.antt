@@ -1,8 +1,7 @@
-use Rattle.std.proofs.Common.{ap, sym, ◌∙◌}
-use Rattle.std.specs.FinMap as map
-use Rattle.bk_record.specs.Key.{key_cmp}
-use Rattle.bk_index.proofs.SortedMaps.{entries-sorted}
+use Rattle.std.proofs.Common.{ap, ◌∙◌}
+use Rattle.bk_index.specs.Pages.{all_pairs}
+use Rattle.bk_index.proofs.CountedPages.{entries_seen}
 use Rattle.bk_index.proofs.index.Index.walk.Goals as goal
 
 pub returns : goal.returns
-returns c = c.deref.ensures.value ∙ sym (entries-sorted key_cmp c.self.inside.pairs.items c.self.invariant) ∙ ap map.entries c.self.view_is
+returns c = c.over.ensures ∙ ap all_pairs c.list.ensures.value ∙ entries_seen c.self.inside.pages c.self.invariant.sorted c.args.self.now c.self.view_is
