@@ -2,7 +2,6 @@
 
 use super::{key, place};
 use crate::Index;
-use std::alloc::AllocError;
 use std::process::Abort;
 use std::test::Fail;
 
@@ -72,12 +71,12 @@ fn thousands_of_keys_are_held_and_dropped(rt: HostRuntime) -> Result<(), Fail> {
     fill(&mut index)?;
     assert_eq!(rt; index.len(), 9000);
     assert_eq!(rt; entries_in_pages(&index), 9000);
-    assert_eq!(rt; index.walk().take(10_000).count(), 9000);
     assert_eq!(rt; index.count_in(1), 3000);
     // Pages that are emptied in the middle, then at both ends.
-    for ledger in [4, 3, 8, 0] {
-        assert_eq!(rt; index.drop_ledger(LAST_ID - ledger), ENTRIES);
-    }
+    assert_eq!(rt; index.drop_ledger(LAST_ID - 4), ENTRIES);
+    assert_eq!(rt; index.drop_ledger(LAST_ID - 3), ENTRIES);
+    assert_eq!(rt; index.drop_ledger(LAST_ID - 8), ENTRIES);
+    assert_eq!(rt; index.drop_ledger(LAST_ID), ENTRIES);
     assert_eq!(rt; index.len(), 5000);
     assert_eq!(rt; entries_in_pages(&index), 5000);
     assert_eq!(rt;
