@@ -12,3 +12,4 @@ pub mod Used
 pub mod Sound
 pub mod AddedKeys
 pub mod CallerLaws
+pub mod LedgerCounts

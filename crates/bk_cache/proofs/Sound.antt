@@ -21,6 +21,7 @@ pub sound_new : (limit most : ℕ) → limit ≤ 1073741824 → IsSound (new_cac
 sound_new limit most limited =
     record {
       within = rw used_of-empty (omega arith);
+      flush_within = rw used_of-empty (omega arith);
       limited = limited;
       apart = λ key has. get-empty key_cmp key;
       keyed = keyed_empty;
@@ -31,6 +32,7 @@ sound_new limit most limited =
 pub sound_done : (s : CacheState) → IsSound s → IsSound (record s { flush = None })
 sound_done s sound = record {
   within = sound.within;
+  flush_within = rw used_of-empty (omega arith);
   limited = sound.limited;
   apart = λ key has. get-empty key_cmp key;
   keyed =
@@ -42,6 +44,7 @@ pub sound_swapped : (s : CacheState) → IsSound s → IsSound (record s { activ
 sound_swapped s sound =
     record {
       within = rw used_of-empty (omega arith);
+      flush_within = sound.within;
       limited = sound.limited;
       apart =
           λ key has. absurd (false≢true (ap is_some (sym (get-empty key_cmp key)) ∙ has));
@@ -68,6 +71,7 @@ sound_added s payload sound own absent fits =
     let none = neither (get s.active (added_key payload)) (get (flush_of s) (added_key payload)) absent in
     record {
       within = rw (used_of-insert s.active (added_key payload) payload none.0) fits;
+      flush_within = sound.flush_within;
       limited = sound.limited;
       apart = λ q has. apart_added s.active (flush_of s) (added_key payload) payload sound.apart none.1 q
           (ap is_some (sym (get-insert key_cmp_total s.active (added_key payload) payload q)) ∙ has);
@@ -86,9 +90,15 @@ apart_without active (Some m) ledger apart q has =
       | false ↦ λ some. apart q some
     ] (ap is_some (sym (get-without_ledger active ledger q)) ∙ has)
 
+flush_used_without-le : (flush : Option Payloads) (ledger : ℕ)
+    → used_of (unwrap_or (option_map (λ m. without_ledger m ledger) flush) empty) ≤ used_of (unwrap_or flush empty)
+flush_used_without-le None ledger = omega arith
+flush_used_without-le (Some m) ledger = used_of-without_ledger-le m ledger
+
 pub sound_without : (s : CacheState) (ledger : ℕ) → IsSound s → IsSound (without s ledger)
 sound_without s ledger sound = record {
   within = omega (arith, used_of-without_ledger-le s.active ledger, sound.within);
+  flush_within = omega (arith, flush_used_without-le s.flush ledger, sound.flush_within);
   limited = sound.limited;
   apart = apart_without s.active s.flush ledger sound.apart;
   keyed = keyed_without s.active ledger sound.keyed;

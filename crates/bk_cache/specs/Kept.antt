@@ -13,10 +13,11 @@ pub record IsKept (pairs : List Entry) (used : ℕ) : Type 0 where
   pub keyed : (key : EntryKey) (payload : List ℕ) → find key_cmp key pairs ≡ Some payload → read_added payload ≡ Ok key
   pub counted : used ≡ sum_by length (values_of pairs)
 
--- What the two write caches keep together, before and after every call: the active cache's payloads are within the limit,
--- no key is in both, and each payload stands under the key that it gives.
+-- What the two write caches keep together, before and after every call: the payloads of each are within the limit, no key
+-- is in both, and each payload stands under the key that it gives.
 pub record IsSound (s : CacheState) : Type 0 where
   pub within : used_of s.active ≤ s.limit
+  pub flush_within : used_of (flush_of s) ≤ s.limit
   pub limited : s.limit ≤ 1073741824
   pub apart : AreApart s
   pub keyed : AllKeyed s.active

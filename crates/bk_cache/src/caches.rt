@@ -232,10 +232,12 @@ impl Caches {
     }
 
     /// Takes the entries of a ledger out of the write caches and the recent entries, and answers how many keys of it
-    /// the write caches had. A flush goes on, also one that has no entry left.
+    /// the write caches had: at most 134,217,728, as each payload has 16 bytes at least. A flush goes on, also one that
+    /// has no entry left.
     pub fn drop_ledger(&mut self, ledger: u64) -> u64
         ensures left { self.new ≡ without self.old ledger }
         ensures count { result ≡ ledger_count self.old.active ledger + ledger_count (flush_of self.old) ledger }
+        ensures bound { result ≤ 134217728 }
         ensures apart { AreApart self.old }
         ensures sound { IsSound self.new }
     {

@@ -5,6 +5,7 @@ use Rattle.bk_record.specs.Keyed.{without_ledger, ledger_count}
 use Rattle.bk_cache.specs.Caches.{CacheState, flush_of}
 use Rattle.bk_cache.proofs.Sound.{sound_left}
 use Rattle.bk_cache.proofs.Used.{ledger_count-empty}
+use Rattle.bk_cache.proofs.LedgerCounts.{ledger_counts-le}
 use Rattle.bk_cache.proofs.caches.Caches.drop_ledger.Goals as goal
 use Rattle.bk_cache.proofs.caches.Caches.drop_ledger.Goals.{in-Some, in-None}
 
@@ -27,6 +28,11 @@ returns-clause-count c =
       | in-Some w ↦ omega (arith, before, w.result-is, c.drop_ledger-active.ensures.count, w.drop_ledger-in-Some.ensures.count, ap counted w.in-Some.is)
       | in-None w ↦ omega (arith, before, w.result-is, c.drop_ledger-active.ensures.count, ap counted w.in-None.is, ledger_count-empty c.args.ledger)
     ]
+
+pub returns-clause-bound : goal.returns-clause-bound
+returns-clause-bound c =
+    let before = ap (λ (s : CacheState). ledger_count s.active c.args.ledger + ledger_count (flush_of s) c.args.ledger) c.self.view_is in
+    omega (arith, before, returns-clause-count c, ledger_counts-le _ c.args.ledger c.self.invariant)
 
 pub returns-clause-sound : goal.returns-clause-sound
 returns-clause-sound c = invariant_of-self c
