@@ -4,8 +4,8 @@ use Rattle.std.specs.Option.{option_map}
 use Rattle.std.specs.Cmp.{nat_cmp_total, eq_by_cmp_equiv}
 use Rattle.std.specs.FinSet.{FinSet, contains, insert, contains-insert}
 use Rattle.std.specs.FinMap as finmap
-use Rattle.std.specs.FinMap.{get, get-empty, get-insert, get-remove}
-use Rattle.bk_accounts.specs.Account.{Account, fresh, with_room, with_size, with_dead_size, with_name, without_name}
+use Rattle.std.specs.FinMap.{get, remove, get-empty, get-insert, get-remove}
+use Rattle.bk_accounts.specs.Account.{Account, fresh, with_room, with_size, with_dead_size, with_name, without_name, without_ledger}
 use Rattle.bk_accounts.specs.Book.{Book, IsOpen, IsNotOpen, total_in, named_in, total_at, remaining_at, changed, after_open, after_ready, after_count, after_count_dead, after_name, after_unname, after_forget, after_drop}
 use Rattle.bk_accounts.specs.Choice.{IsChoice, NoneBelow}
 use Rattle.bk_accounts.specs.Sums.{Measure, AreSums, all_bytes, live_bytes}
@@ -133,6 +133,20 @@ module _ {E : Type 0} (measure : Measure E) where
     sums_forget dead_now ledger more = all dead_now entries names (after_forget book ledger) (λ log.
         subst (Matches measure dead_now (entries log) (names log)) (sym (get-after_forget book ledger log))
         (match_forget measure dead_now is_dead ledger more (entries log) (names log) (get book log) (each sums log)))
+
+    -- `unname` of keys of a ledger, then its `forget`, told of each account: the ledger is dead too, and so many keys name each log
+    pub sums_left : (dead_now : ℕ → Bool) (ledger : ℕ) (renamed : ℕ → ℕ) (left : Book) → ((l : ℕ) → dead_now l ≡ (is_dead l || ledger == l))
+        → ((log : ℕ) → get left log ≡ option_map (λ (account : Account). record account { named = renamed log; live = remove account.live ledger }) (get book log))
+        → AreSums measure dead_now entries renamed left
+    sums_left dead_now ledger renamed left more is = all dead_now entries renamed left (λ log.
+        subst (Matches measure dead_now (entries log) (renamed log)) (sym (is log ∙ both (renamed log) (get book log)))
+        (match_named measure dead_now (entries log) (names log) (renamed log) (λ _. renamed log) refl (option_map (without_ledger ledger) (get book log))
+        (match_forget measure dead_now is_dead ledger more (entries log) (names log) (get book log) (each sums log))))
+      where
+        both : (n : ℕ) (o : Option Account) → option_map (λ (account : Account). record account { named = n; live = remove account.live ledger }) o
+            ≡ option_map (λ (account : Account). record account { named = n }) (option_map (without_ledger ledger) o)
+        both n None = refl
+        both n (Some account) = refl
 
     -- `name`: one key more names the log
     pub sums_name : (log : ℕ) (renamed : ℕ → ℕ) → ((q : ℕ) → renamed q ≡ (if q == log then names q + 1 else names q))
