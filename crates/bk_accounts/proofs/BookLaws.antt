@@ -4,7 +4,8 @@ use Rattle.std.specs.Option.{option_map}
 use Rattle.std.specs.Cmp.{nat_cmp_total}
 use Rattle.std.specs.FinMap.{get, get-insert, get-remove}
 use Rattle.bk_accounts.specs.Account.{Account, fresh, with_room, with_size, with_dead_size, with_name, without_name, without_ledger}
-use Rattle.bk_accounts.specs.Book.{Book, total_in, named_in, changed, after_open, after_ready, after_count, after_count_dead, after_name, after_unname, after_forget, after_drop}
+use Rattle.bk_accounts.specs.Book.{Book, total_in, named_in, changed, after_open, after_ready, after_count, after_count_dead, after_name, after_unname}
+use Rattle.bk_accounts.specs.Book.{after_forget, after_drop}
 use Rattle.bk_accounts.proofs.Maps.{tied_is}
 use Rattle.bk_accounts.proofs.Books.{get-changed, get-after_forget}
 

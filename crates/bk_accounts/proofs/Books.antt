@@ -1,5 +1,6 @@
 -- The entries of the map of open logs, and the book that they are seen as, after each change.
-use Rattle.std.proofs.Common.{◌≡◌, ◌≢◌, ◌↔◌, ℕ, Bool, true, false, cond, ◌==◌, ◌||◌, if◌then◌else◌, eq-eqb, eqb-true, List, map, Some, None, Ok, Err, Option, IsSome, IsNone, IsErrAnd, OnErr, IfSome, nat_cmp, Bor, MutBor, BTreeMap, Result, IfOk, IfErr, refl, sym, ap, ◌∙◌, subst}
+use Rattle.std.proofs.Common.{◌≡◌, ◌≢◌, ◌↔◌, ℕ, Bool, true, false, cond, ◌==◌, ◌||◌, if◌then◌else◌, eq-eqb, eqb-true, List, map, Some, None, Ok, Err, Option}
+use Rattle.std.proofs.Common.{IsSome, IsNone, IsErrAnd, OnErr, IfSome, nat_cmp, Bor, MutBor, BTreeMap, Result, IfOk, IfErr, refl, sym, ap, ◌∙◌, subst}
 use Rattle.std.specs.BTreeMap.{WritesThrough, is_at}
 use Rattle.std.specs.Map.{lookup}
 use Rattle.std.specs.Option.{is_some, option_map, option_map_or, option_copied, option_copied_mut, ok_or}

@@ -1,17 +1,20 @@
 -- What a caller keeps that knows the entries of each log: the sums of the accounts through each call.
-use Rattle.std.proofs.Common.{◌≡◌, ℕ, ◌+◌, ◌-◌, ◌^◌, ◌<◌, Bool, true, false, cond, ◌||◌, ◌==◌, if◌then◌else◌, List, [], ◌∷◌, ◌++◌, Some, None, Option, IsSome, IsNone, IfSome, unwrap_or, nat_cmp, refl, sym, ap, subst, ◌∙◌, arith, eqb-true, eq-eqb}
+use Rattle.std.proofs.Common.{◌≡◌, ℕ, ◌+◌, ◌-◌, ◌^◌, ◌<◌, Bool, true, false, cond, ◌||◌, ◌==◌, if◌then◌else◌, List, [], ◌∷◌, ◌++◌, Some, None, Option, IsSome}
+use Rattle.std.proofs.Common.{IsNone, IfSome, unwrap_or, nat_cmp, refl, sym, ap, subst, ◌∙◌, arith, eqb-true, eq-eqb}
 use Rattle.std.specs.Option.{option_map}
 use Rattle.std.specs.Cmp.{nat_cmp_total, eq_by_cmp_equiv}
 use Rattle.std.specs.FinSet.{FinSet, contains, insert, contains-insert}
 use Rattle.std.specs.FinMap as finmap
 use Rattle.std.specs.FinMap.{get, remove, get-empty, get-insert, get-remove}
 use Rattle.bk_accounts.specs.Account.{Account, fresh, with_room, with_size, with_dead_size, with_name, without_name, without_ledger}
-use Rattle.bk_accounts.specs.Book.{Book, IsOpen, IsNotOpen, total_in, named_in, total_at, remaining_at, changed, after_open, after_ready, after_count, after_count_dead, after_name, after_unname, after_forget, after_drop}
+use Rattle.bk_accounts.specs.Book.{Book, IsOpen, IsNotOpen, total_in, named_in, total_at, remaining_at, changed, after_open, after_ready, after_count}
+use Rattle.bk_accounts.specs.Book.{after_count_dead, after_name, after_unname, after_forget, after_drop}
 use Rattle.bk_accounts.specs.Choice.{IsChoice, NoneBelow}
 use Rattle.bk_accounts.specs.Sums.{Measure, AreSums, all_bytes, live_bytes}
 use Rattle.bk_accounts.proofs.Maps.{tied_is}
 use Rattle.bk_accounts.proofs.Books.{map_same, get-changed, get-after_forget}
-use Rattle.bk_accounts.proofs.EntrySums.{Matches, HasSums, sums_of_match, match_of_sums, match_fresh, match_room, match_count, match_dead, match_named, match_forget}
+use Rattle.bk_accounts.proofs.EntrySums.{Matches, HasSums, sums_of_match, match_of_sums, match_fresh, match_room, match_count, match_dead, match_named}
+use Rattle.bk_accounts.proofs.EntrySums.{match_forget}
 
 -- a set of dead ledgers with one more, as `sums_forget` wants it
 pub contains-insert_dead : (dead : FinSet nat_cmp) (ledger l : ℕ) → contains (insert dead ledger) l ≡ (contains dead l || ledger == l)
@@ -136,7 +139,8 @@ module _ {E : Type 0} (measure : Measure E) where
 
     -- `unname` of keys of a ledger, then its `forget`, told of each account: the ledger is dead too, and so many keys name each log
     pub sums_left : (dead_now : ℕ → Bool) (ledger : ℕ) (renamed : ℕ → ℕ) (left : Book) → ((l : ℕ) → dead_now l ≡ (is_dead l || ledger == l))
-        → ((log : ℕ) → get left log ≡ option_map (λ (account : Account). record account { named = renamed log; live = remove account.live ledger }) (get book log))
+        → ((log : ℕ) → get left log ≡ option_map (λ (account : Account). record account { named = renamed log; live = remove account.live ledger }) (get book
+        log))
         → AreSums measure dead_now entries renamed left
     sums_left dead_now ledger renamed left more is = all dead_now entries renamed left (λ log.
         subst (Matches measure dead_now (entries log) (renamed log)) (sym (is log ∙ both (renamed log) (get book log)))

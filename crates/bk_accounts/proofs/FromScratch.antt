@@ -1,5 +1,6 @@
 -- After every run of calls each open log's account tells what counting from scratch gives.
-use Rattle.std.proofs.Common.{◌≡◌, ℕ, ◌+◌, ◌<◌, Bool, true, false, not, ◌&&◌, ◌||◌, ◌==◌, if◌then◌else◌, List, [], ◌∷◌, ◌++◌, map, Some, None, Option, nat_cmp, refl, sym, ap, ◌∙◌, subst, subst₂, append-nil, eqb-true, arith}
+use Rattle.std.proofs.Common.{◌≡◌, ℕ, ◌+◌, ◌<◌, Bool, true, false, not, ◌&&◌, ◌||◌, ◌==◌, if◌then◌else◌, List, [], ◌∷◌, ◌++◌, map, Some, None, Option, nat_cmp}
+use Rattle.std.proofs.Common.{refl, sym, ap, ◌∙◌, subst, subst₂, append-nil, eqb-true, arith}
 use Rattle.std.specs.Bool.{⊤}
 use Rattle.std.specs.List.{count_by}
 use Rattle.std.specs.Option.{is_some, option_map, option_map_or}
@@ -8,7 +9,8 @@ use Rattle.std.proofs.lemmas.List.Sums.{sum_by_push}
 use Rattle.bk_accounts.specs.Account.{Account, fresh, has_room, with_room, with_size, with_dead_size, with_name, without_name, without_ledger, remaining_size}
 use Rattle.bk_accounts.specs.Book.{Book}
 use Rattle.bk_accounts.specs.Rows.{Row, Tallies, total_of, remaining_of}
-use Rattle.bk_accounts.specs.History.{AccountCall, opens, readies, counts, counts_dead, names, unnames, forgets, drops, after, IsDue, History, start, more, is_open_of, is_drop_of, is_name_of, is_unname_of, is_forget_of, since_open, rows_of, named_of, is_readied, TellsOf}
+use Rattle.bk_accounts.specs.History.{AccountCall, opens, readies, counts, counts_dead, names, unnames, forgets, drops, after, IsDue, History, start, more}
+use Rattle.bk_accounts.specs.History.{is_open_of, is_drop_of, is_name_of, is_unname_of, is_forget_of, since_open, rows_of, named_of, is_readied, TellsOf}
 use Rattle.bk_accounts.proofs.Books.{ready_account, of_account}
 use Rattle.bk_accounts.proofs.Rooms.{room-with_room, room-with_size, room-without_ledger}
 use Rattle.bk_accounts.proofs.Tallies.{tallies_fresh, tallies_room, tallies_count, tallies_dead, tallies_forget}

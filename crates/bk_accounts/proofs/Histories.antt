@@ -3,7 +3,8 @@ use Rattle.std.proofs.Common.{◌≡◌, ℕ, Bool, true, false, not, ◌&&◌, 
 use Rattle.std.specs.List.{list_any}
 use Rattle.std.specs.Option.{option_map, option_or}
 use Rattle.bk_accounts.specs.Rows.{Row}
-use Rattle.bk_accounts.specs.History.{AccountCall, opens, readies, counts, counts_dead, names, unnames, forgets, drops, is_open_of, is_drop_of, is_forget_of, since_open, rows_of, is_readied}
+use Rattle.bk_accounts.specs.History.{AccountCall, opens, readies, counts, counts_dead, names, unnames, forgets, drops, is_open_of, is_drop_of, is_forget_of}
+use Rattle.bk_accounts.specs.History.{since_open, rows_of, is_readied}
 
 -- whether any of the calls passes, with one call more
 any_more : (test : AccountCall → Bool) (calls : List AccountCall) (call : AccountCall) → list_any test (calls ++ call ∷ []) ≡ (list_any test calls || test call)

@@ -1,5 +1,6 @@
 -- Finite maps made of a `BTreeMap`'s entries, at keys that are numbers.
-use Rattle.std.proofs.Common.{◌≡◌, ℕ, true, false, cond, ◌==◌, is_eq, Ordering, Less, Equal, Greater, List, [], ◌∷◌, map, Some, None, Option, IsSome, nat_cmp, eq-eqb, eqb-true, MutBor, refl, sym, ap, ◌∙◌}
+use Rattle.std.proofs.Common.{◌≡◌, ℕ, true, false, cond, ◌==◌, is_eq, Ordering, Less, Equal, Greater, List, [], ◌∷◌, map, Some, None, Option, IsSome, nat_cmp}
+use Rattle.std.proofs.Common.{eq-eqb, eqb-true, MutBor, refl, sym, ap, ◌∙◌}
 use Rattle.std.specs.Cmp.{nat_cmp_total, tied_itself, eq_by_cmp_equiv}
 use Rattle.std.specs.Ordering.{eq_by_cmp}
 use Rattle.std.specs.BTreeMap.{BTreeMap, WritesThrough, is_at}

@@ -1,9 +1,11 @@
 -- The sum over the values of a finite map whose keys are numbers, after a change at one key.
-use Rattle.std.proofs.Common.{◌≡◌, ℕ, ◌+◌, ◌≤◌, Bool, true, false, cond, T, List, [], ◌∷◌, ◌&&◌, map, length, Some, None, nat_cmp, is_eq, is_lt, Ordering, Less, Equal, Greater, unwrap_or, refl, sym, ap, subst, ◌∙◌, arith}
+use Rattle.std.proofs.Common.{◌≡◌, ℕ, ◌+◌, ◌≤◌, Bool, true, false, cond, T, List, [], ◌∷◌, ◌&&◌, map, length, Some, None, nat_cmp, is_eq, is_lt, Ordering, Less}
+use Rattle.std.proofs.Common.{Equal, Greater, unwrap_or, refl, sym, ap, subst, ◌∙◌, arith}
 use Rattle.std.specs.List.{sum}
 use Rattle.std.specs.Ordering.{eq_by_cmp}
 use Rattle.std.specs.Cmp.{nat_cmp_total, tied_itself}
-use Rattle.std.specs.FinMap.{FinMap, find, put, is_sorted, get, insert, remove, entries, entries_sorted, values, empty, get-entries, get-insert, get-remove, entries-insert, len-entries, len-empty}
+use Rattle.std.specs.FinMap.{FinMap, find, put, is_sorted, get, insert, remove, entries, entries_sorted, values, empty, get-entries, get-insert, get-remove}
+use Rattle.std.specs.FinMap.{entries-insert, len-entries, len-empty}
 use Rattle.std.specs.FinMap.Entries.{by_order, below_all}
 use Rattle.std.proofs.lemmas.List.Sums.{sum_by-cons}
 use Rattle.bk_accounts.proofs.Maps.{same_by_get, same_key}

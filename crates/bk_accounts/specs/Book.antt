@@ -4,7 +4,8 @@ use Rattle.std.specs.Coded.{Coded, coded_ℕ}
 use Rattle.std.specs.FinMap as finmap
 use Rattle.std.specs.Option.{option_map, option_map_or, unwrap_or}
 use Rattle.std.specs.Ordering.{nat_cmp}
-use Rattle.bk_accounts.specs.Account.{Account, account_code, remaining_size, has_room, fresh, with_room, with_size, with_dead_size, with_name, without_name, without_ledger}
+use Rattle.bk_accounts.specs.Account.{Account, account_code, remaining_size, has_room, fresh, with_room, with_size, with_dead_size, with_name, without_name}
+use Rattle.bk_accounts.specs.Account.{without_ledger}
 
 -- each open log with its account
 abbrev pub Book : Type 0

@@ -3,7 +3,8 @@ use Rattle.std.specs.Prelude.{Option, Some, None, ◌≡◌, ℕ, ◌-◌, ◌<�
 use Rattle.std.specs.FinMap as finmap
 use Rattle.std.specs.List.{list_any, count_by}
 use Rattle.std.specs.Option.{option_map, option_map_or, option_or}
-use Rattle.bk_accounts.specs.Book.{Book, IsNotOpen, IsReady, is_ready, total_in, remaining_in, named_in, after_open, after_ready, after_count, after_count_dead, after_name, after_unname, after_forget, after_drop}
+use Rattle.bk_accounts.specs.Book.{Book, IsNotOpen, IsReady, is_ready, total_in, remaining_in, named_in, after_open, after_ready, after_count, after_count_dead}
+use Rattle.bk_accounts.specs.Book.{after_name, after_unname, after_forget, after_drop}
 use Rattle.bk_accounts.specs.Rows.{Row, total_of, remaining_of}
 
 -- a call that changes the accounts

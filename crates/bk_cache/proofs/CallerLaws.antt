@@ -1,5 +1,6 @@
 -- What a caller's proof cites of the caches' words.
-use Rattle.std.proofs.Common.{◌≡◌, ℕ, zero, suc, ◌+◌, ◌-◌, Bool, true, false, cond, not, eqb, List, [], ◌∷◌, take, drop, Option, Some, None, IfSome, slice_get, is_some, ◌⊎◌, inl, inr, refl, sym, ap, ◌∙◌, add-one}
+use Rattle.std.proofs.Common.{◌≡◌, ℕ, zero, suc, ◌+◌, ◌-◌, Bool, true, false, cond, not, eqb, List, [], ◌∷◌, take, drop, Option, Some, None, IfSome, slice_get}
+use Rattle.std.proofs.Common.{is_some, ◌⊎◌, inl, inr, refl, sym, ap, ◌∙◌, add-one}
 use Rattle.std.specs.Map.{lookup, remove_entry}
 use Rattle.std.specs.FinMap as entries
 use Rattle.std.specs.FinMap.{entries_sorted}

@@ -14,10 +14,12 @@ loop-turn-preserved c =
     let ledger_is = ap (λ key. key.ledger) c.key.view_is in
     elim c.if-key-ledger.branch [
       | then-key-ledger w ↦
-          w.kept-is ∙ table-turn_drops keep c.args.kept.now.entries c.args.kept.now.cap c.loop-turn._turn within c.loop-turn.kept c.loop-turn.invariant _ (sym c.in-Some.ensures)
+          w.kept-is ∙ table-turn_drops keep c.args.kept.now.entries c.args.kept.now.cap c.loop-turn._turn within c.loop-turn.kept c.loop-turn.invariant _
+          (sym c.in-Some.ensures)
           w.pop_mru.new.self w.pop_mru.ensures.entries (ap not (eq-eqb _ _ (sym ledger_is ∙ w.if-key-ledger.true)))
       | else-key-ledger w ↦
-          w.kept-is ∙ table-turn_keeps keep c.args.kept.now.entries c.args.kept.now.cap c.loop-turn._turn within c.loop-turn.kept c.loop-turn.invariant _ (sym c.in-Some.ensures)
+          w.kept-is ∙ table-turn_keeps keep c.args.kept.now.entries c.args.kept.now.cap c.loop-turn._turn within c.loop-turn.kept c.loop-turn.invariant _
+          (sym c.in-Some.ensures)
           w.demote.new.self (same_key c.in-Some.field-0-0.now) w.demote.ensures.entries
           (ap not (ne_eqb _ _ (λ same. w.if-key-ledger.false (ledger_is ∙ same)))) (same_key-refl c.in-Some.field-0-0.now)
     ]

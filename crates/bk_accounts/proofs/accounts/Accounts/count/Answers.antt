@@ -14,16 +14,19 @@ unwrap-requires c =
 
 pub count-requires-clause-ready : goal.count-requires-clause-ready
 count-requires-clause-ready c =
-    let found = account_lent c.self.inside.logs.entries c.args.self.now c.args.log c.get_mut.result c.unwrap.result c.self.view_is c.get_mut.ensures.value c.unwrap.ensures in
+    let found = account_lent c.self.inside.logs.entries c.args.self.now c.args.log c.get_mut.result c.unwrap.result c.self.view_is c.get_mut.ensures.value
+    c.unwrap.ensures in
     ready_account c.args.self.now c.args.log c.args.ledger c.unwrap.result.now found c.requires.ready
 
 pub count-requires-clause-fits : goal.count-requires-clause-fits
 count-requires-clause-fits c =
-    let found = account_lent c.self.inside.logs.entries c.args.self.now c.args.log c.get_mut.result c.unwrap.result c.self.view_is c.get_mut.ensures.value c.unwrap.ensures in
+    let found = account_lent c.self.inside.logs.entries c.args.self.now c.args.log c.get_mut.result c.unwrap.result c.self.view_is c.get_mut.ensures.value
+    c.unwrap.ensures in
     of_account c.args.self.now c.args.log c.unwrap.result.now (λ a. a.total) (λ n. n + c.args.size < 2 ^ 32) found c.requires.fits
 
 pub returns : goal.returns
 returns c =
-    let found = account_lent c.self.inside.logs.entries c.args.self.now c.args.log c.get_mut.result c.unwrap.result c.self.view_is c.get_mut.ensures.value c.unwrap.ensures in
+    let found = account_lent c.self.inside.logs.entries c.args.self.now c.args.log c.get_mut.result c.unwrap.result c.self.view_is c.get_mut.ensures.value
+    c.unwrap.ensures in
     changed_through c.self.inside.logs (c.get_mut.follows.lender c.count.new.self) c.args.self.now c.args.log c.unwrap.result.now c.count.new.self
     (with_size c.args.ledger c.args.size) c.self.view_is found (c.get_mut.follows.holds c.count.new.self) c.count.ensures

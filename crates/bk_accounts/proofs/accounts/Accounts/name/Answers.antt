@@ -7,14 +7,16 @@ use Rattle.bk_accounts.proofs.accounts.Accounts.name.Goals.{in-Some, in_default}
 
 pub name-requires : goal.name-requires
 name-requires c =
-    let found = account_lent c.self.inside.logs.entries c.args.self.now c.args.log c.get_mut.result c.in-Some.account c.self.view_is c.get_mut.ensures.value c.in-Some.is in
+    let found = account_lent c.self.inside.logs.entries c.args.self.now c.args.log c.get_mut.result c.in-Some.account c.self.view_is c.get_mut.ensures.value
+    c.in-Some.is in
     of_account c.args.self.now c.args.log c.in-Some.account.now (λ a. a.named) (λ n. n + 1 < 2 ^ 64) found c.requires
 
 pub returns : goal.returns
 returns c =
     elim c.match-get_mut.branch [
       | in-Some w ↦
-          let found = account_lent c.self.inside.logs.entries c.args.self.now c.args.log c.get_mut.result w.in-Some.account c.self.view_is c.get_mut.ensures.value w.in-Some.is in
+          let found = account_lent c.self.inside.logs.entries c.args.self.now c.args.log c.get_mut.result w.in-Some.account c.self.view_is
+          c.get_mut.ensures.value w.in-Some.is in
           ap (λ s. from_entries s.logs.entries) w.self-inside-is
           ∙ changed_through c.self.inside.logs (c.get_mut.follows.lender w.name.new.self)
           c.args.self.now c.args.log w.in-Some.account.now w.name.new.self with_name c.self.view_is found
