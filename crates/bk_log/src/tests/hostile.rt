@@ -1,11 +1,13 @@
 //! Hostile bytes: every prefix and every changed byte of a sealed log of three records is read to its end, with an
 //! outcome of this list.
 
-use super::{Scanned, log_of, scan, view_of};
-use crate::{ScanFault, fetch};
-use bk_record::Location;
+ghost use Rattle.std.specs.Prelude.{◌<◌};
+
+use super::{HEAD, log_of, place, view_of};
+use crate::{ScanFault, Scanner, fetch};
+use bk_disk::{LogView, MemView};
 use std::alloc::Global;
-use std::test::Fail;
+use std::process::Abort;
 
 /// Three records, of 25, 20 and 24 bytes, which end at 1049, 1069 and 1093, and a map of two ledgers, which ends at 1149.
 const RECORDS: [u8; 125] = *b"\0\0\0\x15\0\0\0\0\0\0\0\x01\0\0\0\0\0\0\0\0hello\
@@ -14,21 +16,35 @@ const RECORDS: [u8; 125] = *b"\0\0\0\x15\0\0\0\0\0\0\0\x01\0\0\0\0\0\0\0\0hello\
 \0\0\0\x34\xff\xff\xff\xff\xff\xff\xff\xff\xff\xff\xff\xff\xff\xff\xff\xfe\0\0\0\x02\
 \0\0\0\0\0\0\0\x01\0\0\0\0\0\0\0\x31\0\0\0\0\0\0\0\x02\0\0\0\0\0\0\0\x14";
 
-/// What a scan of a changed log can come to.
+/// What a scan of a whole view came to.
 #[derive(Clone, Copy, Debug, PartialEq, Eq)]
-enum Outcome {
-    /// Three entries and one foreign record.
-    Whole,
-    /// An entry became a foreign record.
-    Foreign,
-    /// Bytes are left that are no whole record.
-    Torn,
-    /// A length is below 16.
-    Bad,
+pub(super) struct Scanned {
+    pub(super) entries: u32,
+    pub(super) foreign: u64,
+    pub(super) torn: u64,
+    pub(super) fault: Option<ScanFault>,
+}
+
+/// Scans a view to its end or to a fault, and fetches every entry that is found.
+pub(super) fn scan(rt: &impl Abort, alloc: Global, view: &MemView) -> Scanned {
+    let mut scanner = Scanner::new(view, alloc, 1024, view.end());
+    let mut entries = 0u32;
+    while let Ok(Some(entry)) = scanner.next() {
+        let at = u32::try_from(entry.at).expect(rt, "a place");
+        let payload = fetch(view, alloc, place(rt, at), entry.key).expect(rt, "an entry");
+        assert_eq!(rt; payload.len().saturating_add(4), entry.size as usize);
+        entries = entries.saturating_add(1);
+    }
+    Scanned {
+        entries,
+        foreign: scanner.foreign(),
+        torn: scanner.torn(),
+        fault: scanner.next().err(),
+    }
 }
 
 /// How a byte is changed, and how many of the changes of one of the 125 bytes behind the header have each outcome:
-/// whole, foreign, torn, bad.
+/// three entries and one foreign record; an entry that became foreign; torn bytes; a length below 16.
 #[derive(Clone, Copy)]
 struct Change {
     kept: u8,
@@ -56,38 +72,23 @@ const CHANGES: [Change; 3] = [
     },
 ];
 
-fn outcome_of(scanned: &Scanned) -> Option<Outcome> {
-    match scanned.fault {
-        Some(ScanFault::BadLength { .. }) => Some(Outcome::Bad),
-        Some(_) => None,
-        None if scanned.torn > 0 => Some(Outcome::Torn),
-        None => match (scanned.found.len(), scanned.foreign) {
-            (3, 1) => Some(Outcome::Whole),
-            (2, 2) => Some(Outcome::Foreign),
-            _ => None,
-        },
+/// The place of a scan's outcome in that list, and 4 where it has none of these.
+fn outcome_of(scanned: Scanned) -> usize
+    ensures { result < 5 }
+{
+    match (scanned.fault, scanned.entries, scanned.foreign) {
+        (None, 3, 1) if scanned.torn == 0 => 0,
+        (None, 2, 2) if scanned.torn == 0 => 1,
+        (None, _, _) if scanned.torn > 0 => 2,
+        (Some(ScanFault::BadLength { .. }), _, _) => 3,
+        _ => 4,
     }
-}
-
-/// Scans a log, and fetches every entry that is found.
-fn read_all(alloc: Global, bytes: &[u8]) -> Result<Scanned, Fail> {
-    let view = view_of(alloc, bytes)?;
-    let scanned = scan(alloc, &view)?;
-    for entry in &scanned.found {
-        let place = Location::pack(0, entry.at.try_into()?).ok_or("no place")?;
-        let payload = fetch(&view, alloc, place, entry.key)?;
-        if payload.len() as u64 + 4 != u64::from(entry.size) {
-            return Err("another payload").map_err(Fail::from);
-        }
-    }
-    Ok(scanned)
 }
 
 #[test]
-fn every_prefix_is_read_to_its_end(rt: HostRuntime) -> Result<(), Fail> {
-    let log = log_of(rt.alloc(), &RECORDS)?;
+fn every_prefix_is_read_to_its_end(rt: HostRuntime) {
+    let log = log_of(&rt, rt.alloc(), &HEAD, &RECORDS);
     for length in 0..1150 {
-        let scanned = read_all(rt.alloc(), log.get(..length).ok_or("a shorter log")?)?;
         let (entries, end) = match length {
             0..1024 => (0, length),
             1024..1049 => (0, 1024),
@@ -96,27 +97,32 @@ fn every_prefix_is_read_to_its_end(rt: HostRuntime) -> Result<(), Fail> {
             1093..1149 => (3, 1093),
             _ => (3, 1149),
         };
-        assert_eq!(rt; scanned.found.len(), entries);
-        assert_eq!(rt; scanned.torn, (length - end) as u64);
-        assert_eq!(rt; scanned.fault, None);
+        let bytes = log.get(..length).expect(&rt, "a shorter log");
+        let want = Scanned {
+            entries,
+            foreign: u64::from(length == 1149),
+            torn: (length - end) as u64,
+            fault: None,
+        };
+        assert_eq!(rt;
+            scan(&rt, rt.alloc(), &view_of(&rt, rt.alloc(), bytes)),
+            want
+        );
     }
-    Ok(())
 }
 
 #[test]
-fn every_changed_byte_has_an_outcome(rt: HostRuntime) -> Result<(), Fail> {
+fn every_changed_byte_has_an_outcome(rt: HostRuntime) {
     for change in CHANGES {
-        let mut counts = [0u32; 4];
-        for at in 1024..1149 {
-            let mut log = log_of(rt.alloc(), &RECORDS)?;
-            let byte = log.get_mut(at).ok_or("a shorter log")?;
-            *byte = (*byte & change.kept) ^ change.flipped;
-            let scanned = read_all(rt.alloc(), &log)?;
-            let outcome = outcome_of(&scanned).ok_or("an outcome without a name")?;
-            let count = &mut counts[outcome as usize];
+        let mut counts = [0u32; 5];
+        for at in 0..125 {
+            let mut records = RECORDS;
+            records[at] = (records[at] & change.kept) ^ change.flipped;
+            let log = log_of(&rt, rt.alloc(), &HEAD, &records);
+            let scanned = scan(&rt, rt.alloc(), &view_of(&rt, rt.alloc(), &log));
+            let count = &mut counts[outcome_of(scanned)];
             *count = count.saturating_add(1);
         }
-        assert_eq!(rt; counts, change.counts);
+        assert_eq!(rt; counts[..4], change.counts[..]);
     }
-    Ok(())
 }
