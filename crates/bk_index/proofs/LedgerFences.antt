@@ -13,7 +13,7 @@ use Rattle.bk_index.proofs.CutPairs.{each_weaker, head_below, sorted_back, front
 use Rattle.bk_index.proofs.FencedPages.{all_split}
 use Rattle.bk_index.proofs.RisingFences.{IsDownward}
 
-less_ledger : (a b : EntryKey) → key_cmp a b ≡ Less → a.ledger ≤ b.ledger
+pub less_ledger : (a b : EntryKey) → key_cmp a b ≡ Less → a.ledger ≤ b.ledger
 less_ledger a b less = elim (cases_lt b.ledger a.ledger) [
   | inl after ↦
       let greater : key_cmp a b ≡ Greater = rw (le-ltb a.ledger b.ledger (omega arith), ne_eqb a.ledger b.ledger (omega arith)) in

@@ -40,7 +40,7 @@ module _ {X : Type 0} (pages : List (List (EntryKey × X))) (ledger from to : �
       ∙ sym (filter-append (λ e. not (e.0.ledger == ledger)) (all_pairs (take from pages)) (all_pairs (drop from pages)) ∙ (λ i. front_stays i ++ stays i))
       ∙ ap (filter (λ e. not (e.0.ledger == ledger))) (sym (all_split from pages))
 
-  from_first : from < to → all_pairs (drop from pages) ≡ get_or pages from [] ++ all_pairs (drop (from + 1) pages)
+  pub from_first : from < to → all_pairs (drop from pages) ≡ get_or pages from [] ++ all_pairs (drop (from + 1) pages)
   from_first some = ap all_pairs (drop_more pages from [] (omega (arith, holds.bound)))
 
   -- what is left of all pairs: those before the first page, of that page what stays, and of those behind what stays
@@ -59,7 +59,7 @@ module _ {X : Type 0} (pages : List (List (EntryKey × X))) (ledger from to : �
       ∙ sym (kept_from (omega arith) ∙ ap (λ rest. all_pairs (take from pages) ++ (filter (λ e. not (e.0.ledger == ledger)) (get_or pages from []) ++ rest)) stays)
 
   module _ (many : from + 1 < to) where
-    between : List (List (EntryKey × X))
+    abbrev pub between : List (List (EntryKey × X))
     between = take (to - 1 - (from + 1)) (drop (from + 1) pages)
 
     last_next : drop (to - 1 - (from + 1)) (drop (from + 1) pages) ≡ drop (to - 1) pages
@@ -70,21 +70,30 @@ module _ {X : Type 0} (pages : List (List (EntryKey × X))) (ledger from to : �
         ap all_pairs (drop_more pages (to - 1) [] (omega (arith, holds.bound)))
         ∙ ap (λ n. get_or pages (to - 1) [] ++ all_pairs (drop n pages)) (omega arith)
 
-    -- of the pages between nothing stays
-    behind_first : filter (λ e. not (e.0.ledger == ledger)) (all_pairs (drop (from + 1) pages)) ≡ filter (λ e. not (e.0.ledger == ledger)) (get_or pages (to - 1) []) ++ all_pairs (drop to pages)
-    unfolding between
-    behind_first =
-        let rest = all_split (to - 1 - (from + 1)) (drop (from + 1) pages) ∙ ap (λ ps. all_pairs between ++ all_pairs ps) last_next in
-        let low = each_front (λ e. ledger ≤ e.0.ledger) (all_pairs between) (all_pairs (drop (to - 1) pages)) (rw (← rest) holds.not_after_first) in
+    pub after_first : all_pairs (drop (from + 1) pages) ≡ all_pairs between ++ (get_or pages (to - 1) [] ++ all_pairs (drop to pages))
+    after_first =
+        all_split (to - 1 - (from + 1)) (drop (from + 1) pages)
+        ∙ ap (λ rest. all_pairs between ++ rest) (ap all_pairs last_next ∙ from_last)
+
+    -- the pages between have no other ledger's keys
+    pub between_low : AllByRecursion (λ e. ledger ≤ e.0.ledger) (all_pairs between)
+    between_low = each_front (λ e. ledger ≤ e.0.ledger) (all_pairs between) (get_or pages (to - 1) [] ++ all_pairs (drop to pages)) (rw (← after_first) holds.not_after_first)
+
+    pub between_high : AllByRecursion (λ e. e.0.ledger ≤ ledger) (all_pairs between)
+    between_high =
         let long : to - 1 ≡ from + 1 + (to - 1 - (from + 1)) = omega arith in
         let cut = ap (λ n. drop (from + 1) (take n pages)) long ∙ drop-take (from + 1) (to - 1 - (from + 1)) pages in
         let before = all_pairs (take (from + 1) (take (to - 1) pages)) in
         let upto = all_split (from + 1) (take (to - 1) pages) ∙ ap (λ ps. before ++ all_pairs ps) cut in
-        let high = each_back (λ e. e.0.ledger ≤ ledger) before (all_pairs between) (rw (← upto) holds.not_before_last) in
-        ap (filter (λ e. not (e.0.ledger == ledger))) rest
-        ∙ filter-append (λ e. not (e.0.ledger == ledger)) (all_pairs between) (all_pairs (drop (to - 1) pages))
-        ∙ ap (λ gone. gone ++ filter (λ e. not (e.0.ledger == ledger)) (all_pairs (drop (to - 1) pages))) (same_go ledger (all_pairs between) low high)
-        ∙ ap (filter (λ e. not (e.0.ledger == ledger))) from_last
+        each_back (λ e. e.0.ledger ≤ ledger) before (all_pairs between) (rw (← upto) holds.not_before_last)
+
+    -- of the pages between nothing stays
+    behind_first : filter (λ e. not (e.0.ledger == ledger)) (all_pairs (drop (from + 1) pages)) ≡ filter (λ e. not (e.0.ledger == ledger)) (get_or pages (to - 1) []) ++ all_pairs (drop to pages)
+    behind_first =
+        let last = get_or pages (to - 1) [] ++ all_pairs (drop to pages) in
+        ap (filter (λ e. not (e.0.ledger == ledger))) after_first
+        ∙ filter-append (λ e. not (e.0.ledger == ledger)) (all_pairs between) last
+        ∙ ap (λ gone. gone ++ filter (λ e. not (e.0.ledger == ledger)) last) (same_go ledger (all_pairs between) between_low between_high)
         ∙ filter-append (λ e. not (e.0.ledger == ledger)) (get_or pages (to - 1) []) (all_pairs (drop to pages))
         ∙ ap (λ back. filter (λ e. not (e.0.ledger == ledger)) (get_or pages (to - 1) []) ++ back) back_stays
 

@@ -7,6 +7,7 @@ pub mod HomePages
 pub mod RisingFences
 pub mod LedgerPages
 pub mod LedgerFences
+pub mod LedgerPairs
 pub mod CountedPages
 pub mod SortedPairs
 pub mod SortedMaps

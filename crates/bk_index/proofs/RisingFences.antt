@@ -12,7 +12,7 @@ use Rattle.bk_index.specs.Pages.{first_key, all_pairs, IsHome, AreFenced}
 use Rattle.bk_index.proofs.CutPairs.{each_back, head_below, sorted_back}
 use Rattle.bk_index.proofs.Homes.{AreFilled, IsFenceFor, below_key, home_first, home_last}
 
-each_at : (P : EntryKey → Type 0) (fs : List EntryKey) (i : ℕ) (d : EntryKey) → AllByRecursion P fs → i < length fs → P (get_or fs i d)
+pub each_at : {A : Type 0} (P : A → Type 0) (fs : List A) (i : ℕ) (d : A) → AllByRecursion P fs → i < length fs → P (get_or fs i d)
 each_at P [] i d each within = absurd (omega arith)
 each_at P (f ∷ fs) zero d each within = each.0
 each_at P (f ∷ fs) (suc i) d each within = each_at P fs i d each.1 (omega arith)

@@ -1,6 +1,6 @@
 //! The index: a finite map from keys to locations, kept in pages of up to 256 entries.
 
-ghost use Rattle.std.specs.Prelude.{◌≡◌, ◌↔◌, ℕ, List, length, sum, slice_get, Some, IsTrue, IsSome, IsOk, IfOk, OnOk, OnErr};
+ghost use Rattle.std.specs.Prelude.{◌≡◌, ◌↔◌, ℕ, ◌==◌, List, length, filter, sum, slice_get, Some, IsTrue, IsSome, IsOk, IfOk, OnOk, OnErr};
 ghost use Rattle.std.specs.Bool.{OnTrue, OnFalse};
 ghost use Rattle.std.specs.FinMap as map;
 ghost use Rattle.bk_index.specs.Keyed.{without_ledger, ledger_count, log_count};
@@ -105,7 +105,15 @@ impl Index {
     pub fn walk(&self) -> Walk<'_>
         ensures { result ≡ map.entries self.now }
     {
-        Walk::over(self.pages.list())
+        Walk::over(&[], self.pages.list(), &[])
+    }
+
+    /// The keys of one ledger and their locations, in the order of entry. Pages that have no key of the ledger are not
+    /// looked at.
+    pub fn walk_ledger(&self, ledger: u64) -> Walk<'_>
+        ensures { result ≡ filter (λ pair. pair.0.ledger == ledger) (map.entries self.now) }
+    {
+        self.pages.walk_ledger(ledger)
     }
 
     /// How many keys the index sends to a log.

@@ -69,6 +69,15 @@ impl Page {
         &self.pairs
     }
 
+    /// The pairs of a ledger, which stand side by side.
+    pub(crate) fn of_ledger(&self, ledger: u64) -> &[(Key, Location)]
+        ensures { result.now ≡ filter (λ pair. pair.0.ledger == ledger) self.now }
+    {
+        let from = self.pairs.partition_point(|(key, _)| key.ledger() < ledger);
+        let behind = &self.pairs[from..];
+        &behind[..behind.partition_point(|(key, _)| key.ledger() <= ledger)]
+    }
+
     /// The place of a key among the pairs, or the place where it would go.
     pub(crate) fn place_of(&self, key: &Key) -> Result<usize, usize>
         ensures found { IfOk result (IsAt self.now key.now) }

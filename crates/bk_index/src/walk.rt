@@ -1,6 +1,7 @@
-//! A walk over an index, in the order of the keys: what is left of it is the rest of a page, and the pages behind it.
+//! A walk over an index, in the order of the keys: what is left of it is the rest of a page, the pages behind it, and
+//! pairs of the page behind those.
 
-ghost use Rattle.std.specs.Prelude.{◌≡◌, ◌<◌, [], length, All};
+ghost use Rattle.std.specs.Prelude.{◌≡◌, ◌<◌, ◌++◌, [], length, All};
 ghost use Rattle.std.specs.Iterator.{YieldsFirst, item_count};
 ghost use Rattle.bk_index.specs.Pages.{all_pairs};
 
@@ -8,11 +9,13 @@ use crate::page::Page;
 use bk_record::{Key, Location};
 use std::marker::Model;
 
-/// Gives each key of an index and its location, in the order of ledger, then entry. `Index::walk` makes one.
+/// Gives each key of an index and its location, in the order of ledger, then entry. `Index::walk` and
+/// `Index::walk_ledger` make one.
 #[derive(Debug, Drop)]
 pub struct Walk<'a> {
     page: &'a [(Key, Location)],
     pages: &'a [Page],
+    last: &'a [(Key, Location)],
 }
 
 impl<'a> Model for Walk<'a> {
@@ -23,18 +26,22 @@ impl<'a> Model for Walk<'a> {
 
     ghost Value = { List (EntryKey × Place) };
 
-    ghost view = { λ walk. walk.page.now ++ all_pairs walk.pages.now };
+    ghost view = { λ walk. walk.page.now ++ (all_pairs walk.pages.now ++ walk.last.now) };
 
     ghost invariant = { λ walk. All (λ page. 0 < length page) walk.pages.now };
 }
 
 impl<'a> Walk<'a> {
-    // A walk over pages, none of which is empty.
-    pub(crate) fn over(pages: &'a [Page]) -> Walk<'a>
+    // A walk over pairs, then over pages, none of which is empty, and then over further pairs.
+    pub(crate) fn over(
+        page: &'a [(Key, Location)],
+        pages: &'a [Page],
+        last: &'a [(Key, Location)],
+    ) -> Walk<'a>
         requires { All (λ page. 0 < length page) pages.now }
-        ensures { result ≡ all_pairs pages.now }
+        ensures { result ≡ page.now ++ (all_pairs pages.now ++ last.now) }
     {
-        Walk { page: &[], pages }
+        Walk { page, pages, last }
     }
 }
 
@@ -50,10 +57,14 @@ impl Iterator for Walk<'_> {
             self.page = rest;
             return Some(*first);
         }
-        let (page, pages) = self.pages.split_first()?;
-        let (first, rest) = page.pairs().split_first()?;
-        self.page = rest;
-        self.pages = pages;
+        if let Some((page, pages)) = self.pages.split_first() {
+            let (first, rest) = page.pairs().split_first()?;
+            self.page = rest;
+            self.pages = pages;
+            return Some(*first);
+        }
+        let (first, rest) = self.last.split_first()?;
+        self.last = rest;
         Some(*first)
     }
 }

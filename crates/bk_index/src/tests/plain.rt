@@ -113,6 +113,17 @@ fn same_map(rt: &impl Abort, index: &Index, plain: &Plain) {
     }
 }
 
+// The walk of one ledger gives its keys of the whole walk, and no others.
+fn same_ledger(rt: &impl Abort, index: &Index, ledger: u64) {
+    let mut of_ledger = index.walk_ledger(ledger);
+    for (key, location) in index.walk() {
+        if key.ledger() == ledger {
+            assert_eq!(rt; of_ledger.next(), Some((key, location)));
+        }
+    }
+    assert_eq!(rt; of_ledger.next(), None);
+}
+
 fn mixed_call(
     rt: &impl Abort,
     numbers: &mut Numbers,
@@ -151,6 +162,9 @@ fn mixed_calls_answer_as_a_plain_list(rt: HostRuntime) -> Result<(), Fail> {
             mixed_call(&rt, &mut numbers, &mut index, &mut plain)?;
         }
         same_map(&rt, &index, &plain);
+        for ledger in 0..5 {
+            same_ledger(&rt, &index, ledger);
+        }
         let log = numbers.below(4);
         assert_eq!(rt; index.count_in(log), plain.count_in(log));
     }
