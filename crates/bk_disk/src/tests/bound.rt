@@ -3,9 +3,12 @@
 ghost use Rattle.std.specs.Prelude.{◌≡◌, ◌≤◌, ◌<◌, ◌^◌, ◌++◌, IsTrue, IfOk, length, drop};
 ghost use Rattle.std.specs.FinMap as map;
 
+use super::table::{Call, Want, check};
 use crate::{DiskFault, LogDisk, LogView, MemDisk};
 use std::alloc::Global;
-use std::test::Fail;
+use std::process::Abort;
+
+pub(super) static FIRST: [u8; 1027] = [7; 1027];
 
 // Makes a log, and reads its first piece behind the header through a view that is made before the second piece.
 pub(super) fn view_between<D: LogDisk>(
@@ -31,15 +34,15 @@ pub(super) fn view_between<D: LogDisk>(
 }
 
 #[test]
-fn a_view_made_between_two_appends_reads_the_first(rt: HostRuntime) -> Result<(), Fail> {
+fn a_view_made_between_two_appends_reads_the_first(rt: HostRuntime) {
     let alloc = rt.alloc();
     let mut disk = MemDisk::new(alloc);
-    let first = vec![in alloc; 7u8; 1027]?;
-    let read = view_between(alloc, &mut disk, 5, &first, &[8, 9])?;
+    let read = view_between(alloc, &mut disk, 5, &FIRST, &[8, 9]).expect(&rt, "a read");
     assert_eq!(rt; read.as_slice(), [7, 7, 7].as_slice());
-    assert_eq!(rt;
-        disk.read_at(alloc, 5, 1026, 3)?.as_slice(),
-        [7, 8, 9].as_slice()
+    check(
+        &rt,
+        alloc,
+        &mut disk,
+        &[(Call::Read(5, 1026, 3), Want::Bytes(&[7, 8, 9]))],
     );
-    Ok(())
 }

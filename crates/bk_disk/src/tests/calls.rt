@@ -2,10 +2,9 @@
 
 use super::listing::two_files;
 use super::table::{Call, Want, check};
-use crate::{DiskFault, LogDisk, LogView, MemDisk};
+use crate::{DiskFault, LogDisk, LogView, MemDisk, MemView};
 use std::alloc::Global;
 use std::process::Abort;
-use std::test::Fail;
 
 static ONES: [u8; 70_000] = [1; 70_000];
 
@@ -77,36 +76,34 @@ fn each_fault_comes_in_its_condition(rt: HostRuntime) {
 }
 
 #[test]
-fn a_disk_of_two_files_has_them(rt: HostRuntime) -> Result<(), Fail> {
+fn a_disk_of_two_files_has_them(rt: HostRuntime) {
     let calls = [
         (Call::List, Want::Ids(&[0, 1])),
         (Call::Read(0, 0, 4), Want::Bytes(b"zero")),
         (Call::Read(1, 0, 3), Want::Bytes(b"one")),
     ];
-    check(
-        &rt,
-        rt.alloc(),
-        &mut two_files(rt.alloc(), b"one", b"zero")?,
-        &calls,
-    );
-    Ok(())
+    let mut disk = two_files(rt.alloc(), b"one", b"zero").expect(&rt, "a disk");
+    check(&rt, rt.alloc(), &mut disk, &calls);
 }
 
-// A view of log 6 once these bytes were appended to it. Then the log grows, is patched and goes.
-fn view_of(alloc: Global, bytes: &[u8]) -> Result<crate::MemView, DiskFault> {
+// A view of log 6 once these bytes were appended to it. Then the log grows by others, is patched and goes.
+fn view_of(rt: &impl Abort, alloc: Global, bytes: &[u8], more: &[u8]) -> MemView {
     let mut disk = MemDisk::new(alloc);
-    disk.create(alloc, 6)?;
-    disk.append(alloc, 6, bytes)?;
-    let view = disk.view(alloc, 6)?;
-    disk.append(alloc, 6, &ONES)?;
-    disk.patch(alloc, 6, b"twelve bytes")?;
-    disk.remove(alloc, 6)?;
-    Ok(view)
+    disk.create(alloc, 6).expect(rt, "a log");
+    disk.append(alloc, 6, bytes).expect(rt, "bytes");
+    let view = disk.view(alloc, 6).expect(rt, "a view");
+    let calls = [
+        (Call::Append(6, more), Want::Done),
+        (Call::Patch(6, b"twelve bytes"), Want::Done),
+        (Call::Remove(6), Want::Done),
+    ];
+    check(rt, alloc, &mut disk, &calls);
+    view
 }
 
 // It has all bytes from 1024 to its end, and no other.
-fn check_view(rt: &impl Abort, alloc: Global, bytes: &[u8], end: u64) {
-    let view = view_of(alloc, bytes).expect(rt, "a view");
+fn check_view(rt: &impl Abort, alloc: Global, bytes: &[u8], more: &[u8], end: u64) {
+    let view = view_of(rt, alloc, bytes, more);
     assert_eq!(rt; view.end(), end);
     let all = view.read_at(alloc, 1024, end.saturating_sub(1024));
     assert!(rt; all.expect(rt, "a read").iter().all(|byte| *byte == 5));
@@ -132,12 +129,12 @@ fn a_view_keeps_its_bytes(rt: HostRuntime) {
         (65_536, 65_536),
         (70_000, 70_000),
     ] {
-        check_view(&rt, rt.alloc(), &fives[..size], end);
+        check_view(&rt, rt.alloc(), &fives[..size], &ONES, end);
     }
 }
 
 #[test]
-fn texts_of_faults(rt: HostRuntime) -> Result<(), Fail> {
+fn texts_of_faults(rt: HostRuntime) {
     let texts = [
         (DiskFault::Disk, "disk"),
         (DiskFault::Exists, "log exists"),
@@ -147,8 +144,7 @@ fn texts_of_faults(rt: HostRuntime) -> Result<(), Fail> {
         (DiskFault::Memory, "memory"),
     ];
     for (fault, text) in texts {
-        let shown = format!(in rt.alloc(); "{fault}")?;
+        let shown = fault.to_string(rt.alloc()).expect(&rt, "a text");
         assert_eq!(rt; shown.as_str(), text);
     }
-    Ok(())
 }

@@ -1,20 +1,21 @@
 //! A disk over a real folder, which each test makes and takes away.
 
 use super::table::{Call, Want, check};
-use crate::{DirDisk, DiskFault, LogDisk, LogView};
+use crate::{DirDisk, DirView, DiskFault, LogDisk, LogView};
+use std::alloc::Global;
 use std::fs::{self, OpenOptions};
-use std::io;
 use std::os::unix::fs::symlink;
-use std::test::Fail;
+use std::process::Abort;
 
-// Makes an empty folder.
-fn anew(rt: &HostRuntime, folder: &str) -> io::Result<()> {
+// The disk of a new and empty folder.
+fn anew(rt: &HostRuntime, folder: &str) -> Result<DirDisk, DiskFault> {
     let _ = fs::remove_dir_all(rt, folder);
-    fs::create_dir(rt, folder)
+    let _ = fs::create_dir(rt, folder);
+    DirDisk::open(rt, folder)
 }
 
 #[test]
-fn calls_on_a_folder(rt: HostRuntime) -> Result<(), Fail> {
+fn calls_on_a_folder(rt: HostRuntime) {
     let calls = [
         (Call::Create(31), Want::Done),
         (Call::Create(31), Want::Fault(DiskFault::Exists)),
@@ -41,15 +42,13 @@ fn calls_on_a_folder(rt: HostRuntime) -> Result<(), Fail> {
         (Call::Append(31, b"a"), Want::Fault(DiskFault::NoLog)),
         (Call::List, Want::Ids(&[2])),
     ];
-    anew(&rt, "bk_disk_calls")?;
-    let mut disk = DirDisk::open(&rt, "bk_disk_calls")?;
+    let mut disk = anew(&rt, "bk_disk_calls").expect(&rt, "a disk");
     check(&rt, rt.alloc(), &mut disk, &calls);
-    fs::remove_dir_all(&rt, "bk_disk_calls")?;
-    Ok(())
+    fs::remove_dir_all(&rt, "bk_disk_calls").expect(&rt, "no folder");
 }
 
 #[test]
-fn only_files_of_logs_are_listed(rt: HostRuntime) -> Result<(), Fail> {
+fn only_files_of_logs_are_listed(rt: HostRuntime) {
     let files = [
         "bk_disk_names/0.log",
         "bk_disk_names/1f.log",
@@ -63,76 +62,76 @@ fn only_files_of_logs_are_listed(rt: HostRuntime) -> Result<(), Fail> {
         "bk_disk_names/0.log.compacted",
         "bk_disk_names/notes",
     ];
-    anew(&rt, "bk_disk_names")?;
+    let mut disk = anew(&rt, "bk_disk_names").expect(&rt, "a disk");
     for path in files {
-        fs::write(&rt, path, b"bytes".as_slice())?;
+        fs::write(&rt, path, b"bytes".as_slice()).expect(&rt, "a file");
     }
-    fs::create_dir(&rt, "bk_disk_names/2.log")?;
-    symlink(&rt, "1f.log", "bk_disk_names/3.log")?;
-    symlink(&rt, "2.log", "bk_disk_names/4.log")?;
+    fs::create_dir(&rt, "bk_disk_names/2.log").expect(&rt, "a folder");
+    symlink(&rt, "1f.log", "bk_disk_names/3.log").expect(&rt, "a link");
+    symlink(&rt, "2.log", "bk_disk_names/4.log").expect(&rt, "a link");
     let calls = [
         (Call::List, Want::Ids(&[0, 3, 31, 2_147_483_647])),
         (Call::Length(3), Want::Number(5)),
         (Call::Length(2), Want::Fault(DiskFault::NoLog)),
         (Call::View(4), Want::Fault(DiskFault::NoLog)),
     ];
-    check(
-        &rt,
-        rt.alloc(),
-        &mut DirDisk::open(&rt, "bk_disk_names")?,
-        &calls,
-    );
-    fs::remove_dir_all(&rt, "bk_disk_names")?;
-    Ok(())
+    check(&rt, rt.alloc(), &mut disk, &calls);
+    fs::remove_dir_all(&rt, "bk_disk_names").expect(&rt, "no folder");
 }
 
 #[test]
-fn what_the_system_refuses_is_disk(rt: HostRuntime) -> Result<(), Fail> {
-    anew(&rt, "bk_disk_refused")?;
-    let mut disk = DirDisk::open(&rt, "bk_disk_refused")?;
-    symlink(&rt, "nowhere", "bk_disk_refused/5.log")?;
+fn what_the_system_refuses_is_disk(rt: HostRuntime) {
+    let folder = "bk_disk_refused";
+    let mut disk = anew(&rt, folder).expect(&rt, "a disk");
+    symlink(&rt, "nowhere", "bk_disk_refused/5.log").expect(&rt, "a link");
     let fails = [
         (Call::List, Want::Fault(DiskFault::Disk)),
         (Call::Length(5), Want::Fault(DiskFault::NoLog)),
     ];
     check(&rt, rt.alloc(), &mut disk, &fails);
-    fs::remove_dir_all(&rt, "bk_disk_refused")?;
+    fs::remove_dir_all(&rt, folder).expect(&rt, "no folder");
     let gone = [
         (Call::List, Want::Fault(DiskFault::Disk)),
         (Call::Create(1), Want::Fault(DiskFault::Disk)),
     ];
     check(&rt, rt.alloc(), &mut disk, &gone);
-    assert_eq!(rt;
-        DirDisk::open(&rt, "bk_disk_refused").err(),
-        Some(DiskFault::Disk)
-    );
-    Ok(())
+    let opened = DirDisk::open(&rt, folder).err();
+    assert_eq!(rt; opened, Some(DiskFault::Disk));
+}
+
+// What a read of so many bytes behind the header finds.
+fn check_read(
+    rt: &impl Abort,
+    alloc: Global,
+    view: &DirView,
+    n: u64,
+    want: Result<&[u8], DiskFault>,
+) {
+    match view.read_at(alloc, 1024, n) {
+        Ok(bytes) => assert_eq!(rt; Ok(bytes.as_slice()), want),
+        Err(fault) => assert_eq!(rt; Err(fault), want),
+    }
 }
 
 #[test]
-fn a_view_keeps_its_file_and_its_end(rt: HostRuntime) -> Result<(), Fail> {
+fn a_view_keeps_its_file_and_its_end(rt: HostRuntime) {
     let path = "bk_disk_views/9.log";
-    anew(&rt, "bk_disk_views")?;
-    fs::write(&rt, path, [5u8; 1030].as_slice())?;
-    let mut disk = DirDisk::open(&rt, "bk_disk_views")?;
-    let view = disk.view(rt.alloc(), 9)?;
-    disk.append(rt.alloc(), 9, b"more")?;
-    let file = OpenOptions::new().write(true).open(&rt, path)?;
-    disk.remove(rt.alloc(), 9)?;
+    let mut disk = anew(&rt, "bk_disk_views").expect(&rt, "a disk");
+    fs::write(&rt, path, [5u8; 1030].as_slice()).expect(&rt, "a file");
+    let view = disk.view(rt.alloc(), 9).expect(&rt, "a view");
+    let file = OpenOptions::new()
+        .write(true)
+        .open(&rt, path)
+        .expect(&rt, "a file");
+    let calls = [
+        (Call::Append(9, b"more"), Want::Done),
+        (Call::Remove(9), Want::Done),
+    ];
+    check(&rt, rt.alloc(), &mut disk, &calls);
     assert_eq!(rt; view.end(), 1030);
-    assert_eq!(rt;
-        view.read_at(rt.alloc(), 1024, 6)?.as_slice(),
-        [5; 6].as_slice()
-    );
-    assert_eq!(rt;
-        view.read_at(rt.alloc(), 1024, 7).err(),
-        Some(DiskFault::PastEnd)
-    );
-    file.set_len(1026)?;
-    assert_eq!(rt;
-        view.read_at(rt.alloc(), 1024, 6).err(),
-        Some(DiskFault::Disk)
-    );
-    fs::remove_dir_all(&rt, "bk_disk_views")?;
-    Ok(())
+    check_read(&rt, rt.alloc(), &view, 6, Ok(&[5; 6]));
+    check_read(&rt, rt.alloc(), &view, 7, Err(DiskFault::PastEnd));
+    file.set_len(1026).expect(&rt, "a shorter file");
+    check_read(&rt, rt.alloc(), &view, 6, Err(DiskFault::Disk));
+    fs::remove_dir_all(&rt, "bk_disk_views").expect(&rt, "no folder");
 }

@@ -1,23 +1,17 @@
 //! A log of more than 16 MiB, and hundreds of logs.
 
 use super::table::{Call, Want, check};
-use crate::{DiskFault, LogDisk, LogView, MemDisk};
+use crate::{LogDisk, LogView, MemDisk};
 use std::alloc::Global;
 use std::process::Abort;
-use std::test::Fail;
 
-// The byte at a position of the large log: that of its piece's number.
+// Bytes of a piece of the large log.
 const PIECE: u64 = 1_000_001;
 
-// A log of twenty pieces of a million bytes and one, each piece of one byte.
-fn large(alloc: Global) -> Result<MemDisk, DiskFault> {
-    let mut disk = MemDisk::new(alloc);
-    disk.create(alloc, 7)?;
-    for number in 0..20u8 {
-        let piece = vec![in alloc; number; 1_000_001].map_err(|_| DiskFault::Memory)?;
-        disk.append(alloc, 7, &piece)?;
-    }
-    Ok(disk)
+// Appends so many bytes, each of them this number, to log 7.
+fn append_piece(rt: &impl Abort, alloc: Global, disk: &mut MemDisk, number: u8, n: u64) {
+    let piece = vec![in alloc; number; n as usize].expect(rt, "a piece");
+    check(rt, alloc, disk, &[(Call::Append(7, &piece), Want::Done)]);
 }
 
 // A byte before and a byte behind the border of two pieces.
@@ -33,10 +27,14 @@ fn check_border(rt: &impl Abort, alloc: Global, disk: &mut MemDisk, number: u8) 
 }
 
 #[test]
-fn a_log_of_twenty_million_bytes(rt: HostRuntime) -> Result<(), Fail> {
+fn a_log_of_twenty_million_bytes(rt: HostRuntime) {
     let alloc = rt.alloc();
-    let mut disk = large(alloc)?;
-    let early = disk.view(alloc, 7)?;
+    let mut disk = MemDisk::new(alloc);
+    check(&rt, alloc, &mut disk, &[(Call::Create(7), Want::Done)]);
+    for number in 0..20u8 {
+        append_piece(&rt, alloc, &mut disk, number, PIECE);
+    }
+    let early = disk.view(alloc, 7).expect(&rt, "a view");
     for number in 1..20u8 {
         check_border(&rt, alloc, &mut disk, number);
     }
@@ -49,29 +47,31 @@ fn a_log_of_twenty_million_bytes(rt: HostRuntime) -> Result<(), Fail> {
     ];
     check(&rt, alloc, &mut disk, &calls);
     assert_eq!(rt; early.end(), 20_000_020);
-    assert_eq!(rt;
-        early.read_at(alloc, 19_000_018, 2)?.as_slice(),
-        [18, 19].as_slice()
-    );
-    Ok(())
+    let read = early.read_at(alloc, 19_000_018, 2).expect(&rt, "a read");
+    assert_eq!(rt; read.as_slice(), [18, 19].as_slice());
+}
+
+// Makes a log of an id up to two thousand million, with two bytes.
+fn make_log(rt: &impl Abort, alloc: Global, disk: &mut MemDisk, number: u16) {
+    let id = u32::from(number) * 269 % 700 * 3_000_000;
+    disk.create(alloc, id).expect(rt, "a log");
+    disk.append(alloc, id, &number.to_be_bytes())
+        .expect(rt, "bytes");
 }
 
 #[test]
-fn seven_hundred_logs(rt: HostRuntime) -> Result<(), Fail> {
+fn seven_hundred_logs(rt: HostRuntime) {
     let alloc = rt.alloc();
     let mut disk = MemDisk::new(alloc);
-    for log in 0..700u16 {
-        let id = u32::from(log) * 269 % 700 * 3_000_000;
-        disk.create(alloc, id)?;
-        disk.append(alloc, id, &log.to_be_bytes())?;
+    for number in 0..700u16 {
+        make_log(&rt, alloc, &mut disk, number);
     }
-    let ids = disk.list(alloc)?;
+    let ids = disk.list(alloc).expect(&rt, "ids");
     assert_eq!(rt; ids.len(), 700);
     assert!(rt; ids.is_sorted());
     for id in &ids {
-        assert_eq!(rt; disk.length(alloc, *id)?, 2);
-        disk.remove(alloc, *id)?;
+        assert_eq!(rt; disk.length(alloc, *id), Ok(2));
+        assert_eq!(rt; disk.remove(alloc, *id), Ok(()));
     }
-    assert_eq!(rt; disk.list(alloc)?.len(), 0);
-    Ok(())
+    check(&rt, alloc, &mut disk, &[(Call::List, Want::Ids(&[]))]);
 }

@@ -1,10 +1,10 @@
 //! The names of logs' files.
 
 use crate::{log_of, name_of};
-use std::test::Fail;
+use std::process::Abort;
 
 #[test]
-fn names_and_logs(rt: HostRuntime) -> Result<(), Fail> {
+fn names_and_logs(rt: HostRuntime) {
     let names = [
         (0, "0.log"),
         (9, "9.log"),
@@ -13,7 +13,8 @@ fn names_and_logs(rt: HostRuntime) -> Result<(), Fail> {
         (2_147_483_647, "7fffffff.log"),
     ];
     for (log, name) in names {
-        assert_eq!(rt; name_of(rt.alloc(), log)?.as_str(), name);
+        let named = name_of(rt.alloc(), log).expect(&rt, "a name");
+        assert_eq!(rt; named.as_str(), name);
         assert_eq!(rt; log_of(name), Some(log));
     }
     for other in [
@@ -29,5 +30,4 @@ fn names_and_logs(rt: HostRuntime) -> Result<(), Fail> {
     ] {
         assert_eq!(rt; log_of(other), None, "{other}");
     }
-    Ok(())
 }

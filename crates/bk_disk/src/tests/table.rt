@@ -5,7 +5,7 @@ use std::alloc::Global;
 use std::process::Abort;
 
 /// A call on a disk. Logs are named by small ids.
-#[derive(Clone, Copy, Debug)]
+#[derive(Clone, Copy)]
 pub(super) enum Call<'a> {
     List,
     Length(u16),
@@ -20,17 +20,29 @@ pub(super) enum Call<'a> {
     Remove(u16),
 }
 
-/// What a call found.
+/// What a call answered.
 #[derive(Drop)]
-pub(super) enum Found {
-    Nothing,
-    Number(u64),
-    Ids(Vec<u32>),
-    Bytes(Vec<u8>),
+pub(super) enum Answer {
+    Done(Result<(), DiskFault>),
+    Number(Result<u64, DiskFault>),
+    Ids(Result<Vec<u32>, DiskFault>),
+    Bytes(Result<Vec<u8>, DiskFault>),
+}
+
+impl Answer {
+    pub(super) fn fault(&self) -> Option<DiskFault> {
+        match self {
+            Answer::Done(Err(fault)) => Some(*fault),
+            Answer::Number(Err(fault)) => Some(*fault),
+            Answer::Ids(Err(fault)) => Some(*fault),
+            Answer::Bytes(Err(fault)) => Some(*fault),
+            _ => None,
+        }
+    }
 }
 
 /// What a call is to answer.
-#[derive(Clone, Copy, Debug)]
+#[derive(Clone, Copy)]
 pub(super) enum Want<'a> {
     Done,
     Number(u64),
@@ -40,32 +52,41 @@ pub(super) enum Want<'a> {
 }
 
 /// Makes a call.
-pub(super) fn make<D: LogDisk>(
-    alloc: Global,
-    disk: &mut D,
-    call: Call<'_>,
-) -> Result<Found, DiskFault> {
+pub(super) fn make<D: LogDisk>(alloc: Global, disk: &mut D, call: Call<'_>) -> Answer {
     match call {
-        Call::List => Ok(Found::Ids(disk.list(alloc)?)),
-        Call::Length(log) => Ok(Found::Number(disk.length(alloc, u32::from(log))?)),
-        Call::Read(log, at, n) => Ok(Found::Bytes(disk.read_at(alloc, u32::from(log), at, n)?)),
-        Call::View(log) => Ok(Found::Bytes(view_all(alloc, disk, u32::from(log))?)),
-        Call::Create(log) => disk.create(alloc, u32::from(log)).map(|()| Found::Nothing),
-        Call::Append(log, bytes) => disk
-            .append(alloc, u32::from(log), bytes)
-            .map(|()| Found::Nothing),
-        Call::Patch(log, bytes) => disk
-            .patch(alloc, u32::from(log), bytes)
-            .map(|()| Found::Nothing),
-        Call::Sync(log) => disk.sync(alloc, u32::from(log)).map(|()| Found::Nothing),
-        Call::Remove(log) => disk.remove(alloc, u32::from(log)).map(|()| Found::Nothing),
+        Call::List => Answer::Ids(disk.list(alloc)),
+        Call::Length(log) => Answer::Number(disk.length(alloc, u32::from(log))),
+        Call::Create(log) => Answer::Done(disk.create(alloc, u32::from(log))),
+        Call::Append(log, bytes) => Answer::Done(disk.append(alloc, u32::from(log), bytes)),
+        Call::Patch(log, bytes) => Answer::Done(disk.patch(alloc, u32::from(log), bytes)),
+        Call::Sync(log) => Answer::Done(disk.sync(alloc, u32::from(log))),
+        Call::Read(log, at, n) => Answer::Bytes(disk.read_at(alloc, u32::from(log), at, n)),
+        Call::View(log) => Answer::Bytes(view_all(alloc, disk, u32::from(log))),
+        Call::Remove(log) => Answer::Done(disk.remove(alloc, u32::from(log))),
     }
 }
 
 // All that a new view of a log has.
 fn view_all<D: LogDisk>(alloc: Global, disk: &mut D, log: u32) -> Result<Vec<u8>, DiskFault> {
-    let view = disk.view(alloc, log)?;
-    view.read_at(alloc, 1024, view.end().saturating_sub(1024))
+    match disk.view(alloc, log) {
+        Ok(view) => view.read_at(alloc, 1024, view.end().saturating_sub(1024)),
+        Err(fault) => Err(fault),
+    }
+}
+
+/// An answer is the one that is wanted of this row of a table.
+pub(super) fn check_answer(rt: &impl Abort, row: usize, answer: &Answer, want: Want<'_>) {
+    let fault = answer.fault();
+    match (answer, want) {
+        (_, Want::Fault(told)) => assert_eq!(rt; fault, Some(told), "row {row}"),
+        (Answer::Done(Ok(())), Want::Done) => {}
+        (Answer::Number(Ok(n)), Want::Number(m)) => assert_eq!(rt; *n, m, "row {row}"),
+        (Answer::Ids(Ok(ids)), Want::Ids(all)) => assert_eq!(rt; ids.as_slice(), all, "row {row}"),
+        (Answer::Bytes(Ok(bytes)), Want::Bytes(all)) => {
+            assert_eq!(rt; bytes.as_slice(), all, "row {row}");
+        }
+        _ => panic!(rt; "row {row}: another answer, fault {fault:?}"),
+    }
 }
 
 /// Makes each call of a table.
@@ -75,21 +96,7 @@ pub(super) fn check<D: LogDisk>(
     disk: &mut D,
     table: &[(Call<'_>, Want<'_>)],
 ) {
-    for (call, want) in table {
-        match (make(alloc, disk, *call), *want) {
-            (Ok(Found::Nothing), Want::Done) => {}
-            (Ok(Found::Number(n)), Want::Number(m)) => assert_eq!(rt; n, m, "{call:?}"),
-            (Ok(Found::Ids(ids)), Want::Ids(all)) => assert_eq!(rt;
-                ids.as_slice(),
-                all,
-                "{call:?}"
-            ),
-            (Ok(Found::Bytes(bytes)), Want::Bytes(all)) => {
-                assert_eq!(rt; bytes.as_slice(), all, "{call:?}");
-            }
-            (Err(fault), Want::Fault(told)) => assert_eq!(rt; fault, told, "{call:?}"),
-            (Err(fault), _) => panic!(rt; "{call:?}: {fault}"),
-            (Ok(_), _) => panic!(rt; "{call:?}: answered"),
-        }
+    for (row, (call, want)) in table.iter().enumerate() {
+        check_answer(rt, row, &make(alloc, disk, *call), *want);
     }
 }
