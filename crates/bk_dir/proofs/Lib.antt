@@ -1,0 +1,5 @@
+pub mod Lines
+pub mod Reading
+pub mod Heads
+pub mod Scans
+pub mod Sums

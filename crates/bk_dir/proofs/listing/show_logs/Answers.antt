@@ -1,0 +1,20 @@
+use Rattle.std.proofs.Common.{[], get_or, subst}
+use Rattle.bk_record.specs.Files.{Files}
+use Rattle.bk_dir.specs.Shown.{IsLogLine, Writes}
+use Rattle.bk_dir.specs.Shown.AreLines.{none}
+use Rattle.bk_dir.proofs.Lines.{appends_none, line_more}
+use Rattle.bk_dir.proofs.Reading.{honest_still, read_then}
+use Rattle.bk_dir.proofs.listing.show_logs.Goals as goal
+
+pub loop-log-init : goal.loop-log-init
+loop-log-init g c = (c.list_logs.ensures.reads, λ honest. ([], none, appends_none _))
+
+pub loop-log-preserved : goal.loop-log-preserved
+loop-log-preserved g c =
+    let first = c.loop-log.invariant in (
+      read_then _ _ _ _ _ _ first.0 c.show_log.ensures.reads,
+      λ honest.
+          line_more (IsLogLine (g.D.LogDisk.files c.args.disk.now)) c.as_slice-log-items.result.now c.loop-log.log-index _ _ _ c.loop-log-test.true (first.1 honest)
+          (subst (λ (fs : Files). Writes (IsLogLine fs (get_or c.as_slice-log-items.result.now c.loop-log.log-index 0)) (g.W.Write.contents c.loop-log.writer) (g.W.Write.contents c.show_log.new.writer))
+          (first.0.1 honest) (c.in_ok-show_log.ensures.ok (honest_still _ _ _ _ first.0 honest))),
+    )

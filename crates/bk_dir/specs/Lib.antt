@@ -1,0 +1,4 @@
+pub mod Heads
+pub mod Reading
+pub mod Texts
+pub mod Shown

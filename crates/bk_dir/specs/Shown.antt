@@ -1,0 +1,47 @@
+-- What a command shows of the files of a disk, where it is done.
+use Rattle.std.specs.Prelude.{◌≡◌, ℕ, List, [], ◌∷◌, ◌++◌, length, drop, codes, Option}
+use Rattle.std.specs.Io.KnownBytes.{Appends}
+use Rattle.std.specs.FinMap as map
+use Rattle.bk_record.specs.Files.{Files, header_length, records_of, rest_of}
+use Rattle.bk_record.specs.Body.{Body}
+use Rattle.bk_dir.specs.declared.command.DirCommand.{DirCommand}
+use Rattle.bk_dir.specs.declared.command.DirCommand.TheVariants.{Logs, Header, Map, Scan, Find, Check}
+use Rattle.bk_dir.specs.declared.header.Head.{Head}
+use Rattle.bk_dir.specs.declared.header.Head.TheVariants as heads
+use Rattle.bk_dir.specs.declared.listing.LogState.{LogState}
+use Rattle.bk_dir.specs.Heads.{IsHead, HasState}
+use Rattle.bk_dir.specs.Reading.{OfFile}
+use Rattle.bk_dir.specs.Texts.{log_line, header_line, scan_lines}
+
+-- a writer got a text of which this is so
+abbrev pub Writes : (List ℕ → Type 0) → Option (List ℕ) → Option (List ℕ) → Type 0
+Writes Is before now = (text : List ℕ) × Is text × Appends before now text
+
+-- A text of one line for each of some logs, in their order.
+pub data AreLines (IsLine : ℕ → List ℕ → Type 0) : List ℕ → List ℕ → Type 0 where
+  none : AreLines IsLine [] []
+  more : {logs text line : List ℕ} {log : ℕ} → AreLines IsLine logs text → IsLine log line → AreLines IsLine (logs ++ log ∷ []) (text ++ line)
+
+-- the line of a log in the list of all
+abbrev pub IsLogLine : Files → ℕ → List ℕ → Type 0
+IsLogLine files log line = OfFile files log (λ file. (state : LogState) × HasState file state × (line ≡ log_line log (length file) state))
+
+-- what is shown of a log's header; a bad one is a fault
+abbrev pub HeadText : Head → List ℕ → Type 0
+HeadText heads.Short text = text ≡ codes "short\n"
+HeadText (heads.Bad fault) text = ⊥
+HeadText (heads.Whole header) text = text ≡ header_line header
+
+-- the records of a log are whole up to its end or a torn rest, and the text is the lines of its entries; a bad length is a fault
+pub record IsScanText (file text : List ℕ) : Type 0 where
+  pub spelled : Body header_length (drop header_length file) (records_of file) (rest_of file)
+  pub lines : text ≡ scan_lines file
+
+-- What a command does to the writer. Of `map`, `find` and `check` nothing is said here.
+abbrev pub Shows : DirCommand → Files → Option (List ℕ) → Option (List ℕ) → Type 0
+Shows Logs files before now = Writes (AreLines (IsLogLine files) (map.keys files)) before now
+Shows (Header log) files before now = Writes (λ text. OfFile files log (λ file. (head : Head) × IsHead file head × HeadText head text)) before now
+Shows (Scan log) files before now = Writes (λ text. OfFile files log (λ file. IsScanText file text)) before now
+Shows (Map log) files before now = Unit {0}
+Shows (Find key) files before now = Unit {0}
+Shows Check files before now = Unit {0}

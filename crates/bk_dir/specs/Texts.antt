@@ -1,0 +1,38 @@
+-- The lines that the commands show (this project's rule). Numbers are decimal.
+use Rattle.std.specs.Prelude.{ℕ, ◌+◌, List, [], ◌∷◌, ◌++◌, length, flat_map, codes}
+use Rattle.std.specs.Fmt.{decimal, signed_decimal}
+use Rattle.bk_record.specs.Record.{ledger_field, entry_field}
+use Rattle.bk_record.specs.Scan.{entries_of, foreign_of, torn_of}
+use Rattle.bk_head.specs.declared.header.Header.{Header}
+use Rattle.bk_dir.specs.declared.listing.LogState.{LogState}
+use Rattle.bk_dir.specs.declared.listing.LogState.TheVariants.{Short, Bad, Open, Sealed}
+
+abbrev pub state_text : LogState → List ℕ
+state_text Short = codes "short"
+state_text Bad = codes "bad"
+state_text Open = codes "open"
+state_text Sealed = codes "sealed"
+
+-- a log in the list of all: its id, its length and its state
+abbrev pub log_line : ℕ → ℕ → LogState → List ℕ
+log_line log size state = decimal log ++ codes " " ++ decimal size ++ codes " " ++ state_text state ++ 10 ∷ []
+
+abbrev pub header_line : Header → List ℕ
+header_line header = codes "version " ++ decimal header.version ++ codes " map " ++ signed_decimal header.map_offset
+    ++ codes " count " ++ signed_decimal header.count ++ 10 ∷ []
+
+-- an entry: where its payload begins, its ledger, its number there, and the size of its record
+abbrev pub found_line : ℕ → ℕ → ℕ → ℕ → List ℕ
+found_line at ledger entry size = decimal at ++ codes " " ++ decimal ledger ++ codes " " ++ decimal entry ++ codes " " ++ decimal size ++ 10 ∷ []
+
+abbrev pub entry_line : ℕ × List ℕ → List ℕ
+entry_line entry = found_line entry.0 (ledger_field entry.1) (entry_field entry.1) (4 + length entry.1)
+
+-- how many entries there are, how many foreign records, and how many bytes behind them are torn
+abbrev pub counts_line : ℕ → ℕ → ℕ → List ℕ
+counts_line entries foreign torn =
+    codes "entries " ++ decimal entries ++ codes " foreign " ++ decimal foreign ++ codes " torn " ++ decimal torn ++ 10 ∷ []
+
+-- a line for each entry of a log, in order, and then the counts
+abbrev pub scan_lines : List ℕ → List ℕ
+scan_lines file = flat_map entry_line (entries_of file) ++ counts_line (length (entries_of file)) (foreign_of file) (torn_of file)

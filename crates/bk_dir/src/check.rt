@@ -1,0 +1,106 @@
+//! `check`: of each log whether it can be read, and whether its ledgers map is that of its entries.
+
+ghost use Rattle.std.specs.Prelude.{◌≤◌, IfOk};
+ghost use Rattle.bk_dir.specs.Reading.{OnlyReads};
+
+use crate::calls::{list_logs, view_of};
+use crate::header::{Head, read_head};
+use crate::ledgers::{counted_ledgers, written_ledgers};
+use crate::{DirFault, LogFault};
+use bk_disk::{LogDisk, LogView};
+use bk_head::Header;
+use std::alloc::Global;
+use std::fmt;
+use std::fmt::{Display, Formatter};
+use std::io::Write;
+
+/// What `check` tells of a log.
+#[derive(Clone, Copy, Debug, PartialEq, Eq)]
+pub(crate) enum Health {
+    /// It is shorter than a header.
+    Short,
+    /// It can't be read.
+    Faulty(LogFault),
+    /// It can be read, and names no ledgers map.
+    Unsealed,
+    /// Its ledgers map isn't that of its entries.
+    MapDiffers,
+    /// Its ledgers map is that of its entries.
+    Sound,
+}
+
+impl Health {
+    /// Whether something is wrong with the log.
+    fn is_bad(self) -> bool {
+        matches!(self, Health::Faulty(_) | Health::MapDiffers)
+    }
+}
+
+impl Display for Health {
+    fn fmt<W: fmt::Write>(&self, f: &mut Formatter<W>) -> fmt::Result {
+        match self {
+            Health::Short => write!(f, "short"),
+            Health::Faulty(fault) => write!(f, "fault {fault}"),
+            Health::Unsealed => write!(f, "unsealed"),
+            Health::MapDiffers => write!(f, "map differs"),
+            Health::Sound => write!(f, "ok"),
+        }
+    }
+}
+
+/// Shows a line for each log, by rising ids, `ID WORD`, as soon as it is known. Gives the status: 1 where something is
+/// wrong with a log.
+pub(crate) fn show_check<D: LogDisk, W: Write>(
+    alloc: Global,
+    disk: &mut D,
+    writer: &mut W,
+) -> Result<u8, DirFault>
+    ensures status { IfOk result (λ status. status ≤ 1) }
+    ensures reads { OnlyReads (D.honest disk.old) (D.files disk.old) (D.honest disk.new) (D.files disk.new) }
+{
+    let ids = list_logs(alloc, disk)?;
+    let mut status = 0;
+    for log in ids.as_slice() {
+        let health = health_of(alloc, disk, *log)?;
+        writeln!(writer, "{log} {health}")?;
+        writer.flush()?;
+        if health.is_bad() {
+            status = 1;
+        }
+    }
+    Ok(status)
+}
+
+/// What is to be told of a log that the disk has listed.
+fn health_of<D: LogDisk>(alloc: Global, disk: &mut D, log: u32) -> Result<Health, DirFault>
+    ensures reads { OnlyReads (D.honest disk.old) (D.files disk.old) (D.honest disk.new) (D.files disk.new) }
+{
+    match examine(alloc, disk, log) {
+        Ok(health) => Ok(health),
+        Err(DirFault::Log(fault)) => Ok(Health::Faulty(fault)),
+        Err(fault) => Err(fault.of_known()),
+    }
+}
+
+/// Reads a log whole: its header, its entries, and its map.
+fn examine<D: LogDisk>(alloc: Global, disk: &mut D, log: u32) -> Result<Health, DirFault>
+    ensures reads { OnlyReads (D.honest disk.old) (D.files disk.old) (D.honest disk.new) (D.files disk.new) }
+{
+    let header = match read_head(alloc, disk, log)?.head {
+        Head::Short => return Ok(Health::Short),
+        Head::Bad(fault) => return Ok(Health::Faulty(LogFault::Head(fault))),
+        Head::Whole(header) => header,
+    };
+    let view = view_of(alloc, disk, log)?;
+    examine_view(alloc, &view, &header)
+}
+
+/// Reads the entries of a log, whose header was read, and its map.
+fn examine_view<V: LogView>(alloc: Global, view: &V, header: &Header) -> Result<Health, DirFault> {
+    let counted = counted_ledgers(alloc, view)?;
+    match written_ledgers(alloc, view, header)? {
+        None => Ok(Health::Unsealed),
+        Some(written) if written == counted => Ok(Health::Sound),
+        Some(_) => Ok(Health::MapDiffers),
+    }
+}

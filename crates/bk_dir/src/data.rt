@@ -1,0 +1,45 @@
+//! The data of an entry, in hexadecimal: read and written piece by piece, so that an entry of any length takes little
+//! memory.
+
+use crate::DirFault;
+use bk_disk::LogView;
+use bk_log::Found;
+use bk_record::{IDS_LENGTH, RECORD_HEAD};
+use std::alloc::Global;
+use std::io::Write;
+
+/// How many bytes are read at once.
+const WINDOW: u64 = 65_536;
+
+/// Shows the data of an entry of a view, behind its two ids; `-` where there is none.
+pub(crate) fn show_data<V: LogView, W: Write>(
+    alloc: Global,
+    view: &V,
+    found: Found,
+    writer: &mut W,
+) -> Result<(), DirFault> {
+    let size = u64::from(found.size);
+    let mut left = size.saturating_sub(RECORD_HEAD as u64);
+    if left == 0 {
+        return Ok(write!(writer, "-")?);
+    }
+    let mut at = found.at.saturating_add(IDS_LENGTH as u64);
+    while left > 0 {
+        let n = left.min(WINDOW);
+        match view.read_at(alloc, at, n) {
+            Ok(bytes) => show_bytes(&bytes, writer)?,
+            Err(fault) => return Err(DirFault::from(fault).of_known()),
+        }
+        at = at.saturating_add(n);
+        left -= n;
+    }
+    Ok(())
+}
+
+/// Writes bytes as two digits each.
+fn show_bytes<W: Write>(bytes: &[u8], writer: &mut W) -> Result<(), DirFault> {
+    for byte in bytes {
+        write!(writer, "{byte:02x}")?;
+    }
+    Ok(())
+}

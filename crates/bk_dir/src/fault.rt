@@ -1,0 +1,111 @@
+//! Why a command ends early, and what is wrong with a log.
+
+use bk_disk::DiskFault;
+use bk_head::HeadFault;
+use bk_log::ScanFault;
+use std::fmt::{Display, Formatter};
+use std::{fmt, io};
+
+/// What is wrong with a log's bytes.
+#[derive(Clone, Copy, Debug, PartialEq, Eq)]
+pub(crate) enum LogFault {
+    /// Its header or its ledgers map.
+    Head(HeadFault),
+    /// At this position stands this length, read as a signed number, which is below 16.
+    BadLength { at: u64, length: i32 },
+}
+
+/// Why a command ends before it has shown everything.
+#[derive(Clone, Copy, Debug, PartialEq, Eq)]
+pub(crate) enum DirFault {
+    /// The log's bytes don't say what is asked for.
+    Log(LogFault),
+    /// There is no log of the id that is asked for.
+    NoLog,
+    /// The device failed.
+    Disk,
+    /// No memory was to be had.
+    Memory,
+    /// The disk answered what an honest disk can't: a log that it has listed is gone, or is shorter than it said.
+    Odd,
+    /// The output could not be written.
+    Output,
+}
+
+impl DirFault {
+    /// The same, of a log that the disk has told of before: that there is no such log is odd.
+    pub(crate) fn of_known(self) -> DirFault {
+        match self {
+            DirFault::NoLog => DirFault::Odd,
+            fault => fault,
+        }
+    }
+}
+
+impl From<DiskFault> for DirFault {
+    fn from(fault: DiskFault) -> DirFault {
+        match fault {
+            DiskFault::Disk => DirFault::Disk,
+            DiskFault::NoLog => DirFault::NoLog,
+            DiskFault::Memory => DirFault::Memory,
+            DiskFault::Exists | DiskFault::PastEnd | DiskFault::TooLong => DirFault::Odd,
+        }
+    }
+}
+
+impl From<ScanFault> for DirFault {
+    fn from(fault: ScanFault) -> DirFault {
+        match fault {
+            ScanFault::BadLength { at, length } => {
+                DirFault::Log(LogFault::BadLength { at, length })
+            }
+            ScanFault::Disk => DirFault::Disk,
+            ScanFault::Memory => DirFault::Memory,
+            ScanFault::Odd => DirFault::Odd,
+        }
+    }
+}
+
+impl From<HeadFault> for DirFault {
+    fn from(fault: HeadFault) -> DirFault {
+        match fault {
+            HeadFault::Memory => DirFault::Memory,
+            fault => DirFault::Log(LogFault::Head(fault)),
+        }
+    }
+}
+
+impl From<io::Error> for DirFault {
+    fn from(_: io::Error) -> DirFault {
+        DirFault::Output
+    }
+}
+
+impl Display for LogFault {
+    fn fmt<W: fmt::Write>(&self, f: &mut Formatter<W>) -> fmt::Result {
+        match self {
+            LogFault::Head(HeadFault::BadMagic) => write!(f, "bad magic"),
+            LogFault::Head(HeadFault::Version(version)) => write!(f, "version {version}"),
+            LogFault::Head(HeadFault::Negative) => write!(f, "negative number"),
+            LogFault::Head(HeadFault::NotAMap(at)) => write!(f, "not a map {at}"),
+            LogFault::Head(HeadFault::MapLength(at)) => write!(f, "map length {at}"),
+            LogFault::Head(HeadFault::Repeated(ledger)) => write!(f, "repeated {ledger}"),
+            LogFault::Head(HeadFault::CountDiffers(found)) => write!(f, "count differs {found}"),
+            LogFault::Head(HeadFault::Memory) => write!(f, "memory"),
+            LogFault::BadLength { at, length } => write!(f, "bad length {at} {length}"),
+        }
+    }
+}
+
+impl Display for DirFault {
+    fn fmt<W: fmt::Write>(&self, f: &mut Formatter<W>) -> fmt::Result {
+        match self {
+            DirFault::Log(fault) => write!(f, "{fault}"),
+            DirFault::NoLog => write!(f, "no log"),
+            DirFault::Disk => write!(f, "disk"),
+            DirFault::Memory => write!(f, "memory"),
+            DirFault::Odd => write!(f, "odd disk"),
+            DirFault::Output => write!(f, "output"),
+        }
+    }
+}

@@ -1,0 +1,105 @@
+//! The header of a log, read from a disk.
+
+ghost use Rattle.std.specs.Prelude.{IsTrue, IfOk, IfSome, OnOk};
+ghost use Rattle.bk_dir.specs.Heads.{IsHeadOf, StartsWith};
+ghost use Rattle.bk_dir.specs.Reading.{OfFile, OnlyReads};
+ghost use Rattle.bk_dir.specs.Shown.{HeadText, Shows, Writes};
+ghost use Rattle.bk_dir.specs.declared.command.DirCommand.TheVariants as commands;
+
+use crate::{DirFault, LogFault};
+use bk_disk::LogDisk;
+use bk_head::{HeadFault, Header, read_header};
+use bk_record::HEADER_LENGTH;
+use std::alloc::Global;
+use std::io::Write;
+
+/// The length of a header, as positions in a log are counted.
+pub(crate) const HEADER: u64 = HEADER_LENGTH as u64;
+
+/// What the first bytes of a log say.
+#[derive(Clone, Copy)]
+pub(crate) enum Head {
+    /// There are fewer than a header has.
+    Short,
+    /// They are no header.
+    Bad(HeadFault),
+    /// They are this header.
+    Whole(Header),
+}
+
+/// A log's length, and what its first bytes say.
+#[derive(Clone, Copy)]
+pub(crate) struct LogHead {
+    pub length: u64,
+    pub head: Head,
+}
+
+/// The length and the header of a log.
+pub(crate) fn read_head<D: LogDisk>(
+    alloc: Global,
+    disk: &mut D,
+    log: u32,
+) -> Result<LogHead, DirFault>
+    ensures reads { OnlyReads (D.honest disk.old) (D.files disk.old) (D.honest disk.new) (D.files disk.new) }
+    ensures ok { IsTrue (D.honest disk.old)
+        → IfOk result (λ found. OfFile (D.files disk.old) log (λ file. IsHeadOf file found)) }
+{
+    let length = match disk.length(alloc, log) {
+        Ok(length) => length,
+        Err(fault) => return Err(DirFault::from(fault)),
+    };
+    if length < HEADER {
+        return Ok(LogHead {
+            length,
+            head: Head::Short,
+        });
+    }
+    match disk.read_at(alloc, log, 0, HEADER) {
+        Ok(bytes) => match head_in(&bytes) {
+            Some(head) => Ok(LogHead { length, head }),
+            None => Err(DirFault::Odd),
+        },
+        Err(fault) => Err(DirFault::from(fault).of_known()),
+    }
+}
+
+/// What the first bytes of a log say, where there are enough.
+fn head_in(bytes: &[u8]) -> Option<Head>
+    ensures { IfSome result (StartsWith bytes.now) }
+{
+    match read_header(bytes.first_chunk()?) {
+        Ok(header) => Some(Head::Whole(header)),
+        Err(fault) => Some(Head::Bad(fault)),
+    }
+}
+
+/// Shows a log's header: `version V map OFFSET count COUNT`, or `short` where the log has none.
+pub(crate) fn show_header<D: LogDisk, W: Write>(
+    alloc: Global,
+    disk: &mut D,
+    log: u32,
+    writer: &mut W,
+) -> Result<(), DirFault>
+    ensures reads { OnlyReads (D.honest disk.old) (D.files disk.old) (D.honest disk.new) (D.files disk.new) }
+    ensures ok { IsTrue (D.honest disk.old) → OnOk result (Shows (commands.Header log) (D.files disk.old)
+        (W.contents writer.old) (W.contents writer.new)) }
+{
+    let found = read_head(alloc, disk, log)?;
+    write_head(found.head, writer)
+}
+
+/// Writes a header; a bad one is a fault.
+fn write_head<W: Write>(head: Head, writer: &mut W) -> Result<(), DirFault>
+    ensures { OnOk result (Writes (HeadText head) (W.contents writer.old) (W.contents writer.new)) }
+{
+    match head {
+        Head::Short => writeln!(writer, "short")?,
+        Head::Bad(fault) => return Err(DirFault::Log(LogFault::Head(fault))),
+        Head::Whole(header) => writeln!(
+            writer,
+            "version {} map {} count {}",
+            header.version, header.map_offset, header.count
+        )?,
+    }
+    Ok(())
+}

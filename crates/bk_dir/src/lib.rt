@@ -1,0 +1,20 @@
+//! The commands that read a folder of entry logs: what each shows, on any disk.
+#![tactic(auto)]
+
+mod calls;
+mod check;
+mod command;
+mod data;
+mod fault;
+mod find;
+mod header;
+mod ledgers;
+mod listing;
+mod run;
+mod scan;
+#[cfg(test)]
+mod tests;
+
+pub use command::DirCommand;
+use fault::{DirFault, LogFault};
+pub use run::run_dir;

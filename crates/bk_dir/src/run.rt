@@ -1,0 +1,87 @@
+//! Running a command on the disk of a folder.
+
+ghost use Rattle.std.specs.Prelude.{◌≡◌, ◌≤◌, IsTrue, IfOk};
+ghost use Rattle.bk_dir.specs.Reading.{OnlyReads};
+ghost use Rattle.bk_dir.specs.Shown.{Shows};
+
+use crate::check::show_check;
+use crate::find::show_last;
+use crate::header::show_header;
+use crate::ledgers::show_map;
+use crate::listing::show_logs;
+use crate::scan::show_scan;
+use crate::{DirCommand, DirFault};
+use bk_disk::LogDisk;
+use std::alloc::Global;
+use std::io::Write;
+
+/// Runs a command on a disk of entry logs, and writes what it shows. Nothing is written to the disk. Returns the
+/// program's status: 0, or 1.
+///
+/// 1 comes with a line `fault TEXT` on the error stream where the command ends early: a log that isn't there, a header,
+/// map or record that can't be read where that is what was asked for, a device that fails, want of memory, a disk that
+/// answers what an honest one can't, or an output that can't be written. What was shown before it stays written. From
+/// `check` it comes too, with no such line, where a line says that something is wrong with a log.
+pub fn run_dir<D: LogDisk, W: Write, E: Write>(
+    alloc: Global,
+    disk: &mut D,
+    command: DirCommand,
+    writer: &mut W,
+    errors: &mut E,
+) -> u8
+    ensures status { result ≤ 1 }
+    ensures reads { OnlyReads (D.honest disk.old) (D.files disk.old) (D.honest disk.new) (D.files disk.new) }
+    ensures done { IsTrue (D.honest disk.old) → result ≡ 0 → Shows command (D.files disk.old)
+        (W.contents writer.old) (W.contents writer.new) }
+{
+    match show_all(alloc, disk, command, writer) {
+        Ok(status) => status,
+        Err(fault) => {
+            let _ = writeln!(errors, "fault {fault}");
+            1
+        }
+    }
+}
+
+/// Shows what a command asks for, and hands on what the writer has kept back, also where the command ends early. Gives
+/// the status.
+fn show_all<D: LogDisk, W: Write>(
+    alloc: Global,
+    disk: &mut D,
+    command: DirCommand,
+    writer: &mut W,
+) -> Result<u8, DirFault>
+    ensures status { IfOk result (λ status. status ≤ 1) }
+    ensures reads { OnlyReads (D.honest disk.old) (D.files disk.old) (D.honest disk.new) (D.files disk.new) }
+    ensures done { IsTrue (D.honest disk.old) → IfOk result (λ status. status ≡ 0 → Shows command (D.files disk.old)
+        (W.contents writer.old) (W.contents writer.new)) }
+{
+    let shown = show(alloc, disk, command, writer);
+    let flushed = writer.flush();
+    let status = shown?;
+    flushed?;
+    Ok(status)
+}
+
+/// Shows what a command asks for. Gives the status.
+fn show<D: LogDisk, W: Write>(
+    alloc: Global,
+    disk: &mut D,
+    command: DirCommand,
+    writer: &mut W,
+) -> Result<u8, DirFault>
+    ensures status { IfOk result (λ status. status ≤ 1) }
+    ensures reads { OnlyReads (D.honest disk.old) (D.files disk.old) (D.honest disk.new) (D.files disk.new) }
+    ensures done { IsTrue (D.honest disk.old) → IfOk result (λ status. status ≡ 0 → Shows command (D.files disk.old)
+        (W.contents writer.old) (W.contents writer.new)) }
+{
+    match command {
+        DirCommand::Logs => show_logs(alloc, disk, writer)?,
+        DirCommand::Header(log) => show_header(alloc, disk, log, writer)?,
+        DirCommand::Map(log) => show_map(alloc, disk, log, writer)?,
+        DirCommand::Scan(log) => show_scan(alloc, disk, log, writer)?,
+        DirCommand::Find(key) => show_last(alloc, disk, key, writer)?,
+        DirCommand::Check => return show_check(alloc, disk, writer),
+    }
+    Ok(0)
+}

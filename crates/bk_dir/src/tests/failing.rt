@@ -1,0 +1,108 @@
+//! Disks that fail, disks that are odd, and outputs that can't be written.
+
+use super::{SEALED_LOG, disk_of, find, run};
+use crate::{DirCommand, run_dir};
+use bk_disk::FaultDisk;
+use std::alloc::Global;
+use std::io;
+use std::io::Write;
+use std::process::Abort;
+use std::test::Fail;
+
+/// How many calls each command makes on a disk with one sealed log.
+fn calls(rt: &impl Abort) -> [(DirCommand, u8); 6] {
+    [
+        (DirCommand::Logs, 3),
+        (DirCommand::Header(0), 2),
+        (DirCommand::Map(0), 3),
+        (DirCommand::Scan(0), 1),
+        (find(rt, 1, 0), 2),
+        (DirCommand::Check, 4),
+    ]
+}
+
+#[test]
+fn each_call_that_fails_ends_a_command(rt: HostRuntime) -> Result<(), Fail> {
+    for (command, count) in calls(&rt) {
+        for k in 1..=u64::from(count) {
+            let inner = disk_of(rt.alloc(), &[SEALED_LOG])?;
+            let shown = run(rt.alloc(), &mut FaultDisk::new(inner, k, 0), command);
+            assert_eq!(rt;
+                shown.errors.as_slice(),
+                b"fault disk\n".as_slice(),
+                "{command:?}, call {k}"
+            );
+            assert_eq!(rt; shown.output.len(), 0, "{command:?}, call {k}");
+            assert_eq!(rt; shown.status, 1, "{command:?}, call {k}");
+        }
+        let inner = disk_of(rt.alloc(), &[SEALED_LOG])?;
+        let shown = run(
+            rt.alloc(),
+            &mut FaultDisk::new(inner, u64::from(count) + 1, 0),
+            command,
+        );
+        assert_eq!(rt; shown.status, 0, "{command:?}");
+    }
+    Ok(())
+}
+
+/// Takes so many bytes, and fails at the next.
+#[derive(Drop)]
+struct Narrow {
+    left: usize,
+    taken: Vec<u8>,
+}
+
+impl Write for Narrow {
+    fn write(&mut self, buf: &[u8]) -> io::Result<usize> {
+        if self.left == 0 {
+            return Err(io::Error::from(io::ErrorKind::Other));
+        }
+        let count = buf.len().min(self.left);
+        self.left -= count;
+        self.taken.extend_from_slice(&buf[..count])?;
+        Ok(count)
+    }
+
+    fn flush(&mut self) -> io::Result<()> {
+        Ok(())
+    }
+}
+
+/// Runs a command on a disk with one sealed log, to an output that takes so many bytes, and what the error stream got.
+fn run_narrow(alloc: Global, command: DirCommand, left: usize) -> Result<(u8, Vec<u8>), Fail> {
+    let mut disk = disk_of(alloc, &[SEALED_LOG])?;
+    let mut errors = Vec::new(alloc);
+    let mut writer = Narrow {
+        left,
+        taken: Vec::new(alloc),
+    };
+    let status = run_dir(alloc, &mut disk, command, &mut writer, &mut errors);
+    Ok((status, errors))
+}
+
+#[test]
+fn an_output_that_is_full_ends_a_command(rt: HostRuntime) -> Result<(), Fail> {
+    let lengths: [(DirCommand, usize); 6] = [
+        (DirCommand::Logs, 14),
+        (DirCommand::Header(0), 27),
+        (DirCommand::Map(0), 5),
+        (DirCommand::Scan(0), 39),
+        (find(&rt, 1, 0), 18),
+        (DirCommand::Check, 5),
+    ];
+    for (command, length) in lengths {
+        for left in 0..length {
+            let (status, errors) = run_narrow(rt.alloc(), command, left)?;
+            assert_eq!(rt;
+                errors.as_slice(),
+                b"fault output\n".as_slice(),
+                "{command:?}, {left} bytes"
+            );
+            assert_eq!(rt; status, 1, "{command:?}, {left} bytes");
+        }
+        let (status, _) = run_narrow(rt.alloc(), command, length)?;
+        assert_eq!(rt; status, 0, "{command:?}");
+    }
+    Ok(())
+}
