@@ -12,7 +12,7 @@ use Rattle.bk_record.specs.Key.{EntryKey, key_cmp}
 use Rattle.bk_record.specs.Record.{read_added}
 use Rattle.bk_record.specs.Scan.{Payloads}
 use Rattle.bk_index.specs.Sorted.{IsAt, IsGapFor}
-use Rattle.bk_index.proofs.SortedMaps.{entries-sorted, len-sorted}
+use Rattle.bk_record.proofs.SortedMaps.{entries-sorted, len-sorted}
 use Rattle.bk_index.proofs.KeyPlaces.{get_gap, insert_gap, is_sorted_gap}
 use Rattle.bk_drive.proofs.Payloads.{entry-get}
 use Rattle.bk_drive.specs.Caches.{Shared, seen_pairs, IsCache}

@@ -1,37 +1,41 @@
 -- Pages in order and the map that they are: what their calls answer is the map's.
-use Rattle.std.proofs.Common.{◌≡◌, ℕ, ◌+◌, ◌≤◌, Bool, true, false, cond, List, length, map as each, sum, All, Some, None, is_some, refl, sym, ap, subst, ◌∙◌, arith}
+use Rattle.std.proofs.Common.{◌≡◌, ℕ, ◌+◌, ◌≤◌, Bool, true, false, cond, List, length, map as each, All, Some, None, is_some, sym, ap, subst, ◌∙◌}
 use Rattle.std.specs.Bool.{IsTrue, OnTrue, OnFalse}
 use Rattle.std.specs.FinMap.{FinMap, find, put, is_sorted, from_sorted}
 use Rattle.std.specs.FinMap as map
 use Rattle.std.specs.FinMap.Entries.{length-put}
-use Rattle.std.proofs.lemmas.List.{length-map}
 use Rattle.std.proofs.lemmas.List.Concat.{length-flat_map}
 use Rattle.std.proofs.lemmas.List.Elements.{All-map}
 use Rattle.std.proofs.lemmas.List.Sums.{sum-map}
 use Rattle.bk_record.specs.Key.{EntryKey, key_cmp}
 use Rattle.bk_index.specs.Pages.{all_pairs, AreCounted, ArePageLens}
-use Rattle.bk_index.proofs.KeyOrder.{key_cmp_total}
-use Rattle.bk_index.proofs.SortedPairs.{passed, is_sorted_put}
-use Rattle.bk_index.proofs.SortedMaps.{entries-sorted, len-sorted, get-sorted, insert-sorted}
+use Rattle.bk_record.proofs.Keys.{key_cmp_total}
+use Rattle.bk_record.proofs.SortedPairs.{passed, is_sorted_put}
+use Rattle.bk_record.proofs.SortedMaps.{entries-sorted, len-sorted, get-sorted, insert-sorted}
 
 module _ {X : Type 0} (pages : List (List (EntryKey × X))) (sorted : IsTrue (is_sorted key_cmp (all_pairs pages))) (key : EntryKey) where
   -- a new key makes the pairs one more, another leaves their number
   pub length_new : (v : X) → find key_cmp key (all_pairs pages) ≡ None → length (put key_cmp key v (all_pairs pages)) ≡ length (all_pairs pages) + 1
-  length_new v none = length-put key_cmp key_cmp_total key v (all_pairs pages) (passed _ sorted) ∙ ap (λ found. cond (is_some found) (length (all_pairs pages)) (length (all_pairs pages) + 1)) none
+  length_new v none = length-put key_cmp key_cmp_total key v (all_pairs pages) (passed _ sorted)
+      ∙ ap (λ found. cond (is_some found) (length (all_pairs pages)) (length (all_pairs pages) + 1)) none
 
   pub length_held : (v w : X) → find key_cmp key (all_pairs pages) ≡ Some w → length (put key_cmp key v (all_pairs pages)) ≡ length (all_pairs pages)
-  length_held v w held = length-put key_cmp key_cmp_total key v (all_pairs pages) (passed _ sorted) ∙ ap (λ found. cond (is_some found) (length (all_pairs pages)) (length (all_pairs pages) + 1)) held
+  length_held v w held = length-put key_cmp key_cmp_total key v (all_pairs pages) (passed _ sorted)
+      ∙ ap (λ found. cond (is_some found) (length (all_pairs pages)) (length (all_pairs pages) + 1)) held
 
   -- pages in which the key was put are in order, and so many
-  pub counted_put : (v : X) (left : List (List (EntryKey × X))) (len : ℕ) → all_pairs left ≡ put key_cmp key v (all_pairs pages) → len ≡ length (all_pairs left) → AreCounted left len
+  pub counted_put : (v : X) (left : List (List (EntryKey × X))) (len : ℕ) → all_pairs left ≡ put key_cmp key v (all_pairs pages) → len
+      ≡ length (all_pairs left) → AreCounted left len
   counted_put v left len is counted = record { sorted = rw is (is_sorted_put key_cmp_total key v (all_pairs pages) sorted); counted = counted }
 
-  pub counted_either : (b : Bool) (v : X) (left : List (List (EntryKey × X))) (len : ℕ) → OnTrue b (all_pairs left ≡ put key_cmp key v (all_pairs pages)) → OnFalse b (left ≡ pages) → len ≡ length (all_pairs pages) → length (all_pairs left) ≡ length (all_pairs pages) → AreCounted left len
+  pub counted_either : (b : Bool) (v : X) (left : List (List (EntryKey × X))) (len : ℕ) → OnTrue b (all_pairs left ≡ put key_cmp key v (all_pairs pages))
+      → OnFalse b (left ≡ pages) → len ≡ length (all_pairs pages) → length (all_pairs left) ≡ length (all_pairs pages) → AreCounted left len
   counted_either true v left len is same counted kept = counted_put v left len is (counted ∙ sym kept)
   counted_either false v left len is same counted kept =
       subst (λ (ps : List (List (EntryKey × X))). AreCounted ps len) (sym same) record { sorted = sorted; counted = counted }
 
-module _ {X : Type 0} (pages : List (List (EntryKey × X))) (sorted : IsTrue (is_sorted key_cmp (all_pairs pages))) (m : FinMap key_cmp X) (seen : from_sorted (all_pairs pages) ≡ m) where
+module _ {X : Type 0} (pages : List (List (EntryKey × X))) (sorted : IsTrue (is_sorted key_cmp (all_pairs pages))) (m : FinMap key_cmp X)
+    (seen : from_sorted (all_pairs pages) ≡ m) where
   pub entries_seen : all_pairs pages ≡ map.entries m
   entries_seen = sym (entries-sorted key_cmp (all_pairs pages) sorted) ∙ ap map.entries seen
 
@@ -41,7 +45,8 @@ module _ {X : Type 0} (pages : List (List (EntryKey × X))) (sorted : IsTrue (is
   pub get_seen : (key : EntryKey) → find key_cmp key (all_pairs pages) ≡ map.get m key
   get_seen key = sym (get-sorted key_cmp (all_pairs pages) sorted key) ∙ ap (λ n. map.get n key) seen
 
-  pub insert_seen : (key : EntryKey) (v : X) (left : List (List (EntryKey × X))) → all_pairs left ≡ put key_cmp key v (all_pairs pages) → from_sorted (all_pairs left) ≡ map.insert m key v
+  pub insert_seen : (key : EntryKey) (v : X) (left : List (List (EntryKey × X))) → all_pairs left ≡ put key_cmp key v (all_pairs pages)
+      → from_sorted (all_pairs left) ≡ map.insert m key v
   insert_seen key v left is = ap from_sorted is ∙ sym (insert-sorted key_cmp (all_pairs pages) sorted key_cmp_total key v) ∙ ap (λ n. map.insert n key v) seen
 
   -- the lengths of the pages are some that the map can be cut into

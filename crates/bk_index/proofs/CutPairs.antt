@@ -9,7 +9,6 @@ use Rattle.std.specs.List.{AllByRecursion}
 use Rattle.std.specs.FinMap.{find, put, is_sorted}
 use Rattle.std.specs.FinMap.Entries.{by_order, below_all}
 use Rattle.std.proofs.lemmas.Bool.{and_parts}
-use Rattle.bk_index.proofs.SortedPairs.{less_from_test}
 
 module _ {A : Type 0} (P : A → Type 0) where
   pub each_front : (xs ys : List A) → AllByRecursion P (xs ++ ys) → AllByRecursion P xs
@@ -27,6 +26,11 @@ module _ {A : Type 0} (P : A → Type 0) where
 pub each_weaker : {A : Type 0} (P Q : A → Type 0) → ((x : A) → P x → Q x) → (xs : List A) → AllByRecursion P xs → AllByRecursion Q xs
 each_weaker P Q weaker [] each = tt
 each_weaker P Q weaker (x ∷ xs) each = (weaker x each.0, each_weaker P Q weaker xs each.1)
+
+less_from_test : (r : Ordering) → IsTrue (is_lt r) → r ≡ Less
+less_from_test Less passes = refl
+less_from_test Equal passes = cc
+less_from_test Greater passes = cc
 
 and_true : (a b : Bool) → IsTrue a → IsTrue b → IsTrue (a && b)
 and_true a b left right = rw left right
@@ -89,7 +93,8 @@ module _ {K X : Type 0} {R : K → K → Ordering} (o : IsTotalOrder R) (q : K) 
   pub put_before : (v : X) (xs ys : List (K × X)) → AllByRecursion (λ e. R q e.0 ≡ Less) ys → put R q v (xs ++ ys) ≡ put R q v xs ++ ys
   put_before v [] ys above = put_first v ys above
   put_before v (x ∷ xs) ys above =
-      elim (R q x.0) as (λ r. by_order r ((q, v) ∷ x ∷ (xs ++ ys)) ((x.0, v) ∷ (xs ++ ys)) (x ∷ put R q v (xs ++ ys)) ≡ by_order r ((q, v) ∷ x ∷ xs) ((x.0, v) ∷ xs) (x ∷ put R q v xs) ++ ys) [
+      elim (R q x.0) as (λ r. by_order r ((q, v) ∷ x ∷ (xs ++ ys)) ((x.0, v) ∷ (xs ++ ys)) (x ∷ put R q v (xs ++ ys))
+      ≡ by_order r ((q, v) ∷ x ∷ xs) ((x.0, v) ∷ xs) (x ∷ put R q v xs) ++ ys) [
         | Less ↦ refl
         | Equal ↦ refl
         | Greater ↦ ap (λ rest. x ∷ rest) (put_before v xs ys above)

@@ -1,5 +1,6 @@
 -- Fences and pages together: what a write over a page, a page that comes and pages that go leave of them.
-use Rattle.std.proofs.Common.{◌≡◌, ℕ, zero, suc, ◌+◌, ◌-◌, ◌*◌, ◌<◌, ◌≤◌, ◌^◌, Bool, cond, List, [], ◌∷◌, ◌++◌, length, get_or, set, take, drop, map, refl, sym, ap, ◌∙◌, arith, take-append-drop, length-append, length-take, length-drop, length-set}
+use Rattle.std.proofs.Common.{◌≡◌, ℕ, zero, suc, ◌+◌, ◌-◌, ◌*◌, ◌<◌, ◌≤◌, ◌^◌, Bool, cond, List, [], ◌∷◌, ◌++◌, length, get_or, set, take, drop, map, refl, sym}
+use Rattle.std.proofs.Common.{ap, ◌∙◌, arith, take-append-drop, length-append, length-take, length-drop, length-set}
 use Rattle.std.specs.List.{All, insert, remove, count_by, sum_by}
 use Rattle.std.proofs.lemmas.List.{length-map, map-set, get_or-map, set-get_or, take-map, drop-map, drop-drop, take-set, drop-set-lt}
 use Rattle.std.proofs.lemmas.List.Concat.{flat_map-append}
@@ -26,13 +27,15 @@ module _ {X : Type 0} where
       let rest = all_le pages (λ i d within. sizes (suc i) d (omega arith)) in
       omega (arith, first.1, rest, length-append page (all_pairs pages))
 
-  pub length_set : (pages : List (List (EntryKey × X))) (at : ℕ) (page : List (EntryKey × X)) → at < length pages → length (all_pairs (set pages at page)) + length (get_or pages at []) ≡ length (all_pairs pages) + length page
+  pub length_set : (pages : List (List (EntryKey × X))) (at : ℕ) (page : List (EntryKey × X)) → at < length pages
+      → length (all_pairs (set pages at page)) + length (get_or pages at []) ≡ length (all_pairs pages) + length page
   length_set [] at page within = absurd (omega arith)
   length_set (first ∷ pages) zero page within = omega (arith, length-append page (all_pairs pages), length-append first (all_pairs pages))
   length_set (first ∷ pages) (suc at) page within =
       omega (arith, length_set pages at page (omega arith), length-append first (all_pairs pages), length-append first (all_pairs (set pages at page)))
 
-  length_out : (pages : List (List (EntryKey × X))) (at : ℕ) → at < length pages → length (all_pairs (remove pages at)) + length (get_or pages at []) ≡ length (all_pairs pages)
+  length_out : (pages : List (List (EntryKey × X))) (at : ℕ) → at < length pages → length (all_pairs (remove pages at)) + length (get_or pages at [])
+      ≡ length (all_pairs pages)
   length_out [] at within = absurd (omega arith)
   length_out (first ∷ pages) zero within = omega (arith, length-append first (all_pairs pages))
   length_out (first ∷ pages) (suc at) within =
@@ -43,14 +46,16 @@ module _ {X : Type 0} where
       ap (λ front. front ++ drop (suc at) (set pages at page)) (take-set pages at page)
       ∙ ap (λ back. take at pages ++ back) (drop-set-lt (suc at) pages at page (omega arith))
 
-  pub length_remove : (pages : List (List (EntryKey × X))) (at : ℕ) (page : List (EntryKey × X)) → at < length pages → length (all_pairs (remove (set pages at page) at)) + length (get_or pages at []) ≡ length (all_pairs pages)
+  pub length_remove : (pages : List (List (EntryKey × X))) (at : ℕ) (page : List (EntryKey × X)) → at < length pages
+      → length (all_pairs (remove (set pages at page) at)) + length (get_or pages at []) ≡ length (all_pairs pages)
   length_remove pages at page within = rw remove-set (length_out pages at within)
 
   pub all_split : (n : ℕ) (pages : List (List (EntryKey × X))) → all_pairs pages ≡ all_pairs (take n pages) ++ all_pairs (drop n pages)
   all_split n pages = ap all_pairs (sym (take-append-drop n pages)) ∙ flat_map-append (λ page. page) (take n pages) (drop n pages)
 
   -- pages that go take their pairs with them
-  pub length_cut : (pages : List (List (EntryKey × X))) (from to : ℕ) → from ≤ to → length (all_pairs (take from pages ++ drop to pages)) + length (all_pairs (take (to - from) (drop from pages))) ≡ length (all_pairs pages)
+  pub length_cut : (pages : List (List (EntryKey × X))) (from to : ℕ) → from ≤ to
+      → length (all_pairs (take from pages ++ drop to pages)) + length (all_pairs (take (to - from) (drop from pages))) ≡ length (all_pairs pages)
   length_cut pages from to order =
       let rest : drop (to - from) (drop from pages) ≡ drop to pages = drop-drop (to - from) from pages ∙ ap (λ n. drop n pages) (omega arith) in
       omega (
@@ -83,7 +88,8 @@ module _ {X : Type 0} (fences : List EntryKey) (pages : List (List (EntryKey × 
   }
 
   -- a page is written over, and its first key stays
-  pub fenced_over : (at : ℕ) (page : List (EntryKey × X)) → at < length pages → first_key page ≡ first_key (get_or pages at []) → IsSized page → AreFenced fences (set pages at page)
+  pub fenced_over : (at : ℕ) (page : List (EntryKey × X)) → at < length pages → first_key page ≡ first_key (get_or pages at []) → IsSized page
+      → AreFenced fences (set pages at page)
   fenced_over at page within same sized =
       let fence : EntryKey = record { ledger = 0; entry = 0 } in
       let stays = ap (set (map first_key pages) at) (same ∙ sym (get_or-map first_key pages at [] fence within)) ∙ set-get_or (map first_key pages) at fence in
@@ -94,7 +100,8 @@ module _ {X : Type 0} (fences : List EntryKey) (pages : List (List (EntryKey × 
       }
 
   -- a page comes
-  pub fenced_insert : (at : ℕ) (page : List (EntryKey × X)) → at ≤ length pages → length pages < 2 ^ 55 → IsSized page → AreFenced (insert fences at (first_key page)) (insert pages at page)
+  pub fenced_insert : (at : ℕ) (page : List (EntryKey × X)) → at ≤ length pages → length pages < 2 ^ 55 → IsSized page
+      → AreFenced (insert fences at (first_key page)) (insert pages at page)
   fenced_insert at page within room sized = record {
     fenced =
         ap (λ fs. insert fs at (first_key page)) are.fenced
@@ -128,7 +135,14 @@ module _ {X : Type 0} (fences : List EntryKey) (pages : List (List (EntryKey × 
 
   pub countable_part : (from n : ℕ) → length (all_pairs (take n (drop from pages))) < 2 ^ 64
   countable_part from n =
-      omega (arith, all_le (take n (drop from pages)) (All-take IsSized n (drop from pages) (All-drop IsSized from pages are.sizes)), are.few, length-take n (drop from pages), length-drop from pages)
+      omega (
+        arith,
+        all_le (take n (drop from pages)) (All-take IsSized n (drop from pages) (All-drop IsSized from pages are.sizes)),
+        are.few,
+        length-take n
+            (drop from pages),
+        length-drop from pages,
+      )
 
   pub countable_log : (p : EntryKey × X → Bool) → sum_by (λ page. count_by p page) pages < 2 ^ 64
   countable_log p = omega (arith, countable, count_all p pages, count_by-le-length p (all_pairs pages))

@@ -1,5 +1,6 @@
 -- The place of a key among pairs in order: what a search finds, and what a write there does to the map.
-use Rattle.std.proofs.Common.{◌≡◌, ℕ, ◌+◌, List, length, get_or, set, Option, Some, None, slice_get, option_map, Result, Ok, Err, IfOk, IfErr, refl, inl, inr, sym, ap, subst, ◌∙◌, arith}
+use Rattle.std.proofs.Common.{◌≡◌, ℕ, ◌+◌, List, length, get_or, set, Option, Some, None, slice_get, option_map, Result, Ok, Err, IfOk, IfErr, refl, inl, inr}
+use Rattle.std.proofs.Common.{sym, ap, subst, ◌∙◌, arith}
 use Rattle.std.specs.Cmp.{IsTotalOrder}
 use Rattle.std.specs.declared.cmp.Ordering.{Ordering}
 use Rattle.std.specs.declared.cmp.Ordering.TheVariants.{Less, Equal, Greater}
@@ -17,33 +18,37 @@ use Rattle.std.proofs.lemmas.Map.Entries.{length-keys_of}
 use Rattle.std.proofs.lemmas.Option.{slice_get_cases, slice_get_within, get_or_from_slice_get}
 use Rattle.bk_record.specs.Key.{EntryKey, key_cmp}
 use Rattle.bk_index.specs.Sorted.{IsAt, IsGapFor}
-use Rattle.bk_index.proofs.KeyOrder.{key_cmp_total, key_cmp_exact}
-use Rattle.bk_index.proofs.SortedPairs.{Some-same, keys_rise, find_at, find_gap, put_at, put_gap, is_sorted_put}
-use Rattle.bk_index.proofs.SortedMaps.{get-sorted, insert-sorted}
+use Rattle.bk_record.proofs.Keys.{key_cmp_total, key_cmp_antisymmetric}
+use Rattle.bk_record.proofs.SortedPairs.{Some-same, keys_rise, find_at, find_gap, put_at, put_gap, is_sorted_put}
+use Rattle.bk_record.proofs.SortedMaps.{get-sorted, insert-sorted}
 
 module _ {K X : Type 0} {R : K → K → Ordering} (o : IsTotalOrder R) (es : List (K × X)) (sorted : IsTrue (is_sorted R es)) where
   -- no pair is below the one before it, as a binary search asks
   in_order : IsSortedBy (λ a b. is_lt (R a.0 b.0)) es
   in_order i d low next =
       let rises = Less-from_sorted R (keys_of es) i (i + 1) d.0 (keys_rise R es sorted) (omega arith) (rw length-keys_of next) in
-      let less : R (get_or es i d).0 (get_or es (i + 1) d).0 ≡ Less = rw (get_or-map (λ e. e.0) es i d d.0 (omega arith), get_or-map (λ e. e.0) es (i + 1) d d.0 next) at rises in
+      let less : R (get_or es i d).0 (get_or es (i + 1) d).0
+      ≡ Less = rw (get_or-map (λ e. e.0) es i d d.0 (omega arith), get_or-map (λ e. e.0) es (i + 1) d d.0 next) at rises in
       ap is_lt (o.antisymm (get_or es (i + 1) d).0 (get_or es i d).0 ∙ ap ordering_reverse less)
 
 -- what an index reads is the pair at the place
 pub read_there : {A : Type 0} (es : List A) (i : ℕ) (e held : A) → held ≡ get_or es i held → slice_get es i ≡ Some e → e ≡ held
 read_there es i e held read there = sym (read ∙ get_or_from_slice_get es i e held there)
 
-pub named : {K X : Type 0} (found : Option (K × X)) (k : K) (held : K × X) → option_map (λ e. e.0) found ≡ Some k → ((e : K × X) → found ≡ Some e → e ≡ held) → found ≡ Some (k, held.1)
+pub named : {K X : Type 0} (found : Option (K × X)) (k : K) (held : K × X) → option_map (λ e. e.0) found ≡ Some k → ((e : K × X) → found ≡ Some e → e ≡ held)
+    → found ≡ Some (k, held.1)
 named None k held has_key read = cc
 named (Some e) k held has_key read = let pair : e ≡ (k, held.1) = λ i. (Some-same has_key i, (read e refl i).1) in ap Some pair
 
 module _ {X : Type 0} (pairs : List (EntryKey × X)) (sorted : IsTrue (is_sorted key_cmp pairs)) where
   -- a binary search by key ends at the key, or at the gap for it
-  pub searched : (key : EntryKey) (r : Result ℕ ℕ) → IsSearchInRange r (length pairs) → IsBinarySearchResult (λ pair. key_cmp pair.0 key) pairs r → record { found : IfOk r (IsAt pairs key); absent : IfErr r (IsGapFor pairs key) }
+  pub searched : (key : EntryKey) (r : Result ℕ ℕ) → IsSearchInRange r (length pairs) → IsBinarySearchResult (λ pair. key_cmp pair.0 key) pairs r
+      → record { found : IfOk r (IsAt pairs key); absent : IfErr r (IsGapFor pairs key) }
   searched key (Ok at) in_range equal =
       record {
         found = elim (slice_get_cases pairs at).1 [
-          | inl (e, within, there, read) ↦ rw there (ap Some (key_cmp_exact e.0 key (subst (λ (p : EntryKey × X). key_cmp p.0 key ≡ Equal) read (equal e))))
+          | inl (e, within, there, read) ↦ rw there (ap Some
+              (key_cmp_antisymmetric e.0 key (subst (λ (p : EntryKey × X). key_cmp p.0 key ≡ Equal) read (equal e))))
           | inr (past, none) ↦ absurd (omega arith)
         ];
         absent = tt;
@@ -54,8 +59,10 @@ module _ {X : Type 0} (pairs : List (EntryKey × X)) (sorted : IsTrue (is_sorted
         found = tt;
         absent = record {
           in_range = in_range;
-          smaller_before = λ i e before there. subst (λ (p : EntryKey × X). key_cmp p.0 key ≡ Less) (get_or_from_slice_get pairs i e e there) (sides.0 i e (omega arith) before);
-          greater_from = λ i e from there. subst (λ (p : EntryKey × X). key_cmp p.0 key ≡ Greater) (get_or_from_slice_get pairs i e e there) (sides.1 i e from (slice_get_within pairs i e there));
+          smaller_before = λ i e before there. subst (λ (p : EntryKey × X). key_cmp p.0 key
+              ≡ Less) (get_or_from_slice_get pairs i e e there) (sides.0 i e (omega arith) before);
+          greater_from = λ i e from there. subst (λ (p : EntryKey × X). key_cmp p.0 key
+              ≡ Greater) (get_or_from_slice_get pairs i e e there) (sides.1 i e from (slice_get_within pairs i e there));
         };
       }
 
@@ -81,7 +88,8 @@ module _ {X : Type 0} (pairs : List (EntryKey × X)) (sorted : IsTrue (is_sorted
     module _ (at : ℕ) (gap : IsGapFor pairs key at) where
       -- the map does not have a key that has a gap
       pub get_gap : map.get m key ≡ None
-      get_gap = subst (λ n. map.get n key ≡ None) seen (get-sorted key_cmp pairs sorted key ∙ find_gap key_cmp_total key pairs at gap.smaller_before gap.greater_from sorted)
+      get_gap = subst (λ n. map.get n key ≡ None) seen (get-sorted key_cmp pairs sorted key
+          ∙ find_gap key_cmp_total key pairs at gap.smaller_before gap.greater_from sorted)
 
       put_there : (v : X) → put key_cmp key v pairs ≡ insert pairs at (key, v)
       put_there v = put_gap key_cmp_total key v pairs at gap.smaller_before gap.greater_from gap.in_range

@@ -1,5 +1,6 @@
 -- The pages that hold a ledger, by their fences.
-use Rattle.std.proofs.Common.{◌≡◌, ℕ, ◌+◌, ◌-◌, ◌<◌, ◌≤◌, true, false, eqb, ltb, leb, List, [], ◌∷◌, ◌++◌, length, get_or, take, drop, map, sym, ap, ◌∙◌, inl, inr, arith}
+use Rattle.std.proofs.Common.{◌≡◌, ℕ, ◌+◌, ◌-◌, ◌<◌, ◌≤◌, true, false, ltb, leb, List, [], ◌∷◌, ◌++◌, length, get_or, take, drop, ap, ◌∙◌, inl}
+use Rattle.std.proofs.Common.{inr, arith}
 use Rattle.std.specs.declared.cmp.Ordering.TheVariants.{Less, Greater}
 use Rattle.std.specs.Bool.{IsTrue}
 use Rattle.std.specs.List.{AllByRecursion}
@@ -28,19 +29,24 @@ pub is_downward_upto : (ledger : ℕ) → IsDownward (λ f. leb f.ledger ledger)
 is_downward_upto ledger a b less passes = le-leb a.ledger ledger (omega (arith, less_ledger a b less, leb-true b.ledger ledger passes))
 
 module _ {X : Type 0} where
-  ledgers_before : (front page rest : List (EntryKey × X)) → IsTrue (is_sorted key_cmp (front ++ (page ++ rest))) → 1 ≤ length page → AllByRecursion (λ e. e.0.ledger ≤ (first_key page).ledger) front
+  ledgers_before : (front page rest : List (EntryKey × X)) → IsTrue (is_sorted key_cmp (front ++ (page ++ rest))) → 1 ≤ length page
+      → AllByRecursion (λ e. e.0.ledger ≤ (first_key page).ledger) front
   ledgers_before front [] rest sorted some = absurd (omega arith)
   ledgers_before front (e ∷ es) rest sorted some =
-      each_weaker (λ d. key_cmp d.0 e.0 ≡ Less) (λ d. d.0.ledger ≤ e.0.ledger) (λ d less. less_ledger d.0 e.0 less) front (front_below key_cmp front e (es ++ rest) sorted)
+      each_weaker (λ d. key_cmp d.0 e.0 ≡ Less) (λ d. d.0.ledger ≤ e.0.ledger) (λ d less. less_ledger d.0 e.0 less) front
+      (front_below key_cmp front e (es ++ rest) sorted)
 
-  ledgers_behind : (page rest : List (EntryKey × X)) → IsTrue (is_sorted key_cmp (page ++ rest)) → 1 ≤ length page → AllByRecursion (λ e. (first_key page).ledger ≤ e.0.ledger) (page ++ rest)
+  ledgers_behind : (page rest : List (EntryKey × X)) → IsTrue (is_sorted key_cmp (page ++ rest)) → 1 ≤ length page
+      → AllByRecursion (λ e. (first_key page).ledger ≤ e.0.ledger) (page ++ rest)
   ledgers_behind [] rest sorted some = absurd (omega arith)
   ledgers_behind (e ∷ es) rest sorted some = (
     omega arith,
-    each_weaker (λ d. key_cmp e.0 d.0 ≡ Less) (λ d. e.0.ledger ≤ d.0.ledger) (λ d less. less_ledger e.0 d.0 less) (es ++ rest) (head_below key_cmp e (es ++ rest) sorted),
+    each_weaker (λ d. key_cmp e.0 d.0 ≡ Less) (λ d. e.0.ledger ≤ d.0.ledger) (λ d less. less_ledger e.0 d.0 less) (es ++ rest)
+        (head_below key_cmp e (es ++ rest) sorted),
   )
 
-module _ {X : Type 0} (fences : List EntryKey) (pages : List (List (EntryKey × X))) (are : AreFenced fences pages) (sorted : IsTrue (is_sorted key_cmp (all_pairs pages))) where
+module _ {X : Type 0} (fences : List EntryKey) (pages : List (List (EntryKey × X))) (are : AreFenced fences pages)
+    (sorted : IsTrue (is_sorted key_cmp (all_pairs pages))) where
   page_at : (n : ℕ) → n < length pages → drop n pages ≡ get_or pages n [] ∷ drop (n + 1) pages
   page_at n within = drop_more pages n [] within
 
@@ -56,9 +62,12 @@ module _ {X : Type 0} (fences : List EntryKey) (pages : List (List (EntryKey × 
       (ledgers_behind (get_or pages n []) (all_pairs (drop (n + 1) pages)) (rw (page_at n within) at behind) (are.sizes n [] within).0)
 
   -- the fences before the first place are of smaller ledgers, those from the second on of greater ones
-  module _ (ledger smaller upto : ℕ) (smaller_bound : smaller ≤ length pages) (upto_bound : upto ≤ length pages) (smaller_point : IsPartitionPoint (λ f. ltb f.ledger ledger ≡ true) (λ f. ltb f.ledger ledger ≡ false) fences smaller) (upto_point : IsPartitionPoint (λ f. leb f.ledger ledger ≡ true) (λ f. leb f.ledger ledger ≡ false) fences upto) where
+  module _ (ledger smaller upto : ℕ) (smaller_bound : smaller ≤ length pages) (upto_bound : upto ≤ length pages)
+      (smaller_point : IsPartitionPoint (λ f. ltb f.ledger ledger ≡ true) (λ f. ltb f.ledger ledger ≡ false) fences smaller)
+      (upto_point : IsPartitionPoint (λ f. leb f.ledger ledger ≡ true) (λ f. leb f.ledger ledger ≡ false) fences upto) where
     fence_at : (n : ℕ) → n < length pages → get_or fences n (first_key (get_or pages n [])) ≡ first_key (get_or pages n [])
-    fence_at n within = ap (λ fs. get_or fs n (first_key (get_or pages n []))) are.fenced ∙ get_or-map first_key pages n [] (first_key (get_or pages n [])) within
+    fence_at n within = ap (λ fs. get_or fs n (first_key (get_or pages n []))) are.fenced
+        ∙ get_or-map first_key pages n [] (first_key (get_or pages n [])) within
 
     many : length fences ≡ length pages
     many = ap length are.fenced ∙ length-map pages first_key
@@ -89,15 +98,18 @@ module _ {X : Type 0} (fences : List EntryKey) (pages : List (List (EntryKey × 
       ];
       bound = upto_bound;
       before = elim (cases_lt 0 smaller) [
-        | inl some ↦ each_weaker _ _ (λ e le. omega (arith, le, is_smaller (smaller - 1) (omega arith))) (all_pairs (take (smaller - 1) pages)) (before_fence (smaller - 1) (omega arith))
+        | inl some ↦ each_weaker _ _ (λ e le. omega (arith, le, is_smaller (smaller - 1) (omega arith))) (all_pairs (take (smaller - 1) pages))
+            (before_fence (smaller - 1) (omega arith))
         | inr none ↦ rw (take_none (smaller - 1) (omega arith)) tt
       ];
       not_after_first = elim (cases_lt (smaller - 1 + 1) (length pages)) [
-        | inl within ↦ each_weaker _ _ (λ e le. omega (arith, le, is_not_smaller (smaller - 1 + 1) (omega arith) within)) (all_pairs (drop (smaller - 1 + 1) pages)) (from_fence (smaller - 1 + 1) within)
+        | inl within ↦ each_weaker _ _ (λ e le. omega (arith, le, is_not_smaller (smaller - 1 + 1) (omega arith) within))
+            (all_pairs (drop (smaller - 1 + 1) pages)) (from_fence (smaller - 1 + 1) within)
         | inr past ↦ rw (drop_none (smaller - 1 + 1) past) tt
       ];
       not_before_last = elim (cases_lt 0 upto) [
-        | inl some ↦ each_weaker _ _ (λ e le. omega (arith, le, is_upto (upto - 1) (omega arith))) (all_pairs (take (upto - 1) pages)) (before_fence (upto - 1) (omega arith))
+        | inl some ↦ each_weaker _ _ (λ e le. omega (arith, le, is_upto (upto - 1) (omega arith))) (all_pairs (take (upto - 1) pages))
+            (before_fence (upto - 1) (omega arith))
         | inr none ↦ rw (take_none (upto - 1) (omega arith)) tt
       ];
       behind = elim (cases_lt upto (length pages)) [

@@ -1,5 +1,6 @@
 -- The pairs of one ledger among pairs in the order of their keys: they stand side by side, in a page and over pages.
-use Rattle.std.proofs.Common.{◌≡◌, ℕ, zero, suc, ◌+◌, ◌-◌, ◌<◌, ◌≤◌, true, false, ltb, leb, List, [], ◌∷◌, ◌++◌, length, get_or, take, drop, refl, sym, ap, ◌∙◌, arith, length-drop}
+use Rattle.std.proofs.Common.{◌≡◌, ℕ, zero, suc, ◌+◌, ◌-◌, ◌<◌, ◌≤◌, true, false, ltb, leb, List, [], ◌∷◌, ◌++◌, length, get_or, take, drop, refl, ap, ◌∙◌}
+use Rattle.std.proofs.Common.{arith, length-drop}
 use Rattle.std.specs.declared.cmp.Ordering.TheVariants.{Less}
 use Rattle.std.specs.Bool.{◌==◌, IsTrue}
 use Rattle.std.specs.List.{AllByRecursion, filter}
@@ -21,7 +22,8 @@ module _ {X : Type 0} where
   ledgers_rise [] sorted i j d order within = absurd (omega arith)
   ledgers_rise (e ∷ es) sorted zero zero d order within = omega arith
   ledgers_rise (e ∷ es) sorted zero (suc j) d order within =
-      let behind = each_weaker (λ f. key_cmp e.0 f.0 ≡ Less) (λ f. e.0.ledger ≤ f.0.ledger) (λ f less. less_ledger e.0 f.0 less) es (head_below key_cmp e es sorted) in
+      let behind = each_weaker (λ f. key_cmp e.0 f.0 ≡ Less) (λ f. e.0.ledger ≤ f.0.ledger) (λ f less. less_ledger e.0 f.0 less) es
+      (head_below key_cmp e es sorted) in
       each_at (λ f. e.0.ledger ≤ f.0.ledger) es j d behind (omega arith)
   ledgers_rise (e ∷ es) sorted (suc i) zero d order within = absurd (omega arith)
   ledgers_rise (e ∷ es) sorted (suc i) (suc j) d order within = ledgers_rise es (sorted_back key_cmp (e ∷ []) es sorted) i j d (omega arith) (omega arith)
@@ -35,29 +37,45 @@ module _ {X : Type 0} (ledger : ℕ) where
   greater_none [] each = refl
   greater_none (x ∷ xs) each = rw (ne_eqb x.0.ledger ledger (omega (arith, each.0))) (greater_none xs each.1)
 
-  same_all : (xs : List (EntryKey × X)) → AllByRecursion (λ e. ledger ≤ e.0.ledger) xs → AllByRecursion (λ e. e.0.ledger ≤ ledger) xs → filter (λ e. e.0.ledger == ledger) xs ≡ xs
+  same_all : (xs : List (EntryKey × X)) → AllByRecursion (λ e. ledger ≤ e.0.ledger) xs → AllByRecursion (λ e. e.0.ledger ≤ ledger) xs
+      → filter (λ e. e.0.ledger == ledger) xs ≡ xs
   same_all [] low high = refl
   same_all (x ∷ xs) low high = rw (eq-eqb x.0.ledger ledger (omega (arith, low.0, high.0))) (ap (λ rest. x ∷ rest) (same_all xs low.1 high.1))
 
   -- pairs of no smaller ledger, of which the first are of no greater one
-  from_on : (xs : List (EntryKey × X)) (n : ℕ) → ((i : ℕ) (d : EntryKey × X) → i < length xs → ltb (get_or xs i d).0.ledger ledger ≡ false) → IsPartitionPoint (λ e. leb e.0.ledger ledger ≡ true) (λ e. leb e.0.ledger ledger ≡ false) xs n → take n xs ≡ filter (λ e. e.0.ledger == ledger) xs
+  from_on : (xs : List (EntryKey × X)) (n : ℕ) → ((i : ℕ) (d : EntryKey × X) → i < length xs → ltb (get_or xs i d).0.ledger ledger ≡ false)
+      → IsPartitionPoint (λ e. leb e.0.ledger ledger ≡ true) (λ e. leb e.0.ledger ledger ≡ false) xs n → take n xs ≡ filter (λ e. e.0.ledger == ledger) xs
   from_on [] zero low point = refl
   from_on [] (suc n) low point = refl
   from_on (x ∷ xs) zero low point =
       rw (ne_eqb x.0.ledger ledger (omega (arith, leb-false x.0.ledger ledger (point.1 0 x (omega arith) (omega arith)))))
-      (from_on xs zero (λ i d within. low (suc i) d (omega arith)) (λ i d from before. absurd (omega arith), λ i d from within. point.1 (suc i) d (omega arith) (omega arith)))
+      (from_on xs zero (λ i d within. low (suc i) d (omega arith))
+      (λ i d from before. absurd (omega arith), λ i d from within. point.1 (suc i) d (omega arith) (omega arith)))
   from_on (x ∷ xs) (suc n) low point =
-      rw (eq-eqb x.0.ledger ledger (omega (arith, leb-true x.0.ledger ledger (point.0 0 x (omega arith) (omega arith)), ltb-false x.0.ledger ledger (low 0 x (omega arith)))))
-      (ap (λ rest. x ∷ rest) (from_on xs n (λ i d within. low (suc i) d (omega arith)) (λ i d from before. point.0 (suc i) d (omega arith) (omega arith), λ i d from within. point.1 (suc i) d (omega arith) (omega arith))))
+      rw (eq-eqb x.0.ledger ledger (omega (
+        arith,
+        leb-true x.0.ledger ledger (point.0 0 x (omega arith) (omega arith)),
+        ltb-false x.0.ledger ledger
+            (low 0 x (omega arith)),
+      )))
+      (ap (λ rest. x ∷ rest) (from_on xs n (λ i d within. low (suc i) d (omega arith))
+      (λ i d from before. point.0 (suc i) d (omega arith) (omega arith), λ i d from within. point.1 (suc i) d (omega arith) (omega arith))))
 
   -- those of the ledger stand from the first of no smaller ledger up to the first of a greater one
-  pub side_by_side : (xs : List (EntryKey × X)) (from n : ℕ) → IsPartitionPoint (λ e. ltb e.0.ledger ledger ≡ true) (λ e. ltb e.0.ledger ledger ≡ false) xs from → IsPartitionPoint (λ e. leb e.0.ledger ledger ≡ true) (λ e. leb e.0.ledger ledger ≡ false) (drop from xs) n → take n (drop from xs) ≡ filter (λ e. e.0.ledger == ledger) xs
+  pub side_by_side : (xs : List (EntryKey × X)) (from n : ℕ)
+      → IsPartitionPoint (λ e. ltb e.0.ledger ledger ≡ true) (λ e. ltb e.0.ledger ledger ≡ false) xs from
+      → IsPartitionPoint (λ e. leb e.0.ledger ledger ≡ true) (λ e. leb e.0.ledger ledger ≡ false) (drop from xs) n → take n (drop from xs)
+      ≡ filter (λ e. e.0.ledger == ledger) xs
   side_by_side [] zero n low point = from_on [] n (λ i d within. absurd (omega arith)) point
   side_by_side [] (suc from) n low point = from_on [] n (λ i d within. absurd (omega arith)) point
   side_by_side (x ∷ xs) zero n low point = from_on (x ∷ xs) n (λ i d within. low.1 i d (omega arith) within) point
   side_by_side (x ∷ xs) (suc from) n low point =
       rw (ne_eqb x.0.ledger ledger (omega (arith, ltb-true x.0.ledger ledger (low.0 0 x (omega arith) (omega arith)))))
-      (side_by_side xs from n (λ i d low_from before. low.0 (suc i) d (omega arith) (omega arith), λ i d low_from within. low.1 (suc i) d (omega arith) (omega arith)) point)
+      (side_by_side xs from n (
+        λ i d low_from before. low.0 (suc i) d (omega arith) (omega arith),
+        λ i d low_from within. low.1 (suc i) d (omega arith)
+            (omega arith),
+      ) point)
 
 module _ {X : Type 0} (pages : List (List (EntryKey × X))) (ledger from to : ℕ) (holds : HoldsLedger pages ledger from to) where
   back_none : filter (λ e. e.0.ledger == ledger) (all_pairs (drop to pages)) ≡ []
@@ -73,7 +91,8 @@ module _ {X : Type 0} (pages : List (List (EntryKey × X))) (ledger from to : �
   pub held_none : from ≡ to → filter (λ e. e.0.ledger == ledger) (all_pairs pages) ≡ []
   held_none same = held_from ∙ ap (λ n. filter (λ e. e.0.ledger == ledger) (all_pairs (drop n pages))) same ∙ back_none
 
-  held_first : from < to → filter (λ e. e.0.ledger == ledger) (all_pairs pages) ≡ filter (λ e. e.0.ledger == ledger) (get_or pages from []) ++ filter (λ e. e.0.ledger == ledger) (all_pairs (drop (from + 1) pages))
+  held_first : from < to → filter (λ e. e.0.ledger == ledger) (all_pairs pages)
+      ≡ filter (λ e. e.0.ledger == ledger) (get_or pages from []) ++ filter (λ e. e.0.ledger == ledger) (all_pairs (drop (from + 1) pages))
   held_first some =
       held_from ∙ ap (filter (λ e. e.0.ledger == ledger)) (from_first pages ledger from to holds some)
       ∙ filter-append (λ e. e.0.ledger == ledger) (get_or pages from []) (all_pairs (drop (from + 1) pages))
@@ -86,21 +105,26 @@ module _ {X : Type 0} (pages : List (List (EntryKey × X))) (ledger from to : �
 
   module _ (many : from + 1 < to) where
     -- of the pages between all are the ledger's
-    held_behind : filter (λ e. e.0.ledger == ledger) (all_pairs (drop (from + 1) pages)) ≡ all_pairs (between pages ledger from to holds many) ++ (filter (λ e. e.0.ledger == ledger) (get_or pages (to - 1) []) ++ [])
+    held_behind : filter (λ e. e.0.ledger == ledger) (all_pairs (drop (from + 1) pages))
+        ≡ all_pairs (between pages ledger from to holds many) ++ (filter (λ e. e.0.ledger == ledger) (get_or pages (to - 1) []) ++ [])
     held_behind =
         let inner = all_pairs (between pages ledger from to holds many) in
         let last = get_or pages (to - 1) [] ++ all_pairs (drop to pages) in
         ap (filter (λ e. e.0.ledger == ledger)) (after_first pages ledger from to holds many)
         ∙ filter-append (λ e. e.0.ledger == ledger) inner last
-        ∙ ap (λ all. all ++ filter (λ e. e.0.ledger == ledger) last) (same_all ledger inner (between_low pages ledger from to holds many) (between_high pages ledger from to holds many))
+        ∙ ap (λ all. all ++ filter (λ e. e.0.ledger == ledger) last)
+        (same_all ledger inner (between_low pages ledger from to holds many) (between_high pages ledger from to holds many))
         ∙ ap (λ back. inner ++ back) (filter-append (λ e. e.0.ledger == ledger) (get_or pages (to - 1) []) (all_pairs (drop to pages))
         ∙ ap (λ none. filter (λ e. e.0.ledger == ledger) (get_or pages (to - 1) []) ++ none) back_none)
 
-    pub held_many : filter (λ e. e.0.ledger == ledger) (all_pairs pages) ≡ filter (λ e. e.0.ledger == ledger) (get_or pages from []) ++ (all_pairs (between pages ledger from to holds many) ++ filter (λ e. e.0.ledger == ledger) (get_or pages (to - 1) []))
+    pub held_many : filter (λ e. e.0.ledger == ledger) (all_pairs pages)
+        ≡ filter (λ e. e.0.ledger == ledger) (get_or pages from []) ++
+        (all_pairs (between pages ledger from to holds many) ++ filter (λ e. e.0.ledger == ledger) (get_or pages (to - 1) []))
     held_many =
         held_first (omega arith)
         ∙ ap (λ rest. filter (λ e. e.0.ledger == ledger) (get_or pages from []) ++ rest)
-        (held_behind ∙ ap (λ last. all_pairs (between pages ledger from to holds many) ++ last) (append-nil (filter (λ e. e.0.ledger == ledger) (get_or pages (to - 1) []))))
+        (held_behind ∙ ap (λ last. all_pairs (between pages ledger from to holds many) ++ last)
+        (append-nil (filter (λ e. e.0.ledger == ledger) (get_or pages (to - 1) []))))
 
   -- the pages that hold it, as a part of the list
   module _ (part : List (List (EntryKey × X))) (is : part ≡ take (to - from) (drop from pages)) where

@@ -1,4 +1,3 @@
-pub mod KeyOrder
 pub mod CutPairs
 pub mod PagePairs
 pub mod Homes
@@ -9,8 +8,5 @@ pub mod LedgerPages
 pub mod LedgerFences
 pub mod LedgerPairs
 pub mod CountedPages
-pub mod SortedPairs
-pub mod SortedMaps
 pub mod KeyPlaces
 pub mod PlaceEq
-pub mod KeyedLaws

@@ -1,19 +1,21 @@
 -- The place of a key among the pairs of a page: what a look-up answers there, and what a write or an insert there does.
-use Rattle.std.proofs.Common.{◌≡◌, ℕ, zero, suc, ◌-◌, ◌≤◌, List, [], ◌∷◌, ◌++◌, length, get_or, set, take, drop, Some, None, refl, sym, ap, subst, ◌∙◌, arith, length-append, length-take, length-drop, take-append-drop, length-set}
+use Rattle.std.proofs.Common.{◌≡◌, ℕ, zero, suc, ◌-◌, ◌≤◌, List, [], ◌∷◌, ◌++◌, length, get_or, set, take, drop, Some, None, refl, sym, ap, ◌∙◌, arith}
+use Rattle.std.proofs.Common.{length-take, take-append-drop}
 use Rattle.std.specs.Bool.{IsTrue}
 use Rattle.std.specs.List.{insert}
 use Rattle.std.specs.FinMap.{find, put, is_sorted}
-use Rattle.std.proofs.lemmas.List.Edits.{insert-append_left, insert-append_right, length-insert}
+use Rattle.std.proofs.lemmas.List.Edits.{insert-append_left, insert-append_right}
 use Rattle.bk_record.specs.Key.{EntryKey, key_cmp}
 use Rattle.bk_index.specs.Sorted.{IsAt, IsGapFor}
 use Rattle.bk_index.specs.Pages.{first_key}
-use Rattle.bk_index.proofs.KeyOrder.{key_cmp_total}
-use Rattle.bk_index.proofs.SortedPairs.{Some-same, find_at, find_gap, put_at, put_gap, is_sorted_put}
+use Rattle.bk_record.proofs.Keys.{key_cmp_total}
+use Rattle.bk_record.proofs.SortedPairs.{Some-same, find_at, find_gap, put_at, put_gap, is_sorted_put}
 use Rattle.bk_index.proofs.CutPairs.{sorted_front, sorted_back}
 use Rattle.bk_index.proofs.KeyPlaces.{read_there, named}
 
 -- a write over a key's value leaves the first key
-pub first_put_held : {X : Type 0} (pairs : List (EntryKey × X)) (key : EntryKey) (at : ℕ) → IsAt pairs key at → (v : X) → first_key (set pairs at (key, v)) ≡ first_key pairs
+pub first_put_held : {X : Type 0} (pairs : List (EntryKey × X)) (key : EntryKey) (at : ℕ) → IsAt pairs key at → (v : X) → first_key (set pairs at (key, v))
+    ≡ first_key pairs
 first_put_held [] key at here v = refl
 first_put_held (pair ∷ pairs) key zero here v = sym (Some-same here)
 first_put_held (pair ∷ pairs) key (suc at) here v = refl
@@ -23,7 +25,8 @@ module _ {X : Type 0} (pairs : List (EntryKey × X)) (sorted : IsTrue (is_sorted
   is_sorted_put_page v = is_sorted_put key_cmp_total key v pairs sorted
 
   -- each of two parts that make the pairs with the key is in order
-  is_sorted_parts : (v : X) (front back : List (EntryKey × X)) → front ++ back ≡ put key_cmp key v pairs → IsTrue (is_sorted key_cmp front) × IsTrue (is_sorted key_cmp back)
+  is_sorted_parts : (v : X) (front back : List (EntryKey × X)) → front ++ back ≡ put key_cmp key v pairs
+      → IsTrue (is_sorted key_cmp front) × IsTrue (is_sorted key_cmp back)
   is_sorted_parts v front back is =
       let all : IsTrue (is_sorted key_cmp (front ++ back)) = rw is (is_sorted_put_page v) in
       (sorted_front key_cmp front back all, sorted_back key_cmp front back all)
@@ -56,8 +59,10 @@ module _ {X : Type 0} (pairs : List (EntryKey × X)) (sorted : IsTrue (is_sorted
         sym (insert-append_right (take cut pairs) (drop cut pairs) cut at (key, v) (omega (arith, length-take cut pairs)) upper)
         ∙ ap (λ es. insert es at (key, v)) (take-append-drop cut pairs) ∙ sym (put_absent v)
 
-    pub sorted_lower : (v : X) (cut : ℕ) → at ≤ cut → cut ≤ length pairs → IsTrue (is_sorted key_cmp (insert (take cut pairs) at (key, v))) × IsTrue (is_sorted key_cmp (drop cut pairs))
+    pub sorted_lower : (v : X) (cut : ℕ) → at ≤ cut → cut ≤ length pairs
+        → IsTrue (is_sorted key_cmp (insert (take cut pairs) at (key, v))) × IsTrue (is_sorted key_cmp (drop cut pairs))
     sorted_lower v cut lower within = is_sorted_parts v (insert (take cut pairs) at (key, v)) (drop cut pairs) (put_lower v cut lower within)
 
-    pub sorted_upper : (v : X) (cut : ℕ) → cut ≤ at → cut ≤ length pairs → IsTrue (is_sorted key_cmp (take cut pairs)) × IsTrue (is_sorted key_cmp (insert (drop cut pairs) (at - cut) (key, v)))
+    pub sorted_upper : (v : X) (cut : ℕ) → cut ≤ at → cut ≤ length pairs
+        → IsTrue (is_sorted key_cmp (take cut pairs)) × IsTrue (is_sorted key_cmp (insert (drop cut pairs) (at - cut) (key, v)))
     sorted_upper v cut upper within = is_sorted_parts v (take cut pairs) (insert (drop cut pairs) (at - cut) (key, v)) (put_upper v cut upper within)

@@ -1,5 +1,5 @@
 -- The fences of pages rise, so that a test of keys parts them in two: where the page of a key is.
-use Rattle.std.proofs.Common.{◌≡◌, ℕ, zero, suc, ◌<◌, ◌≤◌, ◌-◌, Bool, true, false, List, [], ◌∷◌, ◌++◌, length, get_or, map, refl, sym, ap, subst, ◌∙◌, arith}
+use Rattle.std.proofs.Common.{◌≡◌, ℕ, zero, suc, ◌<◌, ◌≤◌, ◌-◌, Bool, true, false, List, [], ◌∷◌, ◌++◌, length, get_or, map, refl, subst, arith}
 use Rattle.std.specs.declared.cmp.Ordering.TheVariants.{Less}
 use Rattle.std.specs.Ordering.{is_le}
 use Rattle.std.specs.Bool.{IsTrue}
@@ -25,42 +25,53 @@ rising_parted : (p : EntryKey → Bool) → IsDownward p → (fs : List EntryKey
 unfolding IsStrictlySortedBy
 rising_parted p down [] rise i j d order within passes = absurd (omega arith)
 rising_parted p down (f ∷ fs) rise zero zero d order within passes = passes
-rising_parted p down (f ∷ fs) rise zero (suc j) d order within passes = down f (get_or fs j d) (each_at (λ g. key_cmp f g ≡ Less) fs j d rise.0 (omega arith)) passes
+rising_parted p down (f ∷ fs) rise zero (suc j) d order within passes = down f (get_or fs j d)
+    (each_at (λ g. key_cmp f g ≡ Less) fs j d rise.0 (omega arith)) passes
 rising_parted p down (f ∷ fs) rise (suc i) zero d order within passes = absurd (omega arith)
 rising_parted p down (f ∷ fs) rise (suc i) (suc j) d order within passes = rising_parted p down fs rise.1 i j d (omega arith) (omega arith) passes
 
 module _ {X : Type 0} where
   -- what holds of each key holds of each first key
-  each_first : (P : EntryKey → Type 0) (pages : List (List (EntryKey × X))) → AreFilled pages → AllByRecursion (λ pair. P pair.0) (all_pairs pages) → AllByRecursion P (map first_key pages)
+  each_first : (P : EntryKey → Type 0) (pages : List (List (EntryKey × X))) → AreFilled pages → AllByRecursion (λ pair. P pair.0) (all_pairs pages)
+      → AllByRecursion P (map first_key pages)
   each_first P [] filled each = tt
   each_first P ([] ∷ pages) filled each = absurd (omega (arith, filled.0))
   each_first P ((e ∷ es) ∷ pages) filled each = (each.0, each_first P pages filled.1 (each_back (λ pair. P pair.0) es (all_pairs pages) each.1))
 
-  fences_rise : (pages : List (List (EntryKey × X))) → IsTrue (is_sorted key_cmp (all_pairs pages)) → AreFilled pages → IsStrictlySortedBy key_cmp (map first_key pages)
+  fences_rise : (pages : List (List (EntryKey × X))) → IsTrue (is_sorted key_cmp (all_pairs pages)) → AreFilled pages
+      → IsStrictlySortedBy key_cmp (map first_key pages)
   unfolding IsStrictlySortedBy
   fences_rise [] sorted filled = tt
   fences_rise ([] ∷ pages) sorted filled = absurd (omega (arith, filled.0))
   fences_rise ((e ∷ es) ∷ pages) sorted filled = (
-    each_first (λ k. key_cmp e.0 k ≡ Less) pages filled.1 (each_back (λ pair. key_cmp e.0 pair.0 ≡ Less) es (all_pairs pages) (head_below key_cmp e (es ++ all_pairs pages) sorted)),
+    each_first (λ k. key_cmp e.0 k ≡ Less) pages filled.1
+        (each_back (λ pair. key_cmp e.0 pair.0 ≡ Less) es (all_pairs pages) (head_below key_cmp e (es ++ all_pairs pages) sorted)),
     fences_rise pages (sorted_back key_cmp (e ∷ es) (all_pairs pages) sorted) filled.1,
   )
 
   pub all_filled : (pages : List (List (EntryKey × X))) → All (λ page. (1 ≤ length page) × (length page ≤ 256)) pages → AreFilled pages
   all_filled [] sized = tt
-  all_filled (page ∷ pages) sized = (let first = sized 0 [] (omega arith) in omega (arith, first), all_filled pages (λ i d within. sized (suc i) d (omega arith)))
+  all_filled (page ∷ pages) sized = (
+    let first = sized 0 [] (omega arith) in omega (arith, first),
+    all_filled pages
+        (λ i d within. sized (suc i) d (omega arith)),
+  )
 
-  module _ (fences : List EntryKey) (pages : List (List (EntryKey × X))) (are : AreFenced fences pages) (sorted : IsTrue (is_sorted key_cmp (all_pairs pages))) where
+  module _ (fences : List EntryKey) (pages : List (List (EntryKey × X))) (are : AreFenced fences pages)
+      (sorted : IsTrue (is_sorted key_cmp (all_pairs pages))) where
     pub fences_parted : (p : EntryKey → Bool) → IsDownward p → IsPartitionedBy p fences
     fences_parted p down = rw are.fenced (rising_parted p down (map first_key pages) (fences_rise pages sorted (all_filled pages are.sizes)))
 
     -- the last page whose fence is not behind the key, else the first
-    pub home_of : (key : EntryKey) (n : ℕ) → n ≤ length pages → IsPartitionPoint (λ f. is_le (key_cmp f key) ≡ true) (λ f. is_le (key_cmp f key) ≡ false) fences n → IsHome key pages (n - 1)
+    pub home_of : (key : EntryKey) (n : ℕ) → n ≤ length pages
+        → IsPartitionPoint (λ f. is_le (key_cmp f key) ≡ true) (λ f. is_le (key_cmp f key) ≡ false) fences n → IsHome key pages (n - 1)
     home_of key n bound point =
         let filled = all_filled pages are.sizes in
         let at = rw are.fenced at point in
         elim n as (λ m. m ≤ length pages → IsFenceFor key pages m → IsHome key pages (m - 1)) [
           | zero ↦ λ _ fence. home_first key pages sorted filled fence
-          | suc m ↦ λ within fence. let same : m ≡ suc m - 1 = omega arith in subst (λ (at : ℕ). IsHome key pages at) same (home_last key pages m (omega arith) sorted filled fence)
+          | suc m ↦ λ within fence. let same : m ≡ suc m - 1 = omega arith in subst (λ (at : ℕ). IsHome key pages at) same
+              (home_last key pages m (omega arith) sorted filled fence)
         ] bound record {
           not_behind = λ i d before. at.0 i d (omega arith) before;
           behind = λ i d from within. at.1 i d from (omega (arith, length-map pages first_key));

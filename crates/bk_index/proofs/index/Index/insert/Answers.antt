@@ -6,7 +6,8 @@ use Rattle.bk_index.proofs.index.Index.insert.Goals as goal
 -- memory was refused: the key is new
 pub returns-in_err-before-clause-held : goal.returns-in_err-before-clause-held
 returns-in_err-before-clause-held c held =
-    absurd (false≢true (c.in_err-before.ensures.held (rw (get_seen c.self.inside.pages c.self.invariant.sorted c.args.self.now c.self.view_is c.args.key) held)))
+    absurd (false≢true (c.in_err-before.ensures.held (rw (get_seen c.self.inside.pages c.self.invariant.sorted c.args.self.now c.self.view_is c.args.key)
+    held)))
 
 -- the key was held
 pub invariant_of-self-in-Some : goal.invariant_of-self-in-Some
@@ -14,13 +15,16 @@ invariant_of-self-in-Some c =
     let pages = c.self.inside.pages in
     let found = sym c.in_ok-before.ensures.before ∙ c.in-Some.is in
     let many = ap length c.in_ok-before.ensures.ok ∙ length_held pages c.self.invariant.sorted c.args.key c.args.location c.in-Some.before found in
-    counted_put pages c.self.invariant.sorted c.args.key c.args.location c.insert.new.self c.self.inside.len c.in_ok-before.ensures.ok (c.self.invariant.counted ∙ sym many)
+    counted_put pages c.self.invariant.sorted c.args.key c.args.location c.insert.new.self c.self.inside.len c.in_ok-before.ensures.ok
+    (c.self.invariant.counted ∙ sym many)
 
 pub returns-in-Some-clause-ok : goal.returns-in-Some-clause-ok
-returns-in-Some-clause-ok c = insert_seen c.self.inside.pages c.self.invariant.sorted c.args.self.now c.self.view_is c.args.key c.args.location c.insert.new.self c.in_ok-before.ensures.ok
+returns-in-Some-clause-ok c = insert_seen c.self.inside.pages c.self.invariant.sorted c.args.self.now c.self.view_is c.args.key c.args.location
+    c.insert.new.self c.in_ok-before.ensures.ok
 
 pub returns-in-Some-clause-before : goal.returns-in-Some-clause-before
-returns-in-Some-clause-before c = sym c.in-Some.is ∙ c.in_ok-before.ensures.before ∙ get_seen c.self.inside.pages c.self.invariant.sorted c.args.self.now c.self.view_is c.args.key
+returns-in-Some-clause-before c = sym c.in-Some.is ∙ c.in_ok-before.ensures.before
+    ∙ get_seen c.self.inside.pages c.self.invariant.sorted c.args.self.now c.self.view_is c.args.key
 
 -- the key is new
 pub overflow_add-self : goal.overflow_add-self
@@ -34,10 +38,13 @@ invariant_of-self-in-None c =
     let pages = c.self.inside.pages in
     let found = sym c.in_ok-before.ensures.before ∙ c.in-None.is in
     let many = ap length c.in_ok-before.ensures.ok ∙ length_new pages c.self.invariant.sorted c.args.key c.args.location found in
-    counted_put pages c.self.invariant.sorted c.args.key c.args.location c.insert.new.self (c.self.inside.len + 1) c.in_ok-before.ensures.ok (omega (arith, many, c.self.invariant.counted))
+    counted_put pages c.self.invariant.sorted c.args.key c.args.location c.insert.new.self (c.self.inside.len + 1) c.in_ok-before.ensures.ok
+    (omega (arith, many, c.self.invariant.counted))
 
 pub returns-in-None-clause-ok : goal.returns-in-None-clause-ok
-returns-in-None-clause-ok c = insert_seen c.self.inside.pages c.self.invariant.sorted c.args.self.now c.self.view_is c.args.key c.args.location c.insert.new.self c.in_ok-before.ensures.ok
+returns-in-None-clause-ok c = insert_seen c.self.inside.pages c.self.invariant.sorted c.args.self.now c.self.view_is c.args.key c.args.location
+    c.insert.new.self c.in_ok-before.ensures.ok
 
 pub returns-in-None-clause-before : goal.returns-in-None-clause-before
-returns-in-None-clause-before c = sym c.in-None.is ∙ c.in_ok-before.ensures.before ∙ get_seen c.self.inside.pages c.self.invariant.sorted c.args.self.now c.self.view_is c.args.key
+returns-in-None-clause-before c = sym c.in-None.is ∙ c.in_ok-before.ensures.before
+    ∙ get_seen c.self.inside.pages c.self.invariant.sorted c.args.self.now c.self.view_is c.args.key

@@ -5,5 +5,9 @@ use Rattle.bk_index.proofs.index.Index.page_len.Goals as goal
 
 pub returns : goal.returns
 returns c =
-    let pages = c.self.inside.pages in
-    (map length pages, page_lens pages c.self.invariant.sorted c.args.self.now c.self.view_is c.page_len.ensures.sizes, c.page_len.ensures.value ∙ sym (slice_get-map length pages c.args.number))
+    let pages = c.self.inside.pages in (
+      map length pages,
+      page_lens pages c.self.invariant.sorted c.args.self.now c.self.view_is c.page_len.ensures.sizes,
+      c.page_len.ensures.value
+          ∙ sym (slice_get-map length pages c.args.number),
+    )

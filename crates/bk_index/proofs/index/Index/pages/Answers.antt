@@ -5,5 +5,9 @@ use Rattle.bk_index.proofs.index.Index.pages.Goals as goal
 
 pub returns : goal.returns
 returns c =
-    let pages = c.self.inside.pages in
-    (map length pages, page_lens pages c.self.invariant.sorted c.args.self.now c.self.view_is c.len.ensures.sizes, c.len.ensures.value ∙ sym (length-map pages length))
+    let pages = c.self.inside.pages in (
+      map length pages,
+      page_lens pages c.self.invariant.sorted c.args.self.now c.self.view_is c.len.ensures.sizes,
+      c.len.ensures.value
+          ∙ sym (length-map pages length),
+    )

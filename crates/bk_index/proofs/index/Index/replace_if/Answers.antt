@@ -1,4 +1,4 @@
-use Rattle.std.proofs.Common.{◌≡◌, ◌∙◌}
+use Rattle.std.proofs.Common.{◌≡◌}
 use Rattle.std.specs.FinMap as map
 use Rattle.std.specs.FinMap.{from_sorted}
 use Rattle.std.proofs.lemmas.Bool.{OnTrue_at, OnTrue_from}
@@ -18,4 +18,5 @@ returns-clause-condition c =
 pub returns-clause-replaced : goal.returns-clause-replaced
 returns-clause-replaced c =
     OnTrue_from c.replace_if.result (from_sorted (all_pairs c.replace_if.new.self) ≡ map.insert c.args.self.now c.args.key.now c.args.to)
-    (λ moved. insert_seen c.self.inside.pages c.self.invariant.sorted c.args.self.now c.self.view_is c.args.key.now c.args.to c.replace_if.new.self (OnTrue_at moved c.replace_if.ensures.replaced))
+    (λ moved. insert_seen c.self.inside.pages c.self.invariant.sorted c.args.self.now c.self.view_is c.args.key.now c.args.to c.replace_if.new.self
+    (OnTrue_at moved c.replace_if.ensures.replaced))

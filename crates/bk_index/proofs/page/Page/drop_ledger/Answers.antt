@@ -2,7 +2,7 @@ use Rattle.std.proofs.Common.{not, rules}
 use Rattle.std.specs.Bool.{◌==◌}
 use Rattle.std.proofs.lemmas.Fn.{filter_same}
 use Rattle.bk_record.specs.Key.{key_cmp}
-use Rattle.bk_index.proofs.SortedMaps.{is_sorted-filter}
+use Rattle.bk_record.proofs.SortedMaps.{is_sorted-filter}
 use Rattle.bk_index.proofs.page.Page.drop_ledger.Goals as goal
 
 -- `retain` leaves the pairs of other ledgers

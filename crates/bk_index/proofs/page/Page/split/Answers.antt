@@ -25,7 +25,15 @@ returns-in_ok-insert-clause-ok c =
     let pairs = c.self.inside.pairs.items in
     let gap = rw (← c.self.view_is) at c.requires.gap in
     let full : length pairs ≡ 256 = rw c.self.view_is c.requires.full in
-    rw (c.in_ok-insert.ensures.items, c.truncate.ensures.items, c.in_ok-extend_from_slice.ensures.items, c.in_ok-behind.ensures.items, c.deref.ensures.value, take_rest pairs 127, ← c.self.view_is)
+    rw (
+      c.in_ok-insert.ensures.items,
+      c.truncate.ensures.items,
+      c.in_ok-extend_from_slice.ensures.items,
+      c.in_ok-behind.ensures.items,
+      c.deref.ensures.value,
+      take_rest pairs 127,
+      ← c.self.view_is,
+    )
     (put_lower pairs c.self.invariant c.args.key c.args.place gap c.args.location 127 (omega arith) (omega arith))
 
 -- the key goes to the upper half
@@ -34,7 +42,13 @@ invariant_of-result-else-place-lt-LOWER c =
     let pairs = c.self.inside.pairs.items in
     let gap = rw (← c.self.view_is) at c.requires.gap in
     let full : length pairs ≡ 256 = rw c.self.view_is c.requires.full in
-    rw (c.in_ok-insert-2.ensures.items, c.in_ok-extend_from_slice-2.ensures.items, c.in_ok-behind.ensures.items, c.deref-else-place-lt-LOWER.ensures.value, take_rest pairs 128)
+    rw (
+      c.in_ok-insert-2.ensures.items,
+      c.in_ok-extend_from_slice-2.ensures.items,
+      c.in_ok-behind.ensures.items,
+      c.deref-else-place-lt-LOWER.ensures.value,
+      take_rest pairs 128,
+    )
     (sorted_upper pairs c.self.invariant c.args.key c.args.place gap c.args.location 128 (omega arith) (omega arith)).1
 
 pub invariant_of-self-else-place-lt-LOWER : goal.invariant_of-self-else-place-lt-LOWER
@@ -50,5 +64,13 @@ returns-in_ok-insert-2-clause-ok c =
     let pairs = c.self.inside.pairs.items in
     let gap = rw (← c.self.view_is) at c.requires.gap in
     let full : length pairs ≡ 256 = rw c.self.view_is c.requires.full in
-    rw (c.truncate-else-place-lt-LOWER.ensures.items, c.in_ok-insert-2.ensures.items, c.in_ok-extend_from_slice-2.ensures.items, c.in_ok-behind.ensures.items, c.deref-else-place-lt-LOWER.ensures.value, take_rest pairs 128, ← c.self.view_is)
+    rw (
+      c.truncate-else-place-lt-LOWER.ensures.items,
+      c.in_ok-insert-2.ensures.items,
+      c.in_ok-extend_from_slice-2.ensures.items,
+      c.in_ok-behind.ensures.items,
+      c.deref-else-place-lt-LOWER.ensures.value,
+      take_rest pairs 128,
+      ← c.self.view_is,
+    )
     (put_upper pairs c.self.invariant c.args.key c.args.place gap c.args.location 128 (omega arith) (omega arith))

@@ -18,5 +18,6 @@ pub returns-clause-count : goal.returns-clause-count
 returns-clause-count c =
     let pages = c.self.inside.list.items in
     let part = take (c.args.to - c.args.from) (drop c.args.from pages) in
-    let counted = c.count_pairs-dropped.ensures ∙ ap (λ ps. sum_by length (take (c.args.to - c.args.from) (drop c.args.from ps))) c.deref.ensures.value ∙ sym (length-flat_map (λ page. page) part) in
+    let counted = c.count_pairs-dropped.ensures ∙ ap (λ ps. sum_by length (take (c.args.to - c.args.from) (drop c.args.from ps))) c.deref.ensures.value
+    ∙ sym (length-flat_map (λ page. page) part) in
     rw (c.drop-2.ensures.items ∙ c.drain-2.ensures.kept, ← c.self.view_is) (omega (arith, length_cut pages c.args.from c.args.to c.requires.order, counted))

@@ -1,4 +1,4 @@
-use Rattle.std.proofs.Common.{◌+◌, ◌<◌, arith}
+use Rattle.std.proofs.Common.{arith}
 use Rattle.bk_index.proofs.LedgerPages.{kept_none, kept_one, kept_many}
 use Rattle.bk_index.proofs.pages.Pages.drop_ledger.Goals as goal
 

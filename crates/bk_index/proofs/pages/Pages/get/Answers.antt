@@ -6,4 +6,5 @@ pub returns : goal.returns
 returns c =
     let looked = c.in_ok-page.ensures.lookup in
     let pages = c.deref.ensures.value ∙ c.self.view_is in
-    c.get-2.ensures ∙ sym (find_there c.args.self.now c.home.result (rw pages at looked.3.0) c.in_ok-page.page.now (rw pages at looked.1) c.args.key.now c.home.ensures.home)
+    c.get-2.ensures ∙ sym (find_there c.args.self.now c.home.result (rw pages at looked.3.0) c.in_ok-page.page.now
+    (rw pages at looked.1) c.args.key.now c.home.ensures.home)

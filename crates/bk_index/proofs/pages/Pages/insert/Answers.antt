@@ -1,4 +1,4 @@
-use Rattle.std.proofs.Common.{◌<◌, ◌≤◌, length, Some, None, sym, ap, ◌∙◌, arith, rules}
+use Rattle.std.proofs.Common.{◌<◌, length, sym, ap, ◌∙◌, arith, rules}
 use mathlib.Core.Bool.{false≢true}
 use Rattle.bk_index.specs.Pages.{first_key}
 use Rattle.bk_index.proofs.PagePairs.{find_absent}
@@ -27,7 +27,8 @@ returns-in-Ok-clause-ok c =
     let within : at < length pages = search rules in
     let home = rw (← c.self.view_is) at c.home-at.ensures.home in
     rw (← c.self.view_is)
-    (put_there pages at within c.index_mut-page.result.now c.index_mut-page.ensures.value c.args.key home c.args.location c.replace.new.self c.replace.ensures.replaced)
+    (put_there pages at within c.index_mut-page.result.now c.index_mut-page.ensures.value c.args.key home c.args.location c.replace.new.self
+    c.replace.ensures.replaced)
 
 pub returns-in-Ok-clause-before : goal.returns-in-Ok-clause-before
 returns-in-Ok-clause-before c =
@@ -48,7 +49,8 @@ returns-in_ok-add-in-Err-clause-before c =
     let home = rw (← c.self.view_is) at c.home-at.ensures.home in
     let sorted = rw (← c.self.view_is) at c.requires in
     rw (← c.self.view_is)
-    (sym (find_there pages at within held read c.args.key home ∙ find_absent held (sorted_held pages at within held read sorted) c.args.key c.in-Err.place c.in-Err.ensures.absent))
+    (sym (find_there pages at within held read c.args.key home
+    ∙ find_absent held (sorted_held pages at within held read sorted) c.args.key c.in-Err.place c.in-Err.ensures.absent))
 
 pub returns-in_err-add-in-Err-clause-held : goal.returns-in_err-add-in-Err-clause-held
 returns-in_err-add-in-Err-clause-held c is_held =
@@ -59,7 +61,8 @@ returns-in_err-add-in-Err-clause-held c is_held =
     let within : at < length pages = search rules in
     let home = rw (← c.self.view_is) at c.home-at.ensures.home in
     let sorted = rw (← c.self.view_is) at c.requires in
-    let none = find_there pages at within held read c.args.key home ∙ find_absent held (sorted_held pages at within held read sorted) c.args.key c.in-Err.place c.in-Err.ensures.absent in
+    let none = find_there pages at within held read c.args.key home
+    ∙ find_absent held (sorted_held pages at within held read sorted) c.args.key c.in-Err.place c.in-Err.ensures.absent in
     absurd (false≢true (rw (← c.self.view_is, none) at is_held))
 
 pub returns-in-Ok-clause-bound : goal.returns-in-Ok-clause-bound

@@ -33,8 +33,10 @@ returns-clause-replaced c =
     let at = c.home-at.result in
     let within : at < length c.self.inside.list.items = omega arith in
     let home = rw (← c.self.view_is) at c.home-at.ensures.home in
-    OnTrue_from c.replace_if.result (all_pairs (set c.self.inside.list.items at c.replace_if.new.self) ≡ put key_cmp c.args.key.now c.args.to (all_pairs c.args.self.now)) (λ moved. rw (← c.self.view_is)
-    (put_there c.self.inside.list.items at within c.index_mut-page.result.now c.index_mut-page.ensures.value c.args.key.now home c.args.to c.replace_if.new.self (OnTrue_at moved c.replace_if.ensures.replaced)))
+    OnTrue_from c.replace_if.result (all_pairs (set c.self.inside.list.items at c.replace_if.new.self)
+    ≡ put key_cmp c.args.key.now c.args.to (all_pairs c.args.self.now)) (λ moved. rw (← c.self.view_is)
+    (put_there c.self.inside.list.items at within c.index_mut-page.result.now c.index_mut-page.ensures.value c.args.key.now home c.args.to c.replace_if.new.self
+    (OnTrue_at moved c.replace_if.ensures.replaced)))
 
 pub returns-clause-len : goal.returns-clause-len
 returns-clause-len c =

@@ -1,4 +1,4 @@
-use Rattle.std.proofs.Common.{◌<◌, ◌≤◌, length, get_or, set, sym, ap, ◌∙◌, arith, length-set, get_or-set_same}
+use Rattle.std.proofs.Common.{◌<◌, length, ap, arith}
 use Rattle.bk_index.proofs.FencedPages.{fenced_set, fenced_remove, length_set, length_remove, countable}
 use Rattle.bk_index.proofs.HomePages.{read_page}
 use Rattle.bk_index.proofs.pages.Pages.thin.Goals as goal

@@ -1,4 +1,4 @@
-use Rattle.std.proofs.Common.{◌<◌, ◌+◌, ◌-◌, [], ◌++◌, length, take, drop, ap, sym, ◌∙◌, arith}
+use Rattle.std.proofs.Common.{◌<◌, ◌+◌, ◌-◌, [], ◌++◌, take, drop, ap, sym, ◌∙◌, arith}
 use Rattle.std.specs.Bool.{◌==◌}
 use Rattle.std.specs.List.{filter}
 use Rattle.bk_record.specs.Key.{EntryKey}
@@ -14,7 +14,8 @@ returns-in-empty c =
     let to = c.pages_of-from.result.1 in
     let holds = c.pages_of-from.ensures in
     let is = ap (λ ps. take (to - from) (drop from ps)) (c.deref.ensures.value ∙ c.self.view_is) in
-    c.over.ensures ∙ sym (held_none pages c.args.ledger from to holds (omega (arith, part_length pages c.args.ledger from to holds _ is, c.in-empty.len_below, holds.order)))
+    c.over.ensures ∙ sym (held_none pages c.args.ledger from to holds
+    (omega (arith, part_length pages c.args.ledger from to holds _ is, c.in-empty.len_below, holds.order)))
 
 pub returns-in-len1 : goal.returns-in-len1
 returns-in-len1 c =
@@ -38,7 +39,9 @@ returns-in-len2-up c =
     let long = part_length pages c.args.ledger from to holds _ is in
     let many : from + 1 < to = omega (arith, long, c.in-len2-up.len_at_least) in
     let of_ledger = filter (λ (e : EntryKey × Place). e.0.ledger == c.args.ledger) in
-    let first = c.of_ledger-in-len2-up.ensures ∙ ap of_ledger (c.first-item.is ∙ part_first pages c.args.ledger from to holds _ is c.first-item.result (omega arith)) in
-    let last = c.of_ledger-in-len2-up-2.ensures ∙ ap of_ledger (c.last-item.is ∙ part_last pages c.args.ledger from to holds _ is c.last-item.result (omega arith)) in
+    let first = c.of_ledger-in-len2-up.ensures ∙ ap of_ledger (c.first-item.is
+    ∙ part_first pages c.args.ledger from to holds _ is c.first-item.result (omega arith)) in
+    let last = c.of_ledger-in-len2-up-2.ensures ∙ ap of_ledger (c.last-item.is
+    ∙ part_last pages c.args.ledger from to holds _ is c.last-item.result (omega arith)) in
     let inner = ap all_pairs (part_between pages c.args.ledger from to holds _ is many) in
     c.over-in-len2-up.ensures ∙ (λ i. first i ++ (inner i ++ last i)) ∙ sym (held_many pages c.args.ledger from to holds many)

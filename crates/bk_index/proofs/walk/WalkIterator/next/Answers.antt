@@ -5,4 +5,5 @@ use Rattle.bk_index.proofs.walk.WalkIterator.next.Goals as goal
 -- the pages behind the first
 pub invariant_of-self-in-Some-split_first : goal.invariant_of-self-in-Some-split_first
 invariant_of-self-in-Some-split_first c =
-    All-rest (λ page. 0 < length page) c.in-Some-split_first.page.now c.in-Some-split_first.pages.now c.self.inside.pages.now c.in-Some-split_first.ensures.cases.0 c.self.invariant
+    All-rest (λ page. 0 < length page) c.in-Some-split_first.page.now c.in-Some-split_first.pages.now c.self.inside.pages.now
+    c.in-Some-split_first.ensures.cases.0 c.self.invariant
