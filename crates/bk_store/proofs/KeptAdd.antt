@@ -6,7 +6,10 @@ use Rattle.std.specs.FinMap as finite
 use Rattle.std.specs.FinSet as set
 use Rattle.bk_record.specs.Key.{EntryKey}
 use Rattle.bk_record.specs.Record.{read_added}
+use Rattle.bk_record.specs.Files.{file_of}
+use Rattle.bk_record.specs.Scan.{Payloads}
 use Rattle.bk_cache.specs.Caches as caches
+use Rattle.bk_store.specs.Carried.{Carries}
 use Rattle.bk_store.specs.State.{State, Parts}
 use Rattle.bk_store.specs.Meaning.{written_at, holds}
 use Rattle.bk_store.specs.Turns.{AddTurn}
@@ -35,7 +38,7 @@ module _ (p : Parts) (payload : List ℕ) (key : EntryKey) (reads : read_added p
   abbrev added : Parts
   added = with_state p (record p.state { caches = caches.with_added p.state.caches payload })
 
-  is_key : caches.added_key payload ≡ key
+  pub is_key : caches.added_key payload ≡ key
   is_key = ap (λ r. result_unwrap_or r (record { ledger = 0; entry = 0 })) reads
 
   cached_here : written_at added.state key ≡ Some payload
@@ -48,12 +51,18 @@ module _ (p : Parts) (payload : List ℕ) (key : EntryKey) (reads : read_added p
       ap (λ o. option_or o (finite.get (caches.flush_of p.state.caches) other))
       (get-insert_other p.state.caches.active (caches.added_key payload) payload other (λ same. apart (same ∙ is_key)))
 
+  pub carries_accepted : {map : Payloads} → Carries (file_of p.state.files) p.state.index (written_at p.state) p.state.dead map
+      → Carries (file_of p.state.files) p.state.index (written_at added.state) p.state.dead (finite.insert map key payload)
+  carries_accepted carries =
+      let none = not_held p.state key unheld in
+      carries_added carries (written_at added.state) key payload alive none.0 none.1 cached_here cached_else
+
   promised : Promises p → Promises added
   promised promise =
       let none = not_held p.state key unheld in
       record {
         carried = finite.insert promise.carried key payload;
-        carries = carries_added promise.carries (written_at added.state) key payload alive none.0 none.1 cached_here cached_else;
+        carries = carries_accepted promise.carries;
         shows = promise.shows;
         recent = λ k b is.
             let old = promise.recent k b is in

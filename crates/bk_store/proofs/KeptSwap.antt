@@ -21,7 +21,7 @@ module _ (p : Parts) (keeps : Keeps p) (idle : p.state.caches.flush ≡ None) wh
   no_places = keeps.fits.placed.idle idle
 
   -- a cached key was in the active cache, and is in the flushing one
-  same_cached : (key : EntryKey) → written_at swapped.state key ≡ written_at p.state key
+  pub same_cached : (key : EntryKey) → written_at swapped.state key ≡ written_at p.state key
   same_cached key =
       ap (λ o. option_or o (finite.get p.state.caches.active key)) (finite.get-empty key_cmp key)
       ∙ either (finite.get p.state.caches.active key)

@@ -20,3 +20,4 @@ pub mod KeptAdd
 pub mod KeptSwap
 pub mod Tables
 pub mod Ledgers
+pub mod PlainMaps

@@ -9,3 +9,4 @@ pub mod Kept
 pub mod Turns
 pub mod Doors
 pub mod Placed
+pub mod Plain

@@ -1,6 +1,6 @@
 //! Laws of the definitions that contracts cite, stated once for all stores; the functions do nothing.
 
-ghost use Rattle.std.specs.Prelude.{◌≡◌, ◌≢◌, ℕ, None, ◌||◌, is_some, if◌then◌else◌};
+ghost use Rattle.std.specs.Prelude.{◌≡◌, ◌≢◌, ℕ, List, None, Result, ◌||◌, is_some, if◌then◌else◌, IsTrue};
 ghost use Rattle.std.specs.FinMap as finite;
 ghost use Rattle.std.specs.FinSet as set;
 ghost use Rattle.std.specs.Option.{option_or};
@@ -11,6 +11,16 @@ ghost use Rattle.bk_record.specs.Scan.{Payloads, Ledgers, scan_of, live};
 ghost use Rattle.bk_store.specs.Entries.{Bytes, Places, IsIndexOf};
 ghost use Rattle.bk_store.specs.Carried.{Cached, Carries};
 ghost use Rattle.bk_store.specs.Shown.{Shows};
+ghost use Rattle.bk_store.specs.State.{State};
+ghost use Rattle.bk_store.specs.Turns.{AddTurn, TakeTurn, SwapTurn};
+ghost use Rattle.bk_store.specs.Plain.{Plain, PlainAdd, PlainTake, after_swap, Agrees, IsKept};
+ghost use Rattle.bk_store.specs.declared.answer.Added.{Added};
+ghost use Rattle.bk_store.specs.declared.answer.AddFault.{AddFault};
+ghost use Rattle.bk_store.specs.declared.answer.Taken.{Taken};
+ghost use Rattle.bk_store.specs.declared.answer.TakeFault.{TakeFault};
+ghost use Rattle.bk_store.specs.declared.answer.SwapAnswer.{SwapAnswer};
+
+use bk_disk::LogView;
 
 /// What files, index, write caches and dead ledgers carry is what they mean: in a ledger that lives, what the caches
 /// have of a key, else the payload of its last record in the files; in a dead ledger nothing.
@@ -64,4 +74,22 @@ pub fn deleted_ledger_leaves()
         → ((key : EntryKey) → key.ledger ≡ ledger → left key ≡ None)
         → ((key : EntryKey) → key.ledger ≢ ledger → left key ≡ cached key)
         → Carries bytes (without_ledger index ledger) left (set.insert dead ledger) (without_ledger map ledger) }
+{}
+
+/// An add of a store answers as the plain map does, and leaves them agreeing.
+pub fn add_is_plain()
+    ensures { (s t : State) (p : Plain) (payload : List ℕ) (answer : Result Added AddFault) → IsKept s → IsTrue s.honest → Agrees s p
+        → AddTurn s payload answer t → (q : Plain) × PlainAdd s.caches.limit p payload answer q × Agrees t q }
+{}
+
+/// A take of a store answers as the plain map does: a lease has a view in which the entry stands with what the map has.
+pub fn take_is_plain<V: LogView>()
+    ensures { (s : State) (p : Plain) (key : EntryKey) (answer : Result (Taken V) TakeFault)
+        → IsKept s → IsTrue s.honest → Agrees s p → TakeTurn V.bytes V.honest V.sound s key answer → PlainTake V.bytes V.honest p key answer }
+{}
+
+/// A swap changes nothing of the plain map but which pairs are flushing.
+pub fn swap_is_plain()
+    ensures { (s t : State) (p : Plain) (answer : SwapAnswer) → IsKept s → IsTrue s.honest → Agrees s p
+        → SwapTurn s answer t → Agrees t (after_swap answer p) }
 {}

@@ -6,6 +6,7 @@
 
 ghost use Rattle.std.specs.Prelude.{◌≡◌, Some, option_map};
 ghost use Rattle.std.specs.FinMap as map;
+ghost use Rattle.bk_store.specs.Plain.{IsKept};
 ghost use Rattle.bk_store.specs.Turns.{AddTurn, TakeTurn, SwapTurn};
 
 use crate::fields::Fields;
@@ -60,6 +61,13 @@ impl<D: LogDisk> Store<D> {
         ensures { SwapTurn self.old result self.new }
     {
         self.fields.swap()
+    }
+
+    /// Does nothing: what any store keeps.
+    pub fn promise(&self)
+        ensures { IsKept self.now }
+    {
+        let _ = &self.fields;
     }
 
     /// The state of a log, `None` where no such log is held.

@@ -1,0 +1,178 @@
+-- A store that keeps its promise beside an honest disk answers as the plain map does.
+use Rattle.std.proofs.Common.{◌≡◌, ◌≢◌, ◌⊎◌, inl, inr, ℕ, List, Bool, Option, Some, None, IsSome, [], length, ◌+◌, ◌<◌, true, false, cond, IsTrue, Result, Ok, Err, is_some, ◌||◌, refl, sym, ap, subst, ◌∙◌, unwrap_or}
+use Rattle.std.specs.Option.{option_or, option_map_or}
+use Rattle.std.specs.FinMap as finite
+use Rattle.std.specs.FinSet as set
+use Rattle.bk_record.specs.Key.{EntryKey}
+use Rattle.bk_record.specs.Location.{Place}
+use Rattle.bk_record.specs.Files.{Files, file_of, records_of, In}
+use Rattle.bk_record.specs.Scan.{Payloads, scan_of}
+use Rattle.bk_record.proofs.Keys.{key_cmp_total, key_cmp_antisymmetric}
+use Rattle.bk_cache.specs.Caches as caches
+use Rattle.bk_cache.specs.Recents.{recent_of}
+use Rattle.bk_store.specs.Entries.{HasEntry}
+use Rattle.bk_store.specs.Carried.{Carries}
+use Rattle.bk_store.specs.Logs.{Log, View, view_of, is_open, open_parts, published_part}
+use Rattle.bk_store.specs.State.{State, Parts}
+use Rattle.bk_store.specs.Meaning.{written_at, cached_at, holds}
+use Rattle.bk_store.specs.Kept.{Keeps, Promises}
+use Rattle.bk_store.specs.Turns.{AddTurn, TakeTurn, SwapTurn, IsOpenView}
+use Rattle.bk_store.specs.Plain.{Plain, IsLive, IsNew, PlainAdd, PlainTake, IsLeaseOn, after_swap, told_at, Means, Agrees}
+use Rattle.bk_store.specs.declared.answer.Added.{Added}
+use Rattle.bk_store.specs.declared.answer.Added.TheVariants.{Accepted, Held}
+use Rattle.bk_store.specs.declared.answer.AddFault.{AddFault}
+use Rattle.bk_store.specs.declared.answer.AddFault.TheVariants as add_faults
+use Rattle.bk_store.specs.declared.answer.Taken.{Taken}
+use Rattle.bk_store.specs.declared.answer.Taken.TheVariants.{Deleted, Cached, NotHeld, Leased}
+use Rattle.bk_store.specs.declared.answer.TakeFault.{TakeFault}
+use Rattle.bk_store.specs.declared.answer.TakeFault.TheVariants as take_faults
+use Rattle.bk_store.specs.declared.answer.SwapAnswer.{SwapAnswer}
+use Rattle.bk_store.specs.declared.answer.SwapAnswer.TheVariants.{Running, Nothing, Swapped}
+use Rattle.bk_store.proofs.Cases.{some_or_none, some_value}
+use Rattle.bk_store.proofs.PlaceOrder.{one_payload}
+use Rattle.bk_store.proofs.Meaning.{carries_meaning, unheld_unmapped, held_exactly}
+use Rattle.bk_store.proofs.CachedMoves.{carries_same_cached}
+use Rattle.bk_store.proofs.KeptAdd as added
+use Rattle.bk_store.proofs.KeptSwap as swapped
+
+-- ---- the map that a store carries is the plain one
+
+module _ (s : State) (p : Plain) (agrees : Agrees s p) where
+  told_is : (key : EntryKey) → told_at p key ≡ written_at s key
+  told_is key = sym ((λ i. option_or (finite.get (agrees.active i) key) (finite.get (unwrap_or (agrees.flush i) finite.empty) key)))
+
+  pub same_map : (promise : Payloads) → Carries (file_of s.files) s.index (written_at s) s.dead promise → p.map ≡ promise
+  same_map carried carries = finite.same_map key_cmp_total key_cmp_antisymmetric p.map carried (λ key.
+      agrees.meaning key
+      ∙ (λ i. cond (set.contains (sym agrees.dead i) key.ledger) None (option_or (told_is key i) (finite.get (scan_of s.files) key)))
+      ∙ sym (carries_meaning s.files carries key))
+
+  pub plain_carries : (carried : Payloads) → Carries (file_of s.files) s.index (written_at s) s.dead carried
+      → Carries (file_of s.files) s.index (written_at s) s.dead p.map
+  plain_carries carried carries = subst (Carries (file_of s.files) s.index (written_at s) s.dead) (sym (same_map carried carries)) carries
+
+-- a store that carries the plain map agrees with it
+pub agrees_of : (s : State) (p : Plain) → Carries (file_of s.files) s.index (written_at s) s.dead p.map
+    → s.dead ≡ p.dead → s.caches.active ≡ p.active → s.caches.flush ≡ p.flush → Agrees s p
+agrees_of s p carries dead active flush = record {
+  meaning = λ key. carries_meaning s.files carries key
+      ∙ (λ i. cond (set.contains (dead i) key.ledger) None
+      (option_or (option_or (finite.get (active i) key) (finite.get (unwrap_or (flush i) finite.empty) key)) (finite.get (scan_of s.files) key)));
+  dead = dead;
+  active = active;
+  flush = flush;
+}
+
+agrees_same : {s t : State} {p : Plain} → Agrees s p → t ≡ s → Agrees t p
+agrees_same {p = p} agrees same = subst (λ x. Agrees x p) (sym same) agrees
+
+-- ---- the answers
+
+module _ (parts : Parts) (keeps : Keeps parts) (promise : Promises parts) (p : Plain) (agrees : Agrees parts.state p) where
+  abbrev s : State
+  s = parts.state
+
+  carries : Carries (file_of s.files) s.index (written_at s) s.dead p.map
+  carries = plain_carries s p agrees promise.carried promise.carries
+
+  is_carried : p.map ≡ promise.carried
+  is_carried = same_map s p agrees promise.carried promise.carries
+
+  mapped_is : (key : EntryKey) → is_some (finite.get p.map key) ≡ holds s key
+  mapped_is key = held_exactly carries key
+
+  missing : (key : EntryKey) → holds s key ≡ false → finite.get p.map key ≡ None
+  missing key not = elim (some_or_none (finite.get p.map key)) [
+    | inl none ↦ none
+    | inr there ↦ absurd (let wrong : true ≡ false = sym (ap is_some there.1) ∙ mapped_is key ∙ not in cc)
+  ]
+
+  lives_in : (key : EntryKey) (b : Bool) → set.contains s.dead key.ledger ≡ b → set.contains p.dead key.ledger ≡ b
+  lives_in key b is = ap (λ d. set.contains d key.ledger) (sym agrees.dead) ∙ is
+
+  pub plain_add : (t : State) (payload : List ℕ) (r : Result Added AddFault) → AddTurn s payload r t
+      → (q : Plain) × PlainAdd s.caches.limit p payload r q × Agrees t q
+  plain_add t payload (Err (add_faults.Bad fault)) turn = (p, (turn.0, refl), agrees_same agrees turn.1)
+  plain_add t payload (Err add_faults.Deleted) turn = (p, (turn.0, turn.1, lives_in turn.0 true turn.2, refl), agrees_same agrees turn.3)
+  plain_add t payload (Ok Held) turn =
+      let asks = turn.0 in
+      (p, (asks.key, record { reads = asks.reads; lives = lives_in asks.key false asks.lives }, mapped_is asks.key ∙ asks.held, refl), agrees_same agrees turn.1)
+  plain_add t payload (Err (add_faults.Full used most)) turn =
+      let asks = turn.0 in
+      let new : IsNew p payload asks.key = record { live = record { reads = asks.reads; lives = lives_in asks.key false asks.lives }; missing = missing asks.key asks.held } in (
+        p,
+        (asks.key, new, subst (λ a. s.caches.limit < caches.used_of a + length payload) agrees.active turn.1, turn.2 ∙ ap caches.used_of agrees.active, turn.3, refl),
+        agrees_same agrees turn.4,
+      )
+  plain_add t payload (Err add_faults.Memory) turn =
+      let asks = turn.0 in
+      let new : IsNew p payload asks.key = record { live = record { reads = asks.reads; lives = lives_in asks.key false asks.lives }; missing = missing asks.key asks.held } in
+      (p, (asks.key, new, subst (λ a. ¬ (s.caches.limit < caches.used_of a + length payload)) agrees.active turn.1, refl), agrees_same agrees turn.2)
+  plain_add t payload (Ok Accepted) turn =
+      let asks = turn.0 in
+      let new : IsNew p payload asks.key = record { live = record { reads = asks.reads; lives = lives_in asks.key false asks.lives }; missing = missing asks.key asks.held } in
+      let q : Plain = record p { map = finite.insert p.map asks.key payload; active = finite.insert p.active asks.key payload } in
+      let after = added.carries_accepted parts payload asks.key asks.reads keeps asks.lives asks.held carries in (
+        q,
+        (asks.key, new, subst (λ a. ¬ (s.caches.limit < caches.used_of a + length payload)) agrees.active turn.1, refl),
+        agrees_same (agrees_of (record s { caches = caches.with_added s.caches payload }) q after agrees.dead
+            ((λ i. finite.insert (agrees.active i) (added.is_key parts payload asks.key asks.reads keeps asks.lives asks.held i) payload)) agrees.flush) turn.2,
+      )
+
+  -- what a read finds in memory is the map's
+  cached_mapped : (key : EntryKey) (payload : List ℕ) → cached_at s key ≡ Some payload → finite.get p.map key ≡ Some payload
+  cached_mapped key payload is =
+      elim (written_at s key) as (λ o. written_at s key ≡ o → option_or o (recent_of s.caches.recent key) ≡ Some payload → finite.get p.map key ≡ Some payload) [
+        | Some b ↦ λ written same. carries.cached_is key b written ∙ same
+        | None ↦ λ _ recent. ap (λ m. finite.get m key) is_carried ∙ promise.recent key payload recent
+      ] refl is
+
+  uncached : (key : EntryKey) → cached_at s key ≡ None → written_at s key ≡ None
+  uncached key none =
+      elim (written_at s key) as (λ o. option_or o (recent_of s.caches.recent key) ≡ None → o ≡ None) [
+        | Some b ↦ λ wrong. cc
+        | None ↦ λ _. refl
+      ] none
+
+  indexed_mapped : (key : EntryKey) (place : Place) → finite.get s.index key ≡ Some place → IsSome (finite.get p.map key)
+  indexed_mapped key place named = ap is_some (carries.indexed key place named).mapped
+
+  -- the view of an open log has the entry of a key that the index sends there, with what the map has
+  shown_at : (key : EntryKey) (place : Place) (view : View) → finite.get s.index key ≡ Some place → IsOpenView s place.log view
+      → (payload : List ℕ) × (finite.get p.map key ≡ Some payload) × IsTrue view.is_honest × HasEntry (λ _. view.bytes) place key payload
+  shown_at key place view named opened =
+      let entry = carries.indexed key place named in
+      let shown = promise.shows.shown key place named in
+      let same : shown.0 ≡ entry.payload = one_payload (promise.shows.stands place key shown.0 shown.1) entry.stands in
+      let part : open_parts s.logs place.log ≡ view.bytes =
+      ap (λ o. option_map_or (λ log. cond (is_open log.state) (published_part log) []) o []) opened.held
+      ∙ (λ i. cond (opened.opened i) (published_part opened.log) []) ∙ ap (λ o. option_map_or (λ v. v.bytes) o []) opened.view_is in (
+        shown.0,
+        entry.mapped ∙ ap Some (sym same),
+        (promise.backed place.log opened.log opened.held).honest view opened.view_is,
+        record { stands = subst (λ b. In (place.at, shown.0) (records_of b)) part shown.1.stands; keyed = shown.1.keyed },
+      )
+
+  pub plain_take : {V : Type 0} (bytes : V → List ℕ) (honest sound : V → Bool) (key : EntryKey) (r : Result (Taken V) TakeFault)
+      → TakeTurn bytes honest sound s key r → PlainTake bytes honest p key r
+  plain_take bytes honest sound key (Ok Deleted) turn = lives_in key true turn
+  plain_take bytes honest sound key (Ok (Cached payload)) turn = (lives_in key false turn.0, cached_mapped key payload.value.items turn.1)
+  plain_take bytes honest sound key (Ok NotHeld) turn = (lives_in key false turn.0, unheld_unmapped carries key (uncached key turn.1) turn.2)
+  plain_take bytes honest sound key (Ok (Leased lease place)) turn =
+      let shown = shown_at key place (view_of bytes honest sound lease.view.value) turn.2 turn.4 in
+      (lives_in key false turn.0, (shown.0, shown.1, record { log = turn.3; honest_is = shown.2; shown = shown.3 }))
+  plain_take bytes honest sound key (Err take_faults.Memory) turn = (
+    lives_in key false turn.0,
+    elim turn.1 [
+      | inl cached ↦ let found = some_value (cached_at s key) cached in ap is_some (cached_mapped key found.0 found.1)
+      | inr named ↦ let found = some_value (finite.get s.index key) named in indexed_mapped key found.0 found.1
+    ],
+  )
+
+  pub plain_swap : (t : State) (r : SwapAnswer) → SwapTurn s r t → Agrees t (after_swap r p)
+  plain_swap t Running turn = agrees_same agrees turn.1
+  plain_swap t Nothing turn = agrees_same agrees turn.2
+  plain_swap t (Swapped n) turn =
+      let after : State = record s { caches = record s.caches { active = finite.empty; flush = Some s.caches.active } } in
+      agrees_same (agrees_of after (after_swap (Swapped n) p) (carries_same_cached carries (written_at after) (swapped.same_cached parts keeps turn.0))
+      agrees.dead refl (ap Some agrees.active)) turn.3

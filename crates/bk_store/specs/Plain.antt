@@ -1,0 +1,106 @@
+-- The plain map: what a store of entries answers that knows no log, no flush and no place.
+use Rattle.std.specs.Prelude.{◌≡◌, ℕ, ◌+◌, ◌<◌, Bool, true, false, if◌then◌else◌, List, length, Option, Some, None, IsSome, unwrap_or, Result, Ok, Err, IsTrue}
+use Rattle.std.specs.Option.{option_or}
+use Rattle.std.specs.FinMap as finite
+use Rattle.std.specs.FinSet as set
+use Rattle.bk_record.specs.Key.{EntryKey}
+use Rattle.bk_record.specs.Location.{Place}
+use Rattle.bk_record.specs.Record.{read_added}
+use Rattle.bk_record.specs.Files.{Files}
+use Rattle.bk_record.specs.Scan.{Payloads, Ledgers, scan_of}
+use Rattle.bk_cache.specs.Caches.{used_of}
+use Rattle.bk_store.specs.Entries.{HasEntry}
+use Rattle.bk_store.specs.State.{State, Parts}
+use Rattle.bk_store.specs.Kept.{Keeps}
+use Rattle.bk_store.specs.declared.lease.Lease.{Lease}
+use Rattle.bk_store.specs.declared.answer.Added.{Added}
+use Rattle.bk_store.specs.declared.answer.Added.TheVariants.{Accepted, Held}
+use Rattle.bk_store.specs.declared.answer.AddFault.{AddFault}
+use Rattle.bk_store.specs.declared.answer.AddFault.TheVariants as add_faults
+use Rattle.bk_store.specs.declared.answer.Taken.{Taken}
+use Rattle.bk_store.specs.declared.answer.Taken.TheVariants.{Deleted, Cached, NotHeld, Leased}
+use Rattle.bk_store.specs.declared.answer.TakeFault.{TakeFault}
+use Rattle.bk_store.specs.declared.answer.TakeFault.TheVariants as take_faults
+use Rattle.bk_store.specs.declared.answer.SwapAnswer.{SwapAnswer}
+use Rattle.bk_store.specs.declared.answer.SwapAnswer.TheVariants.{Running, Nothing, Swapped}
+
+-- The plain state: the accepted entries of live ledgers, the dead ledgers, and which of the entries are only cached yet, as
+-- the answers tell it.
+pub record Plain : Type 0 where
+  pub map : Payloads
+  pub dead : Ledgers
+  pub active : Payloads
+  pub flush : Option Payloads
+
+-- a payload that may be added, of this key, whose ledger lives
+pub record IsLive (p : Plain) (payload : List ℕ) (key : EntryKey) : Type 0 where
+  pub reads : read_added payload ≡ Ok key
+  pub lives : set.contains p.dead key.ledger ≡ false
+
+-- the same of a key that the map does not have
+pub record IsNew (p : Plain) (payload : List ℕ) (key : EntryKey) : Type 0 where
+  pub live : IsLive p payload key
+  pub missing : finite.get p.map key ≡ None
+
+-- the payload would take the active pairs past this many bytes
+abbrev pub IsOver : ℕ → Plain → List ℕ → Type 0
+IsOver limit p payload = limit < used_of p.active + length payload
+
+-- An add is bad where its payload is, else deleted where its ledger is dead, else held where the map has its key, else full
+-- where there is no room, else accepted, and then the map has it. Want of memory may come in place of an acceptance.
+abbrev pub PlainAdd : ℕ → Plain → List ℕ → Result Added AddFault → Plain → Type 0
+PlainAdd limit p payload (Err (add_faults.Bad fault)) q = (read_added payload ≡ Err fault) × (q ≡ p)
+PlainAdd limit p payload (Err add_faults.Deleted) q = (key : EntryKey) × (read_added payload ≡ Ok key) × (set.contains p.dead key.ledger ≡ true) × (q ≡ p)
+PlainAdd limit p payload (Ok Held) q = (key : EntryKey) × IsLive p payload key × IsSome (finite.get p.map key) × (q ≡ p)
+PlainAdd limit p payload (Err (add_faults.Full used most)) q = (key : EntryKey) × IsNew p payload key × IsOver limit p payload
+    × (used ≡ used_of p.active) × (most ≡ limit) × (q ≡ p)
+PlainAdd limit p payload (Err add_faults.Memory) q = (key : EntryKey) × IsNew p payload key × (¬ (IsOver limit p payload)) × (q ≡ p)
+PlainAdd limit p payload (Ok Accepted) q = (key : EntryKey) × IsNew p payload key × (¬ (IsOver limit p payload))
+    × (q ≡ record p { map = finite.insert p.map key payload; active = finite.insert p.active key payload })
+
+-- a lease on an entry: on the log of its place, with a view that shows what the log held and has the entry there
+pub record IsLeaseOn {V : Type 0} (bytes : V → List ℕ) (honest : V → Bool) (lease : Lease V) (place : Place) (key : EntryKey) (payload : List ℕ) : Type 0 where
+  pub log : lease.log ≡ place.log
+  pub honest_is : IsTrue (honest lease.view.value)
+  pub shown : HasEntry (λ _. bytes lease.view.value) place key payload
+
+-- A take says that the ledger is dead, or gives the payload that the map has, as bytes or as a lease on it, or says that
+-- there is none. Want of memory may come in place of a payload.
+abbrev pub PlainTake : {V : Type 0} → (V → List ℕ) → (V → Bool) → Plain → EntryKey → Result (Taken V) TakeFault → Type 0
+PlainTake bytes honest p key (Ok Deleted) = set.contains p.dead key.ledger ≡ true
+PlainTake bytes honest p key (Ok (Cached payload)) = (set.contains p.dead key.ledger ≡ false) × (finite.get p.map key ≡ Some payload.value.items)
+PlainTake bytes honest p key (Ok NotHeld) = (set.contains p.dead key.ledger ≡ false) × (finite.get p.map key ≡ None)
+PlainTake bytes honest p key (Ok (Leased lease place)) = (set.contains p.dead key.ledger ≡ false)
+    × ((payload : List ℕ) × (finite.get p.map key ≡ Some payload) × IsLeaseOn bytes honest lease place key payload)
+PlainTake bytes honest p key (Err take_faults.Memory) = (set.contains p.dead key.ledger ≡ false) × IsSome (finite.get p.map key)
+
+-- A swap that is answered so makes the active pairs the flushing ones.
+abbrev pub after_swap : SwapAnswer → Plain → Plain
+after_swap Running p = p
+after_swap Nothing p = p
+after_swap (Swapped n) p = record p { active = finite.empty; flush = Some p.active }
+
+-- ---- a store, beside the plain map
+
+-- what the pairs that are only cached have of a key
+abbrev pub told_at : Plain → EntryKey → Option (List ℕ)
+told_at p key = option_or (finite.get p.active key) (finite.get (unwrap_or p.flush finite.empty) key)
+
+-- The map is what the files mean with the pairs that are only cached: in a ledger that lives, what those pairs have of a
+-- key, else the payload of its last record in the files; in a dead ledger nothing.
+abbrev pub Means : Files → Plain → Type 0
+Means files p = (key : EntryKey)
+    → finite.get p.map key ≡ (if set.contains p.dead key.ledger then None else option_or (told_at p key) (finite.get (scan_of files) key))
+
+-- what holds of a store and the plain map between two calls
+pub record Agrees (s : State) (p : Plain) : Type 0 where
+  pub meaning : Means s.files p
+  pub dead : s.dead ≡ p.dead
+  pub active : s.caches.active ≡ p.active
+  pub flush : s.caches.flush ≡ p.flush
+
+-- the visible state of parts that keep their promise, as those of any store do
+pub record IsKept (s : State) : Type 0 where
+  pub parts : Parts
+  pub seen : parts.state ≡ s
+  pub keeps : Keeps parts
