@@ -14,7 +14,8 @@ skipped_within bytes read at offset size enough shown =
     ∙ drop-take size (length read - (offset + size)) (drop at bytes) ∙ ap (take (length read - (offset + size))) (drop-drop size at bytes)
 
 -- a step past them
-skipped_past : (bytes read : List ℕ) (at offset : ℕ) → offset ≤ length read → drop (offset + (length read - offset)) read ≡ take (length read - (offset + (length read - offset))) (drop at bytes)
+skipped_past : (bytes read : List ℕ) (at offset : ℕ) → offset ≤ length read → drop (offset + (length read - offset)) read ≡ take
+    (length read - (offset + (length read - offset))) (drop at bytes)
 skipped_past bytes read at offset within =
     let all : offset + (length read - offset) ≡ length read = omega arith in
     let none : length read - (offset + (length read - offset)) ≡ 0 = omega arith in

@@ -30,7 +30,8 @@ begins_at bytes n written low high enough =
       is = sym (ap (λ (x : List ℕ). (x ++ take n (drop 4 bytes)) ++ drop (4 + n) bytes) field ∙ split_at bytes n);
     }
 
-ids_of-take : (payload : List ℕ) → 16 ≤ length payload → (ledger_field (take 16 payload) ≡ ledger_field payload) × (entry_field (take 16 payload) ≡ entry_field payload)
+ids_of-take : (payload : List ℕ) → 16 ≤ length payload → (ledger_field (take 16 payload) ≡ ledger_field payload)
+    × (entry_field (take 16 payload) ≡ entry_field payload)
 unfolding ledger_field entry_field
 ids_of-take payload long = (
   ap (from_be_bytes w64) (take-take 8 16 payload (omega arith)),

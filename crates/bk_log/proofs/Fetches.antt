@@ -16,7 +16,15 @@ use Rattle.bk_log.specs.Places.{HasRecordAt, HasEntryAt, FetchFails, missed}
 -- how many bytes of the file a record takes
 pub record_fits : (file payload : List ℕ) (at : ℕ) → HasRecordAt file at payload → at + length payload ≤ length file
 record_fits file payload at here =
-    omega (arith, here.behind_header, here.begins.legal.0, length-drop (at - 4) file, ap length here.begins.is, length-append (record_of payload) here.begins.behind, length-record_of payload)
+    omega (
+      arith,
+      here.behind_header,
+      here.begins.legal.0,
+      length-drop (at - 4) file,
+      ap length here.begins.is,
+      length-append (record_of payload) here.begins.behind,
+      length-record_of payload,
+    )
 
 pub field_in_view : (file payload : List ℕ) (at : ℕ) → HasRecordAt file at payload → IsInView file (at - 4) 4
 field_in_view file payload at here = (omega (arith, here.behind_header), omega (arith, here.behind_header, record_fits file payload at here))
@@ -38,7 +46,8 @@ drop-field file at least = let e : (at - 4) + 4 ≡ at = omega arith in drop-dro
 -- the payload of a record that stands
 pub payload_of : (file payload : List ℕ) (at : ℕ) → HasRecordAt file at payload → take (length payload) (drop at file) ≡ payload
 payload_of file payload at here =
-    ap (take (length payload)) (sym (drop-field file at (omega (arith, here.behind_header))) ∙ ap (drop 4) here.begins.is ∙ drop_field payload here.begins.behind)
+    ap (take (length payload)) (sym (drop-field file at (omega (arith, here.behind_header))) ∙ ap (drop 4) here.begins.is
+    ∙ drop_field payload here.begins.behind)
     ∙ take_at payload here.begins.behind (length payload) refl
 
 -- where the field and the payload are those of a record, it stands
@@ -68,7 +77,8 @@ long_as file payload at from n read here =
 
 -- a read that a record of the key would need, and that is refused
 pub fetch_refused : (file : List ℕ) (at from n : ℕ) (key : EntryKey) (fault : ReadFault)
-    → ReadFails file from n fault → ((payload : List ℕ) → HasEntryAt file at key payload → IsInView file from n) → (IsInView file from n → IsInView file (at - 4) 4)
+    → ReadFails file from n fault → ((payload : List ℕ) → HasEntryAt file at key payload → IsInView file from n)
+    → (IsInView file from n → IsInView file (at - 4) 4)
     → FetchFails file at key (missed fault)
 fetch_refused file at from n key Disk shows needs field = tt
 fetch_refused file at from n key PastEnd shows needs field = λ payload here. shows (needs payload here)
@@ -98,7 +108,8 @@ pub fetch_other_key : (file payload : List ℕ) (at from n : ℕ) (key : EntryKe
     → ¬ (key_of payload ≡ Some key) → (other : List ℕ) → ¬ (HasEntryAt file at key other)
 fetch_other_key file payload at from n key read same differs other here =
     let long = long_as file other at from n read here.here in
-    differs (ap key_of (same ∙ ap (λ a. take n (drop a file)) read.place ∙ ap (λ m. take m (drop at file)) long ∙ payload_of file other at here.here) ∙ here.keyed)
+    differs (ap key_of (same ∙ ap (λ a. take n (drop a file)) read.place ∙ ap (λ m. take m (drop at file)) long ∙ payload_of file other at here.here)
+    ∙ here.keyed)
 
 -- the payload that was asked for
 pub fetch_found : (file payload : List ℕ) (at from n : ℕ) (key : EntryKey) → 1028 ≤ at → FieldRead file at from n → (16 ≤ n) × (n < 2 ^ 31)

@@ -34,5 +34,6 @@ grown-nothing files log file stands =
     grown-stands files log file [] stands ∙ ap (insert files log) (append-nil file) ∙ insert_same files log file stands
 
 -- a log that stands is patched
-pub patched-stands : (files : Files) (log : ℕ) (file bytes : List ℕ) → IsFile files log file → patched files log bytes ≡ insert files log (patched_file file bytes)
+pub patched-stands : (files : Files) (log : ℕ) (file bytes : List ℕ) → IsFile files log file
+    → patched files log bytes ≡ insert files log (patched_file file bytes)
 patched-stands files log file bytes stands = ap (λ o. option_map_or (λ f. insert files log (patched_file f bytes)) o files) stands

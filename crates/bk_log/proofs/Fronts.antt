@@ -1,5 +1,6 @@
 -- What stands at the front of bytes, told from what the first of them say.
-use Rattle.std.proofs.Common.{◌≡◌, ◌⊎◌, inl, inr, ℕ, suc, ◌+◌, ◌-◌, ◌<◌, ◌≤◌, ◌^◌, ℤ, pos, negsuc, ◌<ℤ◌, Bool, cond, List, [], ◌∷◌, length, take, drop, min, Option, refl, sym, ap, ◌∙◌, subst, arith, length-drop}
+use Rattle.std.proofs.Common.{◌≡◌, ◌⊎◌, inl, inr, ℕ, suc, ◌+◌, ◌-◌, ◌<◌, ◌≤◌, ◌^◌, ℤ, pos, negsuc, ◌<ℤ◌, Bool, cond, List, [], ◌∷◌, length, take, drop, min}
+use Rattle.std.proofs.Common.{Option, refl, sym, ap, ◌∙◌, subst, arith, length-drop}
 use Rattle.std.proofs.Math.Decide.{dec_le}
 use Rattle.std.proofs.lemmas.List.{take-take, drop-take, length-take}
 use Rattle.std.proofs.lemmas.Int.{ints, of_z-to_z, to_z_pos}
@@ -32,7 +33,8 @@ rest_cut bytes head n is four read low high less =
 -- a length that is below 16 or negative, as a signed number
 signed_below : (n : ℕ) → n < 2 ^ 32 → (n < 16) ⊎ (2 ^ 31 ≤ n) → cast_signed w32 n <ℤ pos 16
 signed_below n fits (inl few) = subst (λ (v : ℤ). v <ℤ pos 16) (sym (to_z_pos w32 n (omega arith))) (omega (arith, ints))
-signed_below n fits (inr high) = subst (λ (v : ℤ). v <ℤ pos 16) (sym (ap (λ (b : Bool). cond b (pos n) (negsuc (2 ^ 32 - suc n))) (le-ltb _ _ high))) (record { lt = tt })
+signed_below n fits (inr high) = subst (λ (v : ℤ). v <ℤ pos 16) (sym (ap (λ (b : Bool). cond b (pos n) (negsuc (2 ^ 32 - suc n))) (le-ltb _ _ high)))
+    (record { lt = tt })
 
 bad_number : (n : ℕ) → ¬ ((16 ≤ n) × (n < 2 ^ 31)) → (n < 16) ⊎ (2 ^ 31 ≤ n)
 bad_number n bad = elim (dec_le 16 n) [
@@ -43,13 +45,22 @@ bad_number n bad = elim (dec_le 16 n) [
 -- a length that no record has
 pub bad_shown : (bytes head : List ℕ) (n : ℕ) (value : ℤ) → head ≡ take 20 bytes → 4 ≤ length bytes → n ≡ length_field head → n < 2 ^ 32
     → ¬ ((16 ≤ n) × (n < 2 ^ 31)) → value ≡ cast_signed w32 n
-    → (4 ≤ length bytes) × ((cast_signed w32 (cast_unsigned w32 value) ≡ signed_field bytes) × ((cast_signed w32 (cast_unsigned w32 value) <ℤ pos 16) × (length_field bytes < 2 ^ 32)))
+    → (4 ≤ length bytes) × ((cast_signed w32 (cast_unsigned w32 value) ≡ signed_field bytes)
+    × ((cast_signed w32 (cast_unsigned w32 value) <ℤ pos 16) × (length_field bytes < 2 ^ 32)))
 unfolding signed_field length_field
 bad_shown bytes head n value is four read fits bad said =
     let signed : cast_signed w32 (cast_unsigned w32 value) ≡ cast_signed w32 n =
     ap (λ (v : ℤ). cast_signed w32 (cast_unsigned w32 v)) said ∙ ap (cast_signed w32) (of_z-to_z w32 n fits) in
-    let field = field_shown bytes head n is four read in
-    (four, (signed ∙ ap (cast_signed w32) field, (subst (λ (v : ℤ). v <ℤ pos 16) (sym signed) (signed_below n fits (bad_number n bad)), subst (λ k. k < 2 ^ 32) field fits)))
+    let field = field_shown bytes head n is four read in (
+      four,
+      (
+        signed ∙ ap (cast_signed w32) field,
+        (
+          subst (λ (v : ℤ). v <ℤ pos 16) (sym signed) (signed_below n fits (bad_number n bad)),
+          subst (λ k. k < 2 ^ 32) field fits,
+        ),
+      ),
+    )
 
 -- a whole record, and its key from the ids that are shown
 pub record_shown : (bytes head ids : List ℕ) (n : ℕ) (key : Option EntryKey) → head ≡ take 20 bytes → to_be_bytes w32 n ≡ take 4 head → 16 ≤ n → n < 2 ^ 31

@@ -1,5 +1,6 @@
 -- Calls that write a log leave the other logs, and put records only behind those of the log.
-use Rattle.std.proofs.Common.{◌≡◌, ◌⊎◌, inl, inr, ℕ, ◌+◌, ◌-◌, ◌≤◌, Bool, true, false, cond, List, [], ◌∷◌, ◌++◌, length, take, drop, Option, Some, None, IsNone, is_some, Result, Ok, Err, nat_cmp, unwrap_or, refl, sym, ap, ◌∙◌, subst, arith, length-append, append_assoc}
+use Rattle.std.proofs.Common.{◌≡◌, ◌⊎◌, inl, inr, ℕ, ◌+◌, ◌-◌, ◌≤◌, Bool, true, false, cond, List, [], ◌∷◌, ◌++◌, length, take, drop, Option, Some, None}
+use Rattle.std.proofs.Common.{IsNone, is_some, Result, Ok, Err, nat_cmp, unwrap_or, refl, sym, ap, ◌∙◌, subst, arith, length-append, append_assoc}
 use Rattle.std.proofs.lemmas.Bool.{le-leb}
 use Rattle.std.proofs.lemmas.List.{append-nil, drop-drop, length-drop, drop-append-le, length-take, length-take-le}
 use Rattle.std.proofs.lemmas.Slice.{drop-append-drop}
@@ -73,7 +74,8 @@ pub file_at : (files : Files) (log : ℕ) (file : List ℕ) → IsFile files log
 file_at files log file is = ap (λ o. unwrap_or o []) is
 
 -- one log's file changed
-pub gains_file : (files files' : Files) (log : ℕ) (file file' : List ℕ) (others : List (ℕ × List ℕ)) → file_of files log ≡ file → files' ≡ insert files log file'
+pub gains_file : (files files' : Files) (log : ℕ) (file file' : List ℕ) (others : List (ℕ × List ℕ)) → file_of files log ≡ file
+    → files' ≡ insert files log file'
     → records_of file' ≡ records_of file ++ others → IsLonger file file' → Gains files log others files'
 gains_file files files' log file file' others was is records longer =
     let stands : IsFile files' log file' = ap (λ m. get m log) is ∙ stands-insert files log file' in
@@ -81,10 +83,11 @@ gains_file files files' log file file' others was is records longer =
     let grown_file : IsLonger (file_of files log) (file_of files' log) =
     subst (λ f. IsLonger f (file_of files' log)) (sym was) (subst (λ f. IsLonger file f) (sym now) longer) in
     record {
-      only = λ id apart. ap (λ m. get m id) is ∙ elim (eq_by_cmp nat_cmp id log) as (λ b. eq_by_cmp nat_cmp id log ≡ b → get (insert files log file') id ≡ get files id) [
-        | true ↦ λ here. absurd (apart (tells_apart exact_unsigned id log here))
-        | false ↦ λ other. get-insert nat_cmp_total files log file' id ∙ ap (λ b. cond b (Some file') (get files id)) other
-      ] refl;
+      only = λ id apart. ap (λ m. get m id) is ∙ elim (eq_by_cmp nat_cmp id log) as
+          (λ b. eq_by_cmp nat_cmp id log ≡ b → get (insert files log file') id ≡ get files id) [
+            | true ↦ λ here. absurd (apart (tells_apart exact_unsigned id log here))
+            | false ↦ λ other. get-insert nat_cmp_total files log file' id ∙ ap (λ b. cond b (Some file') (get files id)) other
+          ] refl;
       stands = λ there. ap is_some stands;
       records = ap records_of now ∙ records ∙ ap (λ f. records_of f ++ others) (sym was);
       longer = grown_file;
@@ -97,13 +100,15 @@ none_value : {X : Type 0} (o : Option X) → IsNone o → o ≡ None
 none_value None is = refl
 none_value (Some x) is = cc
 
-gains_made : (files files' : Files) (log : ℕ) (bytes : List ℕ) → IsNone (get files log) → files' ≡ insert files log bytes → length bytes ≤ 1024 → Gains files log [] files'
+gains_made : (files files' : Files) (log : ℕ) (bytes : List ℕ) → IsNone (get files log) → files' ≡ insert files log bytes → length bytes ≤ 1024
+    → Gains files log [] files'
 gains_made files files' log bytes none is short =
     gains_file files files' log [] bytes [] (ap (λ o. unwrap_or o []) (none_value (get files log) none)) is
     (records_of-short bytes short ∙ sym (ap (λ l. l ++ []) (records_of-short [] (omega arith)))) (longer_empty bytes)
 
 create_fault : (files files' : Files) (log : ℕ) (made : Bool) (fault : LogFault) → CreateFails files log made fault files' → Gains files log [] files'
-create_fault files files' log true Disk (none, (n, is)) = gains_made files files' log (take n empty_header) none is (omega (arith, length-take n empty_header, length-empty_header))
+create_fault files files' log true Disk (none, (n, is)) = gains_made files files' log (take n empty_header) none is
+    (omega (arith, length-take n empty_header, length-empty_header))
 create_fault files files' log true Memory (none, is) = gains_made files files' log [] none is (omega arith)
 create_fault files files' log true Odd never = absurd never
 create_fault files files' log true Failed never = absurd never
@@ -112,7 +117,8 @@ create_fault files files' log false Memory is = gains_same files files' log is.1
 create_fault files files' log false Odd is = gains_same files files' log is.1
 create_fault files files' log false Failed never = absurd never
 
-pub create_gains : {W : Type 0} (files files' : Files) (log : ℕ) (result : Result W CreateFault) → CreateTurn files log result files' → Gains files log [] files'
+pub create_gains : {W : Type 0} (files files' : Files) (log : ℕ) (result : Result W CreateFault) → CreateTurn files log result files'
+    → Gains files log [] files'
 create_gains files files' log (Ok w) (none, is) = gains_made files files' log empty_header none is (omega (arith, length-empty_header))
 create_gains files files' log (Err f) fails = create_fault files files' log f.made f.fault fails
 
@@ -126,14 +132,16 @@ put_whole files files' w payload writes legal is =
     (records_of-record writes.file payload (whole_of files w writes) legal ∙ ap (λ n. records_of writes.file ++ (n + 4, payload) ∷ []) (sym writes.long))
     (longer_append writes.file (record_of payload))
 
-put_part : (files files' : Files) (w : Writing) (payload : List ℕ) (n : ℕ) → Writes files w → IsPayload payload → files' ≡ grown files w.log (take n (record_of payload))
+put_part : (files files' : Files) (w : Writing) (payload : List ℕ) (n : ℕ) → Writes files w → IsPayload payload
+    → files' ≡ grown files w.log (take n (record_of payload))
     → Gains files w.log (put_record w payload) files' ⊎ Gains files w.log [] files'
 put_part files files' w payload n writes legal is =
     let piece = take n (record_of payload) in
     let grew = is ∙ grown-stands files w.log writes.file piece writes.stands in
     let was = file_at files w.log writes.file writes.stands in
     elim (records_of-prefix writes.file payload n (whole_of files w writes) legal) [
-      | inl none ↦ inr (gains_file files files' w.log writes.file (writes.file ++ piece) [] was grew (none ∙ sym (append-nil (records_of writes.file))) (longer_append writes.file piece))
+      | inl none ↦ inr (gains_file files files' w.log writes.file (writes.file ++ piece) [] was grew (none ∙ sym (append-nil (records_of writes.file)))
+          (longer_append writes.file piece))
       | inr one ↦ inl (gains_file files files' w.log writes.file (writes.file ++ piece) (put_record w payload) was grew
           (one ∙ ap (λ n. records_of writes.file ++ (n + 4, payload) ∷ []) (sym writes.long)) (longer_append writes.file piece))
     ]

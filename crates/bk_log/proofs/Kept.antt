@@ -1,5 +1,6 @@
 -- What a scanner keeps, step by step.
-use Rattle.std.proofs.Common.{◌≡◌, ℕ, ◌+◌, ◌-◌, ◌<◌, ◌≤◌, ◌^◌, ◌*◌, ℤ, Bool, true, false, cond, not, List, ◌++◌, length, take, drop, append_assoc, Option, Some, None, IsTrue, is_none, is_some, refl, sym, ap, ◌∙◌, subst, arith}
+use Rattle.std.proofs.Common.{◌≡◌, ℕ, ◌+◌, ◌-◌, ◌<◌, ◌≤◌, ◌^◌, ◌*◌, ℤ, Bool, true, false, cond, not, List, ◌++◌, length, take, drop, append_assoc, Option, Some}
+use Rattle.std.proofs.Common.{None, IsTrue, is_none, is_some, refl, sym, ap, ◌∙◌, subst, arith}
 use Rattle.std.proofs.lemmas.Bool.{false≢true, and_parts}
 use Rattle.std.proofs.lemmas.List.{drop-drop, drop-take, take-append-drop}
 use Rattle.std.proofs.lemmas.Int.{of_z-to_z}
@@ -44,7 +45,8 @@ left_in_view window from end given foreign torn ended fault kept honest =
 
 -- a window that looked, and moved on
 pub skipped_window : (window looked moved : Ahead) (size : ℕ) → looked ≡ record window { ready = looked.ready }
-    → moved ≡ record looked { at = looked.at + size; ready = looked.ready - size } → moved ≡ record window { at = window.at + size; ready = looked.ready - size }
+    → moved ≡ record looked { at = looked.at + size; ready = looked.ready - size }
+    → moved ≡ record window { at = window.at + size; ready = looked.ready - size }
 skipped_window window looked moved size kept step = step ∙ ap (λ (w : Ahead). record w { at = w.at + size; ready = looked.ready - size }) kept
 
 -- a scan that goes on has neither ended nor met a fault
@@ -141,7 +143,8 @@ kept_entry window from end given foreign torn size ready ended fault key kept go
     (λ h. let (payload, (begins, (sized, is))) = front h in (payload, (begins, (sized, foreign_some payload key is)))))
 
 -- a record that begins in the part begins in the log
-record_stands : (bytes payload : List ℕ) (at end : ℕ) → header_length ≤ at → BeginsWith (take (end - at) (drop at bytes)) payload → HasRecordAt bytes (at + 4) payload
+record_stands : (bytes payload : List ℕ) (at end : ℕ) → header_length ≤ at → BeginsWith (take (end - at) (drop at bytes)) payload
+    → HasRecordAt bytes (at + 4) payload
 record_stands bytes payload at end headed b =
     let place : at + 4 - 4 ≡ at = omega arith in
     record {
@@ -171,7 +174,8 @@ given_next window from end given foreign torn size ended fault key kept h within
       stands = record { here = record_stands window.bytes payload window.at end (omega (arith, kept.headed, kept.placed.begun)) begins; keyed = sym is };
       sized = sized;
       passed = subst (λ n. IsPassed from bytes n (part window.bytes n end) (given + 1) foreign) place
-          (subst (λ n. IsPassed from bytes (window.at + (4 + length payload)) (part window.bytes (window.at + (4 + length payload)) end) (given + 1) n) none passed);
+          (subst (λ n. IsPassed from bytes (window.at + (4 + length payload)) (part window.bytes (window.at + (4 + length payload)) end) (given + 1) n) none
+          passed);
     }
 
 -- the end was reached
@@ -225,8 +229,10 @@ kept_bad window from end given foreign torn ready value ended fault kept going f
       record {
         passed = passed;
         finished = λ e. absurd (false≢true (sym going ∙ e));
-        stopped = λ f e. subst (ScanFails (scan_of window from end given foreign torn ended (Some (BadLength window.at (cast_signed w32 (cast_unsigned w32 value)))))) (same_some _ _ e)
-            (subst (λ v. ScanFails (scan_of window from end given foreign torn ended (Some (BadLength window.at (cast_signed w32 (cast_unsigned w32 value))))) (BadLength window.at v)) (sym same) (
+        stopped = λ f e. subst (ScanFails (scan_of window from end given foreign torn ended
+            (Some (BadLength window.at (cast_signed w32 (cast_unsigned w32 value)))))) (same_some _ _ e)
+            (subst (λ v. ScanFails (scan_of window from end given foreign torn ended (Some (BadLength window.at (cast_signed w32 (cast_unsigned w32 value)))))
+            (BadLength window.at v)) (sym same) (
               all_given from window.at given foreign bytes left passed (bad_stops left value is below),
               bad_at from window.at given foreign bytes left value passed four is below,
             ));
@@ -241,7 +247,8 @@ fails_here s Odd never = absurd never
 
 -- the view could not be read
 pub kept_fault : (window : Ahead) (from end given foreign torn ready : ℕ) (ended : Bool) (fault : Option ScanFault) (met : ScanFault)
-    → IsKept window from end given foreign torn ended fault → ended ≡ false → (met ≡ Disk → window.sound ≡ false) → (IsTrue window.honest → AheadFails (end - window.at) met)
+    → IsKept window from end given foreign torn ended fault → ended ≡ false → (met ≡ Disk → window.sound ≡ false)
+    → (IsTrue window.honest → AheadFails (end - window.at) met)
     → IsKept (record window { ready = ready }) from end given foreign torn ended (Some met)
 kept_fault window from end given foreign torn ready ended fault met kept going cause fails = record {
   placed = kept.placed;
@@ -251,7 +258,8 @@ kept_fault window from end given foreign torn ready ended fault met kept going c
   scanned = λ h. record {
     passed = (kept.scanned h).passed;
     finished = λ e. absurd (false≢true (sym going ∙ e));
-    stopped = λ f e. subst (ScanFails (scan_of window from end given foreign torn ended (Some met))) (same_some _ _ e) (fails_here (scan_of window from end given foreign torn ended (Some met)) met (fails h));
+    stopped = λ f e. subst (ScanFails (scan_of window from end given foreign torn ended (Some met))) (same_some _ _ e)
+        (fails_here (scan_of window from end given foreign torn ended (Some met)) met (fails h));
   };
 }
 

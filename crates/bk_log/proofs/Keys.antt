@@ -1,5 +1,6 @@
 -- A payload that has a key, and its ledger.
-use Rattle.std.proofs.Common.{◌≡◌, ◌≢◌, ℕ, ◌≤◌, ◌^◌, List, length, Bool, true, false, cond, ◌&&◌, Some, None, Ok, Err, IsSome, IsOk, nat_lt, eqb, eq-eqb, refl, sym, ap, ◌∙◌}
+use Rattle.std.proofs.Common.{◌≡◌, ◌≢◌, ℕ, ◌≤◌, ◌^◌, List, length, Bool, true, false, cond, ◌&&◌, Some, None, Ok, Err, IsSome, IsOk, nat_lt, eqb, eq-eqb, refl}
+use Rattle.std.proofs.Common.{sym, ap, ◌∙◌}
 use Rattle.std.proofs.lemmas.Bool.{false≢true, le-ltb, and_parts, and_from, eqb-true}
 use Rattle.std.specs.Option.{ok_or}
 use Rattle.bk_record.specs.Key.{EntryKey}
@@ -21,11 +22,13 @@ read_key-keyed payload long some = rw (read_key-long payload long)
 pub read_key-ledger : (payload : List ℕ) (key : EntryKey) → read_key payload ≡ Ok key → key.ledger ≡ ledger_field payload
 unfolding read_key key_of
 read_key-ledger payload key is =
-    elim (nat_lt (length payload) 16) as (λ b. cond b (Err (Short (length payload))) (ok_or (key_of payload) Negative) ≡ Ok key → key.ledger ≡ ledger_field payload) [
+    elim (nat_lt (length payload) 16) as (λ b. cond b (Err (Short (length payload))) (ok_or (key_of payload) Negative) ≡ Ok key
+    → key.ledger ≡ ledger_field payload) [
       | true ↦ λ e. cc
       | false ↦ λ e.
           elim (nat_lt (ledger_field payload) (2 ^ 63) && nat_lt (entry_field payload) (2 ^ 63)) as
-          (λ b. ok_or (cond b (Some (record { ledger = ledger_field payload; entry = entry_field payload })) None) Negative ≡ Ok key → key.ledger ≡ ledger_field payload) [
+          (λ b. ok_or (cond b (Some (record { ledger = ledger_field payload; entry = entry_field payload })) None) Negative ≡ Ok key
+          → key.ledger ≡ ledger_field payload) [
             | true ↦ λ h.
                 let read : EntryKey = record { ledger = ledger_field payload; entry = entry_field payload } in
                 let same : read ≡ key = cc in sym (ap (λ k. k.ledger) same)

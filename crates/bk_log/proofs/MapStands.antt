@@ -1,5 +1,6 @@
 -- A sealed log has its map: the header says where, and there stands what the entries' sizes add up to.
-use Rattle.std.proofs.Common.{◌≡◌, ℕ, pos, true, false, cond, not, List, [], ◌∷◌, ◌++◌, length, take, drop, IsSome, OnOk, Result, Ok, Err, unwrap_or, refl, sym, ap, ◌∙◌, subst, arith, length-append, length-drop, append_assoc}
+use Rattle.std.proofs.Common.{◌≡◌, ℕ, pos, true, false, cond, not, List, [], ◌∷◌, ◌++◌, length, take, drop, IsSome, OnOk, Result, Ok, Err, unwrap_or, refl, sym}
+use Rattle.std.proofs.Common.{ap, ◌∙◌, subst, arith, length-append, length-drop, append_assoc}
 use Rattle.std.proofs.lemmas.Bool.{le-leb}
 use Rattle.std.proofs.lemmas.List.{take-append-drop, length-take-le, drop_at}
 use Rattle.std.proofs.lemmas.Slice.{drop-append-drop}
@@ -70,14 +71,30 @@ map_stands files w file writes writable is =
     ap entries_of is ∙ keeps_patch whole (patch_of w.end (len w.sizes)) (length-patch_of w.end (len w.sizes)) long
     ∙ all_entries files w writes writable ∙ entries_put files w writes in
     let sizes : sizes_of (entries_of file) ≡ w.sizes = ap sizes_of entries ∙ sym writes.sized in
-    let twenty : length front ≡ 20 = omega (arith, length-append (take 8 whole) (patch_of w.end (len w.sizes)), length-take-le 8 whole (omega arith), length-patch_of w.end (len w.sizes)) in
+    let twenty : length front ≡ 20 = omega (
+      arith,
+      length-append (take 8 whole) (patch_of w.end (len w.sizes)),
+      length-take-le 8 whole
+          (omega arith),
+      length-patch_of w.end (len w.sizes),
+    ) in
     let behind : drop w.end file ≡ map_bytes w =
     ap (drop w.end) open_is ∙ drop-append-drop 20 whole front w.end (omega (arith, writes.long, text_is_long writes.file writes.records writes.text)) twenty
     ∙ drop_at writes.file (map_bytes w) w.end (sym writes.long) in
     record {
       offset = w.end;
       behind = omega (arith, writes.long, text_is_long writes.file writes.records writes.text);
-      within = omega (arith, writes.long, ap length open_is, length-append front (drop 20 whole), twenty, length-drop 20 whole, length-append writes.file (map_bytes w), long);
+      within = omega (
+        arith,
+        writes.long,
+        ap length open_is,
+        length-append front (drop 20 whole),
+        twenty,
+        length-drop 20 whole,
+        length-append writes.file
+            (map_bytes w),
+        long,
+      );
       header = subst (λ b. IsHeader b (record { version = 1; map_offset = pos w.end; count = pos (len (sizes_of (entries_of file))) })) (sym open_is)
           (subst (λ s. IsHeader (front ++ drop 20 whole) (record { version = 1; map_offset = pos w.end; count = pos (len s) })) (sym sizes)
           (patched_again whole unsealed w.end (len w.sizes) (header-append writes.file (map_bytes w) unsealed (header_put files w writes))));
@@ -85,7 +102,8 @@ map_stands files w file writes writable is =
     }
 
 -- the log that was sealed, where its map fits
-pub sealed_has_map : (files files' : Files) (w now : Writing) → w ≡ now → Writes files now → IsWritable w.sizes → files' ≡ sealed files now → map_fits now ≡ true
+pub sealed_has_map : (files files' : Files) (w now : Writing) → w ≡ now → Writes files now → IsWritable w.sizes → files' ≡ sealed files now
+    → map_fits now ≡ true
     → HasMap (file_of files' now.log)
 sealed_has_map files files' w now same writes writable is fits =
     let writable' = subst (λ (v : Writing). IsWritable v.sizes) same writable in

@@ -25,8 +25,11 @@ body_at at payload (torn t) is = absurd is
 body_at at payload (more {from = from} {payload = first} {behind = behind} legal body) (inl here) =
     let place : from + 4 ≡ at = ap (λ r. r.0) here in
     let none : 0 ≡ at - (from + 4) = omega arith in
-    let begins : BeginsWith (record_of first ++ behind) first = record { legal = legal; behind = behind; is = refl } in
-    (omega arith, subst (λ n. BeginsWith (drop n (record_of first ++ behind)) payload) none (subst (BeginsWith (record_of first ++ behind)) (ap (λ r. r.1) here) begins))
+    let begins : BeginsWith (record_of first ++ behind) first = record { legal = legal; behind = behind; is = refl } in (
+      omega arith,
+      subst (λ n. BeginsWith (drop n (record_of first ++ behind)) payload) none
+          (subst (BeginsWith (record_of first ++ behind)) (ap (λ r. r.1) here) begins),
+    )
 body_at at payload (more {from = from} {payload = first} {behind = behind} legal body) (inr later) =
     let next = body_at at payload body later in
     let size = length-record_of first in

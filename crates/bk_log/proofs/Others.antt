@@ -1,5 +1,6 @@
 -- What sealing writes behind a log's records is foreign or torn, so the log's entries stay.
-use Rattle.std.proofs.Common.{◌≡◌, ℕ, zero, suc, ◌+◌, ◌-◌, ◌<◌, ◌≤◌, Bool, true, false, cond, not, List, [], ◌∷◌, ◌++◌, length, take, drop, Some, nat_cmp, unwrap_or, refl, sym, ap, ◌∙◌, subst, arith, length-append, length-drop}
+use Rattle.std.proofs.Common.{◌≡◌, ℕ, zero, suc, ◌+◌, ◌-◌, ◌<◌, ◌≤◌, Bool, true, false, cond, not, List, [], ◌∷◌, ◌++◌, length, take, drop, Some, nat_cmp}
+use Rattle.std.proofs.Common.{unwrap_or, refl, sym, ap, ◌∙◌, subst, arith, length-append, length-drop}
 use Rattle.std.proofs.Math.Decide.{dec_le}
 use Rattle.std.proofs.lemmas.Bool.{le-leb}
 use Rattle.std.proofs.lemmas.List.{append-nil, length-take-le, take-append-le}
@@ -71,7 +72,8 @@ batches_prefix from (suc n) (Batches.more {pairs = pairs} {behind = behind} batc
           let count : length (record_of payload) + left ≡ suc n = omega arith in
           let cut : record_of payload ++ take left behind ≡ take (suc n) (record_of payload ++ behind) =
           sym (take-append-add (record_of payload) behind left) ∙ ap (λ k. take k (record_of payload ++ behind)) count in
-          subst (Others from) cut (others_more from payload (take left behind) batch.fits (batch_foreign pairs) (batches_prefix (from + 4 + length payload) left batches))
+          subst (Others from) cut (others_more from payload (take left behind) batch.fits (batch_foreign pairs)
+          (batches_prefix (from + 4 + length payload) left batches))
       | no less ↦
           subst (Others from) (sym (take-append-le (suc n) (record_of payload) behind (omega arith))) (others_cut from (suc n) payload batch.fits (omega arith))
     ]
@@ -100,9 +102,11 @@ unfolding entries_of
 keeps_patch file left twelve long = ap (filter is_entry) (records_of-patch file left twelve long)
 
 -- files with one log changed so
-pub keeps_insert : (files : Files) (log : ℕ) (file file' : List ℕ) → IsFile files log file → entries_of file' ≡ entries_of file → KeepsEntries files (insert files log file')
+pub keeps_insert : (files : Files) (log : ℕ) (file file' : List ℕ) → IsFile files log file → entries_of file' ≡ entries_of file
+    → KeepsEntries files (insert files log file')
 keeps_insert files log file file' stands same other =
-    elim (eq_by_cmp nat_cmp other log) as (λ b. eq_by_cmp nat_cmp other log ≡ b → entries_of (file_of (insert files log file') other) ≡ entries_of (file_of files other)) [
+    elim (eq_by_cmp nat_cmp other log) as (λ b. eq_by_cmp nat_cmp other log ≡ b → entries_of (file_of (insert files log file') other) ≡ entries_of
+    (file_of files other)) [
       | true ↦ λ here.
           let is = tells_apart exact_unsigned other log here in
           ap (λ o. entries_of (unwrap_or o [])) (get-insert nat_cmp_total files log file' other ∙ ap (λ b. cond b (Some file') (get files other)) here)

@@ -1,5 +1,6 @@
 -- A scan's position: the records before it, and what the piece that stands there means for the whole part.
-use Rattle.std.proofs.Common.{◌≡◌, ◌⊎◌, inl, inr, ℕ, ◌+◌, ◌≤◌, ℤ, pos, ◌<ℤ◌, Bool, true, false, cond, not, List, [], ◌∷◌, ◌++◌, length, take, drop, Some, slice_get, refl, sym, ap, ◌∙◌, subst, arith, length-append, append_assoc}
+use Rattle.std.proofs.Common.{◌≡◌, ◌⊎◌, inl, inr, ℕ, ◌+◌, ◌≤◌, ℤ, pos, ◌<ℤ◌, Bool, true, false, cond, not, List, [], ◌∷◌, ◌++◌, length, take, drop, Some}
+use Rattle.std.proofs.Common.{slice_get, refl, sym, ap, ◌∙◌, subst, arith, length-append, append_assoc}
 use Rattle.std.proofs.lemmas.List.{append-nil, length-take-le, take-append-drop, drop_at}
 use Rattle.std.proofs.lemmas.List.Elements.{filter-append}
 use Rattle.std.proofs.lemmas.Bool.{false_from_ne_true}
@@ -75,13 +76,16 @@ entry_at from at given foreign bytes left payload p b is =
     let list : all_pieces from bytes ≡ p.records ++ ((at + 4, payload) ∷ all_pieces (at + 4 + length payload) b.behind) =
     all_pieces-passed from at given foreign bytes left p
     ∙ ap (λ x. p.records ++ x) (ap (all_pieces at) b.is ∙ all_pieces-record at payload b.behind b.legal) in
-    let kept : filter is_entry (all_pieces from bytes) ≡ filter is_entry p.records ++ ((at + 4, payload) ∷ filter is_entry (all_pieces (at + 4 + length payload) b.behind)) =
+    let kept : filter is_entry (all_pieces from bytes) ≡ filter is_entry p.records ++
+    ((at + 4, payload) ∷ filter is_entry (all_pieces (at + 4 + length payload) b.behind)) =
     ap (filter is_entry) list ∙ filter-append is_entry p.records _
-    ∙ ap (λ c. filter is_entry p.records ++ cond (not c) ((at + 4, payload) ∷ filter is_entry (all_pieces (at + 4 + length payload) b.behind)) (filter is_entry (all_pieces (at + 4 + length payload) b.behind))) is in
+    ∙ ap (λ c. filter is_entry p.records ++ cond (not c) ((at + 4, payload) ∷ filter is_entry (all_pieces (at + 4 + length payload) b.behind))
+    (filter is_entry (all_pieces (at + 4 + length payload) b.behind))) is in
     ap (λ l. slice_get l given) kept ∙ ap (slice_get _) p.entries ∙ seam (filter is_entry p.records) (at + 4, payload) _
 
 -- a scan that begins at the position goes on with the part's
-pub goes_on : (file : List ℕ) (from end at given foreign : ℕ) → IsPassed from (part file from end) at (part file at end) given foreign → GoesOn file from end at given foreign
+pub goes_on : (file : List ℕ) (from end at given foreign : ℕ) → IsPassed from (part file from end) at (part file at end) given foreign
+    → GoesOn file from end at given foreign
 unfolding entries_in foreign_in
 goes_on file from end at given foreign p =
     let bytes = part file from end in
@@ -91,7 +95,8 @@ goes_on file from end at given foreign p =
       entries = sym (ap (λ l. drop given (filter is_entry l)) list ∙ ap (drop given) (filter-append is_entry p.records (all_pieces at left))
           ∙ drop_at (filter is_entry p.records) (filter is_entry (all_pieces at left)) given (sym p.entries));
       others = ap (λ l. length (filter is_other l)) list ∙ ap length (filter-append is_other p.records (all_pieces at left))
-          ∙ length-append (filter is_other p.records) (filter is_other (all_pieces at left)) ∙ ap (λ n. n + length (filter is_other (all_pieces at left))) (sym p.others);
+          ∙ length-append (filter is_other p.records) (filter is_other (all_pieces at left))
+          ∙ ap (λ n. n + length (filter is_other (all_pieces at left))) (sym p.others);
       rest = sym (all_leftover-passed from at given foreign bytes left p);
       bad = λ place value is. subst (λ b. IsBadAt from b place value) (sym p.split)
           (bad_append left place value p.whole (subst (λ n. IsBadAt n left place value) p.place is));
@@ -113,7 +118,8 @@ pub all_foreign : (from at given foreign : ℕ) (bytes left : List ℕ) → IsPa
 unfolding foreign_in
 all_foreign from at given foreign bytes left p is = p.others ∙ sym (ap (λ l. length (filter is_other l)) (records_all from at given foreign bytes left p is))
 
-pub rest_all : (from at given foreign : ℕ) (bytes left : List ℕ) → IsPassed from bytes at left given foreign → starts_with_record left ≡ false → all_leftover bytes ≡ left
+pub rest_all : (from at given foreign : ℕ) (bytes left : List ℕ) → IsPassed from bytes at left given foreign → starts_with_record left ≡ false
+    → all_leftover bytes ≡ left
 rest_all from at given foreign bytes left p is = all_leftover-passed from at given foreign bytes left p ∙ all_leftover-stop left is
 
 pub rest_stops : (left : List ℕ) → IsTorn left ⊎ (left ≡ []) → starts_with_record left ≡ false

@@ -1,5 +1,6 @@
 -- The records of a part of a log: how many are looked for makes no difference, and those behind whole records follow them.
-use Rattle.std.proofs.Common.{◌≡◌, ℕ, zero, suc, ◌+◌, ◌≤◌, Bool, true, false, cond, not, List, [], ◌∷◌, ◌++◌, length, take, drop, refl, sym, ap, ◌∙◌, arith, length-append, append_assoc, length-drop}
+use Rattle.std.proofs.Common.{◌≡◌, ℕ, zero, suc, ◌+◌, ◌≤◌, Bool, true, false, cond, not, List, [], ◌∷◌, ◌++◌, length, take, drop, refl, sym, ap, ◌∙◌, arith}
+use Rattle.std.proofs.Common.{length-append, append_assoc, length-drop}
 use Rattle.std.proofs.lemmas.List.{take_at}
 use Rattle.std.specs.List.{filter}
 use Rattle.bk_record.specs.Record.{record_of, IsPayload, length_field, is_foreign}
@@ -66,13 +67,15 @@ all_pieces-record from payload behind legal =
     let bytes = record_of payload ++ behind in
     let most = length bytes in
     let list : Bool → ℕ → List (ℕ × List ℕ) = λ b n. cond b ((from + 4, take n (drop 4 bytes)) ∷ pieces most (from + 4 + n) (drop (4 + n) bytes)) [] in
-    let front : take (length payload) (drop 4 bytes) ≡ payload = ap (take (length payload)) (drop_field payload behind) ∙ take_at payload behind (length payload) refl in
+    let front : take (length payload) (drop 4 bytes) ≡ payload = ap (take (length payload)) (drop_field payload behind)
+    ∙ take_at payload behind (length payload) refl in
     pieces-enough most (suc most) from bytes (omega arith) (omega arith)
     ∙ ap (λ (b : Bool). list b (length_field bytes)) (starts-record_of payload behind legal)
     ∙ ap (list true) (length_field-record_of payload behind (omega (arith, legal.1)))
     ∙ ap (λ (p : List ℕ). (from + 4, p) ∷ pieces most (from + 4 + length payload) (drop (4 + length payload) bytes)) front
     ∙ ap (λ (b : List ℕ). (from + 4, payload) ∷ pieces most (from + 4 + length payload) b) (drop_record payload behind)
-    ∙ ap (λ l. (from + 4, payload) ∷ l) (pieces-enough most (length behind) (from + 4 + length payload) behind (omega (arith, length-append (record_of payload) behind)) (omega arith))
+    ∙ ap (λ l. (from + 4, payload) ∷ l) (pieces-enough most (length behind) (from + 4 + length payload) behind
+    (omega (arith, length-append (record_of payload) behind)) (omega arith))
 
 pub all_leftover-record : (payload behind : List ℕ) → IsPayload payload → all_leftover (record_of payload ++ behind) ≡ all_leftover behind
 unfolding leftover_by
@@ -117,11 +120,13 @@ all_leftover-stop bytes is = leftover-stop (length bytes) bytes is
 pub all_pieces-file : (file : List ℕ) → all_pieces header_length (drop header_length file) ≡ records_of file
 unfolding records_of
 all_pieces-file file =
-    pieces-enough (length (drop header_length file)) (length file) header_length (drop header_length file) (omega arith) (omega (arith, length-drop header_length file))
+    pieces-enough (length (drop header_length file)) (length file) header_length (drop header_length file) (omega arith)
+    (omega (arith, length-drop header_length file))
 
 pub all_leftover-file : (file : List ℕ) → all_leftover (drop header_length file) ≡ rest_of file
 unfolding rest_of
-all_leftover-file file = leftover-enough (length (drop header_length file)) (length file) (drop header_length file) (omega arith) (omega (arith, length-drop header_length file))
+all_leftover-file file = leftover-enough (length (drop header_length file)) (length file) (drop header_length file) (omega arith)
+    (omega (arith, length-drop header_length file))
 
 pub entries_in-file : (file : List ℕ) → entries_in header_length (drop header_length file) ≡ entries_of file
 unfolding entries_in entries_of

@@ -1,5 +1,6 @@
 -- A log after it was sealed: its entries stay, and where it was sealed it has its map.
-use Rattle.std.proofs.Common.{◌≡◌, inl, inr, ℕ, ◌≤◌, Bool, true, false, cond, List, ◌++◌, length, take, Result, Ok, Err, refl, sym, ap, ◌∙◌, subst, arith, length-append}
+use Rattle.std.proofs.Common.{◌≡◌, inl, inr, ℕ, ◌≤◌, Bool, true, false, cond, List, ◌++◌, length, take, Result, Ok, Err, refl, sym, ap, ◌∙◌, subst, arith}
+use Rattle.std.proofs.Common.{length-append}
 use Rattle.std.proofs.lemmas.List.{take_all}
 use Rattle.std.specs.FinMap.{insert, len}
 use Rattle.bk_record.specs.Files.{Files, IsWhole}
@@ -26,9 +27,11 @@ mapped_entries : (files : Files) (w : Writing) (n : ℕ) (writes : Writes files 
 mapped_entries files w n writes writable =
     keeps_append writes.file (take n (map_bytes w)) (whole_of files w writes) (batches_prefix (length writes.file) n (written_spells w.sizes writable).spelled)
 
-pub all_entries : (files : Files) (w : Writing) (writes : Writes files w) → IsWritable w.sizes → entries_of (writes.file ++ map_bytes w) ≡ entries_of writes.file
+pub all_entries : (files : Files) (w : Writing) (writes : Writes files w) → IsWritable w.sizes
+    → entries_of (writes.file ++ map_bytes w) ≡ entries_of writes.file
 all_entries files w writes writable =
-    ap (λ b. entries_of (writes.file ++ b)) (sym (take_all (length (map_bytes w)) (map_bytes w) (omega arith))) ∙ mapped_entries files w (length (map_bytes w)) writes writable
+    ap (λ b. entries_of (writes.file ++ b)) (sym (take_all (length (map_bytes w)) (map_bytes w) (omega arith)))
+    ∙ mapped_entries files w (length (map_bytes w)) writes writable
 
 -- the files with a prefix of the map, with all of it, and with a patched header too
 grown_keeps : (files : Files) (w : Writing) (n : ℕ) → Writes files w → IsWritable w.sizes → KeepsEntries files (grown files w.log (take n (map_bytes w)))
@@ -74,7 +77,8 @@ keeps_at : (files files' : Files) (w : Writing) (result : Result (Unit {0}) LogF
     → SealTurn files w result files' → KeepsEntries files files'
 keeps_at files files' w (Ok done) writes writable turn = subst (KeepsEntries files) (sym turn) (sealed_keeps files w (map_fits w) writes writable)
 keeps_at files files' w (Err Disk) writes writable (fits, inl (n, grew)) = subst (KeepsEntries files) (sym grew) (grown_keeps files w n writes writable)
-keeps_at files files' w (Err Disk) writes writable (fits, inr (left, (twelve, wrote))) = subst (KeepsEntries files) (sym wrote) (patched_keeps files w left writes writable twelve)
+keeps_at files files' w (Err Disk) writes writable (fits, inr (left, (twelve, wrote))) = subst (KeepsEntries files) (sym wrote)
+    (patched_keeps files w left writes writable twelve)
 keeps_at files files' w (Err Failed) writes writable turn = subst (KeepsEntries files) (sym turn) (λ log. refl)
 keeps_at files files' w (Err Memory) writes writable (inl same) = subst (KeepsEntries files) (sym same) (λ log. refl)
 keeps_at files files' w (Err Memory) writes writable (inr (fits, grew)) = subst (KeepsEntries files) (sym grew) (mapped_keeps files w writes writable)

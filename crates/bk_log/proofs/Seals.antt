@@ -1,5 +1,6 @@
 -- A log that is sealed, call by call.
-use Rattle.std.proofs.Common.{◌≡◌, inl, inr, ℕ, ◌+◌, ◌<◌, ◌≤◌, ◌^◌, true, cond, List, [], ◌∷◌, ◌++◌, length, Result, Ok, Err, refl, sym, ap, ◌∙◌, subst, arith, length-append}
+use Rattle.std.proofs.Common.{◌≡◌, inl, inr, ℕ, ◌+◌, ◌<◌, ◌≤◌, ◌^◌, true, cond, List, [], ◌∷◌, ◌++◌, length, Result, Ok, Err, refl, sym, ap, ◌∙◌, subst, arith}
+use Rattle.std.proofs.Common.{length-append}
 use Rattle.std.proofs.lemmas.Bool.{lt-ltb, le-ltb}
 use Rattle.std.specs.FinMap.{get, len}
 use Rattle.bk_record.specs.Files.{Files}
@@ -14,13 +15,15 @@ use Rattle.bk_log.proofs.Files.{stands-insert, grown-stands, grown-nothing}
 use Rattle.bk_log.proofs.Writes.{text_is_long}
 
 -- there is room for a map that fits
-pub seal_room : (files : Files) (w now : Writing) (bytes : List ℕ) → w ≡ now → Writes files now → w.end + length bytes < 2 ^ 32 → HasRoom files w.log (length bytes)
+pub seal_room : (files : Files) (w now : Writing) (bytes : List ℕ) → w ≡ now → Writes files now → w.end + length bytes < 2 ^ 32
+    → HasRoom files w.log (length bytes)
 seal_room files w now bytes same writes fits =
     let writes' = subst (λ (v : Writing). Writes files v) (sym same) writes in
     record { file = writes'.file; stands = writes'.stands; fits = omega (arith, writes'.long) }
 
 -- the header stands, also behind the map
-pub header_there : (files files' : Files) (w now : Writing) (bytes : List ℕ) → w ≡ now → Writes files now → files' ≡ grown files w.log bytes → HasHeader files' w.log
+pub header_there : (files files' : Files) (w now : Writing) (bytes : List ℕ) → w ≡ now → Writes files now → files' ≡ grown files w.log bytes
+    → HasHeader files' w.log
 header_there files files' w now bytes same writes grew =
     let writes' = subst (λ (v : Writing). Writes files v) (sym same) writes in
     let is = grew ∙ grown-stands files w.log writes'.file bytes writes'.stands in

@@ -1,5 +1,6 @@
 -- The sizes of records by ledger are sums.
-use Rattle.std.proofs.Common.{◌≡◌, ℕ, ◌+◌, Bool, true, false, cond, ◌||◌, eqb, eq-eqb, true≢false, List, [], ◌∷◌, length, Option, Some, None, is_some, nat_cmp, fold, filter, sum_by, unwrap_or, refl, sym, ap, ◌∙◌, arith}
+use Rattle.std.proofs.Common.{◌≡◌, ℕ, ◌+◌, Bool, true, false, cond, ◌||◌, eqb, eq-eqb, true≢false, List, [], ◌∷◌, length, Option, Some, None, is_some, nat_cmp}
+use Rattle.std.proofs.Common.{fold, filter, sum_by, unwrap_or, refl, sym, ap, ◌∙◌, arith}
 use Rattle.std.proofs.lemmas.Bool.{eqb-true, false_from_ne_true}
 use Rattle.std.proofs.lemmas.List.Sums.{sum_by-cons}
 use Rattle.std.proofs.lemmas.Map.Lookups.{exact_unsigned}
@@ -71,6 +72,7 @@ present_from sizes (r ∷ records) q =
 pub adds_up : (records : List (ℕ × List ℕ)) (ledger : ℕ) → AddsUp records ledger
 unfolding sizes_of
 adds_up records ledger = record {
-  sum_is = sums_from empty records ledger ∙ ap (λ o. unwrap_or o 0 + sum_by (λ r. 4 + length r.1) (filter (is_of ledger) records)) (get-empty nat_cmp ledger) ∙ (omega arith);
+  sum_is = sums_from empty records ledger ∙ ap (λ o. unwrap_or o 0 + sum_by (λ r. 4 + length r.1) (filter (is_of ledger) records)) (get-empty nat_cmp ledger)
+      ∙ (omega arith);
   present = present_from empty records ledger ∙ ap (λ o. is_some o || list_any (is_of ledger) records) (get-empty nat_cmp ledger);
 }

@@ -1,5 +1,6 @@
 -- Sizes that are added up with the last ledger's beside the others.
-use Rattle.std.proofs.Common.{◌≡◌, ℕ, zero, suc, ◌+◌, ◌<◌, ◌^◌, true, false, cond, ◌&&◌, nat_lt, nat_cmp, List, [], ◌∷◌, ◌++◌, take, Some, None, slice_get, unwrap_or, refl, sym, ap, ◌∙◌, subst, arith}
+use Rattle.std.proofs.Common.{◌≡◌, ℕ, zero, suc, ◌+◌, ◌<◌, ◌^◌, true, false, cond, ◌&&◌, nat_lt, nat_cmp, List, [], ◌∷◌, ◌++◌, take, Some, None, slice_get}
+use Rattle.std.proofs.Common.{unwrap_or, refl, sym, ap, ◌∙◌, subst, arith}
 use Rattle.std.specs.FinMap.{get, insert, empty, get-empty}
 use Rattle.bk_record.specs.Key.{EntryKey}
 use Rattle.bk_record.specs.Record.{key_of, ledger_field, entry_field}
@@ -48,14 +49,16 @@ pub none_last : (others : Sizes) (ledger : ℕ) → others ≡ empty → IsLast 
 none_last others ledger is none = ap (λ s. size_in s ledger) is ∙ ap (λ o. unwrap_or o 0) (get-empty nat_cmp ledger)
 
 -- the tally with more bytes of its ledger
-pub added : (others : Sizes) (ledger size more : ℕ) (t : Tally) → record { sizes = with_last others ledger size; ledger = ledger } ≡ t → IsLast others ledger size
+pub added : (others : Sizes) (ledger size more : ℕ) (t : Tally) → record { sizes = with_last others ledger size; ledger = ledger } ≡ t
+    → IsLast others ledger size
     → 0 < more → record { sizes = with_last others ledger (size + more); ledger = ledger } ≡ record t { sizes = with_size t.sizes t.ledger more }
 added others ledger size more t is last some =
     subst (λ (u : Tally). record { sizes = with_last others ledger (size + more); ledger = ledger } ≡ record u { sizes = with_size u.sizes u.ledger more }) is
     (ap (λ (s : Sizes). record { sizes = s; ledger = ledger }) (with_last-add others ledger size more last some))
 
 -- the same, with another ledger as its last
-pub turned : (others before : Sizes) (ledger was size : ℕ) (t : Tally) → record { sizes = before; ledger = was } ≡ t → others ≡ before → size ≡ size_in others ledger
+pub turned : (others before : Sizes) (ledger was size : ℕ) (t : Tally) → record { sizes = before; ledger = was } ≡ t → others ≡ before
+    → size ≡ size_in others ledger
     → record { sizes = with_last others ledger size; ledger = ledger } ≡ record t { ledger = ledger }
 turned others before ledger was size t is same found =
     subst (λ (u : Tally). record { sizes = with_last others ledger size; ledger = ledger } ≡ record u { ledger = ledger }) is
@@ -72,7 +75,8 @@ pub key_of-ledger : (payload : List ℕ) (key : EntryKey) → key_of payload ≡
 unfolding key_of
 key_of-ledger payload key is =
     let read : EntryKey = record { ledger = ledger_field payload; entry = entry_field payload } in
-    elim (nat_lt (ledger_field payload) (2 ^ 63) && nat_lt (entry_field payload) (2 ^ 63)) as (λ b. cond b (Some read) None ≡ Some key → key.ledger ≡ ledger_field payload) [
+    elim (nat_lt (ledger_field payload) (2 ^ 63) && nat_lt (entry_field payload) (2 ^ 63)) as
+    (λ b. cond b (Some read) None ≡ Some key → key.ledger ≡ ledger_field payload) [
       | true ↦ λ e. let same : read ≡ key = cc in sym (ap (λ k. k.ledger) same)
       | false ↦ λ e. cc
     ] is
@@ -86,4 +90,5 @@ take_next (y ∷ ys) (suc n) x is = let one : suc n + 1 ≡ suc (n + 1) = omega 
 pub counts_next : (before now : Sizes) (found : Found) → now ≡ with_size before found.key.ledger found.size → CountsNext before found now
 counts_next before now found is entries n payload stands keyed sized were =
     is ∙ ap (λ l. with_size before l found.size) (key_of-ledger payload found.key keyed) ∙ ap (with_size before (ledger_field payload)) sized
-    ∙ ap (λ s. with_record s payload) were ∙ sym (ap sizes_of (take_next entries n (found.at, payload) stands) ∙ sizes_of-push (take n entries) found.at payload)
+    ∙ ap (λ s. with_record s payload) were ∙ sym (ap sizes_of (take_next entries n (found.at, payload) stands)
+    ∙ sizes_of-push (take n entries) found.at payload)

@@ -1,5 +1,6 @@
 -- A record that is put at the end of a log: what its writer keeps.
-use Rattle.std.proofs.Common.{◌≡◌, ℕ, ◌+◌, ◌<◌, ◌≤◌, ◌^◌, Bool, false, List, [], ◌∷◌, ◌++◌, length, drop, IsSome, Err, refl, sym, ap, ◌∙◌, subst, arith, length-append, true≢false}
+use Rattle.std.proofs.Common.{◌≡◌, ℕ, ◌+◌, ◌<◌, ◌≤◌, ◌^◌, Bool, false, List, [], ◌∷◌, ◌++◌, length, drop, IsSome, Err, refl, sym, ap, ◌∙◌, subst, arith}
+use Rattle.std.proofs.Common.{length-append, true≢false}
 use Rattle.std.proofs.lemmas.List.{take-append-le, drop-append-le, length-take, length-drop}
 use Rattle.std.specs.List.{AllByRecursion}
 use Rattle.std.specs.FinMap.{get, insert}
@@ -45,7 +46,12 @@ all_push P (y ∷ ys) x all p = (all.0, all_push P ys x all.1 p)
 pub room_put : (files : Files) (w now : Writing) (payload bytes : List ℕ) → w ≡ now → Writes files now → now.end + 4 + length payload < 2 ^ 32
     → bytes ≡ record_of payload → HasRoom files w.log (length bytes)
 room_put files w now payload bytes same writes fits is =
-    record { file = writes.file; stands = ap (λ v. get files v.log) same ∙ writes.stands; fits = omega (arith, writes.long, ap length is, length-record_of payload) }
+    record {
+      file = writes.file;
+      stands = ap (λ v. get files v.log) same ∙ writes.stands;
+      fits = omega
+          (arith, writes.long, ap length is, length-record_of payload);
+    }
 
 -- the writer after a record was written
 pub writes_put : (files files' : Files) (w : Writing) (payload : List ℕ) → Writes files w → IsPayload payload → IsSome (key_of payload)
@@ -76,7 +82,8 @@ after_put w now payload ledger size sizes same named sized counted =
     (λ i. record w { end = end i; count = w.count + 1; sizes = is i })
 
 -- the same of what the calls said
-pub writes_ok : (files files' : Files) (w now after : Writing) (payload bytes : List ℕ) → w ≡ now → Writes files now → IsPayload payload → IsSome (key_of payload)
+pub writes_ok : (files files' : Files) (w now after : Writing) (payload bytes : List ℕ) → w ≡ now → Writes files now → IsPayload payload
+    → IsSome (key_of payload)
     → bytes ≡ record_of payload → files' ≡ grown files w.log bytes → after ≡ with_put now payload → Writes files' after
 writes_ok files files' w now after payload bytes same writes legal keyed is grew put =
     subst (λ (v : Writing). Writes files' v) (sym put)

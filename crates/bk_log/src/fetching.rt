@@ -8,11 +8,11 @@ use crate::FetchFault;
 use crate::length::{is_payload_length, length_in};
 use crate::reading::{ReadFault, read};
 use bk_disk::LogView;
-use bk_record::{Key, Location, key_of};
+use bk_record::{Key, LENGTH_FIELD, Location, key_of};
 use std::alloc::Global;
 
 /// The length of a record's length field in bytes.
-const FIELD: u64 = 4;
+const FIELD: u64 = LENGTH_FIELD as u64;
 
 /// The payload of the whole record of this key whose payload begins at the location's position in the view, its ids
 /// among its bytes. The location's log is not looked at: it is the caller's to bring the log's view.

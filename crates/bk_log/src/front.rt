@@ -4,10 +4,10 @@ ghost use Rattle.std.specs.Prelude.{◌≡◌, ℕ, List, length, take, min};
 ghost use Rattle.bk_log.specs.Fronts.{IsFront, FitsIn};
 
 use crate::length::{is_payload_length, length_in};
-use bk_record::{Key, key_of};
+use bk_record::{Key, RECORD_HEAD, key_of};
 
 /// How many bytes at most tell what stands there.
-pub(crate) const HEAD: u64 = 20;
+pub(crate) const HEAD: u64 = RECORD_HEAD as u64;
 
 /// What stands at the front of bytes.
 #[derive(Clone, Copy)]

@@ -14,11 +14,12 @@ use crate::sizes::LedgerSizes;
 use crate::{CreateFault, LogFault};
 use bk_disk::LogDisk;
 use bk_head::new_header;
+use bk_record::HEADER_LENGTH;
 use std::alloc::Global;
 use std::marker::Model;
 
 /// The length of a log's header in bytes.
-const HEADER_LENGTH: u32 = 1024;
+const HEADER: u32 = HEADER_LENGTH as u32;
 
 /// The writer of one log. A contract sees its id, its length, the number of records put and their sizes by ledger,
 /// and whether a write failed: `specs/Writing.antt`. `buffer` has memory for one record, so that a `put` takes none of its
@@ -77,7 +78,7 @@ impl LogWriter {
         }
         Ok(LogWriter {
             log,
-            end: HEADER_LENGTH,
+            end: HEADER,
             count: 0,
             sizes: LedgerSizes::new(alloc),
             failed: false,
@@ -117,7 +118,7 @@ impl LogWriter {
 }
 
 /// What a new log begins with.
-fn header_bytes() -> [u8; 1024]
+fn header_bytes() -> [u8; HEADER_LENGTH]
     ensures { result ≡ empty_header }
 {
     new_header()

@@ -53,4 +53,5 @@ returns-clause-turn g c = λ h.
       shown = (c.in-Ok.ensures.turn h).1;
       number = c.from.ensures ∙ c.length_in-length.ensures.value ∙ ap length_field c.deref.ensures.value;
       written = ap (to_be_bytes w32) c.from.ensures ∙ c.length_in-length.ensures.written ∙ ap (take 4) c.deref.ensures.value;
-    }) (rw c.from.ensures (c.if-not-is_payload_length.ensures.0 refl)) (c.in-Ok-read.ensures.turn h) (ap key_of (sym c.deref-2.ensures.value) ∙ c.if-not-is_of_key.ensures.0 refl)
+    }) (rw c.from.ensures (c.if-not-is_payload_length.ensures.0 refl)) (c.in-Ok-read.ensures.turn h)
+    (ap key_of (sym c.deref-2.ensures.value) ∙ c.if-not-is_of_key.ensures.0 refl)

@@ -16,13 +16,15 @@ returns-then-not-is_payload_length-clause-front c = λ bytes long is.
 pub returns-then-left-from-clause-front : goal.returns-then-left-from-clause-front
 returns-then-left-from-clause-front c = λ bytes long is.
     let legal = c.if-not-is_payload_length.ensures.0 refl in
-    rest_cut bytes _ _ is (omega (arith, c.if-left-lt4.false)) c.length_in-length.ensures.value legal.0 legal.1 (omega (arith, c.if-left-from.true, c.from.ensures))
+    rest_cut bytes _ _ is (omega (arith, c.if-left-lt4.false)) c.length_in-length.ensures.value legal.0 legal.1
+    (omega (arith, c.if-left-from.true, c.from.ensures))
 
 pub returns-clause-front : goal.returns-clause-front
 returns-clause-front c = λ bytes long is.
     let legal = c.if-not-is_payload_length.ensures.0 refl in
     let ids = ids_are_long _ _ c.requires (omega (arith, c.if-left-from.false, c.from.ensures, legal.0)) in
-    record_shown bytes _ _ _ _ is c.length_in-length.ensures.written legal.0 legal.1 (omega (arith, c.if-left-from.false, c.from.ensures)) refl (elim c.match-key_of.branch [
+    record_shown bytes _ _ _ _ is c.length_in-length.ensures.written legal.0 legal.1 (omega (arith, c.if-left-from.false, c.from.ensures)) refl
+    (elim c.match-key_of.branch [
       | in-Ok w ↦ w.key-is ∙ sym (read_key-some _ _ ids (sym c.key_of.ensures ∙ w.in-Ok.is))
       | in-Err w ↦ w.key-is ∙ sym (read_key-no _ _ ids (sym c.key_of.ensures ∙ w.in-Err.is))
     ])

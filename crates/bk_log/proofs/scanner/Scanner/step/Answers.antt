@@ -38,7 +38,8 @@ returns-in-Some-clause-turn g c = λ h.
     let front = front_here s.window s.end _ _ _ c.at-at.ensures shown c.in-Ok-Record.ensures.turn honest in
     let fits = fits_here s.window s.end _ _ _ c.at-at.ensures shown c.in-Ok-Record.ensures.fits in
     subst (λ (v : Scan). IsGiven v (record { key = c.in-Some.key; at = c.at-at.result + 4; size = c.in-Ok-Record.size }) s.foreign) c.self.view_is
-    (subst (λ n. IsGiven (scan_of s.window s.from s.end s.given s.foreign s.torn s.ended s.fault) (record { key = c.in-Some.key; at = n + 4; size = c.in-Ok-Record.size }) s.foreign) (sym c.at-at.ensures)
+    (subst (λ n. IsGiven (scan_of s.window s.from s.end s.given s.foreign s.torn s.ended s.fault)
+    (record { key = c.in-Some.key; at = n + 4; size = c.in-Ok-Record.size }) s.foreign) (sym c.at-at.ensures)
     (given_next s.window s.from s.end s.given s.foreign s.torn c.in-Ok-Record.size s.ended s.fault c.in-Some.key c.self.invariant honest fits.1 front))
 
 pub invariant_of-self-in-Ok-Rest : goal.invariant_of-self-in-Ok-Rest
@@ -47,12 +48,16 @@ invariant_of-self-in-Ok-Rest g c =
     let going = going_on s.window _ _ _ _ _ _ _ _ c.self.view_is c.requires in
     subst (λ (w : Ahead). IsKept w s.from s.end s.given s.foreign (s.end - c.at-at.result) true s.fault) (sym c.front.ensures.same)
     (subst (λ n. IsKept (record s.window { ready = c.front.new.self.ready }) s.from s.end s.given s.foreign (s.end - n) true s.fault) (sym c.at-at.ensures)
-    (kept_rest s.window _ _ _ _ _ _ _ _ c.self.invariant going.1 (front_here s.window s.end _ _ _ c.at-at.ensures c.in-Ok-Rest.field-0-is c.in-Ok-Rest.ensures.turn)))
+    (kept_rest s.window _ _ _ _ _ _ _ _ c.self.invariant going.1 (front_here s.window s.end _ _ _ c.at-at.ensures c.in-Ok-Rest.field-0-is
+    c.in-Ok-Rest.ensures.turn)))
 
 pub invariant_of-self-in-Ok-Bad : goal.invariant_of-self-in-Ok-Bad
 invariant_of-self-in-Ok-Bad g c =
     let s = c.self.inside in
     let going = going_on s.window _ _ _ _ _ _ _ _ c.self.view_is c.requires in
-    subst (λ (w : Ahead). IsKept w s.from s.end s.given s.foreign s.torn s.ended (Some (BadLength c.at-at.result (cast_signed w32 (cast_unsigned w32 c.in-Ok-Bad.length))))) (sym c.front.ensures.same)
-    (subst (λ n. IsKept (record s.window { ready = c.front.new.self.ready }) s.from s.end s.given s.foreign s.torn s.ended (Some (BadLength n (cast_signed w32 (cast_unsigned w32 c.in-Ok-Bad.length))))) (sym c.at-at.ensures)
-    (kept_bad s.window _ _ _ _ _ _ _ _ _ c.self.invariant going.0 (front_here s.window s.end _ _ _ c.at-at.ensures c.in-Ok-Bad.field-0-is c.in-Ok-Bad.ensures.turn)))
+    subst (λ (w : Ahead). IsKept w s.from s.end s.given s.foreign s.torn s.ended (Some
+    (BadLength c.at-at.result (cast_signed w32 (cast_unsigned w32 c.in-Ok-Bad.length))))) (sym c.front.ensures.same)
+    (subst (λ n. IsKept (record s.window { ready = c.front.new.self.ready }) s.from s.end s.given s.foreign s.torn s.ended
+    (Some (BadLength n (cast_signed w32 (cast_unsigned w32 c.in-Ok-Bad.length))))) (sym c.at-at.ensures)
+    (kept_bad s.window _ _ _ _ _ _ _ _ _ c.self.invariant going.0 (front_here s.window s.end _ _ _ c.at-at.ensures c.in-Ok-Bad.field-0-is
+    c.in-Ok-Bad.ensures.turn)))

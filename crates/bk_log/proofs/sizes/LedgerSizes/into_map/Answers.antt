@@ -13,5 +13,6 @@ returns c =
           ap map_of w.others-is ∙ inserted _ _ was.ledger was.size w.in_ok-insert.ensures.updates.0
           ∙ sym (with_last-some (map_of was.others) was.ledger was.size w.if-size-gt0.true) ∙ ap (λ t. t.sizes) c.self.view_is
       | else-size-gt0 w ↦
-          ap map_of w.others-is ∙ sym (with_last-none (map_of was.others) was.ledger was.size (omega (arith, w.if-size-gt0.false))) ∙ ap (λ t. t.sizes) c.self.view_is
+          ap map_of w.others-is ∙ sym (with_last-none (map_of was.others) was.ledger was.size (omega (arith, w.if-size-gt0.false)))
+          ∙ ap (λ t. t.sizes) c.self.view_is
     ]

@@ -16,12 +16,14 @@ invariant_of-self-2 c = λ none. sym (found c) ∙ none
 pub returns-clause-ok : goal.returns-clause-ok
 returns-clause-ok c =
     let was = c.self.inside in
-    turned (map.from_entries c.if-self-gt0.self-inside.others.entries) (with_last (map.from_entries was.others.entries) was.ledger was.size) _ was.ledger _ _ c.self.view_is
+    turned (map.from_entries c.if-self-gt0.self-inside.others.entries) (with_last (map.from_entries was.others.entries) was.ledger was.size) _ was.ledger _ _
+    c.self.view_is
     (elim c.if-self-gt0.branch [
       | then-self-gt0+in_ok-insert w ↦
           ap (λ i. map.from_entries i.others.entries) w.self-inside-is ∙ inserted _ _ was.ledger was.size w.in_ok-insert.ensures.updates.0
           ∙ sym (with_last-some (map.from_entries was.others.entries) was.ledger was.size w.if-self-gt0.true)
       | else-self-gt0 w ↦
-          ap (λ i. map.from_entries i.others.entries) w.self-inside-is ∙ sym (with_last-none (map.from_entries was.others.entries) was.ledger was.size (omega (arith, w.if-self-gt0.false)))
+          ap (λ i. map.from_entries i.others.entries) w.self-inside-is ∙ sym (with_last-none (map.from_entries was.others.entries) was.ledger was.size
+          (omega (arith, w.if-self-gt0.false)))
     ])
     (found c)

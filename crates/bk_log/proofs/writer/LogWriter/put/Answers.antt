@@ -28,11 +28,13 @@ returns-in-Err-clause-writes g c = λ h whole.
 
 pub invariant_of-self-2 : goal.invariant_of-self-2
 invariant_of-self-2 g c =
-    counted_put _ _ _ _ _ _ _ c.self.invariant (omega (arith, c.requires.payload.0)) c.ledger_of-ledger.ensures.bound (counted c.self.inside.sizes _ _ _ _ _ c.in-Ok-turn_to.ensures.ok c.add.ensures c.from.ensures)
+    counted_put _ _ _ _ _ _ _ c.self.invariant (omega (arith, c.requires.payload.0)) c.ledger_of-ledger.ensures.bound
+    (counted c.self.inside.sizes _ _ _ _ _ c.in-Ok-turn_to.ensures.ok c.add.ensures c.from.ensures)
 
 pub returns-clause-writes : goal.returns-clause-writes
 returns-clause-writes g c = λ h whole.
     let before = sym (ap (λ w. w.failed) c.self.view_is) ∙ c.if-self.false in
     writes_ok _ _ _ _ _ _ _ c.self.view_is (c.requires.writes h before) c.requires.payload c.requires.keyed (c.deref.ensures.value ∙ c.in-Ok.ensures)
     (c.in_default-append.ensures.turn h)
-    (after_put _ _ _ _ _ _ c.self.view_is c.ledger_of-ledger.ensures.value c.from.ensures (counted c.self.inside.sizes _ _ _ _ _ c.in-Ok-turn_to.ensures.ok c.add.ensures refl))
+    (after_put _ _ _ _ _ _ c.self.view_is c.ledger_of-ledger.ensures.value c.from.ensures
+    (counted c.self.inside.sizes _ _ _ _ _ c.in-Ok-turn_to.ensures.ok c.add.ensures refl))
