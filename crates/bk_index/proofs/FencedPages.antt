@@ -1,10 +1,10 @@
 -- Fences and pages together: what a write over a page, a page that comes and pages that go leave of them.
 use Rattle.std.proofs.Common.{◌≡◌, ℕ, zero, suc, ◌+◌, ◌-◌, ◌*◌, ◌<◌, ◌≤◌, ◌^◌, Bool, cond, List, [], ◌∷◌, ◌++◌, length, get_or, set, take, drop, map, refl, sym}
 use Rattle.std.proofs.Common.{ap, ◌∙◌, arith, take-append-drop, length-append, length-take, length-drop, length-set}
-use Rattle.std.specs.List.{All, insert, remove, count_by, sum_by}
+use Rattle.std.specs.List.{All, insert, remove, filter, count_by, sum_by}
 use Rattle.std.proofs.lemmas.List.{length-map, map-set, get_or-map, set-get_or, take-map, drop-map, drop-drop, take-set, drop-set-lt}
 use Rattle.std.proofs.lemmas.List.Concat.{flat_map-append}
-use Rattle.std.proofs.lemmas.List.Sums.{sum_by-append, sum_by-cons, count_by-le-length}
+use Rattle.std.proofs.lemmas.List.Sums.{sum_by-append, sum_by-cons, length-filter, count_by-le-length}
 use Rattle.std.proofs.lemmas.List.Elements.{All-append, All-set, All-take, All-drop, All-cons}
 use Rattle.std.proofs.lemmas.List.Edits.{length-insert}
 use Rattle.bk_record.specs.Key.{EntryKey}
@@ -132,6 +132,10 @@ module _ {X : Type 0} (fences : List EntryKey) (pages : List (List (EntryKey × 
   -- all pairs can be counted
   pub countable : length (all_pairs pages) < 2 ^ 64
   countable = omega (arith, all_le pages are.sizes, are.few)
+
+  -- and so can the pairs that pass a test
+  pub few_of : (p : EntryKey × X → Bool) → length (filter p (all_pairs pages)) ≤ 2 ^ 63
+  few_of p = omega (arith, length-filter p (all_pairs pages), count_by-le-length p (all_pairs pages), all_le pages are.sizes, are.few)
 
   pub countable_part : (from n : ℕ) → length (all_pairs (take n (drop from pages))) < 2 ^ 64
   countable_part from n =

@@ -1,6 +1,6 @@
 //! The index: a finite map from keys to locations, kept in pages of up to 256 entries.
 
-ghost use Rattle.std.specs.Prelude.{◌≡◌, ◌↔◌, ℕ, ◌==◌, List, length, filter, sum, slice_get, Some, IsTrue, IsSome, IsOk, IfOk, OnOk, OnErr};
+ghost use Rattle.std.specs.Prelude.{◌≡◌, ◌↔◌, ℕ, ◌==◌, ◌≤◌, ◌^◌, List, length, filter, sum, slice_get, Some, IsTrue, IsSome, IsOk, IfOk, OnOk, OnErr};
 ghost use Rattle.std.specs.Bool.{OnTrue, OnFalse};
 ghost use Rattle.std.specs.FinMap as map;
 ghost use Rattle.bk_index.specs.Keyed.{without_ledger, ledger_count, log_count};
@@ -108,10 +108,11 @@ impl Index {
         Walk::over(&[], self.pages.list(), &[])
     }
 
-    /// The keys of one ledger and their locations, in the order of entry. Pages that have no key of the ledger are not
-    /// looked at.
+    /// The keys of one ledger and their locations, in the order of entry: at most 2^63 of them. Pages that have no key of
+    /// the ledger are not looked at.
     pub fn walk_ledger(&self, ledger: u64) -> Walk<'_>
-        ensures { result ≡ filter (λ pair. pair.0.ledger == ledger) (map.entries self.now) }
+        ensures items { result ≡ filter (λ pair. pair.0.ledger == ledger) (map.entries self.now) }
+        ensures bound { length result ≤ 2 ^ 63 }
     {
         self.pages.walk_ledger(ledger)
     }

@@ -21,3 +21,5 @@ pub mod KeptSwap
 pub mod Tables
 pub mod Ledgers
 pub mod PlainMaps
+pub mod KeptDelete
+pub mod Unnaming

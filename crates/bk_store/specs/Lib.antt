@@ -10,3 +10,4 @@ pub mod Turns
 pub mod Doors
 pub mod Placed
 pub mod Plain
+pub mod Deletion

@@ -4,6 +4,7 @@
 mod adding;
 mod answer;
 mod dead;
+mod deleting;
 mod fields;
 mod laws;
 mod lease;

@@ -7,10 +7,10 @@
 ghost use Rattle.std.specs.Prelude.{◌≡◌, Some, option_map};
 ghost use Rattle.std.specs.FinMap as map;
 ghost use Rattle.bk_store.specs.Plain.{IsKept};
-ghost use Rattle.bk_store.specs.Turns.{AddTurn, TakeTurn, SwapTurn};
+ghost use Rattle.bk_store.specs.Turns.{AddTurn, TakeTurn, DeleteTurn, SwapTurn};
 
 use crate::fields::Fields;
-use crate::{AddFault, Added, LogState, SwapAnswer, TakeFault, Taken};
+use crate::{AddFault, Added, DeleteFault, LogState, SwapAnswer, TakeFault, Taken};
 use bk_disk::LogDisk;
 use bk_record::Key;
 use std::marker::Model;
@@ -54,6 +54,18 @@ impl<D: LogDisk> Store<D> {
         ensures { TakeTurn D.View.bytes D.View.honest D.View.sound self.now key result }
     {
         self.fields.take(key)
+    }
+
+    /// Deletes a ledger: its entries leave the caches, the running flush, the index and the accounts, and it is dead for as
+    /// long as the store is. A flush that loses all its entries still runs; the files stay as they are. Any number may be
+    /// deleted, also one that is no ledger's id (this project's rule).
+    ///
+    /// The answer is how many keys of the ledger were held, each counted once. Faults, tried in this order; each leaves the
+    /// store as it was: `AlreadyDeleted` where the ledger is dead already, `Memory`.
+    pub fn delete(&mut self, ledger: u64) -> Result<u64, DeleteFault>
+        ensures { DeleteTurn self.old ledger result self.new }
+    {
+        self.fields.delete(ledger)
     }
 
     /// Makes the active cache the flushing one, unless a flush runs or there is nothing to flush.

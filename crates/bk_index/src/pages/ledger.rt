@@ -14,7 +14,8 @@ impl Pages {
     /// The keys of a ledger and their locations, in the order of the keys.
     pub(crate) fn walk_ledger(&self, ledger: u64) -> Walk<'_>
         requires { IsTrue (is_sorted key_cmp (all_pairs self.now)) }
-        ensures { result ≡ filter (λ pair. pair.0.ledger == ledger) (all_pairs self.now) }
+        ensures items { result ≡ filter (λ pair. pair.0.ledger == ledger) (all_pairs self.now) }
+        ensures bound { length result ≤ 2 ^ 63 }
     {
         let (from, to) = self.pages_of(ledger);
         match &self.list[from..to] {

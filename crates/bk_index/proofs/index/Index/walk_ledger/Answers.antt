@@ -6,7 +6,7 @@ use Rattle.bk_record.specs.Location.{Place}
 use Rattle.bk_index.proofs.CountedPages.{entries_seen}
 use Rattle.bk_index.proofs.index.Index.walk_ledger.Goals as goal
 
-pub returns : goal.returns
-returns c =
+pub returns-clause-items : goal.returns-clause-items
+returns-clause-items c =
     let of_ledger = λ (e : EntryKey × Place). e.0.ledger == c.args.ledger in
-    c.walk_ledger.ensures ∙ ap (filter of_ledger) (entries_seen c.self.inside.pages c.self.invariant.sorted c.args.self.now c.self.view_is)
+    c.walk_ledger.ensures.items ∙ ap (filter of_ledger) (entries_seen c.self.inside.pages c.self.invariant.sorted c.args.self.now c.self.view_is)

@@ -1,14 +1,15 @@
-use Rattle.std.proofs.Common.{◌<◌, ◌+◌, ◌-◌, [], ◌++◌, take, drop, ap, sym, ◌∙◌, arith}
+use Rattle.std.proofs.Common.{◌<◌, ◌+◌, ◌-◌, [], ◌++◌, length, take, drop, ap, sym, ◌∙◌, arith}
 use Rattle.std.specs.Bool.{◌==◌}
 use Rattle.std.specs.List.{filter}
 use Rattle.bk_record.specs.Key.{EntryKey}
 use Rattle.bk_record.specs.Location.{Place}
 use Rattle.bk_index.specs.Pages.{all_pairs}
+use Rattle.bk_index.proofs.FencedPages.{few_of}
 use Rattle.bk_index.proofs.LedgerPairs.{held_none, held_one, held_many, part_length, part_first, part_last, part_between}
 use Rattle.bk_index.proofs.pages.Pages.walk_ledger.Goals as goal
 
-pub returns-in-empty : goal.returns-in-empty
-returns-in-empty c =
+pub returns-in-empty-clause-items : goal.returns-in-empty-clause-items
+returns-in-empty-clause-items c =
     let pages = c.args.self.now in
     let from = c.pages_of-from.result.0 in
     let to = c.pages_of-from.result.1 in
@@ -17,8 +18,8 @@ returns-in-empty c =
     c.over.ensures ∙ sym (held_none pages c.args.ledger from to holds
     (omega (arith, part_length pages c.args.ledger from to holds _ is, c.in-empty.len_below, holds.order)))
 
-pub returns-in-len1 : goal.returns-in-len1
-returns-in-len1 c =
+pub returns-in-len1-clause-items : goal.returns-in-len1-clause-items
+returns-in-len1-clause-items c =
     let pages = c.args.self.now in
     let from = c.pages_of-from.result.0 in
     let to = c.pages_of-from.result.1 in
@@ -29,8 +30,8 @@ returns-in-len1 c =
     c.over-in-len1.ensures ∙ ap (λ ps. ps ++ []) (c.of_ledger.ensures ∙ ap (filter (λ e. e.0.ledger == c.args.ledger)) one)
     ∙ sym (held_one pages c.args.ledger from to holds (omega (arith, long, c.in-len1.len_at_least, c.in-len1.len_below)))
 
-pub returns-in-len2-up : goal.returns-in-len2-up
-returns-in-len2-up c =
+pub returns-in-len2-up-clause-items : goal.returns-in-len2-up-clause-items
+returns-in-len2-up-clause-items c =
     let pages = c.args.self.now in
     let from = c.pages_of-from.result.0 in
     let to = c.pages_of-from.result.1 in
@@ -45,3 +46,18 @@ returns-in-len2-up c =
     ∙ part_last pages c.args.ledger from to holds _ is c.last-item.result (omega arith)) in
     let inner = ap all_pairs (part_between pages c.args.ledger from to holds _ is many) in
     c.over-in-len2-up.ensures ∙ (λ i. first i ++ (inner i ++ last i)) ∙ sym (held_many pages c.args.ledger from to holds many)
+
+pub returns-in-empty-clause-bound : goal.returns-in-empty-clause-bound
+returns-in-empty-clause-bound c =
+    let few = rw c.self.view_is at (few_of c.self.inside.fences.items c.self.inside.list.items c.self.invariant (λ e. e.0.ledger == c.args.ledger)) in
+    omega (arith, ap length (returns-in-empty-clause-items c), few)
+
+pub returns-in-len1-clause-bound : goal.returns-in-len1-clause-bound
+returns-in-len1-clause-bound c =
+    let few = rw c.self.view_is at (few_of c.self.inside.fences.items c.self.inside.list.items c.self.invariant (λ e. e.0.ledger == c.args.ledger)) in
+    omega (arith, ap length (returns-in-len1-clause-items c), few)
+
+pub returns-in-len2-up-clause-bound : goal.returns-in-len2-up-clause-bound
+returns-in-len2-up-clause-bound c =
+    let few = rw c.self.view_is at (few_of c.self.inside.fences.items c.self.inside.list.items c.self.invariant (λ e. e.0.ledger == c.args.ledger)) in
+    omega (arith, ap length (returns-in-len2-up-clause-items c), few)
