@@ -1,5 +1,6 @@
 -- Files that entry logs can have stay so.
-use Rattle.std.proofs.Common.{get_or, Result, Ok, Err, OnOk, OnErr, Some, None, cond, ◌≡◌, ℕ, ◌+◌, ◌<◌, ◌≤◌, ◌^◌, List, [], ◌++◌, length, take, drop, sym, ◌∙◌, subst, arith, Ordering, Less, Equal, Greater, refl}
+use Rattle.std.proofs.Common.{get_or, Result, Ok, Err, OnOk, OnErr, Some, None, cond, ◌≡◌, ℕ, ◌+◌, ◌<◌, ◌≤◌, ◌^◌, List, [], ◌++◌, length, take, drop, sym, ◌∙◌}
+use Rattle.std.proofs.Common.{subst, arith, Ordering, Less, Equal, Greater, refl}
 use Rattle.std.specs.Ordering.{nat_cmp, is_eq}
 use Rattle.std.specs.Cmp.{nat_cmp_total}
 use Rattle.std.specs.List.{All}
@@ -20,10 +21,14 @@ AreLogFiles-none = record { each = λ log file is. let none : None ≡ Some file
 
 -- one file more, or another in its stead
 pub AreLogFiles-insert : (fs : Files) (log : ℕ) (file : List ℕ) → AreLogFiles fs → IsLogFile log file → AreLogFiles (files.insert fs log file)
-AreLogFiles-insert fs log file all one = record { each = λ q found is. by_order q found (nat_cmp q log) refl (sym (files.get-insert nat_cmp_total fs log file q) ∙ is) } where
+AreLogFiles-insert fs log file all one = record {
+  each = λ q found is. by_order q found (nat_cmp q log) refl
+      (sym (files.get-insert nat_cmp_total fs log file q) ∙ is);
+} where
   by_order : (q : ℕ) (found : List ℕ) (r : Ordering) → nat_cmp q log ≡ r → cond (is_eq r) (Some file) (files.get fs q) ≡ Some found → IsLogFile q found
   by_order q found Less e there = all.each q found there
-  by_order q found Equal e there = subst (λ k. IsLogFile k found) (sym (files.nat_cmp-IsAntisymmetric q log e)) (subst (IsLogFile log) (same_Some _ _ there) one)
+  by_order q found Equal e there = subst (λ k. IsLogFile k found) (sym (files.nat_cmp-IsAntisymmetric q log e))
+      (subst (IsLogFile log) (same_Some _ _ there) one)
   by_order q found Greater e there = all.each q found there
 
 -- one file less
@@ -52,8 +57,17 @@ pub IsLogFile-patch : (log : ℕ) (file bytes : List ℕ) → IsLogFile log file
     → IsLogFile log (take 8 file ++ bytes ++ drop 20 file)
 IsLogFile-patch log file bytes one each twelve long = record {
   id = one.id;
-  size = omega (arith, length-append (take 8 file ++ bytes) (drop 20 file), length-append (take 8 file) bytes, length-take 8 file, length-drop 20 file, twelve, one.size);
-  bytes = All-append (λ b. b < 2 ^ 8) (take 8 file ++ bytes) (drop 20 file) (All-append (λ b. b < 2 ^ 8) (take 8 file) bytes (All-take (λ b. b < 2 ^ 8) 8 file one.bytes) each) (All-drop (λ b. b < 2 ^ 8) 20 file one.bytes);
+  size = omega (
+    arith,
+    length-append (take 8 file ++ bytes) (drop 20 file),
+    length-append (take 8 file) bytes,
+    length-take 8 file,
+    length-drop 20 file,
+    twelve,
+    one.size,
+  );
+  bytes = All-append (λ b. b < 2 ^ 8) (take 8 file ++ bytes) (drop 20 file) (All-append (λ b. b < 2 ^ 8) (take 8 file) bytes
+      (All-take (λ b. b < 2 ^ 8) 8 file one.bytes) each) (All-drop (λ b. b < 2 ^ 8) 20 file one.bytes);
 }
 
 -- what a call changed or left, by its answer
@@ -67,7 +81,8 @@ pub AreLogFiles-same : (m n : BTreeMap ℕ (List ℕ)) → n.entries ≡ m.entri
 AreLogFiles-same m n same all = subst (λ (es : List (ℕ × List ℕ)). AreLogFiles (files.from_entries es)) (sym same) all
 
 -- a map of logs that got one more, or was refused it
-pub AreLogFiles-updates : {T E : Type 0} (m n : BTreeMap ℕ (List ℕ)) (log : ℕ) (file : List ℕ) (result : Result T E) → OnOk result (tree.Updates nat_cmp m n log (Some file))
+pub AreLogFiles-updates : {T E : Type 0} (m n : BTreeMap ℕ (List ℕ)) (log : ℕ) (file : List ℕ) (result : Result T E)
+    → OnOk result (tree.Updates nat_cmp m n log (Some file))
     → OnErr result (n.entries ≡ m.entries) → IsLogFile log file → AreLogFiles (files_of m) → AreLogFiles (files_of n)
 AreLogFiles-updates m n log file (Ok x) ok err one all = rw (files_of-insert m n log file ok) (AreLogFiles-insert (files_of m) log file all one)
 AreLogFiles-updates m n log file (Err e) ok err one all = AreLogFiles-same m n err all

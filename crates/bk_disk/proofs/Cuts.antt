@@ -1,8 +1,10 @@
 -- Bytes cut into blocks of one size.
-use Rattle.std.proofs.Common.{◌≡◌, ℕ, zero, suc, ◌+◌, ◌*◌, ◌/◌, ◌%◌, ◌<◌, ◌≤◌, ◌^◌, List, [], ◌∷◌, ◌++◌, map, length, take, drop, get_or, set, ◌-◌, refl, sym, ◌∙◌, ap, arith, append_assoc, length-append}
+use Rattle.std.proofs.Common.{◌≡◌, ℕ, zero, suc, ◌+◌, ◌*◌, ◌/◌, ◌%◌, ◌<◌, ◌≤◌, ◌^◌, List, [], ◌∷◌, ◌++◌, map, length, take, drop, get_or, set, ◌-◌, refl, sym}
+use Rattle.std.proofs.Common.{◌∙◌, ap, arith, append_assoc, length-append}
 use Rattle.std.specs.List.{All, AllZip, concat}
 use Rattle.std.proofs.lemmas.List.Elements.{All-head, All-tail, All-cons, All-push, All-append}
-use Rattle.std.proofs.lemmas.List.{length-take, length-drop, length-take-le, take-append-le, length-map, get_or-map, map_push, map-append, append-nil, take-append-drop, drop_at, drop-append-le, drop-drop}
+use Rattle.std.proofs.lemmas.List.{length-take, length-drop, length-take-le, take-append-le, length-map, get_or-map, map_push, map-append, append-nil}
+use Rattle.std.proofs.lemmas.List.{take-append-drop, drop_at, drop-append-le, drop-drop}
 use Rattle.std.proofs.lemmas.List.Folds.{concat-append}
 use Rattle.std.proofs.Math.Seq.{drop-append-add, take-append-add}
 use Rattle.bk_disk.specs.Blocks.{joined, IsCut, BeginsWith}
@@ -35,7 +37,8 @@ drop-joined size (b ∷ bs) last (suc i) r d each in' low =
     (drop-joined size bs last i r d (All-tail (λ x. length x ≡ size) b bs each) (omega arith) low)
 
 -- clones of one another have the same bytes
-pub map_clones : {B : Type 0} (bytes : B → List ℕ) (R : B → B → Type 0) → ((a b : B) → R a b → bytes b ≡ bytes a) → (xs ys : List B) → AllZip R xs ys → map bytes ys ≡ map bytes xs
+pub map_clones : {B : Type 0} (bytes : B → List ℕ) (R : B → B → Type 0) → ((a b : B) → R a b → bytes b ≡ bytes a) → (xs ys : List B) → AllZip R xs ys
+    → map bytes ys ≡ map bytes xs
 map_clones bytes R same [] [] all = refl
 map_clones bytes R same [] (y ∷ ys) all = absurd all
 map_clones bytes R same (x ∷ xs) [] all = absurd all
@@ -52,7 +55,8 @@ length_joined bytes full last now cut is =
     (omega (arith, sym (ap length is), whole, blocks, many), omega (arith, sym (ap length is)))
 
 -- a full block at a position's quotient has the bytes from that position on, from the remainder on
-pub full_block_of : {B : Type 0} (bytes : B → List ℕ) (full : List B) (last now : List ℕ) (at : ℕ) (b : B) → IsCut (map bytes full) last → joined (map bytes full) last ≡ now
+pub full_block_of : {B : Type 0} (bytes : B → List ℕ) (full : List B) (last now : List ℕ) (at : ℕ) (b : B) → IsCut (map bytes full) last
+    → joined (map bytes full) last ≡ now
     → at / BLOCK < length full → b ≡ get_or full (at / BLOCK) b
     → (at % BLOCK < length (bytes b)) × BeginsWith (drop at now) (drop (at % BLOCK) (bytes b))
 full_block_of bytes full last now at b cut is in' there =
@@ -64,28 +68,41 @@ full_block_of bytes full last now at b cut is in' there =
     let whole : length (get_or (map bytes full) i []) ≡ BLOCK = cut.each i [] (omega (arith, many)) in
     let size : length (bytes b) ≡ BLOCK = sym (ap length here) ∙ whole in
     let place : i * BLOCK + r ≡ at = omega arith in
-    let from = drop-joined BLOCK (map bytes full) last i r [] cut.each (omega (arith, many)) (omega arith) in
-    (omega (arith, size), (behind, ap (drop at) (sym is) ∙ ap (λ n. drop n (joined (map bytes full) last)) (sym place) ∙ from ∙ ap (λ x. drop r x ++ behind) here))
+    let from = drop-joined BLOCK (map bytes full) last i r [] cut.each (omega (arith, many)) (omega arith) in (
+      omega (arith, size),
+      (
+        behind,
+        ap (drop at) (sym is) ∙ ap (λ n. drop n (joined (map bytes full) last)) (sym place) ∙ from
+            ∙ ap (λ x. drop r x ++ behind) here,
+      ),
+    )
 
 -- and behind the full blocks the last one has them
-pub last_block_of : {B : Type 0} (bytes : B → List ℕ) (full : List B) (last now : List ℕ) (at : ℕ) → IsCut (map bytes full) last → joined (map bytes full) last ≡ now
+pub last_block_of : {B : Type 0} (bytes : B → List ℕ) (full : List B) (last now : List ℕ) (at : ℕ) → IsCut (map bytes full) last
+    → joined (map bytes full) last ≡ now
     → at < length now → length full ≤ at / BLOCK
     → (at % BLOCK < length last) × BeginsWith (drop at now) (drop (at % BLOCK) last)
 last_block_of bytes full last now at cut is in' past =
     let r = at % BLOCK in
     let sizes = length_joined bytes full last now cut is in
-    let before : length (concat (map bytes full)) ≡ length full * BLOCK = length-concat_full BLOCK (map bytes full) cut.each ∙ ap (λ n. n * BLOCK) (length-map full bytes) in
+    let before : length (concat (map bytes full)) ≡ length full * BLOCK = length-concat_full BLOCK (map bytes full) cut.each
+    ∙ ap (λ n. n * BLOCK) (length-map full bytes) in
     let short : length last < BLOCK = cut.short in
     let place : length (concat (map bytes full)) + r ≡ at = omega (arith, sizes.0, before) in (
       omega (arith, sizes.0, before),
-      ([], ap (drop at) (sym is) ∙ ap (λ n. drop n (joined (map bytes full) last)) (sym place) ∙ drop-append-add (concat (map bytes full)) last r ∙ sym (append-nil (drop r last))),
+      (
+        [],
+        ap (drop at) (sym is) ∙ ap (λ n. drop n (joined (map bytes full) last)) (sym place) ∙ drop-append-add (concat (map bytes full)) last r
+            ∙ sym (append-nil (drop r last)),
+      ),
     )
 
 -- a front, and a piece of what stands behind it
 pub take-add : (n m : ℕ) (bytes : List ℕ) → n ≤ length bytes → take n bytes ++ take m (drop n bytes) ≡ take (n + m) bytes
 take-add n m bytes long =
     let size : length (take n bytes) ≡ n = length-take-le n bytes long in
-    sym (ap (take (n + m)) (sym (take-append-drop n bytes)) ∙ ap (λ k. take (k + m) (take n bytes ++ drop n bytes)) (sym size) ∙ take-append-add (take n bytes) (drop n bytes) m)
+    sym (ap (take (n + m)) (sym (take-append-drop n bytes)) ∙ ap (λ k. take (k + m) (take n bytes ++ drop n bytes)) (sym size)
+    ∙ take-append-add (take n bytes) (drop n bytes) m)
 
 -- one more piece of a read, as far as a block has it
 pub take_next : (now got part : List ℕ) (from next n : ℕ) → from ≤ next → next + n ≤ length now → got ≡ take (next - from) (drop from now)
@@ -93,23 +110,33 @@ pub take_next : (now got part : List ℕ) (from next n : ℕ) → from ≤ next 
 take_next now got part from next n order room so_far begins fits =
     let behind = begins.0 in
     let there : take n part ≡ take n (drop (next - from) (drop from now)) =
-    sym (take-append-le n part behind fits) ∙ ap (take n) (sym begins.1) ∙ ap (λ k. take n (drop k now)) (omega arith) ∙ ap (take n) (sym (drop-drop (next - from) from now)) in
+    sym (take-append-le n part behind fits) ∙ ap (take n) (sym begins.1) ∙ ap (λ k. take n (drop k now)) (omega arith)
+    ∙ ap (take n) (sym (drop-drop (next - from) from now)) in
     ap (λ x. x ++ take n part) so_far ∙ ap (λ x. take (next - from) (drop from now) ++ x) there
     ∙ take-add (next - from) n (drop from now) (omega (arith, length-drop from now)) ∙ ap (λ k. take k (drop from now)) (omega arith)
 
 -- a block that is full is pushed
-pub each_push : {B : Type 0} (bytes : B → List ℕ) (size : ℕ) (full : List B) (b : B) → Each size (map bytes full) → length (bytes b) ≡ size → Each size (map bytes (full ++ b ∷ []))
+pub each_push : {B : Type 0} (bytes : B → List ℕ) (size : ℕ) (full : List B) (b : B) → Each size (map bytes full) → length (bytes b) ≡ size
+    → Each size (map bytes (full ++ b ∷ []))
 each_push bytes size full b each is = rw (map_push bytes full b) (All-push (λ x. length x ≡ size) (map bytes full) (bytes b) each is)
 
-pub joined_push : {B : Type 0} (bytes : B → List ℕ) (full : List B) (b : B) (last rest head behind all : List ℕ) → bytes b ≡ last ++ head → head ++ behind ≡ rest
+pub joined_push : {B : Type 0} (bytes : B → List ℕ) (full : List B) (b : B) (last rest head behind all : List ℕ) → bytes b ≡ last ++ head
+    → head ++ behind ≡ rest
     → joined (map bytes full) last ++ rest ≡ all → joined (map bytes (full ++ b ∷ [])) [] ++ behind ≡ all
 joined_push bytes full b last rest head behind all block cut is =
     let c = concat (map bytes full) in
-    rw (map_push bytes full b, concat-append (map bytes full) (bytes b ∷ []), block, append-nil (concat (map bytes full) ++ concat ((last ++ head) ∷ [])), append-nil (last ++ head))
+    rw (
+      map_push bytes full b,
+      concat-append (map bytes full) (bytes b ∷ []),
+      block,
+      append-nil (concat (map bytes full) ++ concat ((last ++ head) ∷ [])),
+      append-nil (last ++ head),
+    )
     (append_assoc c (last ++ head) behind ∙ ap (λ x. c ++ x) (append_assoc last head behind ∙ ap (λ x. last ++ x) cut) ∙ sym (append_assoc c last rest) ∙ is)
 
 -- what an append that fills blocks leaves: the bytes of the last block and the piece were cut anew
-pub appended : {B : Type 0} (bytes : B → List ℕ) (full more : List B) (last rest old piece : List ℕ) → IsCut (map bytes full) last → joined (map bytes full) last ≡ old
+pub appended : {B : Type 0} (bytes : B → List ℕ) (full more : List B) (last rest old piece : List ℕ) → IsCut (map bytes full) last
+    → joined (map bytes full) last ≡ old
     → IsCut (map bytes more) rest → joined (map bytes more) rest ≡ last ++ piece → length old + length piece < 2 ^ 32
     → IsCut (map bytes (full ++ more)) rest × (joined (map bytes (full ++ more)) rest ≡ old ++ piece)
 appended bytes full more last rest old piece cut is cut' is' fits =
@@ -132,13 +159,15 @@ length_patched bytes patch long twelve =
     omega (arith, length-append (take 8 bytes ++ patch) (drop 20 bytes), length-append (take 8 bytes) patch, length-take 8 bytes, length-drop 20 bytes)
 
 -- a write over bytes at 8 to 20 of a front is one of the whole
-patch_front : (front behind patch : List ℕ) → 20 ≤ length front → (take 8 front ++ patch ++ drop 20 front) ++ behind ≡ take 8 (front ++ behind) ++ patch ++ drop 20 (front ++ behind)
+patch_front : (front behind patch : List ℕ) → 20 ≤ length front → (take 8 front ++ patch ++ drop 20 front) ++ behind ≡ take 8
+    (front ++ behind) ++ patch ++ drop 20 (front ++ behind)
 patch_front front behind patch long =
     let low : 8 ≤ length front = omega arith in
     rw (take-append-le 8 front behind low, drop-append-le 20 front behind long) (append_assoc (take 8 front ++ patch) (drop 20 front) behind)
 
 -- what a patch of the first of the full blocks leaves
-pub first_patched : {B : Type 0} (bytes : B → List ℕ) (full : List B) (last old patch : List ℕ) (first b : B) → IsCut (map bytes full) last → joined (map bytes full) last ≡ old
+pub first_patched : {B : Type 0} (bytes : B → List ℕ) (full : List B) (last old patch : List ℕ) (first b : B) → IsCut (map bytes full) last
+    → joined (map bytes full) last ≡ old
     → 0 < length full → first ≡ get_or full 0 first → length patch ≡ 12 → bytes b ≡ take 8 (bytes first) ++ patch ++ drop 20 (bytes first)
     → IsCut (map bytes (set full 0 b)) last × (joined (map bytes (set full 0 b)) last ≡ take 8 old ++ patch ++ drop 20 old)
 first_patched bytes [] last old patch first b cut is some here twelve there = absurd (omega arith)
@@ -155,7 +184,13 @@ first_patched bytes (x ∷ xs) last old patch first b cut is some here twelve th
       record {
         each = All-cons (λ y. length y ≡ BLOCK) (bytes b) (map bytes xs) same (All-tail (λ y. length y ≡ BLOCK) (bytes x) (map bytes xs) cut.each);
         short = cut.short;
-        fits = omega (arith, ap length whole, length_patched old patch (omega (arith, ap length was, length-append (bytes x) behind, size)) twelve, ap length is, fits);
+        fits = omega (
+          arith,
+          ap length whole,
+          length_patched old patch (omega (arith, ap length was, length-append (bytes x) behind, size)) twelve,
+          ap length is,
+          fits,
+        );
       },
       whole,
     )

@@ -1,5 +1,6 @@
 -- The digits of an id, one after another from the last.
-use Rattle.std.proofs.Common.{◌≡◌, ℕ, zero, suc, ◌+◌, ◌-◌, ◌⊎◌, inl, inr, Some, None, length, take, get_or, ◌*◌, ◌/◌, ◌%◌, ◌^◌, ◌<◌, ◌≤◌, Bool, true, false, if◌then◌else◌, ◌==◌, List, [], ◌∷◌, ◌++◌, sym, ◌∙◌, ap, refl, subst, arith, append_assoc}
+use Rattle.std.proofs.Common.{◌≡◌, ℕ, zero, suc, ◌+◌, ◌-◌, ◌⊎◌, inl, inr, Some, None, length, take, get_or, ◌*◌, ◌/◌, ◌%◌, ◌^◌, ◌<◌, ◌≤◌, Bool, true, false}
+use Rattle.std.proofs.Common.{if◌then◌else◌, ◌==◌, List, [], ◌∷◌, ◌++◌, sym, ◌∙◌, ap, refl, subst, arith, append_assoc}
 use Rattle.std.specs.Fmt.{digits, digits_onto, digit_glyph}
 use Rattle.std.proofs.Math.Nat.{pow-suc, div-eq_of_lt}
 use Rattle.std.proofs.lemmas.Nat.{div_below, le-div, div-mul-add, mod-mul-add, div-add-mod'}
@@ -17,7 +18,8 @@ onto-append (suc k) n acc =
     (onto-append k (n / 16) (digit_glyph false (n % 16) ∷ acc)
     ∙ sym (append_assoc (digits_onto k 16 false (n / 16) []) last acc)
     ∙ ap (λ xs. xs ++ acc) (sym (onto-append k (n / 16) last))) where
-      by_test : (b : Bool) → digits_onto k 16 false (n / 16) (digit_glyph false (n % 16) ∷ acc) ≡ digits_onto k 16 false (n / 16) (digit_glyph false (n % 16) ∷ []) ++ acc
+      by_test : (b : Bool) → digits_onto k 16 false (n / 16) (digit_glyph false (n % 16) ∷ acc)
+          ≡ digits_onto k 16 false (n / 16) (digit_glyph false (n % 16) ∷ []) ++ acc
           → (if b then digit_glyph false (n % 16) ∷ acc else digits_onto k 16 false (n / 16) (digit_glyph false (n % 16) ∷ acc))
           ≡ (if b then digit_glyph false (n % 16) ∷ [] else digits_onto k 16 false (n / 16) (digit_glyph false (n % 16) ∷ [])) ++ acc
       by_test true step = refl
@@ -31,7 +33,8 @@ onto-more zero n acc low =
     ap (λ b. if b then here else digits_onto 1 16 false (n / 16) here) none ∙ sym (ap (λ b. if b then here else digits_onto 0 16 false (n / 16) here) none)
 onto-more (suc k) n acc low =
     let here = digit_glyph false (n % 16) ∷ acc in
-    ap (λ rest. if n / 16 == 0 then here else rest) (onto-more k (n / 16) here (div_below n 16 (16 ^ suc k) (omega arith) (subst (λ m. n < m) (pow-suc 16 (suc k)) low)))
+    ap (λ rest. if n / 16 == 0 then here else rest) (onto-more k (n / 16) here (div_below n 16 (16 ^ suc k) (omega arith)
+    (subst (λ m. n < m) (pow-suc 16 (suc k)) low)))
 
 -- an id of one digit
 pub id_text-one : (n : ℕ) → n < 16 → id_text n ≡ digit_glyph false n ∷ []
@@ -73,11 +76,13 @@ by_digits {P} text n some low is one more = by_size (cases_lt n 16) where
       let cut = same_from_push (front_of text) [] (last_of text) (digit_glyph false n) (front-last text some ∙ is ∙ id_text-one n less) in
       one less (ap length cut.0) cut.1
   by_size (inr high) =
-      let cut = same_from_push (front_of text) (id_text (n / 16)) (last_of text) (digit_glyph false (n % 16)) (front-last text some ∙ is ∙ id_text-more n high low) in
+      let cut = same_from_push (front_of text) (id_text (n / 16)) (last_of text) (digit_glyph false (n % 16))
+      (front-last text some ∙ is ∙ id_text-more n high low) in
       more high cut.0 cut.1
 
 -- a text of one digit
-pub id_text-from_one : (text : List ℕ) (low : ℕ) → 0 < length text → length (front_of text) ≡ 0 → low < 16 → last_of text ≡ digit_glyph false low → text ≡ id_text low
+pub id_text-from_one : (text : List ℕ) (low : ℕ) → 0 < length text → length (front_of text) ≡ 0 → low < 16 → last_of text ≡ digit_glyph false low
+    → text ≡ id_text low
 id_text-from_one text low some none digit is =
     sym (front-last text some) ∙ ap (λ xs. xs ++ last_of text ∷ []) (nil_from_length (front_of text) none) ∙ ap (λ d. d ∷ []) is ∙ sym (id_text-one low digit)
 

@@ -1,5 +1,6 @@
 -- What a call that fails may leave, as the calls' relations say it.
-use Rattle.std.proofs.Common.{Option, Some, None, ◌≡◌, ℕ, ◌≤◌, List, [], ◌++◌, length, take, drop, min, Bool, true, false, if◌then◌else◌, nat_le, Result, Ok, Err, sym, ◌∙◌, ap, refl, arith}
+use Rattle.std.proofs.Common.{Option, Some, None, ◌≡◌, ℕ, ◌≤◌, List, [], ◌++◌, length, take, drop, min, Bool, true, false, if◌then◌else◌, nat_le, Result, Ok}
+use Rattle.std.proofs.Common.{Err, sym, ◌∙◌, ap, refl, arith}
 use Rattle.std.specs.Option.{option_map_or}
 use Rattle.std.specs.FinMap as files
 use Rattle.std.proofs.lemmas.List.{append-nil, take_min, take-take, length-take, take-append-drop, length-drop}
@@ -19,7 +20,8 @@ grown-nil old log = by_file (files.get old log) refl where
   by_file None there = refl
 
 -- an append of a piece's first bytes, whatever its answer, leaves a prefix of the piece
-pub grown_by_prefix : {T : Type 0} (old new : Files) (log : ℕ) (piece : List ℕ) (kept : ℕ) (answer : Result T DiskFault) → Appends old log (take kept piece) answer new
+pub grown_by_prefix : {T : Type 0} (old new : Files) (log : ℕ) (piece : List ℕ) (kept : ℕ) (answer : Result T DiskFault)
+    → Appends old log (take kept piece) answer new
     → (n : ℕ) × (new ≡ grown old log (take n piece))
 grown_by_prefix old new log piece kept (Ok x) appends = (kept, appends.3)
 grown_by_prefix old new log piece kept (Err Disk) appends =
@@ -41,8 +43,12 @@ patched_file-own file some twelve = by_length (nat_le 20 (length file)) refl whe
   by_length : (long : Bool) → nat_le 20 (length file) ≡ long
       → (left : List ℕ) × (length left ≡ 12) × ((if long then take 8 file ++ left ++ drop 20 file else file) ≡ file)
   by_length true long =
-      let enough : 20 ≤ length file = leb-true 20 (length file) long in
-      (own, omega (arith, length-take 12 (drop 8 file), length-drop 8 file), ap (λ front. front ++ drop 20 file) (sym (take-add 8 12 file)) ∙ take-append-drop 20 file)
+      let enough : 20 ≤ length file = leb-true 20 (length file) long in (
+        own,
+        omega (arith, length-take 12 (drop 8 file), length-drop 8 file),
+        ap (λ front. front ++ drop 20 file) (sym (take-add 8 12 file))
+            ∙ take-append-drop 20 file,
+      )
   by_length false long = (some, twelve, refl)
 
 -- files that stay are files with some twelve bytes at 8 to 20 of a log

@@ -1,5 +1,6 @@
 -- The files that a map of logs is, against what the calls on that map say.
-use Rattle.std.proofs.Common.{Option, Bool, true, false, ◌≡◌, ℕ, cond, ◌≤◌, List, [], ◌∷◌, ◌++◌, map, length, take, drop, if◌then◌else◌, Some, None, sym, ◌∙◌, ap, subst, refl, IsSome, Ordering, Less, Equal, Greater}
+use Rattle.std.proofs.Common.{Option, Bool, true, false, ◌≡◌, ℕ, cond, ◌≤◌, List, [], ◌∷◌, ◌++◌, map, length, take, drop, if◌then◌else◌, Some, None, sym, ◌∙◌}
+use Rattle.std.proofs.Common.{ap, subst, refl, IsSome, Ordering, Less, Equal, Greater}
 use Rattle.std.specs.Ordering.{nat_cmp, eq_by_cmp, is_eq}
 use Rattle.std.specs.Cmp.{nat_cmp_total, eq_by_cmp_equiv, tied_itself}
 use Rattle.std.specs.List.Sorted.{IsStrictlySortedBy}
@@ -25,7 +26,8 @@ pub get-files_of : (logs : BTreeMap ℕ (List ℕ)) (q : ℕ) → files.get (fil
 get-files_of logs q = files.get-from_entries nat_cmp_total logs.entries q ∙ find_lookup q logs.entries
 
 -- a key that gets a file
-pub files_of-insert : (m n : BTreeMap ℕ (List ℕ)) (k : ℕ) (file : List ℕ) → tree.Updates nat_cmp m n k (Some file) → files_of n ≡ files.insert (files_of m) k file
+pub files_of-insert : (m n : BTreeMap ℕ (List ℕ)) (k : ℕ) (file : List ℕ) → tree.Updates nat_cmp m n k (Some file)
+    → files_of n ≡ files.insert (files_of m) k file
 files_of-insert m n k file updates =
     files.same_map nat_cmp_total files.nat_cmp-IsAntisymmetric (files_of n) (files.insert (files_of m) k file) (λ q.
     get-files_of n q ∙ updates.0 q ∙ ap (λ b. cond b (Some file) (tree.get nat_cmp m q)) ((eq_by_cmp_equiv nat_cmp_total).symm k q)
@@ -58,7 +60,8 @@ entries-from_rising (e ∷ es) rises =
 pub keys-files_of : (logs : BTreeMap ℕ (List ℕ)) → tree.IsOrdered nat_cmp logs → files.keys (files_of logs) ≡ tree.keys logs
 keys-files_of logs ordered = ap (map (λ e. e.0)) (entries-from_rising logs.entries ordered)
 
-at_tie : (old : Files) (log q : ℕ) (file : List ℕ) → files.get old log ≡ Some file → (r : Ordering) → nat_cmp q log ≡ r → cond (is_eq r) (Some file) (files.get old q) ≡ files.get old q
+at_tie : (old : Files) (log q : ℕ) (file : List ℕ) → files.get old log ≡ Some file → (r : Ordering) → nat_cmp q log ≡ r
+    → cond (is_eq r) (Some file) (files.get old q) ≡ files.get old q
 at_tie old log q file there Less e = refl
 at_tie old log q file there Equal e = sym there ∙ files.get_tied nat_cmp_total old q log e
 at_tie old log q file there Greater e = refl

@@ -1,5 +1,6 @@
 -- Files taken from a list, one after another, into a map.
-use Rattle.std.proofs.Common.{◌≡◌, ℕ, suc, ◌+◌, ◌<◌, ◌^◌, false, cond, nat_eq, List, [], ◌∷◌, ◌++◌, map, length, take, get_or, None, Some, Vec, Global, sym, ◌∙◌, ap, refl, Ordering, Less, Equal, Greater, arith, eq-eqb}
+use Rattle.std.proofs.Common.{◌≡◌, ℕ, suc, ◌+◌, ◌<◌, ◌^◌, false, cond, nat_eq, List, [], ◌∷◌, ◌++◌, map, length, take, get_or, None, Some, Vec, Global, sym}
+use Rattle.std.proofs.Common.{◌∙◌, ap, refl, Ordering, Less, Equal, Greater, arith, eq-eqb}
 use Rattle.std.specs.Ordering.{nat_cmp, eq_by_cmp, is_eq}
 use Rattle.std.specs.Cmp.{nat_cmp_total, nat_eq_equiv}
 use Rattle.std.specs.List.{IsDistinct, list_any}
@@ -23,13 +24,15 @@ untied a b differ = go (nat_cmp b a) refl where
   go Greater e = refl
 
 -- a key that differs from each is not found
-find_none : {X : Type 0} (q : ℕ) (es : List (ℕ × X)) → ((k : ℕ) (d : ℕ × X) → k < length es → eq_by_cmp nat_cmp q (get_or es k d).0 ≡ false) → find nat_cmp q es ≡ None
+find_none : {X : Type 0} (q : ℕ) (es : List (ℕ × X)) → ((k : ℕ) (d : ℕ × X) → k < length es → eq_by_cmp nat_cmp q (get_or es k d).0 ≡ false)
+    → find nat_cmp q es ≡ None
 find_none q [] apart = refl
 find_none q (e ∷ es) apart =
     ap (λ b. cond b (Some e.1) (find nat_cmp q es)) (apart 0 e (omega arith)) ∙ find_none q es (λ k d low. apart (suc k) d (omega arith))
 
 -- no id stands before its own place
-apart_before : {X : Type 0} (found : List (ℕ × X)) (i k : ℕ) (d d' : ℕ × X) → IsDistinct nat_eq (map (λ f. f.0) found) → i < length found → k < length (take i found)
+apart_before : {X : Type 0} (found : List (ℕ × X)) (i k : ℕ) (d d' : ℕ × X) → IsDistinct nat_eq (map (λ f. f.0) found) → i < length found
+    → k < length (take i found)
     → eq_by_cmp nat_cmp (get_or found i d).0 (get_or (take i found) k d').0 ≡ false
 apart_before {X} found i k d d' apart low before =
     let below : k < i = omega (arith, length-take i found) in
@@ -38,14 +41,16 @@ apart_before {X} found i k d d' apart low before =
     let differ = apart_from_distinct nat_eq (map id found) k i 0 apart below (omega (arith, length-map found id)) in
     let first : get_or (map id found) k 0 ≡ (get_or (take i found) k d').0 = get_or-map id found k d' 0 there ∙ ap id (sym (get_or-take i found k d' below)) in
     let second : get_or (map id found) i 0 ≡ (get_or found i d).0 = get_or-map id found i d 0 low in
-    untied (get_or (take i found) k d').0 (get_or found i d).0 (ap (λ n. nat_eq n (get_or found i d).0) (sym first) ∙ ap (nat_eq (get_or (map id found) k 0)) (sym second) ∙ differ)
+    untied (get_or (take i found) k d').0 (get_or found i d).0 (ap (λ n. nat_eq n (get_or found i d).0) (sym first)
+    ∙ ap (nat_eq (get_or (map id found) k 0)) (sym second) ∙ differ)
 
 -- one file more
 pub from_entries_more : {X : Type 0} (found : List (ℕ × X)) (i : ℕ) (d : ℕ × X) → IsDistinct nat_eq (map (λ f. f.0) found) → i < length found
     → files.from_entries {R = nat_cmp} (take (i + 1) found) ≡ files.insert (files.from_entries (take i found)) (get_or found i d).0 (get_or found i d).1
 from_entries_more found i d apart low =
     ap (files.from_entries {R = nat_cmp}) (take_more found i d low)
-    ∙ files.from_entries_push nat_cmp_total files.nat_cmp-IsAntisymmetric (take i found) (get_or found i d).0 (get_or found i d).1 (find_none _ (take i found) (λ k d' before. apart_before found i k d d' apart low before))
+    ∙ files.from_entries_push nat_cmp_total files.nat_cmp-IsAntisymmetric (take i found) (get_or found i d).0 (get_or found i d).1
+    (find_none _ (take i found) (λ k d' before. apart_before found i k d d' apart low before))
 
 -- a file of a list, by its id and bytes
 listed_at : (found : List (ℕ × Vec ℕ Global)) (i : ℕ) (entry : ℕ × Vec ℕ Global) (d : ℕ × List ℕ) → i < length found → entry ≡ get_or found i entry
@@ -55,14 +60,16 @@ listed_at found i entry d low here = get_or-map (λ f. (f.0, f.1.items)) found i
 length-listed : (found : List (ℕ × Vec ℕ Global)) → length (listed found) ≡ length found
 length-listed found = length-map {B = ℕ × List ℕ} found (λ f. (f.0, f.1.items))
 
-pub size_listed : (found : List (ℕ × Vec ℕ Global)) (i : ℕ) (entry : ℕ × Vec ℕ Global) → IsListing (listed found) → i < length found → entry ≡ get_or found i entry
+pub size_listed : (found : List (ℕ × Vec ℕ Global)) (i : ℕ) (entry : ℕ × Vec ℕ Global) → IsListing (listed found) → i < length found
+    → entry ≡ get_or found i entry
     → length entry.1.items < 2 ^ 32
 size_listed found i entry listing low here =
     let d : ℕ × List ℕ = (0, []) in
     let size : length (get_or (listed found) i d).1 < 2 ^ 32 = listing.sizes i d (omega (arith, length-listed found)) in
     omega (arith, size, ap (λ f. length f.1) (listed_at found i entry d low here))
 
-pub id_listed : (found : List (ℕ × Vec ℕ Global)) (i : ℕ) (entry : ℕ × Vec ℕ Global) → IsListing (listed found) → i < length found → entry ≡ get_or found i entry
+pub id_listed : (found : List (ℕ × Vec ℕ Global)) (i : ℕ) (entry : ℕ × Vec ℕ Global) → IsListing (listed found) → i < length found
+    → entry ≡ get_or found i entry
     → entry.0 < 2 ^ 31
 id_listed found i entry listing low here =
     let d : ℕ × List ℕ = (0, []) in

@@ -1,6 +1,7 @@
 -- What the calls on a disk do to its files, why they may fail, and what a failure leaves. Each relation goes by cases
 -- on the answer; a fault that the call does not have holds of nothing.
-use Rattle.std.specs.Prelude.{◌≡◌, ℕ, ◌+◌, ◌<◌, ◌≤◌, ◌^◌, max, nat_le, if◌then◌else◌, Bool, IsTrue, List, [], ◌++◌, length, take, drop, Some, IsSome, IsNone, Result, Ok, Err, IsErrOf}
+use Rattle.std.specs.Prelude.{◌≡◌, ℕ, ◌+◌, ◌<◌, ◌≤◌, ◌^◌, max, nat_le, if◌then◌else◌, Bool, IsTrue, List, [], ◌++◌, length, take, drop, Some, IsSome, IsNone}
+use Rattle.std.specs.Prelude.{Result, Ok, Err, IsErrOf}
 use Rattle.std.specs.List.{All}
 use Rattle.std.specs.Option.{option_map_or}
 use Rattle.std.specs.FinMap as map

@@ -53,7 +53,8 @@ returns-clause-named t c =
     let digit = c.in_ok-low.ensures.named in
     let front = c.in_ok-high.ensures.named in (
       omega (arith, digit.0, c.if-high.false),
-      id_text-from_more c.args.text.now c.in_ok-high.high c.in_ok-low.low (omega (arith, c.in-len1-up.len_at_least)) (omega (arith, c.if-high-eq0.false)) (omega (arith, c.if-high.false))
+      id_text-from_more c.args.text.now c.in_ok-high.high c.in_ok-low.low (omega (arith, c.in-len1-up.len_at_least)) (omega (arith, c.if-high-eq0.false))
+          (omega (arith, c.if-high.false))
           digit.0 front.1 digit.1,
     )
 

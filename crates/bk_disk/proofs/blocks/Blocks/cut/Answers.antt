@@ -18,7 +18,13 @@ loop-rest-preserved c =
     let filled : c.extend_from_slice-in-loop-rest.new.self.items ≡ last ++ head = c.in_ok-extend_from_slice-2.ensures.items in
     let block : bytes_of c.in_ok-new.field-0 ≡ last ++ head = ap (λ v. v.items) c.in_ok-new.ensures.ok ∙ filled in
     let pushed : c.push.new.self.items ≡ full ++ c.in_ok-new.field-0 ∷ [] = c.in_ok-push.ensures.items in
-    let size : length (bytes_of c.in_ok-new.field-0) ≡ 65536 = omega (arith, ap length block, length-append last head, c.split_at.ensures.front_len, c.loop-rest.last.ok.0) in
+    let size : length (bytes_of c.in_ok-new.field-0) ≡ 65536 = omega (
+      arith,
+      ap length block,
+      length-append last head,
+      c.split_at.ensures.front_len,
+      c.loop-rest.last.ok.0,
+    ) in
     let parts : head ++ behind ≡ c.loop-rest.rest.now = rw (c.split_at.ensures.front, c.split_at.ensures.back) (take-append-drop _ _) in
     rw (pushed, c.in_ok-last-2.ensures.items) (record {
       each = each_push bytes_of 65536 full c.in_ok-new.field-0 c.loop-rest.invariant.each size;

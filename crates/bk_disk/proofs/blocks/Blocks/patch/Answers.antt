@@ -13,7 +13,8 @@ whole c =
     let same : c.deref-2.result.now ≡ bytes_of first = c.deref-2.ensures.value ∙ ap (λ v. v.items) c.deref.ensures in
     let copy : bytes_of c.in_ok-self-inside.field-0 ≡ take 8 (bytes_of first) ++ c.args.bytes.now ++ drop 20 (bytes_of first) =
     ap (λ v. v.items) c.in_ok-self-inside.ensures.ok ∙ c.in_ok-first.ensures ∙ ap (λ x. take 8 x ++ c.args.bytes.now ++ drop 20 x) same in
-    first_patched bytes_of c.self.inside.full.items _ _ c.args.bytes.now first c.in_ok-self-inside.field-0 c.self.invariant c.self.view_is some c.index.ensures c.told-bytes copy
+    first_patched bytes_of c.self.inside.full.items _ _ c.args.bytes.now first c.in_ok-self-inside.field-0 c.self.invariant c.self.view_is some c.index.ensures
+    c.told-bytes copy
 
 pub invariant_of-self-2 : goal.invariant_of-self-2
 invariant_of-self-2 c = (whole c).0

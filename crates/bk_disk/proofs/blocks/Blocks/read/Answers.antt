@@ -13,5 +13,6 @@ loop-next-preserved c =
     rw added (record {
       after = omega arith;
       within = omega arith;
-      so_far = take_next c.args.self.now c.loop-next.bytes.items (drop within block) c.args.from c.loop-next.next n (omega arith) (omega arith) c.loop-next.invariant.so_far c.block_of-block.ensures.value fits;
+      so_far = take_next c.args.self.now c.loop-next.bytes.items (drop within block) c.args.from c.loop-next.next n (omega arith)
+          (omega arith) c.loop-next.invariant.so_far c.block_of-block.ensures.value fits;
     })

@@ -11,7 +11,8 @@ pub of-requires : goal.of-requires
 of-requires c =
     let entry = c.loop-log-item.result in
     let found = c.args.files.items in
-    let here : entry ≡ get_or found c.loop-log.log-index entry = c.loop-log-item.is ∙ ap (λ xs. get_or xs c.loop-log.log-index entry) c.deref-log-items.ensures.value in
+    let here : entry ≡ get_or found c.loop-log.log-index entry = c.loop-log-item.is
+    ∙ ap (λ xs. get_or xs c.loop-log.log-index entry) c.deref-log-items.ensures.value in
     let low : c.loop-log.log-index < length found = omega (arith, sym (ap length c.deref-log-items.ensures.value)) in
     let bytes : c.deref.result.now ≡ entry.1.items = c.deref.ensures.value in
     omega (arith, ap length bytes, size_listed found c.loop-log.log-index entry c.requires low here)
@@ -35,7 +36,8 @@ loop-log-preserved c =
       bytes = subst (All (λ b. b < 2 ^ 8)) (sym bytes) c.in_ok-of.ensures.bytes;
     } in
     record {
-      so_far = one_more_listed c.loop-log.logs c.insert.new.self found at entry file c.requires low here same c.loop-log.invariant.so_far c.in_ok-insert.ensures.updates;
+      so_far = one_more_listed c.loop-log.logs c.insert.new.self found at entry file c.requires low here same c.loop-log.invariant.so_far
+          c.in_ok-insert.ensures.updates;
       bounded = rw (files_of-insert c.loop-log.logs c.insert.new.self entry.0 file c.in_ok-insert.ensures.updates)
           (AreLogFiles-insert (files_of c.loop-log.logs) entry.0 file c.loop-log.invariant.bounded one);
     }

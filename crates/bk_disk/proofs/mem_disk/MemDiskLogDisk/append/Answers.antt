@@ -12,7 +12,8 @@ use Rattle.bk_disk.proofs.mem_disk.MemDiskLogDisk.append.Goals as goal
 pub returns-then-bytes-len-clause-turn : goal.returns-then-bytes-len-clause-turn
 returns-then-bytes-len-clause-turn c = λ _.
     let file = c.in-Some.file.now in
-    let wrote = written c.self.inside.logs (c.get_mut.follows.lender file) c.args.log file file c.self.view_is c.in-Some.ensures.value (c.get_mut.follows.holds file) in
+    let wrote = written c.self.inside.logs (c.get_mut.follows.lender file) c.args.log file file c.self.view_is c.in-Some.ensures.value
+    (c.get_mut.follows.holds file) in
     (file, wrote.0, omega (arith, c.len.ensures.value), wrote.1 ∙ insert_same _ _ _ wrote.0)
 
 pub returns-clause-turn : goal.returns-clause-turn
@@ -21,14 +22,17 @@ returns-clause-turn c = λ _.
     let now = c.append.new.self in
     let old = c.args.self.now in
     let put = files.insert old c.args.log in
-    let wrote = written c.self.inside.logs (c.get_mut.follows.lender now) c.args.log file now c.self.view_is c.in-Some.ensures.value (c.get_mut.follows.holds now) in
-    answer_of-map_err (λ r. Appends old c.args.log c.args.bytes.now r (files_of (c.get_mut.follows.lender now))) _ Memory c.append.result c.map_err.result c.map_err.ensures.cases
+    let wrote = written c.self.inside.logs (c.get_mut.follows.lender now) c.args.log file now c.self.view_is c.in-Some.ensures.value
+    (c.get_mut.follows.holds now) in
+    answer_of-map_err (λ r. Appends old c.args.log c.args.bytes.now r (files_of (c.get_mut.follows.lender now))) _ Memory c.append.result c.map_err.result
+    c.map_err.ensures.cases
     (λ e f post. search rules) c.append.ensures.ok c.append.ensures.err
     (λ _ ok. (file, wrote.0, omega (arith, c.len.ensures.value), wrote.1 ∙ ap put ok ∙ grown_there _ _ _ _ wrote.0))
     (λ err. (file, wrote.0, omega (arith, c.len.ensures.value), wrote.1 ∙ ap put err ∙ insert_same _ _ _ wrote.0))
 
 pub invariant_of-self : goal.invariant_of-self
-invariant_of-self c = AreLogFiles-same c.self.inside.logs c.get_mut.follows.lender-at-none (ap (λ logs. logs.entries) c.get_mut.follows.holds-at-none) c.self.invariant
+invariant_of-self c = AreLogFiles-same c.self.inside.logs c.get_mut.follows.lender-at-none
+    (ap (λ logs. logs.entries) c.get_mut.follows.holds-at-none) c.self.invariant
 
 pub invariant_of-self-then-bytes-len : goal.invariant_of-self-then-bytes-len
 invariant_of-self-then-bytes-len c =

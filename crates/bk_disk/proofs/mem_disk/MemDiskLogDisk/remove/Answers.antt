@@ -4,4 +4,5 @@ use Rattle.bk_disk.proofs.Bounds.{AreLogFiles-remove}
 use Rattle.bk_disk.proofs.mem_disk.MemDiskLogDisk.remove.Goals as goal
 
 pub invariant_of-self : goal.invariant_of-self
-invariant_of-self c = rw (files_of-remove c.self.inside.logs c.remove.new.self c.args.log c.remove.ensures.updates) (AreLogFiles-remove (files_of c.self.inside.logs) c.args.log c.self.invariant)
+invariant_of-self c = rw (files_of-remove c.self.inside.logs c.remove.new.self c.args.log c.remove.ensures.updates)
+    (AreLogFiles-remove (files_of c.self.inside.logs) c.args.log c.self.invariant)

@@ -8,11 +8,13 @@ use Rattle.bk_disk.proofs.Answered.{IfOk-always, IfOk-reads_view}
 use Rattle.bk_disk.proofs.tests.bound.view_between.Goals as goal
 
 -- the log as the first append leaves it
-after_first : (g : _) (c : goal.After-drop-view-2 g) → g.D.LogDisk.files c.append.new.self ≡ files.insert (g.D.LogDisk.files c.args.disk.now) c.args.log c.args.first.now
+after_first : (g : _) (c : goal.After-drop-view-2 g) → g.D.LogDisk.files c.append.new.self ≡ files.insert
+    (g.D.LogDisk.files c.args.disk.now) c.args.log c.args.first.now
 after_first g c =
     let log = c.args.log in
     let first = c.args.first.now in
-    let made : g.D.LogDisk.files c.create.new.self ≡ files.insert (g.D.LogDisk.files c.args.disk.now) log [] = (c.in_ok-create.ensures.turn c.requires.honest).1 in
+    let made : g.D.LogDisk.files c.create.new.self ≡ files.insert (g.D.LogDisk.files c.args.disk.now) log [] =
+    (c.in_ok-create.ensures.turn c.requires.honest).1 in
     let grew : g.D.LogDisk.files c.append.new.self ≡ grown (g.D.LogDisk.files c.create.new.self) log first =
     (c.in_ok-append.ensures.turn (c.in_ok-create.ensures.honest ∙ c.requires.honest)).3 in
     rw (grew, made) (grown-insert (g.D.LogDisk.files c.args.disk.now) log [] first)
@@ -33,5 +35,6 @@ returns-clause-files g c =
     let honest2 = c.in_ok-append.ensures.honest ∙ c.in_ok-create.ensures.honest ∙ c.requires.honest in
     let seen = c.in_ok-view.ensures.turn honest2 in
     let grew = c.in_ok-append-2.ensures.turn (c.in_ok-view.ensures.honest ∙ honest2) in
-    IfOk-always _ _ (grew.3 ∙ ap (λ fs. grown fs log c.args.second.now) (seen.2 ∙ after_first g c) ∙ grown-insert (g.D.LogDisk.files c.args.disk.now) log c.args.first.now c.args.second.now
+    IfOk-always _ _ (grew.3 ∙ ap (λ fs. grown fs log c.args.second.now) (seen.2 ∙ after_first g c)
+    ∙ grown-insert (g.D.LogDisk.files c.args.disk.now) log c.args.first.now c.args.second.now
     ∙ ap (λ fs. files.insert fs log (c.args.first.now ++ c.args.second.now)) c.requires.empty)
