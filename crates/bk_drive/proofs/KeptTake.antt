@@ -111,6 +111,7 @@ module _ (p : Plain) (d : Desk) (kept : KeptDesk p d) (reader : ℕ) (key : Entr
       let owed : Owed = record { log = place.log; payload = at.payload } in
       let is : IsOwed (hold_on place key view) owed = record {
         log = refl;
+        place = refl;
         honest = kept.store.views place.log at.log view at.held seen;
         listed = subst (λ (l : List ℕ). In (place.at, at.payload) (records_of l)) bytes at.shown;
         shown = record { here = subst (λ (l : List ℕ). HasRecordAt l place.at at.payload) bytes at.there; keyed = at.keyed };

@@ -198,10 +198,30 @@ fault_keeps s t logs.Odd told turn = ap (λ (x : State). x.honest) turn.1
 
 fault_caused : {T : Type 0} (old s t : State) (fault : LogFault) (told : FlushFault) → IsDeviceCaused old.failures s.failures (fault ≡ logs.Disk) → FaultTurn s fault told t
     → IsCaused {T = T} old (Err told) t
-fault_caused old s t logs.Memory told cause turn = record { later = subst (λ (x : State). old.failures ≤ x.failures) (sym turn.1) cause.later; failed = λ is. let no : told ≡ flush_faults.Memory 0 = turn.0 in cc }
-fault_caused old s t logs.Disk told cause turn = record { later = subst (λ (x : State). old.failures ≤ x.failures) (sym turn.1) cause.later; failed = λ is. subst (λ (x : State). old.failures < x.failures) (sym turn.1) (cause.failed refl) }
-fault_caused old s t logs.Failed told cause turn = record { later = subst (λ (x : State). old.failures ≤ x.failures) (sym turn.1) cause.later; failed = λ is. let no : told ≡ flush_faults.Odd = turn.0 in cc }
-fault_caused old s t logs.Odd told cause turn = record { later = subst (λ (x : State). old.failures ≤ x.failures) (sym turn.1) cause.later; failed = λ is. let no : told ≡ flush_faults.Odd = turn.0 in cc }
+fault_caused old s t logs.Memory told cause turn = record {
+  later = subst (λ (x : State). old.failures ≤ x.failures) (sym turn.1) cause.later;
+  once = subst (λ (x : State). x.failures ≤ old.failures + 1) (sym turn.1) cause.once;
+  failed = λ is. let no : told ≡ flush_faults.Memory 0 = turn.0 in cc;
+  told = λ rose. let no : logs.Memory ≡ logs.Disk = cause.told (subst (λ (x : State). old.failures < x.failures) turn.1 rose) in cc;
+}
+fault_caused old s t logs.Disk told cause turn = record {
+  later = subst (λ (x : State). old.failures ≤ x.failures) (sym turn.1) cause.later;
+  once = subst (λ (x : State). x.failures ≤ old.failures + 1) (sym turn.1) cause.once;
+  failed = λ is. subst (λ (x : State). old.failures < x.failures) (sym turn.1) (cause.failed refl);
+  told = λ rose. ap Err turn.0;
+}
+fault_caused old s t logs.Failed told cause turn = record {
+  later = subst (λ (x : State). old.failures ≤ x.failures) (sym turn.1) cause.later;
+  once = subst (λ (x : State). x.failures ≤ old.failures + 1) (sym turn.1) cause.once;
+  failed = λ is. let no : told ≡ flush_faults.Odd = turn.0 in cc;
+  told = λ rose. let no : logs.Failed ≡ logs.Disk = cause.told (subst (λ (x : State). old.failures < x.failures) turn.1 rose) in cc;
+}
+fault_caused old s t logs.Odd told cause turn = record {
+  later = subst (λ (x : State). old.failures ≤ x.failures) (sym turn.1) cause.later;
+  once = subst (λ (x : State). x.failures ≤ old.failures + 1) (sym turn.1) cause.once;
+  failed = λ is. let no : told ≡ flush_faults.Odd = turn.0 in cc;
+  told = λ rose. let no : logs.Odd ≡ logs.Disk = cause.told (subst (λ (x : State). old.failures < x.failures) turn.1 rose) in cc;
+}
 
 pub other_fault : (fault : LogFault) → is_lasting fault ≡ true → fault ≡ logs.Memory → ⊥
 other_fault fault lasts is = let no : false ≡ true = sym (ap is_lasting is) ∙ lasts in cc

@@ -5,7 +5,7 @@ use Rattle.bk_record.specs.Key.{EntryKey}
 use Rattle.bk_record.specs.Location.{Place}
 use Rattle.bk_record.specs.Record.{record_of}
 use Rattle.bk_record.specs.Files.{Files, file_of}
-use Rattle.bk_disk.specs.Disk.{grown}
+use Rattle.bk_disk.specs.Disk.{IsCaused as IsDeviceCaused, grown}
 use Rattle.bk_log.specs.Writing as writers
 use Rattle.bk_log.specs.Writing.{CreateTurn, new_writing, with_put}
 use Rattle.bk_log.specs.declared.fault.LogFault.TheVariants as log_faults
@@ -21,10 +21,9 @@ use Rattle.bk_drive.specs.declared.answer.PublishAnswer.TheVariants as publishes
 use Rattle.bk_drive.specs.declared.answer.FlushFault.{FlushFault}
 use Rattle.bk_drive.specs.declared.answer.FlushFault.TheVariants.{Disk, Memory, LogsFull, NoMoreIds, Odd}
 
--- The count of the device's failures does not fall, and `Disk` is told only where it rose.
-pub record IsCaused {T : Type 0} (s : State) (result : Result T FlushFault) (t : State) : Type 0 where
-  pub later : s.failures ≤ t.failures
-  pub failed : IsErrOf result Disk → s.failures < t.failures
+-- The device failed in a call exactly where the call is answered by `Disk`, and then once.
+abbrev pub IsCaused : {T : Type 0} → State → Result T FlushFault → State → Type 0
+IsCaused s result t = IsDeviceCaused s.failures t.failures (IsErrOf result Disk)
 
 -- the flush runs, and this is its first entry without a place
 pub record HasNext (s : State) (flush : Flush) (entry : EntryKey × List ℕ) : Type 0 where

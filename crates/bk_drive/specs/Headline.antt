@@ -14,10 +14,11 @@ use Rattle.bk_drive.specs.declared.step.Step.{Step}
 use Rattle.bk_drive.specs.declared.step.Answer.{Answer}
 use Rattle.bk_drive.specs.declared.settings.Settings.{Settings}
 
--- The reader holds what it is owed: its log is the one that it keeps, and its view, which shows what that log held, has
--- the entry of its key at its place, among the log's records.
+-- The reader holds what it is owed: its lease is on the log that it keeps, where its place lies, and its view, which shows
+-- what that log held, has the entry of its key at that place, among the log's records.
 pub record IsOwed (hold : Hold) (owed : Owed) : Type 0 where
-  pub log : hold.place.log ≡ owed.log
+  pub log : hold.log ≡ owed.log
+  pub place : hold.place.log ≡ owed.log
   pub honest : IsTrue hold.view.is_honest
   pub listed : In (hold.place.at, owed.payload) (records_of hold.view.bytes)
   pub shown : HasEntryAt hold.view.bytes hold.place.at hold.key owed.payload

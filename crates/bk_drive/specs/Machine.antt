@@ -36,8 +36,9 @@ use Rattle.bk_drive.specs.declared.step.Work.TheVariants as works
 use Rattle.bk_drive.specs.declared.step.Answer.{Answer}
 use Rattle.bk_drive.specs.declared.step.Answer.TheVariants as answers
 
--- what a reader holds: an entry's place and key, and a view of its log
+-- what a reader holds: a lease on a log, an entry's place and key, and the view of that log
 pub record Hold : Type 0 where
+  pub log : ℕ
   pub place : Place
   pub key : EntryKey
   pub view : View
@@ -47,9 +48,9 @@ pub record Desk : Type 0 where
   pub store : State
   pub readers : List (Option Hold)
 
--- a reader's hold on the entry of this key at this place
+-- a reader's hold on the entry of this key at this place: its lease is on the place's log
 abbrev pub hold_on : Place → EntryKey → View → Hold
-hold_on place key view = record { place = place; key = key; view = view }
+hold_on place key view = record { log = place.log; place = place; key = key; view = view }
 
 -- A take by a reader: of the store, unless there is no such reader or it holds a lease.
 abbrev pub ReaderTake : Desk → ℕ → EntryKey → Result TakeAnswer TakeFault → Desk → Type 0

@@ -2,6 +2,7 @@
 
 ghost use Rattle.std.specs.Prelude.{◌≡◌, ◌<◌, ◌≤◌, ℕ, None, List, Option, IsTrue, IfOk, IsErrOf, length};
 ghost use Rattle.std.specs.FinMap as map;
+ghost use Rattle.bk_disk.specs.Disk.{IsCaused};
 ghost use Rattle.bk_drive.specs.Machine.{Hold, ReaderFetch, ReaderRelease, ReaderTake, Turn};
 ghost use Rattle.bk_drive.specs.Headline.{Headline};
 ghost use Rattle.bk_drive.specs.Failing.{IsDiskFault, NoneIsDiskFault, NeverFails, AreSound};
@@ -28,8 +29,7 @@ pub struct Ran<D: LogDisk> {
 /// One step of the store alone, and its answer.
 pub fn apply<D: LogDisk>(store: &mut Store<D>, work: Work) -> Answer
     ensures honest { store.new.honest ≡ store.old.honest }
-    ensures later { store.old.failures ≤ store.new.failures }
-    ensures disk { IsDiskFault result → store.old.failures < store.new.failures }
+    ensures cause { IsCaused store.old.failures store.new.failures (IsDiskFault result) }
     ensures turn { IsTrue store.old.honest → (readers : List (Option Hold))
         → Turn (record { store = store.old; readers = readers }) (steps.Work work) result
         (record { store = store.new; readers = readers }) }

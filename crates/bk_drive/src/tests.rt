@@ -15,6 +15,7 @@ use std::test::Fail;
 
 mod failing;
 mod one_log;
+mod recording;
 mod several_logs;
 
 /// The limits of these runs.
@@ -55,7 +56,8 @@ const PUBLISH: Plan = Plan::Do(Work::Publish);
 
 const ROLL: Plan = Plan::Do(Work::Roll);
 
-/// What an answer tells: a word and a number, 0 where it has none. Of a payload it is the number of its bytes.
+/// What an answer tells: a word and a number, 0 where it has none. Of a cached payload it is the number of its bytes, and a
+/// fetch tells whether it read `hello`.
 type Told = (&'static str, u64);
 
 fn step_of(alloc: Global, plan: Plan) -> Result<Step, Fail> {
@@ -97,9 +99,38 @@ fn run_over<D: LogDisk>(alloc: Global, disk: D, steps: &[Step]) -> Result<Ran<D>
     drive(alloc, disk, SETTINGS, steps)
 }
 
-/// Takes the steps over a disk in memory that has no log.
-fn run(alloc: Global, steps: &[Step]) -> Result<Ran<MemDisk>, OpenFault> {
-    run_over(alloc, MemDisk::new(alloc), steps)
+/// A worked run over a disk in memory that has no log.
+struct Worked {
+    plans: &'static [Plan],
+    /// What the answers tell.
+    told: &'static [Told],
+    /// The lengths of logs at the end.
+    lengths: &'static [(u32, u64)],
+    /// Bytes of logs at the end, each with its log and its position there.
+    bytes: &'static [(u32, u64, &'static [u8])],
+}
+
+/// Whether the steps are answered so, and leave the logs so.
+fn holds(alloc: Global, worked: &Worked) -> Result<bool, Fail> {
+    let steps = steps_of(alloc, worked.plans)?;
+    let Ran { store, answers, .. } = run_over(alloc, MemDisk::new(alloc), &steps)?;
+    Ok(first_other(&answers, worked.told).is_none() && stands(alloc, store.disk, worked)?)
+}
+
+/// Whether the disk's logs are as long and have the bytes.
+fn stands(alloc: Global, mut disk: MemDisk, worked: &Worked) -> Result<bool, Fail> {
+    for (log, length) in worked.lengths {
+        if disk.length(alloc, *log)? != *length {
+            return Ok(false);
+        }
+    }
+    for (log, at, bytes) in worked.bytes {
+        let found = disk.read_at(alloc, *log, *at, bytes.len() as u64)?;
+        if found.as_slice() != *bytes {
+            return Ok(false);
+        }
+    }
+    Ok(true)
 }
 
 fn told(answer: &Answer) -> Told {
@@ -109,7 +140,8 @@ fn told(answer: &Answer) -> Told {
         Answer::Take(Ok(taken)) => told_of_take(taken),
         Answer::Fetch(Ok(FetchAnswer::NoReader)) => ("no reader", 0),
         Answer::Fetch(Ok(FetchAnswer::NoLease)) => ("no lease", 0),
-        Answer::Fetch(Ok(FetchAnswer::Bytes(payload))) => ("bytes", payload.len() as u64),
+        Answer::Fetch(Ok(FetchAnswer::Bytes(payload))) if payload.as_slice() == HELLO.as_slice() =>
+            { ("hello", 21) }
         Answer::Release(ReleaseAnswer::NoReader) => ("no reader", 0),
         Answer::Release(ReleaseAnswer::NoLease) => ("no lease", 0),
         Answer::Release(ReleaseAnswer::Released) => ("released", 0),

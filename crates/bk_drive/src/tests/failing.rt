@@ -2,7 +2,7 @@
 //! entry is lost.
 
 use super::{PUBLISH, Plan, ROLL, SWAP, Told, WRITE, run_over, steps_of, told};
-use crate::{Answer, FlushFault, OpenFault, Ran, Step};
+use crate::{Answer, FlushFault, OpenFault, Ran};
 use bk_disk::{FaultDisk, MemDisk};
 use bk_log::FetchFault;
 use std::alloc::Global;
@@ -36,23 +36,6 @@ const OUTCOMES: [(u64, usize, u64); 7] = [
     (8, 8, 1028),
 ];
 
-/// Takes the steps over a disk of which the call of this number fails, an append leaving so many bytes.
-fn run_failing(
-    alloc: Global,
-    call: u64,
-    kept: usize,
-    steps: &[Step],
-) -> Result<Ran<FaultDisk<MemDisk>>, OpenFault> {
-    let disk = FaultDisk::new(MemDisk::new(alloc), call, kept);
-    run_over(alloc, disk, steps)
-}
-
-/// Takes the steps over a disk whose first view is broken.
-fn run_broken(alloc: Global, steps: &[Step]) -> Result<Ran<FaultDisk<MemDisk>>, OpenFault> {
-    let disk = FaultDisk::broken_view(MemDisk::new(alloc), 1);
-    run_over(alloc, disk, steps)
-}
-
 fn is_disk_fault(answer: &Answer) -> bool {
     matches!(
         answer,
@@ -62,27 +45,46 @@ fn is_disk_fault(answer: &Answer) -> bool {
     )
 }
 
+/// What the answer of this number tells.
+fn told_at(answers: &[Answer], number: usize) -> Told {
+    match answers.get(number) {
+        Some(answer) => told(answer),
+        None => ("no answer", 0),
+    }
+}
+
 /// Whether the step of this number alone was answered by `Disk`, and the entry was leased at this location and read twice.
 fn is_done(answers: &[Answer], failed: usize, location: u64) -> bool {
-    let leased: Told = ("leased", location);
-    answers.iter().enumerate().all(|(number, answer)| is_disk_fault(answer) == (number == failed))
-        && answers.get(6).is_some_and(|answer| told(answer) == leased)
-        && answers
-            .get(7)
-            .is_some_and(|answer| told(answer) == ("bytes", 21))
-        && answers
-            .get(10)
-            .is_some_and(|answer| told(answer) == ("bytes", 21))
+    for (number, answer) in answers.iter().enumerate() {
+        if is_disk_fault(answer) != (number == failed) {
+            return false;
+        }
+    }
+    told_at(answers, 6) == ("leased", location)
+        && told_at(answers, 7) == ("hello", 21)
+        && told_at(answers, 10) == ("hello", 21)
+}
+
+/// Whether that is so of a run over a disk of which the call of this number fails, an append leaving so many bytes.
+fn goes_on(
+    alloc: Global,
+    call: u64,
+    kept: usize,
+    failed: usize,
+    location: u64,
+) -> Result<bool, Fail> {
+    let steps = steps_of(alloc, &TWICE)?;
+    let disk = FaultDisk::new(MemDisk::new(alloc), call, kept);
+    let Ran { answers, .. } = run_over(alloc, disk, &steps)?;
+    Ok(is_done(&answers, failed, location))
 }
 
 #[test]
 fn a_step_whose_call_failed_is_done_by_the_next_try(rt: HostRuntime) -> Result<(), Fail> {
-    let steps = steps_of(rt.alloc(), &TWICE)?;
     for kept in [0, 7, 2_000_000] {
         for (call, step, location) in OUTCOMES {
-            let Ran { answers, .. } = run_failing(rt.alloc(), call, kept, &steps)?;
             assert!(rt;
-                is_done(&answers, step, location),
+                goes_on(rt.alloc(), call, kept, step, location)?,
                 "call {call}, {kept} bytes kept"
             );
         }
@@ -92,17 +94,15 @@ fn a_step_whose_call_failed_is_done_by_the_next_try(rt: HostRuntime) -> Result<(
 
 #[test]
 fn a_listing_that_fails_opens_nothing(rt: HostRuntime) -> Result<(), Fail> {
-    let steps = steps_of(rt.alloc(), &TWICE)?;
-    let ran = run_failing(rt.alloc(), 1, 0, &steps);
+    let disk = FaultDisk::new(MemDisk::new(rt.alloc()), 1, 0);
+    let ran = run_over(rt.alloc(), disk, &[]);
     assert!(rt; matches!(ran, Err(OpenFault::Disk)));
     Ok(())
 }
 
 #[test]
 fn a_call_that_is_never_made_fails_nothing(rt: HostRuntime) -> Result<(), Fail> {
-    let steps = steps_of(rt.alloc(), &TWICE)?;
-    let Ran { answers, .. } = run_failing(rt.alloc(), 9, 0, &steps)?;
-    assert!(rt; is_done(&answers, answers.len(), 1028));
+    assert!(rt; goes_on(rt.alloc(), 9, 0, TWICE.len(), 1028)?);
     Ok(())
 }
 
@@ -116,15 +116,17 @@ const BROKEN: [Plan; 7] = [
     Plan::Release(0),
 ];
 
+/// What the last two answers tell where the first view is broken.
+fn broken_end(alloc: Global) -> Result<(bool, Told), Fail> {
+    let steps = steps_of(alloc, &BROKEN)?;
+    let disk = FaultDisk::broken_view(MemDisk::new(alloc), 1);
+    let Ran { answers, .. } = run_over(alloc, disk, &steps)?;
+    let failed = matches!(answers.get(5), Some(Answer::Fetch(Err(FetchFault::Disk))));
+    Ok((failed, told_at(&answers, 6)))
+}
+
 #[test]
 fn a_fetch_from_a_broken_view_says_so_and_keeps_the_lease(rt: HostRuntime) -> Result<(), Fail> {
-    let steps = steps_of(rt.alloc(), &BROKEN)?;
-    let Ran { answers, .. } = run_broken(rt.alloc(), &steps)?;
-    assert!(rt; matches!(answers.get(5), Some(Answer::Fetch(Err(FetchFault::Disk)))));
-    assert!(rt;
-        answers
-            .get(6)
-            .is_some_and(|answer| told(answer) == ("released", 0))
-    );
+    assert_eq!(rt; broken_end(rt.alloc())?, (true, ("released", 0)));
     Ok(())
 }
