@@ -1,6 +1,7 @@
 use Rattle.std.proofs.Common.{sym, ◌∙◌, ap, Some}
 use Rattle.std.proofs.lemmas.Bool.{false≢true}
-use Rattle.bk_log.proofs.Keys.{read_key-some, read_key-none, some_same, same_key, key_is_itself}
+use Rattle.bk_record.proofs.ReadKeys.{read_key-some, read_key-none}
+use Rattle.bk_log.proofs.Keys.{some_same, same_key, key_is_itself}
 use Rattle.bk_log.proofs.fetching.is_of_key.Goals as goal
 
 pub returns-in-Ok : goal.returns-in-Ok

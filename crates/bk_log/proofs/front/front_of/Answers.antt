@@ -1,7 +1,7 @@
 use Rattle.std.proofs.Common.{sym, ◌∙◌, arith, refl}
 use Rattle.std.proofs.lemmas.Bool.{false≢true}
 use Rattle.bk_log.proofs.Fronts.{rest_short, rest_cut, bad_shown, record_shown, ids_are_long}
-use Rattle.bk_log.proofs.Keys.{read_key-some, read_key-no}
+use Rattle.bk_record.proofs.ReadKeys.{read_key-some, read_key-no}
 use Rattle.bk_log.proofs.front.front_of.Goals as goal
 use Rattle.bk_log.proofs.front.front_of.Goals.{in-Ok, in-Err}
 

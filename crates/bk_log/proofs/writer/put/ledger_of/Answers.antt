@@ -1,5 +1,5 @@
 use Rattle.std.proofs.Common.{sym, ◌∙◌, subst, IsOk}
-use Rattle.bk_log.proofs.Keys.{read_key-keyed, read_key-ledger}
+use Rattle.bk_record.proofs.ReadKeys.{read_key-keyed, read_key-ledger}
 use Rattle.bk_log.proofs.writer.put.ledger_of.Goals as goal
 
 pub unwrap-requires : goal.unwrap-requires
