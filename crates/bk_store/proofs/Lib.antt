@@ -23,3 +23,11 @@ pub mod Ledgers
 pub mod PlainMaps
 pub mod KeptDelete
 pub mod Unnaming
+pub mod OpenedSums
+pub mod OpenedLogs
+pub mod OpenedLists
+pub mod OpenedHeads
+pub mod OpenedTotals
+pub mod OpenedKeeps
+pub mod OpenedScan
+pub mod OpenedFinds

@@ -11,3 +11,5 @@ pub mod Doors
 pub mod Placed
 pub mod Plain
 pub mod Deletion
+pub mod Opening
+pub mod Found

@@ -95,9 +95,9 @@ pub enum LogCause {
     /// Its header is no entry log's.
     #[error("{0}")]
     Header(bk_head::HeadFault),
-    /// A length below 16 stands where a record should begin.
-    #[error("{0}")]
-    Scan(bk_log::ScanFault),
+    /// At this position, where a record should begin, stands this length, read as a signed number, which is below 16.
+    #[error("bad length {at} {length}")]
+    BadLength { at: u64, length: i32 },
 }
 
 /// Why a store was not opened. The disk is let go.

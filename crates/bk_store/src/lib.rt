@@ -10,6 +10,7 @@ mod laws;
 mod lease;
 mod log;
 mod logs;
+mod open;
 mod places;
 mod settings;
 mod store;

@@ -1,5 +1,8 @@
 //! What a store is opened with.
 
+ghost use Rattle.std.specs.Prelude.{◌↔◌, IsTrue};
+ghost use Rattle.bk_store.specs.Limits.{IsAllowed};
+
 /// The limits and thresholds of a store (this project's rule).
 #[derive(Clone, Copy, Debug, PartialEq, Eq)]
 pub struct Settings {
@@ -17,4 +20,23 @@ pub struct Settings {
     pub minor: u32,
     /// The same for a major compaction: 0 to 1,000.
     pub major: u32,
+}
+
+impl Settings {
+    /// Whether each number lies in its range.
+    pub fn is_allowed(&self) -> bool
+        ensures { IsTrue result ↔ IsAllowed self.now }
+    {
+        2048 <= self.log_limit
+            && self.log_limit <= 1 << 30
+            && 16 <= self.cache_limit
+            && self.cache_limit <= 1 << 30
+            && self.recent <= 65_536
+            && 1 <= self.slots
+            && self.slots <= 65_536
+            && 1 <= self.leases
+            && self.leases <= 65_535
+            && self.minor <= 1000
+            && self.major <= 1000
+    }
 }

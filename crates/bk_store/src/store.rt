@@ -4,15 +4,20 @@
 //! type promises stands in `specs/Kept.antt`: beside an honest disk the files, the index and the write caches carry a map,
 //! and the accounts are those of the acknowledged parts.
 
-ghost use Rattle.std.specs.Prelude.{◌≡◌, Some, option_map};
+ghost use Rattle.std.specs.Prelude.{◌≡◌, ◌↔◌, Some, IsTrue, IsErrOf, IfOk, IfErr, option_map};
 ghost use Rattle.std.specs.FinMap as map;
 ghost use Rattle.bk_store.specs.Plain.{IsKept};
+ghost use Rattle.bk_store.specs.Limits.{IsAllowed};
+ghost use Rattle.bk_store.specs.Opening.{IsOpened, OpenFails};
 ghost use Rattle.bk_store.specs.Turns.{AddTurn, TakeTurn, DeleteTurn, SwapTurn};
 
 use crate::fields::Fields;
-use crate::{AddFault, Added, DeleteFault, LogState, SwapAnswer, TakeFault, Taken};
+use crate::{
+    AddFault, Added, DeleteFault, LogState, OpenFault, Settings, SwapAnswer, TakeFault, Taken,
+};
 use bk_disk::LogDisk;
 use bk_record::Key;
+use std::alloc::Global;
 use std::marker::Model;
 
 /// A store of entries over a disk of entry logs.
@@ -36,6 +41,37 @@ impl<D: LogDisk> Model for Store<D> {
 }
 
 impl<D: LogDisk> Store<D> {
+    /// Opens a store on the logs of a disk. `dead` are the ledgers that were deleted before; a number past 2^63 - 1, or one
+    /// that stands there again, means nothing.
+    ///
+    /// Each log is read once, entry by entry, so no file is held in memory. The index sends each key of a live ledger to
+    /// its last record, in order of log, then position (this project's rule). All bytes of a log that was found are
+    /// published, and it is never written again; the next log's id is one past the greatest, 0 where there is none.
+    ///
+    /// Faults, in this order: `Settings` exactly where a setting is out of its range; `LogsFull` where there are more logs
+    /// than slots; then log by log, by rising ids, `TooLong` where its file has more than 2^32 - 1 bytes, `Log` where its
+    /// header is none, or where a length below 16 stands where a record should begin. A file shorter than a header is an
+    /// empty log, whatever its bytes are. `Disk`, where the device failed or a view can't be read, `Memory`, and `Odd`
+    /// come wherever they arise.
+    ///
+    /// A refusal lets the disk go. So how often the device failed in a refused opening is not to be seen any more; in an
+    /// opening that succeeds it never failed.
+    pub fn open(
+        alloc: Global,
+        disk: D,
+        settings: Settings,
+        dead: &[u64],
+    ) -> Result<Store<D>, OpenFault>
+        ensures settings { IsErrOf result OpenFault.Settings ↔ ¬ (IsAllowed settings) }
+        ensures honest { IfOk result (λ s. s.honest ≡ D.honest disk) }
+        ensures failures { IfOk result (λ s. s.failures ≡ D.failures disk) }
+        ensures opened { IfOk result (λ s. IsOpened (D.honest disk) (D.files disk) settings dead.now s) }
+        ensures fails { IfErr result (λ fault. IsTrue (D.honest disk) → OpenFails (D.files disk) settings fault) }
+    {
+        let fields = Fields::open(alloc, disk, settings, dead)?;
+        Ok(Store { fields })
+    }
+
     /// Adds an entry, unless one of its key is held: the first bytes of a key stay (this project's rule). The payload
     /// is the ledger id and the entry id, eight bytes each, big-endian, then the data.
     ///

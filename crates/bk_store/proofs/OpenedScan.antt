@@ -1,0 +1,193 @@
+-- A scan of a log that was found, entry by entry, to its end or to a fault.
+use Rattle.std.proofs.Common.{◌≡◌, ℕ, zero, suc, ◌+◌, ◌-◌, ◌<◌, ◌≤◌, ◌^◌, Bool, true, false, ◌==◌, if◌then◌else◌, IsTrue, List, [], ◌∷◌, ◌++◌, length, take, drop, Option, Some, None, IfSome, IsSome, Ok, Err, slice_get, refl, sym, ap, subst, ◌∙◌, arith, eq-eqb, length-drop}
+use Rattle.std.specs.Option.{option_map}
+use Rattle.std.proofs.lemmas.List.{take_all}
+use Rattle.std.proofs.lemmas.List.Sums.{sum_by_push}
+use Rattle.std.proofs.lemmas.Option.{same_Some}
+use Rattle.std.specs.FinMap as finite
+use Rattle.std.specs.FinSet as set
+use Rattle.bk_record.specs.Files.{header_length}
+use Rattle.bk_record.specs.Scan.{entries_of}
+use Rattle.bk_record.specs.Body.{IsBadAt}
+use Rattle.bk_record.specs.Spelling.{all_pieces, all_leftover}
+use Rattle.bk_record.proofs.Spellings.{never_both}
+use Rattle.bk_disk.specs.Disk.{view_end}
+use Rattle.bk_log.specs.declared.found.Found.{Found}
+use Rattle.bk_log.specs.declared.fault.ScanFault.{ScanFault}
+use Rattle.bk_log.specs.declared.fault.ScanFault.TheVariants as scans
+use Rattle.bk_log.specs.Ranges.{entries_in, part}
+use Rattle.bk_log.specs.Scanned.{new_scan}
+use Rattle.bk_log.specs.Scanning.{Scan, part_of, NextMoves, NextTurn}
+use Rattle.bk_log.proofs.Ranges.{entries_in-file}
+use Rattle.bk_accounts.specs.Account.{Account}
+use Rattle.bk_accounts.specs.Book.{IsOpen, total_in, after_ready, after_count, after_count_dead}
+use Rattle.bk_accounts.proofs.BookLaws.{total_in-after_count, total_in-after_count_dead, total_in-after_ready}
+use Rattle.bk_store.specs.Opening.{IsHeaded, FileFails}
+use Rattle.bk_store.specs.Found.{IsScanned, IsFoundAt, AreFoundAt, with_entry, with_entries, bytes_found, scan_told}
+use Rattle.bk_store.specs.declared.open.tally.Tally.{Tally}
+
+-- ---- entries of one log, as they come
+
+pub entries_push : (log : ℕ) (t : Tally) (founds : List Found) (found : Found)
+    → with_entries log t (founds ++ found ∷ []) ≡ with_entry log (with_entries log t founds) found
+entries_push log t [] found = refl
+entries_push log t (f ∷ founds) found = entries_push log (with_entry log t f) founds found
+
+total_here : (log total size : ℕ) (o : Option ℕ) → o ≡ Some total → option_map (λ n. if log == log then n + size else n) o ≡ Some (total + size)
+total_here log total size o is =
+    ap (option_map (λ n. if log == log then n + size else n)) is ∙ ap (λ b. Some (if b then total + size else total)) (eq-eqb log log refl)
+
+total_entry : (log : ℕ) (t : Tally) (found : Found) (total : ℕ) → total_in t.accounts log ≡ Some total
+    → total_in (with_entry log t found).accounts log ≡ Some (total + found.size)
+total_entry log t found total is =
+    elim (set.contains t.dead found.key.ledger) as (λ b.
+    total_in
+    (if b then after_count_dead t.accounts log found.size else after_count (after_ready t.accounts log found.key.ledger) log found.key.ledger found.size)
+    log
+    ≡ Some (total + found.size)) [
+      | true ↦ total_in-after_count_dead t.accounts log found.size log ∙ total_here log total found.size _ is
+      | false ↦
+          total_in-after_count (after_ready t.accounts log found.key.ledger) log found.key.ledger found.size log
+          ∙ total_here log total found.size _ (total_in-after_ready t.accounts log found.key.ledger log ∙ is)
+    ]
+
+-- a log that has a total is open
+total_open : (o : Option Account) (total : ℕ) → option_map (λ (a : Account). a.total) o ≡ Some total → IsSome o
+total_open None total wrong = cc
+total_open (Some a) total _ = refl
+
+bytes_push : (founds : List Found) (found : Found) → bytes_found (founds ++ found ∷ []) ≡ bytes_found founds + found.size
+bytes_push founds found = sum_by_push (λ (f : Found). f.size) founds found
+
+-- one record and its entry more
+found_push : (records : List (ℕ × List ℕ)) (founds : List Found) (r : ℕ × List ℕ) (found : Found) → AreFoundAt records founds → IsFoundAt r found
+    → AreFoundAt (records ++ r ∷ []) (founds ++ found ∷ [])
+found_push [] [] r found are is = (is, tt)
+found_push [] (f ∷ founds) r found are is = absurd are
+found_push (x ∷ records) [] r found are is = absurd are
+found_push (x ∷ records) (f ∷ founds) r found are is = (are.0, found_push records founds r found are.1 is)
+
+take_next : {X : Type 0} (xs : List X) (n : ℕ) (x : X) → slice_get xs n ≡ Some x → take (n + 1) xs ≡ take n xs ++ x ∷ []
+take_next [] n x is = cc
+take_next (y ∷ ys) zero x is = let same : y ≡ x = same_Some y x is in ap (λ z. z ∷ []) same
+take_next (y ∷ ys) (suc n) x is = let one : suc n + 1 ≡ suc (n + 1) = omega arith in ap (λ k. take k (y ∷ ys)) one ∙ ap (λ l. y ∷ l) (take_next ys n x is)
+
+-- ---- the scan so far
+
+-- The scan is one of this log's whole part. The entries that it gave were taken in, and there was room for them.
+pub record IsScanning (log end : ℕ) (honest : Bool) (file : List ℕ) (old : Tally) (s : Scan) (now : Tally) : Type 0 where
+  pub founds : List Found
+  pub taken : now ≡ with_entries log old founds
+  pub total : total_in now.accounts log ≡ Some (bytes_found founds)
+  pub room : header_length + bytes_found founds + s.left ≤ end
+  pub from : s.from ≡ header_length
+  pub to : s.end ≡ end
+  pub bytes : s.file ≡ file
+  pub honest_is : s.honest ≡ honest
+  pub stand : IsTrue honest → AreFoundAt (take s.given (entries_of file)) founds
+
+pub scanning_starts : (log end : ℕ) (honest sound : Bool) (file : List ℕ) (old : Tally) (s : Scan) → header_length ≤ end
+    → total_in old.accounts log ≡ Some 0 → s ≡ new_scan file honest sound header_length end → IsScanning log end honest file old s old
+scanning_starts log end honest sound file old s headed fresh is = record {
+  founds = [];
+  taken = refl;
+  total = fresh;
+  room = let left : s.left ≡ end - header_length = ap (λ (x : Scan). x.left) is in omega (arith, left, headed);
+  from = ap (λ (x : Scan). x.from) is;
+  to = ap (λ (x : Scan). x.end) is;
+  bytes = ap (λ (x : Scan). x.file) is;
+  honest_is = ap (λ (x : Scan). x.honest) is;
+  stand = λ _. let none : s.given ≡ 0 = ap (λ (x : Scan). x.given) is in subst (λ n. AreFoundAt (take n (entries_of file)) []) (sym none) tt;
+}
+
+-- the part of a view that is scanned to its end is all behind the header
+whole_part : (file : List ℕ) (end : ℕ) → end ≡ view_end file → part file header_length end ≡ drop header_length file
+whole_part file end is = take_all (end - header_length) (drop header_length file) (omega (arith, is, length-drop header_length file))
+
+module _ (log end : ℕ) (honest : Bool) (file : List ℕ) (old : Tally) (s : Scan) (now : Tally) (so_far : IsScanning log end honest file old s now) where
+  scan_part : end ≡ view_end file → part_of s ≡ drop header_length file
+  scan_part whole = (λ i. part (so_far.bytes i) (so_far.from i) (so_far.to i)) ∙ whole_part file end whole
+
+  scan_entries : end ≡ view_end file → entries_in s.from (part_of s) ≡ entries_of file
+  scan_entries whole = (λ i. entries_in (so_far.from i) (scan_part whole i)) ∙ entries_in-file file
+
+  is_honest : IsTrue honest → IsTrue s.honest
+  is_honest is = so_far.honest_is ∙ is
+
+  -- an entry more
+  module _ (found : Found) (s' : Scan) (moves : NextMoves s (Ok (Some found)) s') where
+    pub next_begins : 1028 ≤ found.at
+    next_begins = omega (arith, so_far.from, moves.1.begins)
+
+    pub next_within : end < 2 ^ 32 → found.at < 2 ^ 32
+    next_within short = omega (arith, so_far.to, moves.1.long, moves.1.ends, short)
+
+    pub next_open : IsOpen now.accounts log
+    next_open = total_open (finite.get now.accounts log) (bytes_found so_far.founds) so_far.total
+
+    pub next_fits : end < 2 ^ 32 → IfSome (total_in now.accounts log) (λ total. total + found.size < 2 ^ 32)
+    next_fits short = subst (λ o. IfSome o (λ total. total + found.size < 2 ^ 32)) (sym so_far.total) (omega (arith, so_far.room, moves.1.fewer, short))
+
+    pub scanning_on : (now' : Tally) → (IsTrue s.honest → NextTurn s (Ok (Some found)) s') → (IsTrue honest → end ≡ view_end file)
+        → now' ≡ with_entry log now found → IsScanning log end honest file old s' now'
+    scanning_on now' turn whole added = record {
+      founds = so_far.founds ++ found ∷ [];
+      taken = added ∙ ap (λ t. with_entry log t found) so_far.taken ∙ sym (entries_push log old so_far.founds found);
+      total = ap (λ (t : Tally). total_in t.accounts log) added ∙ total_entry log now found (bytes_found so_far.founds) so_far.total
+          ∙ ap Some (sym (bytes_push so_far.founds found));
+      room = omega (arith, so_far.room, moves.1.fewer, bytes_push so_far.founds found);
+      from = ap (λ (x : Scan). x.from) moves.2 ∙ so_far.from;
+      to = ap (λ (x : Scan). x.end) moves.2 ∙ so_far.to;
+      bytes = ap (λ (x : Scan). x.file) moves.2 ∙ so_far.bytes;
+      honest_is = ap (λ (x : Scan). x.honest) moves.2 ∙ so_far.honest_is;
+      stand = λ is.
+          let given = turn (is_honest is) in
+          let listed : slice_get (entries_of file) s.given ≡ Some (found.at, given.payload) =
+          ap (λ (l : List (ℕ × List ℕ)). slice_get l s.given) (sym (scan_entries (whole is))) ∙ given.listed in
+          let counted : s'.given ≡ s.given + 1 = ap (λ (x : Scan). x.given) moves.2 in
+          subst (λ n. AreFoundAt (take n (entries_of file)) (so_far.founds ++ found ∷ [])) (sym counted)
+          (subst (λ l. AreFoundAt l (so_far.founds ++ found ∷ [])) (sym (take_next (entries_of file) s.given (found.at, given.payload) listed))
+          (found_push (take s.given (entries_of file)) so_far.founds (found.at, given.payload) found (so_far.stand is)
+          (refl, given.stands.keyed, given.sized)));
+    }
+
+  -- the end
+  pub scanned : (s' : Scan) → NextMoves s (Ok None) s' → (IsTrue s.honest → NextTurn s (Ok None) s') → (IsTrue honest → end ≡ view_end file)
+      → IsScanned log end honest file old now
+  scanned s' moves turn whole =
+      let same : part_of s' ≡ part_of s =
+      λ i. part (ap (λ (x : Scan). x.file) moves.1 i) (ap (λ (x : Scan). x.from) moves.1 i) (ap (λ (x : Scan). x.end) moves.1 i) in
+      let from : s'.from ≡ s.from = ap (λ (x : Scan). x.from) moves.1 in
+      let counted : s'.given ≡ s.given = ap (λ (x : Scan). x.given) moves.1 in
+      record {
+        founds = so_far.founds;
+        taken = so_far.taken;
+        fits = omega (arith, so_far.room);
+        stand = λ is.
+            let finished = turn (is_honest is) in
+            let all : s.given ≡ length (entries_of file) =
+            sym counted ∙ finished.given ∙ ap length ((λ i. entries_in (from i) (same i)) ∙ scan_entries (whole is)) in
+            let whole_list : take s.given (entries_of file) ≡ entries_of file = take_all s.given (entries_of file) (omega (arith, all)) in
+            subst (λ l. AreFoundAt l so_far.founds) whole_list (so_far.stand is);
+        whole = λ is at value bad.
+            let finished = turn (is_honest is) in
+            let here : part_of s' ≡ drop header_length file = same ∙ scan_part (whole is) in
+            never_both s'.from (part_of s') (all_pieces s'.from (part_of s')) (all_leftover (part_of s')) at value finished.spelled
+            (subst (λ n. IsBadAt n (part_of s') at value) (sym (from ∙ so_far.from)) (subst (λ b. IsBadAt header_length b at value) (sym here) bad));
+      }
+
+  -- a fault
+  pub scan_refused : (fault : ScanFault) (s' : Scan) → NextMoves s (Err fault) s' → (IsTrue s.honest → NextTurn s (Err fault) s')
+      → (IsTrue honest → end ≡ view_end file) → end < 2 ^ 32 → IsTrue honest → IsHeaded file → FileFails log file (scan_told log fault)
+  scan_refused (scans.BadLength at value) s' moves turn whole short is headed =
+      let same : part_of s' ≡ part_of s =
+      λ i. part (ap (λ (x : Scan). x.file) moves i) (ap (λ (x : Scan). x.from) moves i) (ap (λ (x : Scan). x.end) moves i) in
+      let from : s'.from ≡ header_length = ap (λ (x : Scan). x.from) moves ∙ so_far.from in
+      let bad = (turn (is_honest is)).1 in (
+        refl,
+        omega (arith, whole is, short),
+        (headed, subst (λ b. IsBadAt header_length b at value) (same ∙ scan_part (whole is)) (subst (λ n. IsBadAt n (part_of s') at value) from bad)),
+      )
+  scan_refused scans.Disk s' moves turn whole short is headed = tt
+  scan_refused scans.Memory s' moves turn whole short is headed = tt
+  scan_refused scans.Odd s' moves turn whole short is headed = turn (is_honest is)

@@ -1,0 +1,42 @@
+use Rattle.std.proofs.Common.{◌≡◌, false, is_err, IsTrue, IfErr, Err, sym, ap, subst, ◌∙◌}
+use Rattle.std.proofs.lemmas.Result.{err_from_is_err_and}
+use Rattle.bk_disk.specs.Disk.{IsFile}
+use Rattle.bk_store.specs.Logs.{view_of, found_log}
+use Rattle.bk_store.specs.Opening.{FileFails}
+use Rattle.bk_store.specs.Found.{IsTaken}
+use Rattle.bk_store.proofs.OpenedSums.{when_ok}
+use Rattle.bk_store.proofs.OpenedFinds.{opened_total, log_taken, scan_fails}
+use Rattle.bk_store.proofs.open.found.find.Goals as goal
+
+pub scan-requires-clause-fresh : goal.scan-requires-clause-fresh
+scan-requires-clause-fresh g c κs within =
+    let told = c.is_err.ensures.value in
+    let passed = c.if-is_err.false in
+    let made : is_err c.open.result ≡ false = cc in
+    opened_total _ _ _ (when_ok c.open.result made c.open.ensures.ok)
+
+pub returns-in_err-scan-clause-err : goal.returns-in_err-scan-clause-err
+returns-in_err-scan-clause-err g c = λ file honest stands.
+    let told = err_from_is_err_and c.from_residual-in_err-scan.result c.from_residual-in_err-scan.ensures.1 in
+    let shown = c.in-Ok.ensures.turn (c.in_ok-check_file.ensures.honest ∙ honest) in
+    subst (λ r. IfErr r (FileFails c.args.id file)) (sym (told.1 ∙ ap Err told.2))
+    (scan_fails (g.D.LogDisk.files c.args.disk.now) _ c.args.id file _ _ (c.in_ok-check_file.ensures.files honest) stands shown.0
+    (c.in_ok-check_file.ensures.ok file honest stands).1 (c.in_err-scan.ensures.err shown.1))
+
+pub returns-clause-ok : goal.returns-clause-ok
+returns-clause-ok g c =
+    let told = c.is_err.ensures.value in
+    let passed = c.if-is_err.false in
+    let made : is_err c.open.result ≡ false = cc in
+    let files = g.D.LogDisk.files c.args.disk.now in
+    let stands : IsTrue (g.D.LogDisk.honest c.args.disk.now) → IsFile files c.args.id (g.D.View.LogView.bytes c.in-Ok.view) = λ is.
+    subst (λ fs. IsFile fs c.args.id (g.D.View.LogView.bytes c.in-Ok.view)) (c.in_ok-check_file.ensures.files is)
+    (c.in-Ok.ensures.turn (c.in_ok-check_file.ensures.honest ∙ is)).0 in
+    subst (λ v. IsTaken (g.D.LogDisk.honest c.args.disk.now) files c.args.id
+    (found_log (view_of g.D.View.LogView.bytes g.D.View.LogView.honest g.D.View.LogView.sound v) c.end-end.result) c.args.tally.now c.scan.new.tally)
+    (sym c.in-Ok-new.ensures.ok)
+    (log_taken (g.D.LogDisk.honest c.args.disk.now) files c.args.id c.end-end.result
+    (view_of g.D.View.LogView.bytes g.D.View.LogView.honest g.D.View.LogView.sound c.in-Ok.view) c.args.tally.now _ c.scan.new.tally
+    (ap (λ b. record c.args.tally.now { accounts = b }) (when_ok c.open.result made c.open.ensures.ok)) c.in_ok-scan.ensures.ok
+    (λ is. (stands is, (c.in-Ok.ensures.turn (c.in_ok-check_file.ensures.honest ∙ is)).1)) c.end-end.ensures
+    (λ is. c.in_ok-check_file.ensures.ok (g.D.View.LogView.bytes c.in-Ok.view) is (stands is)))

@@ -1,0 +1,106 @@
+-- What a store is that was just opened on files, and why an opening is refused.
+use Rattle.std.specs.Prelude.{◌≡◌, ◌⊎◌, ℕ, ◌+◌, ◌<◌, ◌≤◌, ◌^◌, ℤ, Bool, IsTrue, List, length, take, drop, Some, None, IsSome}
+use Rattle.std.specs.FinMap as finite
+use Rattle.bk_record.specs.Files.{Files, file_of, header_length}
+use Rattle.bk_record.specs.Body.{IsBadAt}
+use Rattle.bk_disk.specs.Disk.{IsFile, view_end}
+use Rattle.bk_head.specs.Header.{magic, version_field, HeaderFault}
+use Rattle.bk_cache.specs.Caches as caches
+use Rattle.bk_store.specs.Entries.{IsIndexOf}
+use Rattle.bk_store.specs.Limits.{IsAllowed}
+use Rattle.bk_store.specs.Logs.{View, Logs, found_log}
+use Rattle.bk_store.specs.State.{State}
+use Rattle.bk_store.specs.Turns.{ledgers_of}
+use Rattle.bk_store.specs.declared.settings.Settings.{Settings}
+use Rattle.bk_store.specs.declared.answer.LogCause.{LogCause}
+use Rattle.bk_store.specs.declared.answer.LogCause.TheVariants as causes
+use Rattle.bk_store.specs.declared.answer.OpenFault.{OpenFault}
+use Rattle.bk_store.specs.declared.answer.OpenFault.TheVariants as open_faults
+
+-- ---- one file
+
+-- A header, where there are bytes enough for one, has the magic and the version (this project's rule).
+abbrev pub IsHeaded : List ℕ → Type 0
+IsHeaded file = header_length ≤ length file → (take 4 (take header_length file) ≡ magic) × (version_field (take header_length file) ≡ 1)
+
+-- no length below 16 stands where a record should begin
+abbrev pub HasNoBadLength : List ℕ → Type 0
+HasNoBadLength file = (at : ℕ) (value : ℤ) → ¬ (IsBadAt header_length (drop header_length file) at value)
+
+-- a file on which a store opens
+pub record Opens (file : List ℕ) : Type 0 where
+  pub short : length file < 2 ^ 32
+  pub headed : IsHeaded file
+  pub whole : HasNoBadLength file
+
+-- what stands in a file that can't be read; its header is judged before its records
+abbrev pub HasCause : List ℕ → LogCause → Type 0
+HasCause file (causes.Header fault) = (header_length ≤ length file) × HeaderFault (take header_length file) fault
+HasCause file (causes.BadLength at value) = IsHeaded file × IsBadAt header_length (drop header_length file) at value
+
+-- why the log of this id and file is refused by an honest disk
+abbrev pub FileFails : ℕ → List ℕ → OpenFault → Type 0
+FileFails id file open_faults.Settings = ⊥
+FileFails id file open_faults.Disk = Unit {0}
+FileFails id file open_faults.Memory = Unit {0}
+FileFails id file open_faults.LogsFull = ⊥
+FileFails id file (open_faults.Log log cause) = (log ≡ id) × (length file < 2 ^ 32) × HasCause file cause
+FileFails id file (open_faults.TooLong log) = (log ≡ id) × (2 ^ 32 ≤ length file)
+FileFails id file open_faults.Odd = ⊥
+
+-- ---- all files
+
+-- one of the files is refused, and all before it open
+pub record FirstFails (files : Files) (fault : OpenFault) : Type 0 where
+  pub id : ℕ
+  pub file : List ℕ
+  pub stands : IsFile files id file
+  pub fails : FileFails id file fault
+  pub before : (earlier : ℕ) (other : List ℕ) → earlier < id → IsFile files earlier other → Opens other
+
+-- there are slots for all logs
+abbrev pub HasSlots : Files → Settings → Type 0
+HasSlots files settings = finite.len files ≤ settings.slots
+
+-- Why an opening beside an honest disk is refused: the settings are judged first, then how many logs there are, then each
+-- log by rising ids. A failing device and want of memory come wherever they arise.
+abbrev pub OpenFails : Files → Settings → OpenFault → Type 0
+OpenFails files settings open_faults.Settings = ¬ (IsAllowed settings)
+OpenFails files settings open_faults.Disk = IsAllowed settings
+OpenFails files settings open_faults.Memory = IsAllowed settings
+OpenFails files settings open_faults.LogsFull = IsAllowed settings × (settings.slots < finite.len files)
+OpenFails files settings (open_faults.Log id cause) = IsAllowed settings × HasSlots files settings × FirstFails files (open_faults.Log id cause)
+OpenFails files settings (open_faults.TooLong id) = IsAllowed settings × HasSlots files settings × FirstFails files (open_faults.TooLong id)
+OpenFails files settings open_faults.Odd = ⊥
+
+-- ---- the store
+
+-- a log that was found is held with a view of its whole file, all of it acknowledged
+pub record IsHeldWhole (logs : Logs) (id : ℕ) (file : List ℕ) : Type 0 where
+  pub view : View
+  pub held : finite.get logs id ≡ Some (found_log view (view_end file))
+  pub honest : IsTrue view.is_honest
+  pub shows : view.bytes ≡ file
+
+-- the next id is one past the greatest, 0 where there is no file
+pub record IsNextId (files : Files) (next : ℕ) : Type 0 where
+  pub above : (id : ℕ) → IsSome (finite.get files id) → id < next
+  pub least : (next ≡ 0) ⊎ ((last : ℕ) × (next ≡ last + 1) × IsSome (finite.get files last))
+
+-- What the files give beside an honest disk: each opens, the index is that of all their entries, their logs are held and
+-- no others, and the next id is free.
+pub record HoldsFiles (files : Files) (s : State) : Type 0 where
+  pub same : s.files ≡ files
+  pub opens : (id : ℕ) (file : List ℕ) → IsFile files id file → Opens file
+  pub index : IsIndexOf (file_of files) s.dead s.index
+  pub logs : (id : ℕ) (file : List ℕ) → IsFile files id file → IsHeldWhole s.logs id file
+  pub none : (id : ℕ) → finite.get files id ≡ None → finite.get s.logs id ≡ None
+  pub next : IsNextId files s.next
+
+-- A store that was opened: these settings, nothing cached, no flush, these ledgers dead, and what the files give.
+pub record IsOpened (honest : Bool) (files : Files) (settings : Settings) (dead : List ℕ) (s : State) : Type 0 where
+  pub settings_are : s.settings ≡ settings
+  pub caches_are : s.caches ≡ caches.new_caches settings.cache_limit settings.recent
+  pub places_are : s.places ≡ finite.empty
+  pub dead_are : s.dead ≡ ledgers_of dead
+  pub holds : IsTrue honest → HoldsFiles files s

@@ -1,0 +1,84 @@
+//! Opening: a store is made on files that are there, and on a list of ledgers that were deleted before.
+
+ghost use Rattle.std.specs.Prelude.{◌≡◌, ◌↔◌, IsTrue, IsErrOf, IfOk, IfErr};
+ghost use Rattle.bk_store.specs.Kept.{Keeps};
+ghost use Rattle.bk_store.specs.Limits.{IsAllowed};
+ghost use Rattle.bk_store.specs.Opening.{IsOpened, OpenFails};
+
+mod fault;
+mod found;
+mod header;
+mod logs;
+mod scan;
+mod tally;
+
+use crate::dead::DeadLedgers;
+use crate::fields::Fields;
+use crate::logs::LogTable;
+use crate::places::FlushPlaces;
+use crate::{OpenFault, Settings};
+use bk_accounts::Accounts;
+use bk_cache::Caches;
+use bk_disk::LogDisk;
+use bk_index::Index;
+use fault::open_fault;
+use logs::find_all;
+use std::alloc::Global;
+use tally::Tally;
+
+impl<D: LogDisk> Fields<D> {
+    pub fn open(
+        alloc: Global,
+        disk: D,
+        settings: Settings,
+        dead: &[u64],
+    ) -> Result<Fields<D>, OpenFault>
+        ensures settings { IsErrOf result OpenFault.Settings ↔ ¬ (IsAllowed settings) }
+        ensures kept { IfOk result Keeps }
+        ensures honest { IfOk result (λ p. p.state.honest ≡ D.honest disk) }
+        ensures failures { IfOk result (λ p. p.state.failures ≡ D.failures disk) }
+        ensures opened { IfOk result (λ p. IsOpened (D.honest disk) (D.files disk) settings dead.now p.state) }
+        ensures fails { IfErr result (λ fault. IsTrue (D.honest disk) → OpenFails (D.files disk) settings fault) }
+    {
+        if !settings.is_allowed() {
+            return Err(OpenFault::Settings);
+        }
+        let mut disk = disk;
+        let ids = match disk.list(alloc) {
+            Ok(ids) => ids,
+            Err(fault) => return Err(open_fault(fault)),
+        };
+        if ids.len() > settings.slots as usize {
+            return Err(OpenFault::LogsFull);
+        }
+        let Ok(caches) = Caches::new(alloc, u64::from(settings.cache_limit), settings.recent) else {
+            return Err(OpenFault::Memory);
+        };
+        let Ok(dead) = DeadLedgers::of(alloc, dead) else {
+            return Err(OpenFault::Memory);
+        };
+        let mut tally = Tally::new(alloc, dead);
+        let mut logs = LogTable::new(alloc);
+        let next = find_all(&mut disk, alloc, &ids, &mut tally, &mut logs)?;
+        tally.name_all();
+        let Tally {
+            index,
+            accounts,
+            dead,
+        } = tally;
+        Ok(Fields {
+            disk,
+            alloc,
+            settings,
+            caches,
+            places: FlushPlaces::new(alloc),
+            index,
+            accounts,
+            logs,
+            writing: None,
+            filled: Vec::new(alloc),
+            next,
+            dead,
+        })
+    }
+}

@@ -1,0 +1,86 @@
+//! One log that was found: its length, its header, its view, its entries.
+
+ghost use Rattle.std.specs.Prelude.{◌≡◌, ◌<◌, ◌^◌, ℕ, List, IsTrue, IsErrOf, IfOk, IfErr, OnOk, length};
+ghost use Rattle.bk_disk.specs.Disk.{IsCaused, IsFile};
+ghost use Rattle.bk_accounts.specs.Book.{IsNotOpen};
+ghost use Rattle.bk_store.specs.Opening.{IsHeaded, FileFails};
+ghost use Rattle.bk_store.specs.Found.{IsTaken};
+
+use super::fault::open_fault;
+use super::header::check_header;
+use super::scan::scan;
+use super::tally::Tally;
+use crate::log::HeldLog;
+use crate::{LogState, OpenFault};
+use bk_disk::{LogDisk, LogView};
+use bk_record::HEADER_LENGTH;
+use std::alloc::Global;
+use std::sync::Arc;
+
+/// The most bytes that a log's file may have (this project's rule).
+const MOST: u64 = u32::MAX as u64;
+
+/// Reads a log: its entries are taken in, and it is held as one that is written no more, with a view of its whole file.
+pub(super) fn find<D: LogDisk>(
+    disk: &mut D,
+    alloc: Global,
+    id: u32,
+    tally: &mut Tally,
+) -> Result<HeldLog<D::View>, OpenFault>
+    requires id { id < 2 ^ 31 }
+    requires closed { IsNotOpen tally.old.accounts id }
+    ensures honest { D.honest disk.new ≡ D.honest disk.old }
+    ensures failures { OnOk result (D.failures disk.new ≡ D.failures disk.old) }
+    ensures never { ¬ (IsErrOf result OpenFault.Settings) }
+    ensures files { IsTrue (D.honest disk.old) → D.files disk.new ≡ D.files disk.old }
+    ensures ok { IfOk result (λ log. IsTaken (D.honest disk.old) (D.files disk.old) id log tally.old tally.new) }
+    ensures err { (file : List ℕ) → IsTrue (D.honest disk.old) → IsFile (D.files disk.old) id file
+        → IfErr result (FileFails id file) }
+{
+    check_file(disk, alloc, id)?;
+    let view = match disk.view(alloc, id) {
+        Ok(view) => view,
+        Err(fault) => return Err(open_fault(fault)),
+    };
+    let end = view.end();
+    if end < HEADER_LENGTH as u64 || end > MOST {
+        return Err(OpenFault::Odd);
+    }
+    if tally.accounts.open(id).is_err() {
+        return Err(OpenFault::Memory);
+    }
+    scan(&view, alloc, id, end, tally)?;
+    let Ok(view) = Arc::new(alloc, view) else {
+        return Err(OpenFault::Memory);
+    };
+    Ok(HeldLog {
+        state: LogState::Readable,
+        view: Some(view),
+        acknowledged: end,
+        writer: None,
+    })
+}
+
+/// Judges a log's length, and its header where it has one.
+fn check_file<D: LogDisk>(disk: &mut D, alloc: Global, id: u32) -> Result<(), OpenFault>
+    ensures honest { D.honest disk.new ≡ D.honest disk.old }
+    ensures cause { IsCaused (D.failures disk.old) (D.failures disk.new) (IsErrOf result OpenFault.Disk) }
+    ensures never { ¬ (IsErrOf result OpenFault.Settings) }
+    ensures files { IsTrue (D.honest disk.old) → D.files disk.new ≡ D.files disk.old }
+    ensures ok { (file : List ℕ) → IsTrue (D.honest disk.old) → IsFile (D.files disk.old) id file
+        → OnOk result ((length file < 2 ^ 32) × IsHeaded file) }
+    ensures err { (file : List ℕ) → IsTrue (D.honest disk.old) → IsFile (D.files disk.old) id file
+        → IfErr result (FileFails id file) }
+{
+    let length = match disk.length(alloc, id) {
+        Ok(length) => length,
+        Err(fault) => return Err(open_fault(fault)),
+    };
+    if length > MOST {
+        return Err(OpenFault::TooLong(id));
+    }
+    if length >= HEADER_LENGTH as u64 {
+        check_header(disk, alloc, id)?;
+    }
+    Ok(())
+}

@@ -1,0 +1,44 @@
+//! The scan of a log that was found: each entry is taken in as it comes, so no file is held in memory.
+
+ghost use Rattle.std.specs.Prelude.{◌≡◌, ◌<◌, ◌≤◌, ◌^◌, IsTrue, IsErrOf, Some, IfErr, OnOk};
+ghost use Rattle.bk_record.specs.Files.{header_length};
+ghost use Rattle.bk_disk.specs.Disk.{view_end};
+ghost use Rattle.bk_accounts.specs.Book.{total_in};
+ghost use Rattle.bk_store.specs.Found.{IsScanned};
+ghost use Rattle.bk_store.specs.Opening.{IsHeaded, FileFails};
+
+use super::fault::scan_fault;
+use super::tally::Tally;
+use crate::OpenFault;
+use bk_disk::LogView;
+use bk_log::Scanner;
+use bk_record::HEADER_LENGTH;
+use std::alloc::Global;
+
+/// Takes the entries of a log in, from its header to its end. Foreign records are passed over, and so is what is torn at
+/// the end.
+pub(super) fn scan<V: LogView>(
+    view: &V,
+    alloc: Global,
+    log: u32,
+    end: u64,
+    tally: &mut Tally,
+) -> Result<(), OpenFault>
+    requires id { log < 2 ^ 31 }
+    requires headed { header_length ≤ end }
+    requires short { end < 2 ^ 32 }
+    requires whole { IsTrue (V.honest view.now) → end ≡ view_end (V.bytes view.now) }
+    requires fresh { total_in tally.old.accounts log ≡ Some 0 }
+    ensures never { ¬ (IsErrOf result OpenFault.Settings) }
+    ensures ok { OnOk result (IsScanned log end (V.honest view.now) (V.bytes view.now) tally.old tally.new) }
+    ensures err { IfErr result (λ fault. IsTrue (V.honest view.now) → IsHeaded (V.bytes view.now) → FileFails log (V.bytes view.now) fault) }
+{
+    let mut scanner = Scanner::new(view, alloc, HEADER_LENGTH as u64, end);
+    loop {
+        match scanner.next() {
+            Ok(Some(found)) => tally.add(log, &found)?,
+            Ok(None) => return Ok(()),
+            Err(fault) => return Err(scan_fault(log, fault)),
+        }
+    }
+}

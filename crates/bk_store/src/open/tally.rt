@@ -1,0 +1,81 @@
+//! What the entries of the logs read so far come to: the index and the accounts.
+
+ghost use Rattle.std.specs.Prelude.{◌≡◌, ◌+◌, ◌<◌, ◌≤◌, ◌^◌, IfSome, OnOk, IsOkUnless};
+ghost use Rattle.std.specs.FinMap as map;
+ghost use Rattle.bk_accounts.specs.Book.{IsOpen, total_in};
+ghost use Rattle.bk_store.specs.Found.{with_entry, with_names, named_by, AreUnnamed};
+
+use crate::OpenFault;
+use crate::dead::DeadLedgers;
+use bk_accounts::Accounts;
+use bk_index::Index;
+use bk_log::Found;
+use bk_record::Location;
+use std::alloc::Global;
+
+/// The index of the entries of live ledgers, the accounts of all entries, and the ledgers that are dead.
+#[derive(Drop)]
+pub(super) struct Tally {
+    pub index: Index,
+    pub accounts: Accounts,
+    pub dead: DeadLedgers,
+}
+
+impl Tally {
+    /// No log was read yet.
+    pub fn new(alloc: Global, dead: DeadLedgers) -> Tally
+        ensures { result ≡ record { index = map.empty; accounts = map.empty; dead = dead } }
+    {
+        Tally {
+            index: Index::new(alloc),
+            accounts: Accounts::new(alloc),
+            dead,
+        }
+    }
+
+    /// Takes the next entry of a log in: its record is counted, and where its ledger lives, its key is sent to it. The
+    /// only fault is `Memory`.
+    pub fn add(&mut self, log: u32, found: &Found) -> Result<(), OpenFault>
+        requires id { log < 2 ^ 31 }
+        requires begins { 1028 ≤ found.now.at }
+        requires within { found.now.at < 2 ^ 32 }
+        requires open { IsOpen self.old.accounts log }
+        requires fits { IfSome (total_in self.old.accounts log) (λ total. total + found.now.size < 2 ^ 32) }
+        ensures ok { OnOk result (self.new ≡ with_entry log self.old found.now) }
+        ensures only { IsOkUnless result OpenFault.Memory }
+    {
+        let ledger = found.key.ledger();
+        if self.dead.contains(ledger) {
+            self.accounts.count_dead(log, found.size);
+            return Ok(());
+        }
+        if self.accounts.ready(log, ledger).is_err() {
+            return Err(OpenFault::Memory);
+        }
+        let place = Location::pack(log, found.at as u32).unwrap();
+        if self.index.insert(found.key, place).is_err() {
+            return Err(OpenFault::Memory);
+        }
+        self.accounts.count(log, ledger, found.size);
+        Ok(())
+    }
+
+    /// Counts for each log the keys that the index sends to it. It takes no memory.
+    pub fn name_all(&mut self)
+        requires { AreUnnamed self.old.accounts }
+        ensures { self.new ≡ with_names self.old }
+    {
+        name_each(&self.index, &mut self.accounts);
+    }
+}
+
+/// Names for each key of an index the log that it is sent to.
+fn name_each(index: &Index, accounts: &mut Accounts)
+    requires { AreUnnamed accounts.old }
+    ensures { accounts.new ≡ named_by (map.entries index.now) accounts.old }
+{
+    let _keys = index.len();
+    for (_, place) in index.walk() {
+        accounts.name(place.log());
+    }
+}
