@@ -31,3 +31,14 @@ pub mod OpenedTotals
 pub mod OpenedKeeps
 pub mod OpenedScan
 pub mod OpenedFinds
+pub mod LogMaps
+pub mod FlushLogs
+pub mod OneLog
+pub mod Acknowledged
+pub mod KeptOne
+pub mod KeptShow
+pub mod Closing
+pub mod KeptSet
+pub mod ShowTurns
+pub mod KeptSeal
+pub mod Sealing

@@ -1,23 +1,23 @@
 -- A store that keeps its promise beside an honest disk answers as the plain map does.
-use Rattle.std.proofs.Common.{◌≡◌, ◌≢◌, ◌⊎◌, inl, inr, ℕ, List, Bool, Option, Some, None, IsSome, [], length, ◌+◌, ◌<◌, true, false, cond, IsTrue, Result, Ok, Err, is_some, ◌||◌, refl, sym, ap, subst, ◌∙◌, unwrap_or}
+use Rattle.std.proofs.Common.{◌≡◌, inl, inr, ℕ, List, Bool, Some, None, IsSome, [], length, ◌+◌, ◌<◌, true, false, cond, IsTrue, Result, Ok, Err, is_some, refl, sym, ap, subst, ◌∙◌, unwrap_or}
 use Rattle.std.specs.Option.{option_or, option_map_or}
 use Rattle.std.specs.FinMap as finite
 use Rattle.std.specs.FinSet as set
 use Rattle.bk_record.specs.Key.{EntryKey}
 use Rattle.bk_record.specs.Location.{Place}
-use Rattle.bk_record.specs.Files.{Files, file_of, records_of, In}
+use Rattle.bk_record.specs.Files.{file_of, records_of, In}
 use Rattle.bk_record.specs.Scan.{Payloads, scan_of}
 use Rattle.bk_record.proofs.Keys.{key_cmp_total, key_cmp_antisymmetric}
 use Rattle.bk_cache.specs.Caches as caches
 use Rattle.bk_cache.specs.Recents.{recent_of}
 use Rattle.bk_store.specs.Entries.{HasEntry}
 use Rattle.bk_store.specs.Carried.{Carries}
-use Rattle.bk_store.specs.Logs.{Log, View, view_of, is_open, open_parts, published_part}
+use Rattle.bk_store.specs.Logs.{View, view_of, is_open, open_parts, published_part}
 use Rattle.bk_store.specs.State.{State, Parts}
 use Rattle.bk_store.specs.Meaning.{written_at, cached_at, holds}
 use Rattle.bk_store.specs.Kept.{Keeps, Promises}
 use Rattle.bk_store.specs.Turns.{AddTurn, TakeTurn, SwapTurn, IsOpenView}
-use Rattle.bk_store.specs.Plain.{Plain, IsLive, IsNew, PlainAdd, PlainTake, IsLeaseOn, after_swap, told_at, Means, Agrees}
+use Rattle.bk_store.specs.Plain.{Plain, IsNew, PlainAdd, PlainTake, after_swap, told_at, Agrees}
 use Rattle.bk_store.specs.declared.answer.Added.{Added}
 use Rattle.bk_store.specs.declared.answer.Added.TheVariants.{Accepted, Held}
 use Rattle.bk_store.specs.declared.answer.AddFault.{AddFault}

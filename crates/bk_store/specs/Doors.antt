@@ -1,6 +1,7 @@
 -- The turns by which the crates above change a store: a log is made, written, sealed, shown; a key is named; a flush goes
 -- on, starts again, ends.
-use Rattle.std.specs.Prelude.{◌≡◌, ◌⊎◌, ℕ, ◌+◌, ◌<◌, ◌≤◌, ◌^◌, Bool, true, false, if◌then◌else◌, IsTrue, List, length, take, Some, None, IsSome, Result, Ok, Err}
+use Rattle.std.specs.Prelude.{◌≡◌, ◌⊎◌, ℕ, ◌+◌, ◌<◌, ◌≤◌, ◌^◌, Bool, true, false, if◌then◌else◌, IsTrue, List, length, take, Option, Some, None, IsSome, Result, Ok, Err}
+use Rattle.std.specs.Option.{option_and_then}
 use Rattle.std.specs.FinMap as finite
 use Rattle.std.specs.declared.cmp.Ordering.TheVariants.{Less}
 use Rattle.bk_record.specs.Key.{EntryKey, key_cmp}
@@ -9,15 +10,20 @@ use Rattle.bk_record.specs.Record.{record_of}
 use Rattle.bk_record.specs.Files.{Files, file_of}
 use Rattle.bk_disk.specs.Disk.{grown}
 use Rattle.bk_log.specs.Writing as writers
-use Rattle.bk_log.specs.Writing.{CreateTurn, with_put}
+use Rattle.bk_log.specs.Writing.{CreateTurn}
+use Rattle.bk_log.specs.Growing.{SealGains}
 use Rattle.bk_log.specs.Sealing.{SealTurn, KeepsEntries, HasMap, map_fits}
 use Rattle.bk_log.specs.declared.fault.LogFault.{LogFault}
 use Rattle.bk_log.specs.declared.fault.LogFault.TheVariants as log_faults
 use Rattle.bk_cache.specs.Caches as caches
-use Rattle.bk_store.specs.Logs.{View, Log, Logs, made_log, unmade_log, closed_log, with_view, settled_as, unfilled_as, AllChanged}
+use Rattle.bk_record.specs.Keyed.{log_count}
+use Rattle.bk_cache.specs.Recents.{Recents, remembered}
+use Rattle.bk_store.specs.Entries.{IsIndexOf, Places}
+use Rattle.bk_store.specs.Logs.{View, Log, Logs, made_log, unmade_log, closed_log, halted_log, with_view, settled_as, unfilled_as, AllChanged, is_open, open_parts, HasOpenView}
+use Rattle.bk_store.specs.Putting.{next_place, grown_log}
 use Rattle.bk_store.specs.State.{State}
 use Rattle.bk_store.specs.declared.log.LogState.{LogState}
-use Rattle.bk_store.specs.declared.log.LogState.TheVariants.{Readable}
+use Rattle.bk_store.specs.declared.log.LogState.TheVariants.{Writing, Filled, Copying, Readable, Retired, Closed}
 use Rattle.bk_store.specs.declared.answer.MakeFault.{MakeFault}
 use Rattle.bk_store.specs.declared.answer.MakeFault.TheVariants as makes
 
@@ -42,6 +48,30 @@ pub record IsUnmade (s : State) (fault : LogFault) (failures : ℕ) (t : State) 
   pub files : IsTrue s.honest → CreateTurn {W = Unit {0}} s.files s.next (Err (record { made = made; fault = fault })) t.files
   pub left : t ≡ with_next s t.files failures (logs_left s made)
 
+-- whether the next log may be made: a full table of logs is told before used-up ids
+abbrev pub MayMakeTurn : State → Result (Unit {0}) MakeFault → Type 0
+MayMakeTurn s (Err makes.LogsFull) = s.settings.slots ≤ finite.len s.logs
+MayMakeTurn s (Err makes.NoMoreIds) = (finite.len s.logs < s.settings.slots) × (2 ^ 31 ≤ s.next)
+MayMakeTurn s (Err makes.Memory) = ⊥
+MayMakeTurn s (Err makes.Disk) = ⊥
+MayMakeTurn s (Err makes.Odd) = ⊥
+MayMakeTurn s (Ok _) = MayMake s
+
+-- a log is held in this state
+pub record IsIn (s : State) (id : ℕ) (state : LogState) : Type 0 where
+  pub log : Log
+  pub held : finite.get s.logs id ≡ Some log
+  pub state_is : log.state ≡ state
+
+-- no log is the one that flushes write
+abbrev pub HasNoWriting : State → Type 0
+HasNoWriting s = (id : ℕ) → ¬ (IsIn s id Writing)
+
+-- the log that flushes write: it alone is Writing, or there is none
+abbrev pub IsWritingLog : State → Option ℕ → Type 0
+IsWritingLog s None = HasNoWriting s
+IsWritingLog s (Some id) = IsIn s id Writing × ((other : ℕ) → IsIn s other Writing → other ≡ id)
+
 -- The next log is made, and is in this state from then on; a full table of logs is told before used-up ids, and both
 -- before anything is done.
 abbrev pub MakeTurn : State → LogState → Result ℕ MakeFault → State → Type 0
@@ -55,42 +85,48 @@ MakeTurn s state (Ok id) t = MayMake s × (id ≡ s.next) × (IsTrue s.honest �
 
 -- ---- writing a log
 
+-- the writer of a log, none where the log is not held or not written
+abbrev pub writer_of : Logs → ℕ → Option writers.Writing
+writer_of logs id = option_and_then (λ log. log.writer) (finite.get logs id)
+
 -- the log of this id is held, and this is its writer
 pub record IsWriter (s : State) (id : ℕ) (log : Log) (w : writers.Writing) : Type 0 where
   pub held : finite.get s.logs id ≡ Some log
   pub writer : log.writer ≡ Some w
 
--- the place behind the length field of the next record
-abbrev pub next_place : writers.Writing → Place
-next_place w = record { log = w.log; at = w.end + 4 }
-
--- the log with the record of one more payload acknowledged
-abbrev pub grown_log : Log → writers.Writing → List ℕ → Log
-grown_log log w payload = record log { acknowledged = w.end + 4 + length payload; writer = Some (with_put w payload) }
+-- a log in this state can take the record of a payload: it stays at most 2^32 - 1 bytes long
+pub record CanTake (s : State) (id : ℕ) (state : LogState) (payload : List ℕ) : Type 0 where
+  pub log : Log
+  pub w : writers.Writing
+  pub writer : IsWriter s id log w
+  pub state_is : log.state ≡ state
+  pub room : w.end + 4 + length payload < 2 ^ 32
 
 -- the state with the log of this id changed
 abbrev pub with_log : State → Files → ℕ → ℕ → Log → State
 with_log s files failures id log = record s { files = files; failures = failures; logs = finite.insert s.logs id log }
 
--- A record is put at the end of a log. A device that fails leaves a part of it, possibly all, and the log is written no more.
+-- A record is put at the end of a log. A device that fails leaves a part of it, possibly all, and the log is written no
+-- more: the flush's is Filled until the flush starts again, a copy is Readable.
 abbrev pub PutTurn : State → ℕ → List ℕ → Result Place LogFault → State → Type 0
 PutTurn s id payload (Ok place) t = (log : Log) × ((w : writers.Writing) × IsWriter s id log w × (place ≡ next_place w)
     × (IsTrue s.honest → t.files ≡ grown s.files id (record_of payload)) × (t ≡ with_log s t.files s.failures id (grown_log log w payload)))
-PutTurn s id payload (Err log_faults.Memory) t = t ≡ s
+PutTurn s id payload (Err log_faults.Memory) t = (IsTrue s.honest → t.files ≡ s.files) × (t ≡ record s { files = t.files })
 PutTurn s id payload (Err log_faults.Disk) t = (log : Log) × (finite.get s.logs id ≡ Some log)
     × (IsTrue s.honest → (n : ℕ) × (t.files ≡ grown s.files id (take n (record_of payload))))
-    × (t ≡ with_log s t.files (s.failures + 1) id (closed_log Readable log))
+    × (t ≡ with_log s t.files (s.failures + 1) id (halted_log log))
 PutTurn s id payload (Err log_faults.Odd) t = (s.honest ≡ false) × ((log : Log) × (finite.get s.logs id ≡ Some log)
-    × (t ≡ with_log s t.files s.failures id (closed_log Readable log)))
+    × (t ≡ with_log s t.files s.failures id (halted_log log)))
 PutTurn s id payload (Err log_faults.Failed) t = ⊥
 
 -- ---- sealing a log
 
--- what a try to seal a log did to the files: no entry comes or goes, and a log that was sealed has its map, unless that
+-- what a try to seal a log did to the files: no entry comes or goes, no record goes, and a log that was sealed has its map, unless that
 -- would end past byte 2^32 - 1
 pub record IsSealed (s : State) (w : writers.Writing) (result : Result (Unit {0}) LogFault) (files : Files) : Type 0 where
   pub sealed : SealTurn s.files w result files
   pub entries : KeepsEntries s.files files
+  pub gains : SealGains s.files w files
   pub mapped : map_fits w ≡ true → result ≡ Ok tt → HasMap (file_of files w.log)
 
 -- how often the device failed in a call that was answered so
@@ -100,6 +136,15 @@ failed_in (Err log_faults.Disk) = 1
 failed_in (Err log_faults.Failed) = 0
 failed_in (Err log_faults.Memory) = 0
 failed_in (Err log_faults.Odd) = 0
+
+-- A log may be sealed into this state: the flush's into Filled, or into Readable where no flush runs; a copy into Readable.
+abbrev pub MaySeal : State → ℕ → LogState → Type 0
+MaySeal s id Filled = IsIn s id Writing
+MaySeal s id Readable = IsIn s id Copying ⊎ (IsIn s id Writing × (s.caches.flush ≡ None))
+MaySeal s id Writing = ⊥
+MaySeal s id Copying = ⊥
+MaySeal s id Retired = ⊥
+MaySeal s id Closed = ⊥
 
 -- A log is sealed, and in this state from then on, whatever the answer; it is written no more.
 pub record Seals (s : State) (id : ℕ) (state : LogState) (result : Result (Unit {0}) LogFault) (t : State) : Type 0 where
@@ -113,17 +158,22 @@ pub record Seals (s : State) (id : ℕ) (state : LogState) (result : Result (Uni
 
 -- ---- showing a log
 
+-- the log is held, and keys may be sent to it
+pub record IsOpenLog (s : State) (id : ℕ) : Type 0 where
+  pub log : Log
+  pub held : finite.get s.logs id ≡ Some log
+  pub opened : is_open log.state ≡ true
+
 -- A log is synced, and its last view shows its whole file from then on.
-abbrev pub ShowTurn : State → ℕ → Result (Unit {0}) MakeFault → State → Type 0
+abbrev pub ShowTurn : State → ℕ → Result (Unit {0}) LogFault → State → Type 0
 ShowTurn s id (Ok _) t = (log : Log) × (finite.get s.logs id ≡ Some log) × ((view : View)
     × (IsTrue s.honest → IsTrue view.is_honest × (finite.get s.files id ≡ Some view.bytes))
     × (IsTrue s.honest → t.files ≡ s.files)
     × (t ≡ with_log s t.files s.failures id (with_view view log)))
-ShowTurn s id (Err makes.Disk) t = (IsTrue s.honest → t.files ≡ s.files) × (t ≡ record s { files = t.files; failures = s.failures + 1 })
-ShowTurn s id (Err makes.Memory) t = (IsTrue s.honest → t.files ≡ s.files) × (t ≡ record s { files = t.files })
-ShowTurn s id (Err makes.Odd) t = (s.honest ≡ false) × (t ≡ record s { files = t.files })
-ShowTurn s id (Err makes.LogsFull) t = ⊥
-ShowTurn s id (Err makes.NoMoreIds) t = ⊥
+ShowTurn s id (Err log_faults.Disk) t = (IsTrue s.honest → t.files ≡ s.files) × (t ≡ record s { files = t.files; failures = s.failures + 1 })
+ShowTurn s id (Err log_faults.Memory) t = (IsTrue s.honest → t.files ≡ s.files) × (t ≡ record s { files = t.files })
+ShowTurn s id (Err log_faults.Odd) t = (s.honest ≡ false) × (t ≡ record s { files = t.files })
+ShowTurn s id (Err log_faults.Failed) t = ⊥
 
 -- ---- a flush
 
@@ -134,6 +184,59 @@ pub record IsNext (s : State) (key : EntryKey) (payload : List ℕ) : Type 0 whe
   pub first : (earlier : EntryKey) → key_cmp earlier key ≡ Less → IsSome (finite.get (caches.flush_of s.caches) earlier)
       → IsSome (finite.get s.places earlier)
 
+-- every entry of the flush has a place
+abbrev pub AllPlaced : State → Type 0
+AllPlaced s = (key : EntryKey) → IsSome (finite.get (caches.flush_of s.caches) key) → IsSome (finite.get s.places key)
+
+-- the flush's next entry, none where every entry has a place
+abbrev pub IsNextEntry : State → Option (EntryKey × List ℕ) → Type 0
+IsNextEntry s None = AllPlaced s
+IsNextEntry s (Some e) = IsNext s e.0 e.1
+
+-- the entry of this key is the flush's next one, and the flush's log can take its record
+pub record MayWrite (s : State) (id : ℕ) (key : EntryKey) : Type 0 where
+  pub payload : List ℕ
+  pub next : IsNext s key payload
+  pub takes : CanTake s id Writing payload
+
+-- the state with one more place noted
+abbrev pub noted : State → EntryKey → Place → State
+noted s key place = record s { places = finite.insert s.places key place }
+
+-- An entry of the flush is put at the end of a log, and its place is noted where the write was answered.
+abbrev pub WriteTurn : State → ℕ → EntryKey → List ℕ → Result Place LogFault → State → Type 0
+WriteTurn s id key payload (Ok place) t = PutTurn (noted s key place) id payload (Ok place) t
+WriteTurn s id key payload (Err fault) t = PutTurn s id payload (Err fault) t
+
+-- the log is held, keys may be sent to it, and its last view shows its whole file
+pub record ShowsAll (s : State) (id : ℕ) : Type 0 where
+  pub log : Log
+  pub view : View
+  pub held : finite.get s.logs id ≡ Some log
+  pub opened : is_open log.state ≡ true
+  pub view_is : log.view ≡ Some view
+  pub whole : IsTrue s.honest → finite.get s.files id ≡ Some view.bytes
+
+-- an entry of the flush has this place, in a log that shows all
+pub record MayName (s : State) (key : EntryKey) (place : Place) : Type 0 where
+  pub placed : finite.get s.places key ≡ Some place
+  pub shown : ShowsAll s place.log
+
+-- the recent entries after one was flushed: it is remembered, or memory was refused for it
+abbrev pub IsRecentAfter : Recents → EntryKey → List ℕ → Recents → Type 0
+IsRecentAfter old key payload new = (new ≡ old) ⊎ (new ≡ remembered old key payload)
+
+-- A key of the flush is sent to its place, and its entry is remembered. It is cached as before.
+abbrev pub NameTurn : {E : Type 0} → State → EntryKey → Place → Result (Unit {0}) E → State → Type 0
+NameTurn s key place (Ok _) t = (payload : List ℕ) × (finite.get (caches.flush_of s.caches) key ≡ Some payload)
+    × IsRecentAfter s.caches.recent key payload t.caches.recent
+    × (t ≡ record s { index = finite.insert s.index key place; caches = record s.caches { recent = t.caches.recent } })
+NameTurn s key place (Err _) t = t ≡ s
+
+-- every entry of the flush is indexed
+abbrev pub AllNamed : State → Type 0
+AllNamed s = (key : EntryKey) → IsSome (finite.get (caches.flush_of s.caches) key) → IsSome (finite.get s.index key)
+
 -- The flush starts again: the logs that it wrote are written no more, its places are forgotten, its cache stays whole.
 pub record Restarts (s t : State) : Type 0 where
   pub logs : AllChanged settled_as s.logs t.logs
@@ -143,3 +246,24 @@ pub record Restarts (s t : State) : Type 0 where
 pub record Ends (s t : State) : Type 0 where
   pub logs : AllChanged unfilled_as s.logs t.logs
   pub left : t ≡ record s { logs = t.logs; places = finite.empty; caches = record s.caches { flush = None } }
+
+-- ---- the other logs, and the index
+
+-- A log may come into this state: a copy becomes Readable, a Readable log that no key names Retired, a Retired one Closed.
+abbrev pub MaySet : State → ℕ → LogState → Type 0
+MaySet s id Readable = IsIn s id Copying
+MaySet s id Retired = IsIn s id Readable × (log_count s.index id ≡ 0)
+MaySet s id Closed = IsIn s id Retired
+MaySet s id Writing = ⊥
+MaySet s id Filled = ⊥
+MaySet s id Copying = ⊥
+
+-- A log is in this state from then on, and written no more.
+abbrev pub SetTurn : State → ℕ → LogState → State → Type 0
+SetTurn s id state t = (log : Log) × (finite.get s.logs id ≡ Some log)
+    × (t ≡ record s { logs = finite.insert s.logs id (closed_log state log) })
+
+-- an index made anew: of all entries that the logs show, and it sends keys to logs with a view alone
+pub record MayReplace (s : State) (index : Places) : Type 0 where
+  pub made : IsTrue s.honest → IsIndexOf (open_parts s.logs) s.dead index
+  pub sent : (key : EntryKey) (place : Place) → finite.get index key ≡ Some place → HasOpenView s.logs place.log

@@ -17,25 +17,11 @@ use Rattle.bk_accounts.specs.Sums.{Measure, AreSums}
 use Rattle.bk_store.specs.Entries.{HasEntry}
 use Rattle.bk_store.specs.Carried.{Carries}
 use Rattle.bk_store.specs.Shown.{Shows}
-use Rattle.bk_store.specs.Logs.{View, Log, Logs, is_open, is_written, open_parts, acknowledged_part}
+use Rattle.bk_store.specs.Logs.{View, Log, Logs, HasOpenView, IsFlushLog, is_written, open_parts, acknowledged_part}
 use Rattle.bk_store.specs.State.{State, Parts}
 use Rattle.bk_store.specs.Meaning.{written_at}
 use Rattle.bk_store.specs.Limits.{IsAllowed}
 use Rattle.bk_store.specs.declared.log.LogState.TheVariants.{Writing, Filled}
-
--- the log is held, keys may be sent to it, and this is its last view
-pub record HasOpenView (logs : Logs) (id : ℕ) : Type 0 where
-  pub log : Log
-  pub view : View
-  pub held : finite.get logs id ≡ Some log
-  pub opened : is_open log.state ≡ true
-  pub view_is : log.view ≡ Some view
-
--- a log that the running flush wrote: it is Writing or Filled
-pub record IsFlushLog (logs : Logs) (id : ℕ) : Type 0 where
-  pub log : Log
-  pub held : finite.get logs id ≡ Some log
-  pub flushed : (log.state ≡ Writing) ⊎ (log.state ≡ Filled)
 
 -- the log is written by this writer, which has not failed and is as long as what is acknowledged
 pub record IsWrittenBy (id : ℕ) (log : Log) (w : writers.Writing) : Type 0 where
@@ -70,7 +56,7 @@ pub record Fits (p : Parts) : Type 0 where
   pub placed : IsPlaced p.state
   -- what is kept so that no call has to look for it
   pub writing : (id : ℕ) → (p.writing ≡ Some id) ↔ ((log : Log) × (finite.get p.state.logs id ≡ Some log) × (log.state ≡ Writing))
-  pub filled : (id : ℕ) (log : Log) → finite.get p.state.logs id ≡ Some log → log.state ≡ Filled → In id p.filled
+  pub filled : (id : ℕ) (log : Log) → finite.get p.state.logs id ≡ Some log → (log.state ≡ Writing) ⊎ (log.state ≡ Filled) → In id p.filled
   pub named : (id : ℕ) → named_in p.accounts id ≡ option_map (λ _. log_count p.state.index id) (finite.get p.state.logs id)
   pub total : (id : ℕ) (log : Log) → finite.get p.state.logs id ≡ Some log → total_at p.accounts id + header_length ≤ log.acknowledged
 

@@ -13,3 +13,5 @@ pub mod Plain
 pub mod Deletion
 pub mod Opening
 pub mod Found
+pub mod Putting
+pub mod Beside

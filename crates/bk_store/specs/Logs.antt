@@ -1,5 +1,5 @@
 -- What a store shows of the logs that it holds.
-use Rattle.std.specs.Prelude.{◌≡◌, ℕ, Bool, true, false, if◌then◌else◌, List, [], Option, Some, None, option_map, take}
+use Rattle.std.specs.Prelude.{◌≡◌, ◌⊎◌, ℕ, Bool, true, false, if◌then◌else◌, List, [], Option, Some, None, option_map, take}
 use Rattle.std.specs.Option.{option_map_or, option_and_then}
 use Rattle.std.specs.Ordering.{nat_cmp}
 use Rattle.std.specs.FinMap as finite
@@ -99,6 +99,33 @@ open_parts logs id = option_map_or (λ log. if is_open log.state then published_
 -- the acknowledged part of a log
 abbrev pub acknowledged_part : Files → ℕ → Log → List ℕ
 acknowledged_part files id log = take log.acknowledged (file_of files id)
+
+-- When a write of a log failed, the log is closed: the flush's is Filled until the flush starts again, any other is Readable.
+abbrev pub halted_as : LogState → LogState
+halted_as Writing = Filled
+halted_as Filled = Filled
+halted_as Copying = Readable
+halted_as Readable = Readable
+halted_as Retired = Retired
+halted_as Closed = Closed
+
+-- the log when a write of it failed: it is written no more
+abbrev pub halted_log : Log → Log
+halted_log log = closed_log (halted_as log.state) log
+
+-- the log is held, keys may be sent to it, and this is its last view
+pub record HasOpenView (logs : Logs) (id : ℕ) : Type 0 where
+  pub log : Log
+  pub view : View
+  pub held : finite.get logs id ≡ Some log
+  pub opened : is_open log.state ≡ true
+  pub view_is : log.view ≡ Some view
+
+-- a log that the running flush wrote: it is Writing or Filled
+pub record IsFlushLog (logs : Logs) (id : ℕ) : Type 0 where
+  pub log : Log
+  pub held : finite.get logs id ≡ Some log
+  pub flushed : (log.state ≡ Writing) ⊎ (log.state ≡ Filled)
 
 -- when the flush starts again, a log that it wrote is written no more (this project's rule)
 abbrev pub settled_as : LogState → Log → Log

@@ -32,7 +32,7 @@ pub record State : Type 0 where
   pub dead : Ledgers
 
 -- A store's parts: the visible state, and what is kept beside it so that no call has to look for it. These are the accounts
--- of the logs, the log that flushes write, and the logs that the running flush filled.
+-- of the logs, the log that flushes write, and the logs that are Writing or Filled, possibly with others.
 pub record Parts : Type 0 where
   pub state : State
   pub accounts : Book

@@ -15,7 +15,7 @@ use bk_index::Index;
 use std::alloc::Global;
 use std::marker::Model;
 
-/// What a store is made of. `writing` is the log that flushes write, and `filled` the logs that the running flush filled;
+/// What a store is made of. `writing` is the log that flushes write, and `filled` has the logs that are Writing or Filled;
 /// both only save a search.
 #[derive(Drop)]
 pub(crate) struct Fields<D: LogDisk> {

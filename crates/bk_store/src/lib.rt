@@ -5,6 +5,7 @@ mod adding;
 mod answer;
 mod dead;
 mod deleting;
+mod doors;
 mod fields;
 mod laws;
 mod lease;
@@ -13,7 +14,10 @@ mod logs;
 mod open;
 mod places;
 mod settings;
+mod showing;
+mod states;
 mod store;
+mod writing;
 
 pub use answer::{
     AddFault, Added, DeleteFault, LogCause, MakeFault, OpenFault, SwapAnswer, TakeFault, Taken,

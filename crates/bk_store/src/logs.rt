@@ -1,12 +1,19 @@
 //! The logs that a store holds, found by their ids.
 
-ghost use Rattle.std.specs.Prelude.{◌≡◌, Some, IsSome, OnOk, OnErr, option_map};
+ghost use Rattle.std.specs.Prelude.{◌≡◌, ◌⊎◌, ℕ, Some, IsSome, IsTrue, IsErrOf, OnOk, OnErr, option_map};
 ghost use Rattle.std.specs.FinMap as map;
-ghost use Rattle.bk_store.specs.Logs.{Log, in_state, last_view, view_of};
+ghost use Rattle.bk_record.specs.Record.{IsPayload, key_of};
+ghost use Rattle.bk_record.specs.Files.{In};
+ghost use Rattle.bk_disk.specs.Disk.{IsCaused};
+ghost use Rattle.bk_log.specs.Writing.{Writing, Writes, PutTurn};
+ghost use Rattle.bk_store.specs.Logs.{Log, AllChanged, IsFlushLog, in_state, closed_log, settled_as, unfilled_as, last_view, view_of, with_view};
+ghost use Rattle.bk_store.specs.Putting.{put_log, IsPutAt, MayPut};
 
 use crate::LogState;
 use crate::log::HeldLog;
-use bk_disk::LogView;
+use bk_disk::{LogDisk, LogView};
+use bk_log::{LogFault, LogWriter};
+use bk_record::Location;
 use std::alloc::{AllocError, Global};
 use std::collections::BTreeMap;
 use std::marker::Model;
@@ -83,5 +90,81 @@ impl<V: LogView> LogTable<V> {
         ensures { (log : Log) → map.get self.old id ≡ Some log → self.new ≡ map.insert self.old id (in_state state log) }
     {
         self.logs.get_mut(&id).unwrap().set_state(state);
+    }
+
+    /// The file of a log was made: the log is written from then on.
+    pub fn start(&mut self, id: u32, state: LogState, writer: LogWriter)
+        requires { IsSome (map.get self.old id) }
+        ensures { (log : Log) → map.get self.old id ≡ Some log
+            → self.new ≡ map.insert self.old id (record log { state = state; writer = Some writer }) }
+    {
+        self.logs.get_mut(&id).unwrap().start(state, writer);
+    }
+
+    /// Puts a log into a state in which it is written no more, and gives its writer back.
+    pub fn close(&mut self, id: u32, state: LogState) -> Option<LogWriter>
+        requires { IsSome (map.get self.old id) }
+        ensures logs { (log : Log) → map.get self.old id ≡ Some log → self.new ≡ map.insert self.old id (closed_log state log) }
+        ensures writer { (log : Log) → map.get self.old id ≡ Some log → result ≡ log.writer }
+    {
+        self.logs.get_mut(&id).unwrap().close(state)
+    }
+
+    /// Gives a log its next view.
+    pub fn show(&mut self, id: u32, view: Arc<V>)
+        requires { IsSome (map.get self.old id) }
+        ensures { (log : Log) → map.get self.old id ≡ Some log
+            → self.new ≡ map.insert self.old id (with_view (view_of V.bytes V.honest V.sound view.value) log) }
+    {
+        self.logs.get_mut(&id).unwrap().show(view);
+    }
+
+    /// Puts a record at the end of a log.
+    pub fn put<D: LogDisk>(
+        &mut self,
+        id: u32,
+        disk: &mut D,
+        alloc: Global,
+        payload: &[u8],
+    ) -> Result<Location, LogFault>
+        requires payload { IsPayload payload.now }
+        requires keyed { IsSome (key_of payload.now) }
+        requires held { IsSome (map.get self.old id) }
+        requires may { (log : Log) → map.get self.old id ≡ Some log → MayPut log payload.now }
+        requires writes { (log : Log) (w : Writing) → map.get self.old id ≡ Some log → log.writer ≡ Some w
+            → IsTrue (D.honest disk.old) → Writes (D.files disk.old) w }
+        ensures honest { D.honest disk.new ≡ D.honest disk.old }
+        ensures cause { IsCaused (D.failures disk.old) (D.failures disk.new) (IsErrOf result LogFault.Disk) }
+        ensures logs { (log : Log) (w : Writing) → map.get self.old id ≡ Some log → log.writer ≡ Some w
+            → self.new ≡ map.insert self.old id (put_log log w payload.now result) }
+        ensures place { (log : Log) (w : Writing) → map.get self.old id ≡ Some log → log.writer ≡ Some w → IsPutAt w result }
+        ensures turn { (log : Log) (w : Writing) → map.get self.old id ≡ Some log → log.writer ≡ Some w
+            → IsTrue (D.honest disk.old) → PutTurn (D.files disk.old) w payload.now result (D.files disk.new) }
+    {
+        self.logs.get_mut(&id).unwrap().put(disk, alloc, payload)
+    }
+
+    /// The flush starts again, which wrote these logs and no other.
+    pub fn settle(&mut self, ids: &[u32])
+        requires { (id : ℕ) → IsFlushLog self.old id → In id ids.now }
+        ensures { AllChanged settled_as self.old self.new }
+    {
+        for id in ids {
+            if let Some(log) = self.logs.get_mut(id) {
+                log.settle();
+            }
+        }
+    }
+
+    /// The flush is over, which wrote these logs and no other.
+    pub fn unfill(&mut self, ids: &[u32])
+        requires { (id : ℕ) → IsFlushLog self.old id → In id ids.now }
+        ensures { AllChanged unfilled_as self.old self.new }
+    {
+        for id in ids {
+            if let Some(log) = self.logs.get_mut(id) {
+                log.unfill();
+            }
+        }
     }
 }

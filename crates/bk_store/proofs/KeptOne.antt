@@ -1,0 +1,142 @@
+-- One log changes, and its file with it: what is still owed so that a store keeps its promise.
+use Rattle.std.proofs.Common.{◌≡◌, ◌≢◌, inl, inr, ℕ, ◌+◌, ◌≤◌, ◌↔◌, false, IsTrue, List, [], Option, Some, is_some, unwrap_or, sym, ap, subst, ◌∙◌, arith}
+use Rattle.std.specs.FinMap as finite
+use Rattle.std.specs.FinSet as set
+use Rattle.bk_record.specs.Key.{EntryKey}
+use Rattle.bk_record.specs.Location.{Place}
+use Rattle.bk_record.specs.Record.{key_of}
+use Rattle.bk_record.specs.Files.{Files, file_of, header_length, In}
+use Rattle.bk_record.specs.Keyed.{log_count}
+use Rattle.bk_log.specs.Growing.{Gains}
+use Rattle.bk_log.specs.Writing as writers
+use Rattle.bk_accounts.specs.Book.{Book, named_in, total_at}
+use Rattle.bk_accounts.specs.Sums.{AreSums}
+use Rattle.bk_store.specs.Shown.{Shows}
+use Rattle.bk_store.specs.Logs.{Log, Logs, HasOpenView, IsFlushLog, open_parts}
+use Rattle.bk_store.specs.State.{Parts}
+use Rattle.bk_store.specs.Kept.{Keeps, Fits, Promises, IsHeld, IsBacked, entry_measure, acknowledged_entries}
+use Rattle.bk_store.specs.declared.log.LogState.TheVariants.{Writing}
+use Rattle.bk_store.proofs.Cases.{same_or_apart}
+use Rattle.bk_store.proofs.Growing.{EntriesStay, OnlyIn, Grows, grows_behind, carries_grown}
+use Rattle.bk_store.proofs.OneLog.{IsFlushed, same_len, each_log, names_stay}
+
+-- the parts with one log changed
+abbrev pub with_one : Parts → ℕ → Log → Files → ℕ → Book → Option ℕ → Parts
+with_one p id new files failures accounts writing = record p {
+  state = record p.state { files = files; failures = failures; logs = finite.insert p.state.logs id new };
+  accounts = accounts;
+  writing = writing;
+}
+
+-- the log of this id is Writing
+abbrev pub IsWritingIn : Logs → ℕ → Type 0
+IsWritingIn logs id = (log : Log) × (finite.get logs id ≡ Some log) × (log.state ≡ Writing)
+
+module _ (p : Parts) (id : ℕ) (log new : Log) (held : finite.get p.state.logs id ≡ Some log) (files : Files) (failures : ℕ) (accounts : Book) (writing : Option ℕ) where
+  pub fits_one : Fits p → IsHeld p.state.next id new
+      → ((key : EntryKey) (place : Place) → finite.get p.state.index key ≡ Some place → HasOpenView (finite.insert p.state.logs id new) place.log)
+      → ((key : EntryKey) (place : Place) → finite.get p.state.places key ≡ Some place → IsFlushLog (finite.insert p.state.logs id new) place.log)
+      → ((q : ℕ) → (writing ≡ Some q) ↔ IsWritingIn (finite.insert p.state.logs id new) q)
+      → (IsFlushed new → In id p.filled)
+      → ((q : ℕ) → named_in accounts q ≡ named_in p.accounts q)
+      → total_at accounts id + header_length ≤ new.acknowledged
+      → ((q : ℕ) → q ≢ id → total_at accounts q ≡ total_at p.accounts q)
+      → Fits (with_one p id new files failures accounts writing)
+  fits_one fits new_held sent flushed writes listed named total others = record {
+    allowed = fits.allowed;
+    limit = fits.limit;
+    ids = fits.ids;
+    slots = subst (λ n. n ≤ p.state.settings.slots) (sym (same_len p.state.logs id log new held)) fits.slots;
+    held = each_log p.state.logs id log new held (λ q l. IsHeld p.state.next q l) new_held (λ q l _ is. fits.held q l is);
+    sent = sent;
+    placed = record { idle = fits.placed.idle; flushing = fits.placed.flushing; logs = flushed; front = fits.placed.front };
+    writing = writes;
+    filled = each_log p.state.logs id log new held (λ q l. IsFlushed l → In q p.filled) listed (λ q l _ is. fits.filled q l is);
+    named = λ q. named q ∙ fits.named q ∙ names_stay p.state.logs id log new held (log_count p.state.index) q;
+    total = each_log p.state.logs id log new held (λ q l. total_at accounts q + header_length ≤ l.acknowledged) total
+        (λ q l apart is. subst (λ n. n + header_length ≤ l.acknowledged) (sym (others q apart)) (fits.total q l is));
+  }
+
+  file_else : ((q : ℕ) → q ≢ id → finite.get files q ≡ finite.get p.state.files q) → OnlyIn id (file_of p.state.files) (file_of files)
+  file_else only q apart = ap (λ (o : Option (List ℕ)). unwrap_or o []) (only q apart)
+
+  -- another log's writer is still that of its file
+  writes_else : (q : ℕ) (w : writers.Writing) → w.log ≡ q → finite.get files q ≡ finite.get p.state.files q → writers.Writes p.state.files w → writers.Writes files w
+  writes_else q w own same writes = record {
+    file = writes.file;
+    records = writes.records;
+    stands = ap (finite.get files) own ∙ same ∙ ap (finite.get p.state.files) (sym own) ∙ writes.stands;
+    long = writes.long;
+    text = writes.text;
+    counted = writes.counted;
+    sized = writes.sized;
+    keyed = writes.keyed;
+  }
+
+  pub promises_one : Fits p → (promise : Promises p) → (others : List (ℕ × List ℕ)) → Gains p.state.files id others files
+      → ((at : ℕ) (payload : List ℕ) (key : EntryKey) → In (at, payload) others → key_of payload ≡ Some key → set.contains p.state.dead key.ledger ≡ false
+      → finite.get promise.carried key ≡ Some payload)
+      → (EntriesStay (file_of p.state.files) (file_of files) → Shows (file_of files) (open_parts (finite.insert p.state.logs id new)) p.state.index)
+      → IsBacked files id new
+      → AreSums entry_measure (set.contains p.state.dead) (acknowledged_entries files (finite.insert p.state.logs id new)) (log_count p.state.index) accounts
+      → Promises (with_one p id new files failures accounts writing)
+  promises_one fits promise others gains each shows backed counted =
+      let grows : Grows p.state.dead promise.carried (file_of p.state.files) (file_of files) =
+      grows_behind p.state.dead promise.carried id (file_else gains.only) others gains.records each in
+      record {
+        carried = promise.carried;
+        carries = carries_grown grows promise.carries;
+        shows = shows grows.stood;
+        recent = promise.recent;
+        counted = counted;
+        backed = each_log p.state.logs id log new held (λ q l. IsBacked files q l) backed (λ q l apart is.
+            let old = promise.backed q l is in
+            record {
+              stands = ap is_some (gains.only q apart) ∙ old.stands;
+              writes = λ w writer. writes_else q w ((fits.held q l is).by w writer).own (gains.only q apart) (old.writes w writer);
+              honest = old.honest;
+            });
+        fresh = λ q above. elim (same_or_apart q id) [
+          | inr apart ↦ gains.only q apart ∙ promise.fresh q above
+          | inl here ↦ absurd (let below = (fits.held id log held).below in omega arith)
+        ];
+        placed = λ key place is.
+            let old = promise.placed key place is in
+            record { payload = old.payload; flushing = old.flushing; stands = grows.stood place key old.payload old.stands };
+      }
+
+-- ---- the files as they were, as far as an honest disk says, and the failures counted
+
+pub keeps_failures : (p : Parts) (files : Files) (failures : ℕ) → Keeps p → (IsTrue p.state.honest → files ≡ p.state.files)
+    → Keeps (record p { state = record p.state { files = files; failures = failures } })
+keeps_failures p files failures keeps same =
+    let fits = keeps.fits in
+    record {
+      fits = record {
+        allowed = fits.allowed;
+        limit = fits.limit;
+        ids = fits.ids;
+        slots = fits.slots;
+        held = fits.held;
+        sent = fits.sent;
+        placed = record { idle = fits.placed.idle; flushing = fits.placed.flushing; logs = fits.placed.logs; front = fits.placed.front };
+        writing = fits.writing;
+        filled = fits.filled;
+        named = fits.named;
+        total = fits.total;
+      };
+      promises = λ honest.
+          let promise = keeps.promises honest in
+          subst (λ f. Promises (record p { state = record p.state { files = f; failures = failures } })) (sym (same honest)) (record {
+            carried = promise.carried;
+            carries = promise.carries;
+            shows = promise.shows;
+            recent = promise.recent;
+            counted = promise.counted;
+            backed = promise.backed;
+            fresh = promise.fresh;
+            placed = λ key place is.
+                let old = promise.placed key place is in
+                record { payload = old.payload; flushing = old.flushing; stands = old.stands };
+          });
+    }

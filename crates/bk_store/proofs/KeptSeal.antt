@@ -1,0 +1,136 @@
+-- A log that is sealed keeps what a store keeps.
+use Rattle.std.proofs.Common.{◌≡◌, ◌⊎◌, inl, inr, ℕ, ◌+◌, true, false, List, Some, take, Result, refl, sym, ap, subst, ◌∙◌}
+use Rattle.std.specs.FinMap as finite
+use Rattle.std.specs.FinSet as set
+use Rattle.bk_record.specs.Key.{EntryKey}
+use Rattle.bk_record.specs.Location.{Place}
+use Rattle.bk_record.specs.Record.{key_of}
+use Rattle.bk_record.specs.Files.{Files, file_of, In}
+use Rattle.bk_record.specs.Scan.{entries_of}
+use Rattle.bk_record.specs.Longer.{IsLonger}
+use Rattle.bk_record.specs.Keyed.{log_count}
+use Rattle.bk_log.specs.Writing as writers
+use Rattle.bk_log.specs.Growing.{Gains}
+use Rattle.bk_log.specs.declared.fault.LogFault.{LogFault}
+use Rattle.bk_accounts.specs.Sums.{AreSums}
+use Rattle.bk_store.specs.Shown.{Shows}
+use Rattle.bk_store.specs.Logs.{Log, IsFlushLog, is_open, is_written, closed_log}
+use Rattle.bk_store.specs.State.{State, Parts}
+use Rattle.bk_store.specs.Kept.{Keeps, Fits, Promises, entry_measure}
+use Rattle.bk_store.specs.Doors.{MaySeal, Seals, failed_in}
+use Rattle.bk_store.specs.Beside.{SealsBeside, unless_log}
+use Rattle.bk_store.specs.declared.log.LogState.{LogState}
+use Rattle.bk_store.specs.declared.log.LogState.TheVariants.{Writing, Filled, Copying, Readable, Retired, Closed}
+use Rattle.bk_store.proofs.KeptParts.{none_placed}
+use Rattle.bk_store.proofs.ShownMoves.{shows_grown}
+use Rattle.bk_store.proofs.OneLog.{IsFlushed, views_stay, flush_logs_stay, entries_stay}
+use Rattle.bk_store.proofs.Acknowledged.{entries_acknowledged, entries_whole}
+use Rattle.bk_store.proofs.Closing.{held_closed, writing_closed, none_keyed, parts_same}
+use Rattle.bk_store.proofs.KeptSet.{not_flushed, one_log}
+use Rattle.bk_store.proofs.KeptOne.{with_one, fits_one, promises_one}
+
+-- the entries that are acknowledged of a log stay as it grows
+pub acknowledged_stay : (files files' : Files) (id : ℕ) (w : writers.Writing) (n : ℕ) → writers.Writes files w → w.log ≡ id → n ≡ w.end
+    → IsLonger (file_of files id) (file_of files' id) → entries_of (take n (file_of files' id)) ≡ entries_of (take n (file_of files id))
+acknowledged_stay files files' id w n writes own long longer =
+    let here : IsLonger (file_of files w.log) (file_of files' w.log) = subst (λ q. IsLonger (file_of files q) (file_of files' q)) (sym own) longer in
+    (λ i. entries_of (take (long i) (file_of files' (sym own i)))) ∙ entries_acknowledged files w writes (file_of files' w.log) here
+    ∙ sym (entries_whole files w writes) ∙ (λ i. entries_of (take (sym long i) (file_of files (own i))))
+
+module _ (p : Parts) (keeps : Keeps p) (id : ℕ) (state : LogState) (log : Log) (held : finite.get p.state.logs id ≡ Some log) (w : writers.Writing)
+    (writer : log.writer ≡ Some w) (closed : is_written state ≡ false) (opened : is_open state ≡ true) (was_open : is_open log.state ≡ true)
+    (files : Files) (failures : ℕ) where
+  abbrev new : Log
+  new = closed_log state log
+
+  unwritten : ¬ (state ≡ Writing)
+  unwritten wrong = absurd (let both : true ≡ false = sym (ap is_written wrong) ∙ closed in cc)
+
+  -- the log is closed, and the file has gained foreign records, or those of the map
+  pub closed_promise : (promise : Promises p) → (others : List (ℕ × List ℕ)) → Gains p.state.files id others files
+      → ((at : ℕ) (payload : List ℕ) (key : EntryKey) → In (at, payload) others → key_of payload ≡ Some key → set.contains p.state.dead key.ledger ≡ false
+      → finite.get promise.carried key ≡ Some payload)
+      → Promises (with_one p id new files failures p.accounts (unless_log p.writing id))
+  closed_promise promise others gains each =
+      let old = promise.backed id log held in
+      let by = (keeps.fits.held id log held).by w writer in
+      let same = entries_stay p.state.logs id log new held p.state.files files gains.only
+      (acknowledged_stay p.state.files files id w log.acknowledged (old.writes w writer) by.own by.long gains.longer) in
+      promises_one p id log new held files failures p.accounts (unless_log p.writing id) keeps.fits promise others gains each
+      (λ stood. subst (λ ps. Shows (file_of files) ps p.state.index)
+      (λ i q. sym (parts_same p.state.logs id log new held (opened ∙ sym was_open) refl q) i)
+      (shows_grown promise.shows (file_of files) stood))
+      (record { stands = gains.stands old.stands; writes = λ v wrong. absurd (cc); honest = old.honest })
+      (subst (λ f. AreSums entry_measure (set.contains p.state.dead) f (log_count p.state.index) p.accounts) (λ i q. sym (same q) i) promise.counted)
+
+  pub closed_fits : ((key : EntryKey) (place : Place) → finite.get p.state.places key ≡ Some place → IsFlushLog (finite.insert p.state.logs id new) place.log)
+      → (IsFlushed new → In id p.filled) → Fits (with_one p id new files failures p.accounts (unless_log p.writing id))
+  closed_fits flushed listed =
+      let fits = keeps.fits in
+      fits_one p id log new held files failures p.accounts (unless_log p.writing id) fits
+      (held_closed p.state.next id state log closed (fits.held id log held))
+      (λ key place is. views_stay p.state.logs id log new held (λ v _ view_is. (opened, (v, view_is))) place.log (fits.sent key place is))
+      flushed (writing_closed p.state.logs id new p.writing unwritten fits.writing) listed (λ q. refl) (fits.total id log held) (λ q _. refl)
+
+module _ (p : Parts) (keeps : Keeps p) (id : ℕ) (log : Log) (held : finite.get p.state.logs id ≡ Some log) where
+  -- the flush's log is Filled, and its places stay in it
+  pub filled_flush : log.state ≡ Writing → (key : EntryKey) (place : Place) → finite.get p.state.places key ≡ Some place
+      → IsFlushLog (finite.insert p.state.logs id (closed_log Filled log)) place.log
+  filled_flush was key place is =
+      flush_logs_stay p.state.logs id log (closed_log Filled log) held (λ _. inr refl) place.log (keeps.fits.placed.logs key place is)
+
+  -- no place is in a copy
+  copy_flush : log.state ≡ Copying → (key : EntryKey) (place : Place) → finite.get p.state.places key ≡ Some place
+      → IsFlushLog (finite.insert p.state.logs id (closed_log Readable log)) place.log
+  copy_flush was key place is =
+      flush_logs_stay p.state.logs id log (closed_log Readable log) held (λ f. absurd (not_flushed log (inl was) f)) place.log
+      (keeps.fits.placed.logs key place is)
+
+readable_unflushed : ¬ ((Readable ≡ Writing) ⊎ (Readable ≡ Filled))
+readable_unflushed (inl wrong) = cc
+readable_unflushed (inr wrong) = cc
+
+module _ (p q : Parts) (id : ℕ) (state : LogState) (result : Result (Unit {0}) LogFault) (keeps : Keeps p) (turn : Seals p.state id state result q.state)
+    (closed : is_written state ≡ false) (opened : is_open state ≡ true) (was_open : is_open turn.log.state ≡ true) (beside : SealsBeside p id q) where
+  sealed_kept : Fits (with_one p id (closed_log state turn.log) q.state.files (p.state.failures + failed_in result) p.accounts (unless_log p.writing id)) → Keeps q
+  sealed_kept fits =
+      let log = turn.log in
+      subst Keeps (sym (beside ∙ ap (λ (s : State). record p { state = s; writing = unless_log p.writing id }) turn.left)) (record {
+        fits = fits;
+        promises = λ honest.
+            let promise = keeps.promises honest in
+            let sealed = turn.sealed honest in
+            let by = (keeps.fits.held id log turn.writer.held).by turn.w turn.writer.writer in
+            let gains = subst (λ n. Gains p.state.files n sealed.gains.others q.state.files) by.own sealed.gains.gains in
+            closed_promise p keeps id state log turn.writer.held turn.w turn.writer.writer closed opened was_open q.state.files
+            (p.state.failures + failed_in result) promise sealed.gains.others gains
+            (λ at payload key there keyed _. absurd (none_keyed sealed.gains.others sealed.gains.foreign at payload key there keyed));
+      })
+
+pub keeps_seal : (p q : Parts) (id : ℕ) (state : LogState) (result : Result (Unit {0}) LogFault) → Keeps p → MaySeal p.state id state
+    → Seals p.state id state result q.state → SealsBeside p id q → Keeps q
+keeps_seal p q id Filled result keeps may turn beside =
+    let log = turn.log in
+    let was = one_log p id log Writing turn.writer.held may in
+    let opened : is_open log.state ≡ true = ap is_open was in
+    sealed_kept p q id Filled result keeps turn refl refl opened beside
+    (closed_fits p keeps id Filled log turn.writer.held turn.w turn.writer.writer refl refl opened q.state.files (p.state.failures + failed_in result)
+    (filled_flush p keeps id log turn.writer.held was) (λ _. keeps.fits.filled id log turn.writer.held (inl was)))
+keeps_seal p q id Readable result keeps (inl copy) turn beside =
+    let log = turn.log in
+    let was = one_log p id log Copying turn.writer.held copy in
+    let opened : is_open log.state ≡ true = ap is_open was in
+    sealed_kept p q id Readable result keeps turn refl refl opened beside
+    (closed_fits p keeps id Readable log turn.writer.held turn.w turn.writer.writer refl refl opened q.state.files (p.state.failures + failed_in result)
+    (copy_flush p keeps id log turn.writer.held was) (λ wrong. absurd (readable_unflushed wrong)))
+keeps_seal p q id Readable result keeps (inr idle) turn beside =
+    let log = turn.log in
+    let was = one_log p id log Writing turn.writer.held idle.0 in
+    let opened : is_open log.state ≡ true = ap is_open was in
+    sealed_kept p q id Readable result keeps turn refl refl opened beside
+    (closed_fits p keeps id Readable log turn.writer.held turn.w turn.writer.writer refl refl opened q.state.files (p.state.failures + failed_in result)
+    (λ key place is. absurd (none_placed p.state.places key place (keeps.fits.placed.idle idle.1) is)) (λ wrong. absurd (readable_unflushed wrong)))
+keeps_seal p q id Writing result keeps never turn beside = absurd never
+keeps_seal p q id Copying result keeps never turn beside = absurd never
+keeps_seal p q id Retired result keeps never turn beside = absurd never
+keeps_seal p q id Closed result keeps never turn beside = absurd never

@@ -1,0 +1,104 @@
+-- A log that comes into another state, in which it is not written, keeps what a store keeps.
+use Rattle.std.proofs.Common.{◌≡◌, ◌⊎◌, inl, inr, ℕ, true, false, [], Some, refl, sym, ap, subst, ◌∙◌}
+use Rattle.std.specs.FinMap as finite
+use Rattle.std.specs.FinSet as set
+use Rattle.bk_record.specs.Key.{EntryKey}
+use Rattle.bk_record.specs.Location.{Place}
+use Rattle.bk_record.specs.Files.{file_of}
+use Rattle.bk_record.specs.Keyed.{log_count}
+use Rattle.bk_record.proofs.KeyedCounts.{log_count-zero}
+use Rattle.bk_log.proofs.Gains.{gains_same}
+use Rattle.bk_accounts.specs.Sums.{AreSums}
+use Rattle.bk_store.specs.Shown.{Shows}
+use Rattle.bk_store.specs.Logs.{Log, HasOpenView, is_open, is_written, closed_log, open_parts}
+use Rattle.bk_store.specs.State.{Parts}
+use Rattle.bk_store.specs.Kept.{Keeps, entry_measure}
+use Rattle.bk_store.specs.Doors.{MaySet, SetTurn, IsIn}
+use Rattle.bk_store.specs.declared.log.LogState.{LogState}
+use Rattle.bk_store.specs.declared.log.LogState.TheVariants.{Writing, Filled, Copying, Readable, Retired, Closed}
+use Rattle.bk_store.proofs.KeptParts.{with_state}
+use Rattle.bk_store.proofs.ShownMoves.{shows_hidden}
+use Rattle.bk_store.proofs.OneLog.{IsFlushed, views_stay, views_else, flush_logs_stay, writing_same, parts_else, parts_here, entries_stay}
+use Rattle.bk_store.proofs.Closing.{held_closed, parts_same}
+use Rattle.bk_store.proofs.KeptOne.{with_one, fits_one, promises_one}
+
+-- a log in this state is not one that a flush wrote
+pub not_flushed : (log : Log) → (log.state ≡ Copying) ⊎ ((log.state ≡ Readable) ⊎ (log.state ≡ Retired)) → ¬ (IsFlushed log)
+not_flushed log (inl is) (inl wrong) = cc
+not_flushed log (inl is) (inr wrong) = cc
+not_flushed log (inr (inl is)) (inl wrong) = cc
+not_flushed log (inr (inl is)) (inr wrong) = cc
+not_flushed log (inr (inr is)) (inl wrong) = cc
+not_flushed log (inr (inr is)) (inr wrong) = cc
+
+module _ (p : Parts) (keeps : Keeps p) (id : ℕ) (state : LogState) (log : Log) (held : finite.get p.state.logs id ≡ Some log)
+    (other : ¬ (IsFlushed log)) (closed : is_written state ≡ false) (unflushed : ¬ ((state ≡ Writing) ⊎ (state ≡ Filled))) where
+  keeps_closed : ((key : EntryKey) (place : Place) → finite.get p.state.index key ≡ Some place → HasOpenView (finite.insert p.state.logs id (closed_log state log)) place.log)
+      → (Shows (file_of p.state.files) (open_parts p.state.logs) p.state.index
+      → Shows (file_of p.state.files) (open_parts (finite.insert p.state.logs id (closed_log state log))) p.state.index)
+      → Keeps (with_one p id (closed_log state log) p.state.files p.state.failures p.accounts p.writing)
+  keeps_closed sent shows =
+      let fits = keeps.fits in
+      let files = p.state.files in
+      let new = closed_log state log in
+      record {
+        fits = fits_one p id log new held files p.state.failures p.accounts p.writing fits
+            (held_closed p.state.next id state log closed (fits.held id log held)) sent
+            (λ key place is. flush_logs_stay p.state.logs id log new held (λ f. absurd (other f)) place.log (fits.placed.logs key place is))
+            (writing_same p.state.logs id log new held (λ wrong. absurd (other (inl wrong))) (λ wrong. absurd (unflushed (inl wrong))) p.writing fits.writing)
+            (λ wrong. absurd (unflushed wrong)) (λ q. refl) (fits.total id log held) (λ q _. refl);
+        promises = λ honest.
+            let promise = keeps.promises honest in
+            let old = promise.backed id log held in
+            let same = entries_stay p.state.logs id log new held files files (λ _ _. refl) refl in
+            promises_one p id log new held files p.state.failures p.accounts p.writing fits promise [] (gains_same files files id refl)
+            (λ at payload key never. absurd never) (λ _. shows promise.shows)
+            (record { stands = old.stands; writes = λ w wrong. absurd (cc); honest = old.honest })
+            (subst (λ f. AreSums entry_measure (set.contains p.state.dead) f (log_count p.state.index) p.accounts) (λ i q. sym (same q) i) promise.counted);
+      }
+
+pub one_log : (p : Parts) (id : ℕ) (log : Log) (state : LogState) → finite.get p.state.logs id ≡ Some log → IsIn p.state id state → log.state ≡ state
+one_log p id log state held known =
+    let both : Some log ≡ Some known.log = sym held ∙ known.held in
+    let one : log ≡ known.log = cc in
+    ap (λ (l : Log). l.state) one ∙ known.state_is
+
+module _ (p : Parts) (keeps : Keeps p) (id : ℕ) (log : Log) (held : finite.get p.state.logs id ≡ Some log) where
+  readable_kept : log.state ≡ Copying → Keeps (with_one p id (closed_log Readable log) p.state.files p.state.failures p.accounts p.writing)
+  readable_kept was =
+      let new = closed_log Readable log in
+      let opened : is_open new.state ≡ is_open log.state = sym (ap is_open was) in
+      keeps_closed p keeps id Readable log held (not_flushed log (inl was)) refl (λ wrong. elim wrong [ inl w ↦ cc | inr w ↦ cc ])
+      (λ key place is. views_stay p.state.logs id log new held (λ v _ view_is. (refl, (v, view_is))) place.log (keeps.fits.sent key place is))
+      (λ shows. subst (λ ps. Shows (file_of p.state.files) ps p.state.index) (λ i q. sym (parts_same p.state.logs id log new held opened refl q) i) shows)
+
+  retired_kept : log.state ≡ Readable → log_count p.state.index id ≡ 0
+      → Keeps (with_one p id (closed_log Retired log) p.state.files p.state.failures p.accounts p.writing)
+  retired_kept was none =
+      let new = closed_log Retired log in
+      let unnamed = log_count-zero p.state.index id none in
+      keeps_closed p keeps id Retired log held (not_flushed log (inr (inl was))) refl (λ wrong. elim wrong [ inl w ↦ cc | inr w ↦ cc ])
+      (λ key place is. views_else p.state.logs id log new held place.log (unnamed key place is) (keeps.fits.sent key place is))
+      (λ shows. shows_hidden shows (open_parts (finite.insert p.state.logs id new)) id (parts_else p.state.logs id log new held)
+      (parts_here p.state.logs id log new held) unnamed)
+
+  closed_kept : log.state ≡ Retired → Keeps (with_one p id (closed_log Closed log) p.state.files p.state.failures p.accounts p.writing)
+  closed_kept was =
+      let new = closed_log Closed log in
+      let hidden : is_open new.state ≡ is_open log.state = sym (ap is_open was) in
+      keeps_closed p keeps id Closed log held (not_flushed log (inr (inr was))) refl (λ wrong. elim wrong [ inl w ↦ cc | inr w ↦ cc ])
+      (λ key place is. views_stay p.state.logs id log new held (λ v wrong _. absurd (let both : true ≡ false = sym wrong ∙ ap is_open was in cc))
+      place.log (keeps.fits.sent key place is))
+      (λ shows. subst (λ ps. Shows (file_of p.state.files) ps p.state.index) (λ i q. sym (parts_same p.state.logs id log new held hidden refl q) i) shows)
+
+pub keeps_set : (p q : Parts) (id : ℕ) (state : LogState) → Keeps p → MaySet p.state id state → SetTurn p.state id state q.state
+    → q ≡ with_state p q.state → Keeps q
+keeps_set p q id Readable keeps may turn beside =
+    subst Keeps (sym (beside ∙ ap (with_state p) turn.2)) (readable_kept p keeps id turn.0 turn.1 (one_log p id turn.0 Copying turn.1 may))
+keeps_set p q id Retired keeps may turn beside =
+    subst Keeps (sym (beside ∙ ap (with_state p) turn.2)) (retired_kept p keeps id turn.0 turn.1 (one_log p id turn.0 Readable turn.1 may.0) may.1)
+keeps_set p q id Closed keeps may turn beside =
+    subst Keeps (sym (beside ∙ ap (with_state p) turn.2)) (closed_kept p keeps id turn.0 turn.1 (one_log p id turn.0 Retired turn.1 may))
+keeps_set p q id Writing keeps never turn beside = absurd never
+keeps_set p q id Filled keeps never turn beside = absurd never
+keeps_set p q id Copying keeps never turn beside = absurd never

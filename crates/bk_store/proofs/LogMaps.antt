@@ -1,0 +1,23 @@
+-- The map of the logs that are held, after one of them changed.
+use Rattle.std.proofs.Common.{◌≡◌, ◌≢◌, ◌⊎◌, ℕ, Some, ap, ◌∙◌}
+use Rattle.std.specs.Ordering.{nat_cmp}
+use Rattle.std.specs.FinMap as finite
+use Rattle.std.specs.FinMap.{nat_cmp-IsAntisymmetric}
+use Rattle.std.proofs.lemmas.Cmp.{nat_cmp_total}
+use Rattle.bk_record.proofs.Maps.{get-insert_here, get-insert_else, get-insert_cases, insert-same}
+
+module _ {X : Type 0} where
+  -- the one that was put
+  pub log-inserted : (m : finite.FinMap nat_cmp X) (id : ℕ) (v : X) (q : ℕ) → q ≡ id → finite.get (finite.insert m id v) q ≡ Some v
+  log-inserted m id v q here = ap (λ (x : ℕ). finite.get (finite.insert m id v) x) here ∙ get-insert_here nat_cmp_total nat_cmp-IsAntisymmetric m id v
+
+  -- all others are as they were
+  pub log-insert_else : (m : finite.FinMap nat_cmp X) (id : ℕ) (v : X) (q : ℕ) → q ≢ id → finite.get (finite.insert m id v) q ≡ finite.get m q
+  log-insert_else m id v q apart = get-insert_else nat_cmp_total nat_cmp-IsAntisymmetric m id v q apart
+
+  pub log-insert_cases : (m : finite.FinMap nat_cmp X) (id : ℕ) (v : X) (q : ℕ) (w : X) → finite.get (finite.insert m id v) q ≡ Some w
+      → ((q ≡ id) × (v ≡ w)) ⊎ ((q ≢ id) × (finite.get m q ≡ Some w))
+  log-insert_cases m id v q w is = get-insert_cases nat_cmp_total nat_cmp-IsAntisymmetric m id v q w is
+
+  pub log-same : (m : finite.FinMap nat_cmp X) (id : ℕ) (v : X) → finite.get m id ≡ Some v → finite.insert m id v ≡ m
+  log-same m id v there = insert-same nat_cmp_total nat_cmp-IsAntisymmetric m id v there

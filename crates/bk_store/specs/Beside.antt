@@ -1,0 +1,137 @@
+-- What the doors do to the parts of a store that its state does not show: the accounts, the log that flushes write, and
+-- the list of the logs that are Writing or Filled.
+use Rattle.std.specs.Prelude.{◌≡◌, ◌⊎◌, ℕ, ◌+◌, ◌==◌, if◌then◌else◌, List, [], length, Option, Some, None, Result, Ok, Err, IsOk}
+use Rattle.std.specs.FinMap as finite
+use Rattle.bk_record.specs.Key.{EntryKey}
+use Rattle.bk_record.specs.Location.{Place}
+use Rattle.bk_record.specs.Files.{In}
+use Rattle.bk_log.specs.declared.fault.LogFault.{LogFault}
+use Rattle.bk_log.specs.declared.fault.LogFault.TheVariants as log_faults
+use Rattle.bk_cache.specs.Kept.{IsSound}
+use Rattle.bk_accounts.specs.Book.{Book, after_open, after_ready, after_count, after_name, after_unname}
+use Rattle.bk_store.specs.Logs.{Logs, unmade_log}
+use Rattle.bk_store.specs.State.{Parts}
+use Rattle.bk_store.specs.declared.log.LogState.{LogState}
+use Rattle.bk_store.specs.declared.log.LogState.TheVariants.{Writing, Filled, Copying, Readable, Retired, Closed}
+use Rattle.bk_store.specs.declared.answer.MakeFault.{MakeFault}
+use Rattle.bk_store.specs.declared.answer.MakeFault.TheVariants as makes
+
+-- ---- making a log
+
+-- a fault of a log that was to be made, as it is told
+abbrev pub make_told : LogFault → MakeFault
+make_told log_faults.Memory = makes.Memory
+make_told log_faults.Disk = makes.Disk
+make_told log_faults.Failed = makes.Odd
+make_told log_faults.Odd = makes.Odd
+
+-- a list that goes on: what was in it is in it
+abbrev pub GoesOn : List ℕ → List ℕ → Type 0
+GoesOn old new = (id : ℕ) → In id old → In id new
+
+-- the next log has a slot and an account, and is in the list where it is to be Writing
+pub record HasSlot (p : Parts) (state : LogState) (q : Parts) : Type 0 where
+  pub parts : q ≡ record p {
+    state = record p.state { logs = finite.insert p.state.logs p.state.next unmade_log };
+    accounts = after_open p.accounts p.state.next;
+    filled = q.filled;
+  }
+  pub still : GoesOn p.filled q.filled
+  pub listed : state ≡ Writing → In p.state.next q.filled
+
+-- no slot was taken
+pub record HasNoSlot (p q : Parts) : Type 0 where
+  pub parts : q ≡ record p { filled = q.filled }
+  pub still : GoesOn p.filled q.filled
+
+-- the account of a log that is held from then on
+abbrev pub opened_for : Logs → Book → ℕ → Book
+opened_for logs book id = if finite.contains_key logs id then after_open book id else book
+
+-- the log that flushes write, after a log was made in this state
+abbrev pub made_writing : Option ℕ → LogState → Result ℕ MakeFault → Option ℕ
+made_writing old Writing (Ok id) = Some id
+made_writing old Filled (Ok id) = old
+made_writing old Copying (Ok id) = old
+made_writing old Readable (Ok id) = old
+made_writing old Retired (Ok id) = old
+made_writing old Closed (Ok id) = old
+made_writing old _ (Err fault) = old
+
+pub record MakesBeside (p : Parts) (state : LogState) (result : Result ℕ MakeFault) (q : Parts) : Type 0 where
+  pub parts : q ≡ record p {
+    state = q.state;
+    accounts = opened_for q.state.logs p.accounts p.state.next;
+    writing = made_writing p.writing state result;
+    filled = q.filled;
+  }
+  pub still : GoesOn p.filled q.filled
+  pub listed : state ≡ Writing → IsOk result → In p.state.next q.filled
+
+-- ---- writing and sealing a log
+
+-- after room was made for a record of the ledger, or not
+abbrev pub IsReadied : Book → ℕ → ℕ → Book → Type 0
+IsReadied old log ledger new = (new ≡ old) ⊎ (new ≡ after_ready old log ledger)
+
+-- the log that flushes write, unless a write of it failed
+abbrev pub unless_failed : Option ℕ → LogFault → Option ℕ
+unless_failed old log_faults.Memory = old
+unless_failed old log_faults.Disk = None
+unless_failed old log_faults.Failed = None
+unless_failed old log_faults.Odd = None
+
+-- a record that was put is counted; where the device failed, no log is Writing any more
+abbrev pub WritesBeside : Parts → ℕ → EntryKey → List ℕ → Result Place LogFault → Parts → Type 0
+WritesBeside p log key payload (Ok place) q = IsSound p.state.caches × (q ≡ record p {
+  state = q.state;
+  accounts = after_count (after_ready p.accounts log key.ledger) log key.ledger (4 + length payload);
+})
+WritesBeside p log key payload (Err log_faults.Memory) q = IsReadied p.accounts log key.ledger q.accounts
+    × (q ≡ record p { state = q.state; accounts = q.accounts })
+WritesBeside p log key payload (Err log_faults.Disk) q = IsSound p.state.caches × (q ≡ record p {
+  state = q.state;
+  accounts = after_ready p.accounts log key.ledger;
+  writing = None;
+})
+WritesBeside p log key payload (Err log_faults.Odd) q = IsSound p.state.caches × (q ≡ record p {
+  state = q.state;
+  accounts = after_ready p.accounts log key.ledger;
+  writing = None;
+})
+WritesBeside p log key payload (Err log_faults.Failed) q = ⊥
+
+-- the log that flushes write, unless it is this one
+abbrev pub unless_log : Option ℕ → ℕ → Option ℕ
+unless_log None log = None
+unless_log (Some id) log = if id == log then None else Some id
+
+abbrev pub SealsBeside : Parts → ℕ → Parts → Type 0
+SealsBeside p log q = q ≡ record p { state = q.state; writing = unless_log p.writing log }
+
+-- ---- naming a key, and the end of a flush
+
+-- a key that named one log, or none, names another one
+abbrev pub renamed : Book → Option Place → Place → Book
+renamed book None place = after_name book place.log
+renamed book (Some was) place = after_name (after_unname book was.log) place.log
+
+-- the parts with a key sent to a place
+abbrev pub sent : Parts → EntryKey → Place → Parts
+sent p key place = record p {
+  state = record p.state { index = finite.insert p.state.index key place };
+  accounts = renamed p.accounts (finite.get p.state.index key) place;
+}
+
+abbrev pub NamesBeside : {E : Type 0} → Parts → EntryKey → Place → Result (Unit {0}) E → Parts → Type 0
+NamesBeside p key place (Ok _) q = IsSound p.state.caches
+    × (q ≡ record p { state = q.state; accounts = renamed p.accounts (finite.get p.state.index key) place })
+NamesBeside p key place (Err _) q = q ≡ p
+
+abbrev pub RestartsBeside : Parts → Parts → Type 0
+RestartsBeside p q = q ≡ record p { state = q.state; writing = None; filled = [] }
+
+-- the list is new, but for the log that is Writing
+pub record EndsBeside (p q : Parts) : Type 0 where
+  pub parts : q ≡ record p { state = q.state; filled = q.filled }
+  pub still : (id : ℕ) → In id p.filled → p.writing ≡ Some id → In id q.filled

@@ -1,0 +1,59 @@
+//! A log is shown: it is synced, then its next view shows its whole file.
+
+ghost use Rattle.std.specs.Prelude.{◌≡◌, IsTrue};
+ghost use Rattle.bk_disk.specs.Disk.{HasCause, Views};
+ghost use Rattle.bk_log.specs.Faults.{told};
+ghost use Rattle.bk_store.specs.Kept.{Keeps};
+ghost use Rattle.bk_store.specs.Doors.{IsOpenLog, ShowTurn};
+
+use crate::fields::Fields;
+use bk_disk::{DiskFault, LogDisk};
+use bk_log::LogFault;
+use std::alloc::Global;
+use std::sync::Arc;
+
+impl<D: LogDisk> Fields<D> {
+    /// Syncs a log, and gives it a view of its whole file.
+    pub fn show(&mut self, log: u32) -> Result<(), LogFault>
+        requires keeps { Keeps self.old }
+        requires open { IsOpenLog self.old.state log }
+        ensures turn { ShowTurn self.old.state log result self.new.state }
+        ensures beside { self.new ≡ record self.old { state = self.new.state } }
+    {
+        match view_log(&mut self.disk, self.alloc, log) {
+            Ok(view) => {
+                self.logs.show(log, view);
+                Ok(())
+            }
+            Err(fault) => Err(view_fault(fault)),
+        }
+    }
+}
+
+/// A view of a log as it is, once the device was asked to keep it.
+fn view_log<D: LogDisk>(disk: &mut D, alloc: Global, log: u32) -> Result<Arc<D::View>, DiskFault>
+    ensures honest { D.honest disk.new ≡ D.honest disk.old }
+    ensures cause { HasCause (D.failures disk.old) (D.failures disk.new) result }
+    ensures turn { IsTrue (D.honest disk.old) → Views (λ view. D.View.bytes view.value)
+        (λ view. D.View.honest view.value) (D.files disk.old) log result (D.files disk.new) }
+{
+    disk.sync(alloc, log)?;
+    let view = disk.view(alloc, log)?;
+    match Arc::new(alloc, view) {
+        Ok(view) => Ok(view),
+        Err(_) => Err(DiskFault::Memory),
+    }
+}
+
+/// What a fault of the disk means for a log that is to be shown.
+fn view_fault(fault: DiskFault) -> LogFault
+    ensures { result ≡ told fault }
+{
+    match fault {
+        DiskFault::Disk => LogFault::Disk,
+        DiskFault::Memory => LogFault::Memory,
+        DiskFault::Exists | DiskFault::NoLog | DiskFault::PastEnd | DiskFault::TooLong => {
+            LogFault::Odd
+        }
+    }
+}
