@@ -1,7 +1,10 @@
 -- The logs of a flush are changed one after another by a rule that goes by their states, and so all logs are.
-use Rattle.std.proofs.Common.{◌≡◌, ◌≢◌, ◌⊎◌, inl, inr, ℕ, List, [], ◌∷◌, ◌++◌, Option, Some, None, option_map, refl, sym, ap, subst, ◌∙◌, ◌≤◌, length, take}
+use Rattle.std.proofs.Common.{◌≡◌, ◌≢◌, ◌⊎◌, inl, inr, ℕ, List, [], ◌∷◌, ◌++◌, Bool, true, false, cond, nat_eq, Option, Some, None, option_map, refl, sym, ap, subst, ◌∙◌, ◌≤◌, length, take}
 use Rattle.std.proofs.lemmas.List.{take_all}
 use Rattle.std.specs.FinMap as finite
+use Rattle.std.specs.List.{filter}
+use Rattle.std.specs.Option.{option_eq}
+use Rattle.std.proofs.lemmas.Bool.{eq-eqb}
 use Rattle.bk_record.specs.Files.{In}
 use Rattle.bk_store.specs.Logs.{Log, Logs, AllChanged, IsFlushLog, settled_as, unfilled_as}
 use Rattle.bk_store.specs.declared.log.LogState.{LogState}
@@ -130,3 +133,18 @@ pub all_over : (rule : LogState → Log → Log) → IsSettling rule → (table 
 all_over rule settles table old now ids n same past so_far all =
     all_met rule settles old now ids
     (subst (λ l. ChangedSoFar rule old now l) (take_all n ids past) (subst (λ m. ChangedSoFar rule m now (take n ids)) same so_far)) all
+
+-- ---- the list of them
+
+pub still_in : (p : ℕ → Bool) (x : ℕ) (xs : List ℕ) → In x xs → p x ≡ true → In x (filter p xs)
+still_in p x [] there passes = absurd there
+still_in p x (y ∷ ys) there passes = elim (p y) as (λ b. p y ≡ b → In x (cond b (y ∷ filter p ys) (filter p ys))) [
+  | true ↦ λ _. elim there [ inl here ↦ inl here | inr later ↦ inr (still_in p x ys later passes) ]
+  | false ↦ λ fails. elim there [
+    | inl here ↦ absurd (let both : true ≡ false = sym passes ∙ ap p (sym here) ∙ fails in cc)
+    | inr later ↦ still_in p x ys later passes
+  ]
+] refl
+
+pub equal_some : (o : Option ℕ) (id : ℕ) → o ≡ Some id → option_eq nat_eq (Some id) o ≡ true
+equal_some o id is = ap (option_eq nat_eq (Some id)) is ∙ eq-eqb id id refl

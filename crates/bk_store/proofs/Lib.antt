@@ -42,3 +42,7 @@ pub mod KeptSet
 pub mod ShowTurns
 pub mod KeptSeal
 pub mod Sealing
+pub mod KeptWrite
+pub mod Written
+pub mod AllChanged
+pub mod KeptRuled

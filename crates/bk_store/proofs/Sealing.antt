@@ -1,5 +1,5 @@
 -- What the writer of a log and the held logs give a log that is sealed.
-use Rattle.std.proofs.Common.{◌≡◌, inl, inr, ℕ, ◌+◌, ◌↔◌, Bool, true, false, IsTrue, Some, Result, Ok, Err, refl, sym, ap, subst, ◌∙◌, arith}
+use Rattle.std.proofs.Common.{◌≡◌, ◌⊎◌, inl, inr, ℕ, ◌+◌, ◌↔◌, Bool, true, false, IsTrue, Option, Some, None, IsSome, is_some, Result, Ok, Err, refl, sym, ap, subst, ◌∙◌, arith}
 use Rattle.std.specs.FinMap as finite
 use Rattle.bk_record.specs.Files.{Files}
 use Rattle.bk_disk.specs.Disk.{IsCaused}
@@ -7,9 +7,9 @@ use Rattle.bk_log.specs.Writing as writers
 use Rattle.bk_log.specs.declared.fault.LogFault.{LogFault}
 use Rattle.bk_log.specs.declared.fault.LogFault.TheVariants as log_faults
 use Rattle.bk_store.specs.Logs.{Log, Logs, is_written, closed_log}
-use Rattle.bk_store.specs.State.{Parts}
+use Rattle.bk_store.specs.State.{State, Parts}
 use Rattle.bk_store.specs.Kept.{Keeps}
-use Rattle.bk_store.specs.Doors.{MaySeal, Seals, IsWriter, IsSealed, failed_in}
+use Rattle.bk_store.specs.Doors.{MaySeal, Seals, IsIn, IsWriter, IsSealed, failed_in}
 use Rattle.bk_store.specs.declared.log.LogState.{LogState}
 use Rattle.bk_store.specs.declared.log.LogState.TheVariants.{Writing, Filled, Copying, Readable, Retired, Closed}
 use Rattle.bk_store.proofs.Cases.{some_value}

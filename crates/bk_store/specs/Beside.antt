@@ -1,6 +1,6 @@
 -- What the doors do to the parts of a store that its state does not show: the accounts, the log that flushes write, and
 -- the list of the logs that are Writing or Filled.
-use Rattle.std.specs.Prelude.{◌≡◌, ◌⊎◌, ℕ, ◌+◌, ◌==◌, if◌then◌else◌, List, [], length, Option, Some, None, Result, Ok, Err, IsOk}
+use Rattle.std.specs.Prelude.{◌≡◌, ◌⊎◌, ℕ, ◌+◌, ◌==◌, Bool, if◌then◌else◌, List, [], length, Option, Some, None, Result, Ok, Err, IsOk}
 use Rattle.std.specs.FinMap as finite
 use Rattle.bk_record.specs.Key.{EntryKey}
 use Rattle.bk_record.specs.Location.{Place}
@@ -10,7 +10,7 @@ use Rattle.bk_log.specs.declared.fault.LogFault.TheVariants as log_faults
 use Rattle.bk_cache.specs.Kept.{IsSound}
 use Rattle.bk_accounts.specs.Book.{Book, after_open, after_ready, after_count, after_name, after_unname}
 use Rattle.bk_store.specs.Logs.{Logs, unmade_log}
-use Rattle.bk_store.specs.State.{Parts}
+use Rattle.bk_store.specs.State.{State, Parts}
 use Rattle.bk_store.specs.declared.log.LogState.{LogState}
 use Rattle.bk_store.specs.declared.log.LogState.TheVariants.{Writing, Filled, Copying, Readable, Retired, Closed}
 use Rattle.bk_store.specs.declared.answer.MakeFault.{MakeFault}
@@ -48,15 +48,18 @@ pub record HasNoSlot (p q : Parts) : Type 0 where
 abbrev pub opened_for : Logs → Book → ℕ → Book
 opened_for logs book id = if finite.contains_key logs id then after_open book id else book
 
--- the log that flushes write, after a log was made in this state
+-- the log that flushes write, after a log of this id was made in this state
+abbrev pub writing_in : Option ℕ → ℕ → LogState → Option ℕ
+writing_in old id Writing = Some id
+writing_in old id Filled = old
+writing_in old id Copying = old
+writing_in old id Readable = old
+writing_in old id Retired = old
+writing_in old id Closed = old
+
 abbrev pub made_writing : Option ℕ → LogState → Result ℕ MakeFault → Option ℕ
-made_writing old Writing (Ok id) = Some id
-made_writing old Filled (Ok id) = old
-made_writing old Copying (Ok id) = old
-made_writing old Readable (Ok id) = old
-made_writing old Retired (Ok id) = old
-made_writing old Closed (Ok id) = old
-made_writing old _ (Err fault) = old
+made_writing old state (Ok id) = writing_in old id state
+made_writing old state (Err fault) = old
 
 pub record MakesBeside (p : Parts) (state : LogState) (result : Result ℕ MakeFault) (q : Parts) : Type 0 where
   pub parts : q ≡ record p {

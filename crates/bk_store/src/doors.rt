@@ -1,13 +1,30 @@
 //! The doors of a store: the calls by which the crates above change it. Each is a turn of `specs/Doors.antt`, and a
 //! store keeps its promise through each of them.
 
-ghost use Rattle.bk_store.specs.Doors.{MaySeal, Seals, IsOpenLog, ShowTurn, MaySet, SetTurn};
+ghost use Rattle.std.specs.Prelude.{◌≡◌, ℕ, List, Some};
+ghost use Rattle.std.specs.FinMap as map;
+ghost use Rattle.bk_cache.specs.Caches.{flush_of};
+ghost use Rattle.bk_store.specs.Doors.{MayWrite, WriteTurn, MaySeal, Seals, IsOpenLog, ShowTurn, AllNamed, Restarts, Ends, MaySet, SetTurn};
 
 use crate::{LogState, Store};
 use bk_disk::LogDisk;
 use bk_log::LogFault;
+use bk_record::{Key, Location};
 
 impl<D: LogDisk> Store<D> {
+    /// Puts the flush's next entry at the end of the log that flushes write, notes its place and answers it: the first
+    /// entry without a place, by their keys. The log stays at most 2^32 - 1 bytes long.
+    ///
+    /// Faults: `Memory` leaves store and files as they were. `Disk`, which leaves a part of the record, possibly all, and
+    /// `Odd`: the log is Filled, written no more, and the entry has no place. `Failed` never comes.
+    pub fn write(&mut self, log: u32, key: Key) -> Result<Location, LogFault>
+        requires { MayWrite self.old log key }
+        ensures { (payload : List ℕ) → map.get (flush_of self.old.caches) key ≡ Some payload
+            → WriteTurn self.old log key payload result self.new }
+    {
+        self.fields.write(log, key)
+    }
+
     /// Seals a log that is written: its ledgers map goes behind its records, and its header says where. The log that
     /// flushes write becomes Filled, or Readable where no flush runs; a copy becomes Readable.
     ///
@@ -28,6 +45,21 @@ impl<D: LogDisk> Store<D> {
         ensures { ShowTurn self.old log result self.new }
     {
         self.fields.show(log)
+    }
+
+    /// The flush starts again: the logs that it wrote are Readable, its places are forgotten, its cache stays whole.
+    pub fn restart_flush(&mut self)
+        ensures { Restarts self.old self.new }
+    {
+        self.fields.restart_flush()
+    }
+
+    /// The flush is over, all of whose entries are indexed: its cache is let go, and the logs that it filled are Readable.
+    pub fn end_flush(&mut self)
+        requires { AllNamed self.old }
+        ensures { Ends self.old self.new }
+    {
+        self.fields.end_flush()
     }
 
     /// Puts a log that is not the flush's into a state: a copy becomes Readable, written no more; a Readable log that no

@@ -7,6 +7,7 @@ mod dead;
 mod deleting;
 mod doors;
 mod fields;
+mod flushing;
 mod laws;
 mod lease;
 mod log;

@@ -1,16 +1,68 @@
-//! A log is sealed.
+//! A record is put in a log, and a log is sealed.
+//!
+//! What can be refused comes first: a place is noted and an account has room before the device is asked.
 
-ghost use Rattle.std.specs.Prelude.{◌≡◌};
+ghost use Rattle.std.specs.Prelude.{◌≡◌, ℕ, List, Some, true};
+ghost use Rattle.std.specs.FinMap as map;
+ghost use Rattle.bk_cache.specs.Caches.{flush_of};
 ghost use Rattle.bk_store.specs.Kept.{Keeps};
-ghost use Rattle.bk_store.specs.Doors.{MaySeal, Seals};
-ghost use Rattle.bk_store.specs.Beside.{SealsBeside, unless_log};
+ghost use Rattle.bk_log.specs.Writing.{Writing as LogWriting};
+ghost use Rattle.bk_store.specs.declared.log.LogState.TheVariants.{Writing};
+ghost use Rattle.bk_store.specs.Putting.{next_place};
+ghost use Rattle.bk_store.specs.Doors.{CanTake, MayWrite, WriteTurn, MaySeal, Seals, writer_of};
+ghost use Rattle.bk_store.specs.Beside.{WritesBeside, SealsBeside, unless_log, unless_failed};
 
 use crate::LogState;
 use crate::fields::Fields;
 use bk_disk::LogDisk;
 use bk_log::LogFault;
+use bk_record::{Key, Location};
 
 impl<D: LogDisk> Fields<D> {
+    /// Puts the flush's next entry at the end of its log.
+    pub fn write(&mut self, log: u32, key: Key) -> Result<Location, LogFault>
+        requires keeps { Keeps self.old }
+        requires may { MayWrite self.old.state log key }
+        ensures turn { (payload : List ℕ) → map.get (flush_of self.old.state.caches) key ≡ Some payload
+            → WriteTurn self.old.state log key payload result self.new.state }
+        ensures beside { (payload : List ℕ) → map.get (flush_of self.old.state.caches) key ≡ Some payload
+            → WritesBeside self.old log key payload result self.new }
+    {
+        let place = self.next_place(log);
+        let Some(payload) = self.caches.get(&key) else {
+            unreachable!();
+        };
+        let Ok(()) = self.places.note(key, place) else {
+            return Err(LogFault::Memory);
+        };
+        let Ok(()) = self.accounts.ready(log, key.ledger()) else {
+            self.places.take_back();
+            return Err(LogFault::Memory);
+        };
+        match self.logs.put(log, &mut self.disk, self.alloc, payload) {
+            Ok(place) => {
+                let size = payload.len() as u32 + 4;
+                self.accounts.count(log, key.ledger(), size);
+                Ok(place)
+            }
+            Err(fault) => {
+                self.places.take_back();
+                stop(&mut self.writing, fault);
+                Err(fault)
+            }
+        }
+    }
+
+    /// Where the next record of a log will stand.
+    fn next_place(&self, log: u32) -> Location
+        requires keeps { Keeps self.now }
+        requires may { (payload : List ℕ) × CanTake self.now.state log Writing payload }
+        ensures { (w : LogWriting) → writer_of self.now.state.logs log ≡ Some w → result ≡ next_place w }
+    {
+        let end = self.logs.get(log).unwrap().acknowledged;
+        Location::pack(log, end as u32 + 4).unwrap()
+    }
+
     /// Seals a log, which is in this state from then on, and written no more.
     pub fn seal(&mut self, log: u32, state: LogState) -> Result<(), LogFault>
         requires keeps { Keeps self.old }
@@ -31,6 +83,15 @@ fn leave(writing: &mut Option<u32>, log: u32)
     ensures { writing.new ≡ unless_log writing.old log }
 {
     if *writing == Some(log) {
+        *writing = None;
+    }
+}
+
+/// After a write that failed no log is Writing; want of memory leaves all.
+fn stop(writing: &mut Option<u32>, fault: LogFault)
+    ensures { writing.new ≡ unless_failed writing.old fault }
+{
+    if fault != LogFault::Memory {
         *writing = None;
     }
 }

@@ -1,0 +1,206 @@
+-- A flush that starts again, or ends, keeps what a store keeps.
+use Rattle.std.proofs.Common.{◌≡◌, ◌≢◌, ◌⊎◌, inl, inr, ℕ, ◌+◌, ◌≤◌, ◌↔◌, Bool, true, false, cond, IsTrue, List, [], Option, Some, None, IsSome, is_some, option_map, take, refl, sym, ap, subst, ◌∙◌}
+use Rattle.std.specs.Option.{option_map_or, option_or}
+use Rattle.std.specs.FinMap as finite
+use Rattle.std.specs.FinSet as set
+use Rattle.bk_record.specs.Key.{EntryKey, key_cmp}
+use Rattle.bk_record.specs.Location.{Place}
+use Rattle.bk_record.specs.Files.{Files, file_of, header_length, In}
+use Rattle.bk_record.specs.Scan.{entries_of}
+use Rattle.bk_record.specs.Keyed.{log_count}
+use Rattle.bk_log.specs.Writing as writers
+use Rattle.bk_cache.specs.Caches as caches
+use Rattle.bk_cache.specs.Caches.{CacheState}
+use Rattle.bk_cache.specs.Recents.{recent_of}
+use Rattle.bk_accounts.specs.Book.{total_at}
+use Rattle.bk_accounts.specs.Sums.{AreSums}
+use Rattle.bk_store.specs.Shown.{Shows}
+use Rattle.bk_store.specs.Carried.{Carries}
+use Rattle.bk_store.specs.Logs.{Log, Logs, HasOpenView, AllChanged, is_open, settled_as, unfilled_as, open_parts, published_part}
+use Rattle.bk_store.specs.State.{State, Parts}
+use Rattle.bk_store.specs.Meaning.{written_at}
+use Rattle.bk_store.specs.Kept.{Keeps, Fits, Promises, IsHeld, IsBacked, entry_measure, acknowledged_entries}
+use Rattle.bk_store.specs.Doors.{Restarts, Ends, AllNamed}
+use Rattle.bk_store.specs.Beside.{RestartsBeside, EndsBeside}
+use Rattle.bk_store.specs.declared.log.LogState.{LogState}
+use Rattle.bk_store.specs.declared.log.LogState.TheVariants.{Writing, Filled}
+use Rattle.bk_store.proofs.Cases.{some_or_none}
+use Rattle.bk_store.proofs.KeptParts.{none_placed}
+use Rattle.bk_store.proofs.CachedMoves.{carries_let_go}
+use Rattle.bk_store.proofs.AllChanged.{IsMild, changed_len, settled_mild, settled_unflushed, unfilled_mild}
+
+-- the parts with all logs changed, and no entry placed
+abbrev ruled : Parts → Logs → CacheState → Option ℕ → List ℕ → Parts
+ruled p logs held writing filled = record p {
+  state = record p.state { logs = logs; places = finite.empty; caches = held };
+  writing = writing;
+  filled = filled;
+}
+
+module _ (rule : LogState → Log → Log) (mild : IsMild rule) (old new : Logs) (changed : AllChanged rule old new) where
+  now_is : (id : ℕ) (log : Log) → finite.get old id ≡ Some log → finite.get new id ≡ Some (rule log.state log)
+  now_is id log held = changed id ∙ ap (option_map (λ (l : Log). rule l.state l)) held
+
+  was_cases : (id : ℕ) (o : Option Log) (log : Log) → finite.get old id ≡ o → option_map (λ l. rule l.state l) o ≡ Some log
+      → (l : Log) × (finite.get old id ≡ Some l) × (rule l.state l ≡ log)
+  was_cases id None log held is = cc
+  was_cases id (Some l) log held is = (l, held, (let same : rule l.state l ≡ log = cc in same))
+
+  was : (id : ℕ) (log : Log) → finite.get new id ≡ Some log → (l : Log) × (finite.get old id ≡ Some l) × (rule l.state l ≡ log)
+  was id log is = was_cases id (finite.get old id) log refl (sym (changed id) ∙ is)
+
+  each_ruled : (P : ℕ → Log → Type 0) → ((id : ℕ) (log : Log) → finite.get old id ≡ Some log → P id (rule log.state log))
+      → (id : ℕ) (log : Log) → finite.get new id ≡ Some log → P id log
+  each_ruled P all id log is = let w = was id log is in subst (λ l. P id l) w.2 (all id w.0 w.1)
+
+  views_ruled : (id : ℕ) → HasOpenView old id → HasOpenView new id
+  views_ruled id there = record {
+    log = rule there.log.state there.log;
+    view = there.view;
+    held = now_is id there.log there.held;
+    opened = mild.opened there.log ∙ there.opened;
+    view_is = mild.view there.log ∙ there.view_is;
+  }
+
+  names_ruled : (n : ℕ → ℕ) (id : ℕ) → option_map (λ _. n id) (finite.get old id) ≡ option_map (λ _. n id) (finite.get new id)
+  names_ruled n id = inside (finite.get old id) ∙ sym (ap (option_map (λ _. n id)) (changed id))
+    where
+      inside : (o : Option Log) → option_map (λ _. n id) o ≡ option_map (λ _. n id) (option_map (λ l. rule l.state l) o)
+      inside None = refl
+      inside (Some l) = refl
+
+  parts_ruled : (id : ℕ) → open_parts new id ≡ open_parts old id
+  parts_ruled id = ap (λ o. option_map_or (λ (l : Log). cond (is_open l.state) (published_part l) []) o []) (changed id) ∙ inside (finite.get old id)
+    where
+      inside : (o : Option Log) → option_map_or (λ (l : Log). cond (is_open l.state) (published_part l) []) (option_map (λ l. rule l.state l) o) []
+          ≡ option_map_or (λ (l : Log). cond (is_open l.state) (published_part l) []) o []
+      inside None = refl
+      inside (Some l) = (λ i. cond (mild.opened l i) (option_map_or (λ v. v.bytes) (mild.view l i) []) [])
+
+  entries_ruled : (files : Files) (id : ℕ) → acknowledged_entries files new id ≡ acknowledged_entries files old id
+  entries_ruled files id = ap (option_map (λ (l : Log). entries_of (take l.acknowledged (file_of files id)))) (changed id) ∙ inside (finite.get old id)
+    where
+      inside : (o : Option Log) → option_map (λ (l : Log). entries_of (take l.acknowledged (file_of files id))) (option_map (λ l. rule l.state l) o)
+          ≡ option_map (λ (l : Log). entries_of (take l.acknowledged (file_of files id))) o
+      inside None = refl
+      inside (Some l) = ap (λ n. Some (entries_of (take n (file_of files id)))) (mild.acknowledged l)
+
+no_place : (key : EntryKey) (place : Place) → finite.get (finite.empty {R = key_cmp}) key ≡ Some place → ⊥
+no_place key place is = none_placed finite.empty key place refl is
+
+module _ (p : Parts) (keeps : Keeps p) (rule : LogState → Log → Log) (mild : IsMild rule) (logs : Logs) (changed : AllChanged rule p.state.logs logs)
+    (held : CacheState) (writing : Option ℕ) (filled : List ℕ) where
+  ruled_fits : held.limit ≡ p.state.settings.cache_limit
+      → ((id : ℕ) → (writing ≡ Some id) ↔ ((log : Log) × (finite.get logs id ≡ Some log) × (log.state ≡ Writing)))
+      → ((id : ℕ) (log : Log) → finite.get logs id ≡ Some log → (log.state ≡ Writing) ⊎ (log.state ≡ Filled) → In id filled)
+      → Fits (ruled p logs held writing filled)
+  ruled_fits limit writes listed =
+      let fits = keeps.fits in
+      record {
+        allowed = fits.allowed;
+        limit = limit;
+        ids = fits.ids;
+        slots = subst (λ n. n ≤ p.state.settings.slots) (sym (changed_len (λ (l : Log). rule l.state l) p.state.logs logs changed)) fits.slots;
+        held = each_ruled rule mild p.state.logs logs changed (λ id l. IsHeld p.state.next id l) (λ id l is. mild.held p.state.next id l (fits.held id l is));
+        sent = λ key place is. views_ruled rule mild p.state.logs logs changed place.log (fits.sent key place is);
+        placed = record {
+          idle = λ _. refl;
+          flushing = λ key place is. absurd (no_place key place is);
+          logs = λ key place is. absurd (no_place key place is);
+          front = λ key earlier place is. absurd (no_place key place is);
+        };
+        writing = writes;
+        filled = listed;
+        named = λ id. fits.named id ∙ names_ruled rule mild p.state.logs logs changed (log_count p.state.index) id;
+        total = each_ruled rule mild p.state.logs logs changed (λ id l. total_at p.accounts id + header_length ≤ l.acknowledged)
+            (λ id l is. subst (λ n. total_at p.accounts id + header_length ≤ n) (sym (mild.acknowledged l)) (fits.total id l is));
+      }
+
+  ruled_promises : (promise : Promises p)
+      → Carries (file_of p.state.files) p.state.index (written_at (record p.state { caches = held })) p.state.dead promise.carried
+      → held.recent ≡ p.state.caches.recent → Promises (ruled p logs held writing filled)
+  ruled_promises promise carries recent = record {
+    carried = promise.carried;
+    carries = carries;
+    shows = subst (λ ps. Shows (file_of p.state.files) ps p.state.index) (λ i id. sym (parts_ruled rule mild p.state.logs logs changed id) i) promise.shows;
+    recent = λ key payload is. promise.recent key payload (ap (λ r. recent_of r key) (sym recent) ∙ is);
+    counted = subst (λ f. AreSums entry_measure (set.contains p.state.dead) f (log_count p.state.index) p.accounts)
+        (λ i id. sym (entries_ruled rule mild p.state.logs logs changed p.state.files id) i) promise.counted;
+    backed = each_ruled rule mild p.state.logs logs changed (λ id l. IsBacked p.state.files id l) (λ id l is.
+        let old = promise.backed id l is in
+        record {
+          stands = old.stands;
+          writes = λ w writer. old.writes w (mild.writer l w writer);
+          honest = λ view seen. old.honest view (sym (mild.view l) ∙ seen);
+        });
+    fresh = promise.fresh;
+    placed = λ key place is. absurd (no_place key place is);
+  }
+
+pub keeps_restart : (p q : Parts) → Keeps p → Restarts p.state q.state → RestartsBeside p q → Keeps q
+keeps_restart p q keeps turn beside =
+    let none = λ (id : ℕ) (log : Log) (is : finite.get q.state.logs id ≡ Some log) (flushed : (log.state ≡ Writing) ⊎ (log.state ≡ Filled)).
+    let w = was settled_as settled_mild p.state.logs q.state.logs turn.logs id log is in
+    settled_unflushed w.0.state w.0 refl (subst (λ (l : Log). (l.state ≡ Writing) ⊎ (l.state ≡ Filled)) (sym w.2) flushed) in
+    subst Keeps (sym (beside ∙ ap (λ (s : State). record p { state = s; writing = None; filled = [] }) turn.left)) (record {
+      fits = ruled_fits p keeps settled_as settled_mild q.state.logs turn.logs p.state.caches None [] keeps.fits.limit
+          (λ id. ((λ wrong. absurd (cc)), (λ now. absurd (none id now.0 now.1 (inl now.2)))))
+          (λ id log is flushed. absurd (none id log is flushed));
+      promises = λ honest.
+          let promise = keeps.promises honest in
+          ruled_promises p keeps settled_as settled_mild q.state.logs turn.logs p.state.caches None [] promise promise.carries refl;
+    })
+
+-- what is cached, without the flush: what is let go of is indexed
+pub let_go : (s : State) → AllNamed s → (key : EntryKey)
+    → (written_at (record s { caches = record s.caches { flush = None } }) key ≡ written_at s key)
+    ⊎ ((written_at (record s { caches = record s.caches { flush = None } }) key ≡ None) × IsSome (finite.get s.index key))
+let_go s named key =
+    let nothing = finite.get-empty {X = List ℕ} key_cmp key in
+    elim (some_or_none (finite.get s.caches.active key)) [
+      | inr active ↦ inl (ap (λ o. option_or o (finite.get (finite.empty {R = key_cmp}) key)) active.1
+          ∙ sym (ap (λ o. option_or o (finite.get (caches.flush_of s.caches) key)) active.1))
+      | inl none ↦ elim (some_or_none (finite.get (caches.flush_of s.caches) key)) [
+        | inr flushing ↦ inr (
+          ap (λ o. option_or o (finite.get (finite.empty {R = key_cmp}) key)) none ∙ nothing,
+          named key (ap is_some flushing.1),
+        )
+        | inl idle ↦ inl (ap (λ o. option_or o (finite.get (finite.empty {R = key_cmp}) key)) none ∙ nothing
+            ∙ sym (ap (λ o. option_or o (finite.get (caches.flush_of s.caches) key)) none ∙ idle))
+      ]
+    ]
+
+still_writing : (p q : Parts) → AllChanged unfilled_as p.state.logs q.state.logs → (id : ℕ) (log : Log) → finite.get q.state.logs id ≡ Some log → log.state ≡ Writing
+    → (l : Log) × (finite.get p.state.logs id ≡ Some l) × (l.state ≡ Writing)
+still_writing p q changed id log is writing =
+    let w = was unfilled_as unfilled_mild p.state.logs q.state.logs changed id log is in
+    (w.0, w.1, unfilled_mild.writing w.0 (ap (λ (l : Log). l.state) w.2 ∙ writing))
+
+pub keeps_end : (p q : Parts) → Keeps p → AllNamed p.state → Ends p.state q.state → EndsBeside p q → Keeps q
+keeps_end p q keeps named turn beside =
+    let fits = keeps.fits in
+    let held : CacheState = record p.state.caches { flush = None } in
+    subst Keeps (sym (beside.parts ∙ ap (λ (s : State). record p { state = s; filled = q.filled }) turn.left)) (record {
+      fits = ruled_fits p keeps unfilled_as unfilled_mild q.state.logs turn.logs held p.writing q.filled fits.limit
+          (λ id. (
+            (λ is.
+                let old = (fits.writing id).0 is in (
+                  unfilled_as old.0.state old.0,
+                  now_is unfilled_as unfilled_mild p.state.logs q.state.logs turn.logs id old.0 old.1,
+                  ap (λ s. (unfilled_as s old.0).state) old.2 ∙ old.2,
+                )),
+            (λ now. (fits.writing id).1 (still_writing p q turn.logs id now.0 now.1 now.2)),
+          ))
+          (λ id log is flushed. elim flushed [
+            | inl writing ↦
+                let old = still_writing p q turn.logs id log is writing in
+                beside.still id (fits.filled id old.0 old.1 (inl old.2)) ((fits.writing id).1 old)
+            | inr wrong ↦
+                let w = was unfilled_as unfilled_mild p.state.logs q.state.logs turn.logs id log is in
+                absurd (unfilled_mild.filled w.0 (ap (λ (l : Log). l.state) w.2 ∙ wrong))
+          ]);
+      promises = λ honest.
+          let promise = keeps.promises honest in
+          ruled_promises p keeps unfilled_as unfilled_mild q.state.logs turn.logs held p.writing q.filled promise
+          (carries_let_go promise.carries (written_at (record p.state { caches = held })) (let_go p.state named)) refl;
+    })

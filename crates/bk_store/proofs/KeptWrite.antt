@@ -1,0 +1,418 @@
+-- An entry of the flush that is written keeps what a store keeps.
+use Rattle.std.proofs.Common.{◌≡◌, ◌≢◌, ◌⊎◌, inl, inr, ℕ, ◌+◌, ◌≤◌, ◌<◌, Bool, true, false, cond, eqb, IsTrue, List, [], ◌∷◌, ◌++◌, length, take, Option, Some, None, IsSome, is_some, option_map, unwrap_or, Result, Ok, Err, Less, refl, sym, ap, subst, ◌∙◌, arith}
+use Rattle.std.specs.Option.{option_or}
+use Rattle.std.specs.FinMap as finite
+use Rattle.std.specs.FinSet as set
+use Rattle.std.proofs.lemmas.Bool.{eqb-true, eq-eqb}
+use Rattle.std.proofs.lemmas.Option.{same_Some}
+use Rattle.bk_record.specs.Key.{EntryKey, key_cmp}
+use Rattle.bk_record.specs.Location.{Place}
+use Rattle.bk_record.specs.Record.{IsPayload, key_of, ledger_field, read_added, record_of}
+use Rattle.bk_record.specs.Files.{Files, file_of, records_of, header_length, In}
+use Rattle.bk_record.specs.Scan.{Payloads, entries_of}
+use Rattle.bk_record.specs.Keyed.{log_count}
+use Rattle.bk_record.proofs.Growth.{In-append_right}
+use Rattle.bk_record.proofs.ReadKeys.{addable, addable_payload}
+use Rattle.bk_disk.specs.Disk.{grown}
+use Rattle.bk_log.specs.Writing as writers
+use Rattle.bk_log.specs.Writing.{with_put}
+use Rattle.bk_log.specs.Growing.{Gains, put_record}
+use Rattle.bk_log.specs.declared.fault.LogFault.{LogFault}
+use Rattle.bk_log.specs.declared.fault.LogFault.TheVariants as log_faults
+use Rattle.bk_log.proofs.Gains.{put_gains}
+use Rattle.bk_log.proofs.Writes.{writes_put}
+use Rattle.bk_log.proofs.Tallies.{key_of-ledger}
+use Rattle.bk_cache.specs.Caches as caches
+use Rattle.bk_cache.specs.Kept.{IsSound}
+use Rattle.bk_accounts.specs.Book.{Book, total_in, total_at, named_in, after_ready, after_count}
+use Rattle.bk_accounts.specs.Sums.{AreSums}
+use Rattle.bk_accounts.proofs.BookLaws.{total_in-after_count, total_in-after_ready, named_in-after_count, named_in-after_ready}
+use Rattle.bk_accounts.proofs.CallerLaws.{sums_ready, sums_count}
+use Rattle.bk_store.specs.Entries.{Places, HasEntry}
+use Rattle.bk_store.specs.Shown.{Shows}
+use Rattle.bk_store.specs.Logs.{Log, Logs, IsFlushLog, is_open, closed_log, halted_as, halted_log, open_parts}
+use Rattle.bk_store.specs.State.{State, Parts}
+use Rattle.bk_store.specs.Meaning.{written_at}
+use Rattle.bk_store.specs.Kept.{Keeps, Fits, Promises, IsHeld, IsWrittenBy, IsBacked, entry_measure, acknowledged_entries}
+use Rattle.bk_store.specs.Putting.{next_place, grown_log}
+use Rattle.bk_store.specs.Doors.{IsNext, MayWrite, WriteTurn, PutTurn, noted}
+use Rattle.bk_store.specs.Beside.{WritesBeside, IsReadied, unless_log}
+use Rattle.bk_store.specs.declared.log.LogState.TheVariants.{Writing, Filled}
+use Rattle.bk_store.proofs.Cases.{some_or_none, same_or_apart}
+use Rattle.bk_store.proofs.KeyMaps.{get-insert_other, inserted_cases, inserted_here, same_key}
+use Rattle.bk_store.proofs.KeptParts.{with_state}
+use Rattle.bk_store.proofs.ShownMoves.{shows_grown}
+use Rattle.bk_store.proofs.LogMaps.{log-inserted}
+use Rattle.bk_store.proofs.OneLog.{views_stay, flush_logs_stay, writing_same, entries_here, entries_else, entries_were}
+use Rattle.bk_store.proofs.Acknowledged.{entries_acknowledged, entries_whole, entries_push}
+use Rattle.bk_store.proofs.Closing.{parts_same}
+use Rattle.bk_store.proofs.KeptSet.{one_log}
+use Rattle.bk_store.proofs.KeptSeal.{closed_promise, closed_fits, filled_flush}
+use Rattle.bk_store.proofs.KeptOne.{with_one, fits_one, promises_one, keeps_failures}
+
+-- a key of the flush has there what the write caches have of it
+pub flush_held : (held : caches.CacheState) (key : EntryKey) (payload : List ℕ) → caches.AreApart held → finite.get (caches.flush_of held) key ≡ Some payload
+    → caches.held held key ≡ Some payload
+flush_held held key payload apart there = elim (some_or_none (finite.get held.active key)) [
+  | inl none ↦ ap (λ o. option_or o (finite.get (caches.flush_of held) key)) none ∙ there
+  | inr active ↦ absurd (let none = apart key (ap is_some active.1) in cc)
+]
+
+pub flush_written : (s : State) (key : EntryKey) (payload : List ℕ) → caches.AreApart s.caches → finite.get (caches.flush_of s.caches) key ≡ Some payload
+    → written_at s key ≡ Some payload
+flush_written s key payload = flush_held s.caches key payload
+
+-- ---- room is made in an account
+
+total_readied : (book : Book) (log ledger q : ℕ) → total_at (after_ready book log ledger) q ≡ total_at book q
+total_readied book log ledger q = ap (λ o. unwrap_or o 0) (total_in-after_ready book log ledger q)
+
+pub keeps_ready : (p : Parts) (log ledger : ℕ) → Keeps p → Keeps (record p { accounts = after_ready p.accounts log ledger })
+keeps_ready p log ledger keeps =
+    let fits = keeps.fits in
+    record {
+      fits = record {
+        allowed = fits.allowed;
+        limit = fits.limit;
+        ids = fits.ids;
+        slots = fits.slots;
+        held = fits.held;
+        sent = fits.sent;
+        placed = record { idle = fits.placed.idle; flushing = fits.placed.flushing; logs = fits.placed.logs; front = fits.placed.front };
+        writing = fits.writing;
+        filled = fits.filled;
+        named = λ q. named_in-after_ready p.accounts log ledger q ∙ fits.named q;
+        total = λ q l is. subst (λ n. n + header_length ≤ l.acknowledged) (sym (total_readied p.accounts log ledger q)) (fits.total q l is);
+      };
+      promises = λ honest.
+          let promise = keeps.promises honest in
+          record {
+            carried = promise.carried;
+            carries = promise.carries;
+            shows = promise.shows;
+            recent = promise.recent;
+            counted = sums_ready entry_measure promise.counted log ledger;
+            backed = promise.backed;
+            fresh = promise.fresh;
+            placed = promise.placed;
+          };
+    }
+
+-- ---- a place is noted
+
+pub keeps_noted : (p : Parts) (key : EntryKey) (payload : List ℕ) (place : Place) → Keeps p → finite.get (caches.flush_of p.state.caches) key ≡ Some payload
+    → IsFlushLog p.state.logs place.log
+    → ((earlier : EntryKey) → key_cmp earlier key ≡ Less → IsSome (finite.get (caches.flush_of p.state.caches) earlier) → IsSome (finite.get p.state.places earlier))
+    → (IsTrue p.state.honest → HasEntry (file_of p.state.files) place key payload)
+    → Keeps (with_state p (noted p.state key place))
+keeps_noted p key payload place keeps flushing in_log first stands =
+    let fits = keeps.fits in
+    let still : (q : EntryKey) → IsSome (finite.get p.state.places q) → IsSome (finite.get (finite.insert p.state.places key place) q) =
+    λ q there. elim (same_key q key) [
+      | inl here ↦ ap is_some (inserted_here p.state.places key place q here)
+      | inr apart ↦ ap is_some (get-insert_other p.state.places key place q apart) ∙ there
+    ] in
+    record {
+      fits = record {
+        allowed = fits.allowed;
+        limit = fits.limit;
+        ids = fits.ids;
+        slots = fits.slots;
+        held = fits.held;
+        sent = fits.sent;
+        placed = record {
+          idle = λ none.
+              let gone = ap (λ f. finite.get (caches.flush_of (record p.state.caches { flush = f })) key) none ∙ finite.get-empty key_cmp key in
+              let wrong : ◌≡◌ {A = Option (List ℕ)} (Some payload) None = sym flushing ∙ gone in
+              cc;
+          flushing = λ k pl is. elim (inserted_cases p.state.places key place k pl is) [
+            | inl here ↦ ap (λ (x : EntryKey). is_some (finite.get (caches.flush_of p.state.caches) x)) here.0 ∙ ap is_some flushing
+            | inr old ↦ fits.placed.flushing k pl old.1
+          ];
+          logs = λ k pl is. elim (inserted_cases p.state.places key place k pl is) [
+            | inl here ↦ subst (λ (x : Place). IsFlushLog p.state.logs x.log) here.1 in_log
+            | inr old ↦ fits.placed.logs k pl old.1
+          ];
+          front = λ k earlier pl is less there. elim (inserted_cases p.state.places key place k pl is) [
+            | inl here ↦ still earlier (first earlier (ap (λ (x : EntryKey). key_cmp earlier x) (sym here.0) ∙ less) there)
+            | inr old ↦ still earlier (fits.placed.front k earlier pl old.1 less there)
+          ];
+        };
+        writing = fits.writing;
+        filled = fits.filled;
+        named = fits.named;
+        total = fits.total;
+      };
+      promises = λ honest.
+          let promise = keeps.promises honest in
+          record {
+            carried = promise.carried;
+            carries = promise.carries;
+            shows = promise.shows;
+            recent = promise.recent;
+            counted = promise.counted;
+            backed = promise.backed;
+            fresh = promise.fresh;
+            placed = λ k pl is. elim (inserted_cases p.state.places key place k pl is) [
+              | inl here ↦ record {
+                payload = payload;
+                flushing = ap (λ (x : EntryKey). finite.get (caches.flush_of p.state.caches) x) here.0 ∙ flushing;
+                stands = subst (λ x. HasEntry (file_of p.state.files) x k payload) here.1
+                    (subst (λ x. HasEntry (file_of p.state.files) place x payload) (sym here.0) (stands honest));
+              }
+              | inr old ↦
+                  let was = promise.placed k pl old.1 in
+                  record { payload = was.payload; flushing = was.flushing; stands = was.stands }
+            ];
+          };
+    }
+
+-- ---- the record is written
+
+counted_total : (size : ℕ) (same : Bool) (o : Option ℕ) → unwrap_or (option_map (λ total. cond same (total + size) total) o) 0 ≤ unwrap_or o 0 + size
+counted_total size true None = omega arith
+counted_total size false None = omega arith
+counted_total size true (Some n) = omega arith
+counted_total size false (Some n) = omega arith
+
+uncounted_total : (size : ℕ) (o : Option ℕ) → unwrap_or (option_map (λ total. cond false (total + size) total) o) 0 ≡ unwrap_or o 0
+uncounted_total size None = refl
+uncounted_total size (Some n) = refl
+
+eqb_apart : (q id : ℕ) → q ≢ id → eqb q id ≡ false
+eqb_apart q id apart = elim (eqb q id) as (λ b. eqb q id ≡ b → b ≡ false) [
+  | true ↦ λ tied. absurd (apart (eqb-true q id tied))
+  | false ↦ λ _. refl
+] refl
+
+module _ (p : Parts) (keeps : Keeps p) (id : ℕ) (log : Log) (held : finite.get p.state.logs id ≡ Some log) (w : writers.Writing) (writer : log.writer ≡ Some w)
+    (key : EntryKey) (payload : List ℕ) (read : read_added payload ≡ Ok key) (files : Files) where
+  abbrev new : Log
+  new = grown_log log w payload
+
+  abbrev counted_book : Book
+  counted_book = after_count (after_ready p.accounts id key.ledger) id key.ledger (4 + length payload)
+
+  by : IsWrittenBy id log w
+  by = (keeps.fits.held id log held).by w writer
+
+  keyed : key_of payload ≡ Some key
+  keyed = (addable payload key read).keyed
+
+  new_held : IsHeld p.state.next id new
+  new_held = record {
+    below = (keeps.fits.held id log held).below;
+    written = λ _. refl;
+    by = λ v is.
+        let same : with_put w payload ≡ v = cc in
+        subst (λ x. IsWrittenBy id new x) same
+        (record { state = by.state; own = by.own; going = by.going; long = refl; empty = λ wrong. absurd (omega (arith, wrong)) });
+  }
+
+  pub put_fits : Fits (with_one p id new files p.state.failures counted_book p.writing)
+  put_fits =
+      let fits = keeps.fits in
+      let size = 4 + length payload in
+      let ready = after_ready p.accounts id key.ledger in
+      fits_one p id log new held files p.state.failures counted_book p.writing fits new_held
+      (λ k place is. views_stay p.state.logs id log new held (λ v o view_is. (o, (v, view_is))) place.log (fits.sent k place is))
+      (λ k place is. flush_logs_stay p.state.logs id log new held (λ f. f) place.log (fits.placed.logs k place is))
+      (writing_same p.state.logs id log new held (λ s. s) (λ s. s) p.writing fits.writing) (fits.filled id log held)
+      (λ q. named_in-after_count ready id key.ledger size q ∙ named_in-after_ready p.accounts id key.ledger q)
+      (let most = counted_total size (eqb id id) (total_in ready id) in
+      let now = ap (λ o. unwrap_or o 0) (total_in-after_count ready id key.ledger size id) in
+      let was = total_readied p.accounts id key.ledger id in
+      let old = fits.total id log held in
+      let long = by.long in
+      omega (arith, most, now, was, old, long))
+      (λ q apart. ap (λ o. unwrap_or o 0) (total_in-after_count ready id key.ledger size q)
+      ∙ ap (λ b. unwrap_or (option_map (λ total. cond b (total + size) total) (total_in ready q)) 0) (eqb_apart q id apart)
+      ∙ uncounted_total size (total_in ready q) ∙ total_readied p.accounts id key.ledger q)
+
+  module _ (promise : Promises p) (mapped : finite.get promise.carried key ≡ Some payload) (grew : files ≡ grown p.state.files id (record_of payload)) where
+    writes : writers.Writes p.state.files w
+    writes = (promise.backed id log held).writes w writer
+
+    grew_own : files ≡ grown p.state.files w.log (record_of payload)
+    grew_own = grew ∙ ap (λ n. grown p.state.files n (record_of payload)) (sym by.own)
+
+    legal : IsPayload payload
+    legal = addable_payload payload key read
+
+    pub put_gained : Gains p.state.files id (put_record w payload) files
+    put_gained = subst (λ n. Gains p.state.files n (put_record w payload) files) by.own
+        (put_gains p.state.files files w payload (Ok (next_place w)) writes legal grew_own)
+
+    new_writes : writers.Writes files (with_put w payload)
+    new_writes = writes_put p.state.files files w payload writes legal (ap is_some keyed) grew_own
+
+    -- the log has one entry more
+    one_more_entry : entries_of (take new.acknowledged (file_of files id)) ≡ entries_of (take log.acknowledged (file_of p.state.files id)) ++ put_record w payload
+    one_more_entry =
+        (λ i. entries_of (take new.acknowledged (file_of files (sym by.own i)))) ∙ entries_whole files (with_put w payload) new_writes
+        ∙ entries_push (file_of p.state.files w.log) (file_of files w.log) (w.end + 4) payload key
+        (subst (λ n. records_of (file_of files n) ≡ records_of (file_of p.state.files n) ++ put_record w payload) (sym by.own) put_gained.records) keyed
+        ∙ ap (λ (es : List (ℕ × List ℕ)). es ++ put_record w payload)
+        (sym (entries_whole p.state.files w writes) ∙ (λ i. entries_of (take (sym by.long i) (file_of p.state.files (by.own i)))))
+
+    later : (q : ℕ) → acknowledged_entries files (finite.insert p.state.logs id new) q
+        ≡ cond (eqb q id) (Some (entries_of (take log.acknowledged (file_of p.state.files id)) ++ (w.end + 4, payload) ∷ []))
+        (acknowledged_entries p.state.files p.state.logs q)
+    later q = elim (eqb q id) as (λ b. eqb q id ≡ b → acknowledged_entries files (finite.insert p.state.logs id new) q
+        ≡ cond b (Some (entries_of (take log.acknowledged (file_of p.state.files id)) ++ (w.end + 4, payload) ∷ []))
+        (acknowledged_entries p.state.files p.state.logs q)) [
+          | true ↦ λ tied.
+              ap (acknowledged_entries files (finite.insert p.state.logs id new)) (eqb-true q id tied) ∙ entries_here p.state.logs id log new held files
+              ∙ ap (λ (es : List (ℕ × List ℕ)). Some es) one_more_entry
+          | false ↦ λ other. entries_else p.state.logs id log new held p.state.files files put_gained.only q (λ same. let tied = eq-eqb q id same in cc)
+        ] refl
+
+    put_sums : AreSums entry_measure (set.contains p.state.dead) (acknowledged_entries files (finite.insert p.state.logs id new)) (log_count p.state.index) counted_book
+    put_sums =
+        let ledger = key_of-ledger payload key keyed in
+        let alive = promise.carries.lives key payload mapped in
+        subst (λ l. AreSums entry_measure (set.contains p.state.dead) (acknowledged_entries files (finite.insert p.state.logs id new)) (log_count p.state.index)
+        (after_count (after_ready p.accounts id key.ledger) id l (4 + length payload))) (sym ledger)
+        (sums_count entry_measure (sums_ready entry_measure promise.counted id key.ledger) id (entries_of (take log.acknowledged (file_of p.state.files id)))
+        (w.end + 4, payload) (acknowledged_entries files (finite.insert p.state.logs id new)) (entries_were p.state.logs id log new held p.state.files)
+        (ap (set.contains p.state.dead) (sym ledger) ∙ alive) later)
+
+    put_mapped : (at : ℕ) (b : List ℕ) (k : EntryKey) → In (at, b) (put_record w payload) → key_of b ≡ Some k → set.contains p.state.dead k.ledger ≡ false
+        → finite.get promise.carried k ≡ Some b
+    put_mapped at b k there is_key _ = elim there [
+      | inr never ↦ absurd never
+      | inl here ↦
+          let same : payload ≡ b = ap (λ (r : ℕ × List ℕ). r.1) here in
+          let one : key ≡ k = same_Some key k (sym keyed ∙ ap key_of same ∙ is_key) in
+          ap (λ x. finite.get promise.carried x) (sym one) ∙ mapped ∙ ap (λ (x : List ℕ). Some x) same
+    ]
+
+    pub put_promises : Promises (with_one p id new files p.state.failures counted_book p.writing)
+    put_promises =
+        let old = promise.backed id log held in
+        promises_one p id log new held files p.state.failures counted_book p.writing keeps.fits promise (put_record w payload) put_gained put_mapped
+        (λ stood. subst (λ ps. Shows (file_of files) ps p.state.index) (λ i q. sym (parts_same p.state.logs id log new held refl refl q) i)
+        (shows_grown promise.shows (file_of files) stood))
+        (record {
+          stands = put_gained.stands old.stands;
+          writes = λ v is. let same : with_put w payload ≡ v = cc in subst (λ x. writers.Writes files x) same new_writes;
+          honest = old.honest;
+        })
+        put_sums
+
+    pub put_stands : HasEntry (file_of files) (next_place w) key payload
+    put_stands = record {
+      stands =
+          let records = subst (λ n. records_of (file_of files n) ≡ records_of (file_of p.state.files n) ++ put_record w payload) (sym by.own) put_gained.records in
+          subst (λ rs. In (w.end + 4, payload) rs) (sym records)
+          (In-append_right (w.end + 4, payload) (records_of (file_of p.state.files w.log)) (put_record w payload) (inl refl));
+      keyed = keyed;
+    }
+
+-- ---- the turn
+
+written_kept : (p : Parts) (id : ℕ) (key : EntryKey) (payload : List ℕ) → Keeps p → MayWrite p.state id key → finite.get (caches.flush_of p.state.caches) key ≡ Some payload
+    → IsSound p.state.caches → (log : Log) (w : writers.Writing) → finite.get p.state.logs id ≡ Some log → log.writer ≡ Some w → (files : Files)
+    → (IsTrue p.state.honest → files ≡ grown p.state.files id (record_of payload))
+    → Keeps (with_state (with_one p id (grown_log log w payload) files p.state.failures
+    (after_count (after_ready p.accounts id key.ledger) id key.ledger (4 + length payload)) p.writing)
+    (noted (with_one p id (grown_log log w payload) files p.state.failures
+    (after_count (after_ready p.accounts id key.ledger) id key.ledger (4 + length payload)) p.writing).state key (next_place w)))
+written_kept p id key payload keeps may flushing sound log w held writer files grew =
+    let read = sound.flush_keyed key payload flushing in
+    let was = one_log p id log Writing held (record { log = may.takes.log; held = may.takes.writer.held; state_is = may.takes.state_is }) in
+    let own = ((keeps.fits.held id log held).by w writer).own in
+    let mapped = λ (promise : Promises p). promise.carries.cached_is key payload (flush_written p.state key payload sound.apart flushing) in
+    let mid : Keeps (with_one p id (grown_log log w payload) files p.state.failures
+    (after_count (after_ready p.accounts id key.ledger) id key.ledger (4 + length payload)) p.writing) = record {
+      fits = put_fits p keeps id log held w writer key payload read files;
+      promises = λ honest.
+          let promise = keeps.promises honest in
+          put_promises p keeps id log held w writer key payload read files promise (mapped promise) (grew honest);
+    } in
+    keeps_noted (with_one p id (grown_log log w payload) files p.state.failures
+    (after_count (after_ready p.accounts id key.ledger) id key.ledger (4 + length payload)) p.writing) key payload (next_place w) mid flushing
+    (record { log = grown_log log w payload; held = log-inserted p.state.logs id (grown_log log w payload) w.log own; flushed = inl was })
+    may.next.first
+    (λ honest.
+    let promise = keeps.promises honest in
+    put_stands p keeps id log held w writer key payload read files promise (mapped promise) (grew honest))
+
+-- a write that failed leaves the log Filled, and no log Writing
+failed_kept : (p : Parts) (id : ℕ) (key : EntryKey) (payload : List ℕ) → Keeps p → MayWrite p.state id key → finite.get (caches.flush_of p.state.caches) key ≡ Some payload
+    → IsSound p.state.caches → (log : Log) → finite.get p.state.logs id ≡ Some log → (files : Files) (failures : ℕ)
+    → (IsTrue p.state.honest → (n : ℕ) × (files ≡ grown p.state.files id (take n (record_of payload))))
+    → Keeps (with_one p id (halted_log log) files failures p.accounts None)
+failed_kept p id key payload keeps may flushing sound log held files failures part =
+    let takes = may.takes in
+    let was = one_log p id log Writing held (record { log = takes.log; held = takes.writer.held; state_is = takes.state_is }) in
+    let both : Some takes.log ≡ Some log = sym takes.writer.held ∙ held in
+    let one : takes.log ≡ log = cc in
+    let w = takes.w in
+    let writer : log.writer ≡ Some w = ap (λ (l : Log). l.writer) (sym one) ∙ takes.writer.writer in
+    let opened : is_open log.state ≡ true = ap is_open was in
+    let own = ((keeps.fits.held id log held).by w writer).own in
+    let read = sound.flush_keyed key payload flushing in
+    let legal = addable_payload payload key read in
+    let keyed = (addable payload key read).keyed in
+    let closes : unless_log p.writing id ≡ None =
+    ap (λ o. unless_log o id) ((keeps.fits.writing id).1 (log, held, was)) ∙ ap (λ b. cond b None (Some id)) (eq-eqb id id refl) in
+    let state : closed_log Filled log ≡ halted_log log = ap (λ s. closed_log (halted_as s) log) (sym was) in
+    subst (λ l. Keeps (with_one p id l files failures p.accounts None)) state
+    (subst (λ o. Keeps (with_one p id (closed_log Filled log) files failures p.accounts o)) closes (record {
+      fits = closed_fits p keeps id Filled log held w writer refl refl opened files failures (filled_flush p keeps id log held was)
+          (λ _. keeps.fits.filled id log held (inl was));
+      promises = λ honest.
+          let promise = keeps.promises honest in
+          let mapped = promise.carries.cached_is key payload (flush_written p.state key payload sound.apart flushing) in
+          let grew = part honest in
+          let writes = (promise.backed id log held).writes w writer in
+          let gains = put_gains p.state.files files w payload (Err log_faults.Disk) writes legal
+          (grew.0, grew.1 ∙ ap (λ n. grown p.state.files n (take grew.0 (record_of payload))) (sym own)) in
+          elim gains [
+            | inl all ↦ closed_promise p keeps id Filled log held w writer refl refl opened files failures promise (put_record w payload)
+                (subst (λ n. Gains p.state.files n (put_record w payload) files) own all)
+                (λ at b k there is_key _. elim there [
+                  | inr never ↦ absurd never
+                  | inl here ↦
+                      let same : payload ≡ b = ap (λ (r : ℕ × List ℕ). r.1) here in
+                      let tied : key ≡ k = same_Some key k (sym keyed ∙ ap key_of same ∙ is_key) in
+                      ap (λ x. finite.get promise.carried x) (sym tied) ∙ mapped ∙ ap (λ (x : List ℕ). Some x) same
+                ])
+            | inr none ↦ closed_promise p keeps id Filled log held w writer refl refl opened files failures promise []
+                (subst (λ n. Gains p.state.files n [] files) own none) (λ at b k never. absurd never)
+          ];
+    }))
+
+pub keeps_write : (p q : Parts) (id : ℕ) (key : EntryKey) (payload : List ℕ) (result : Result Place LogFault) → Keeps p → MayWrite p.state id key
+    → finite.get (caches.flush_of p.state.caches) key ≡ Some payload → WriteTurn p.state id key payload result q.state
+    → WritesBeside p id key payload result q → Keeps q
+keeps_write p q id key payload (Ok place) keeps may flushing turn beside =
+    let w = turn.1.0 in
+    let place_is = turn.1.2 in
+    subst Keeps (sym (beside.1 ∙ ap (λ (s : State). record p {
+      state = s;
+      accounts = after_count (after_ready p.accounts id key.ledger) id key.ledger (4 + length payload);
+    }) (turn.1.4 ∙ ap (λ (x : Place). record (noted p.state key x) {
+      files = q.state.files;
+      failures = p.state.failures;
+      logs = finite.insert p.state.logs id (grown_log turn.0 w payload);
+    }) place_is)))
+    (written_kept p id key payload keeps may flushing beside.0 turn.0 w turn.1.1.held turn.1.1.writer q.state.files turn.1.3)
+keeps_write p q id key payload (Err log_faults.Memory) keeps may flushing turn beside =
+    subst Keeps (sym (beside.1 ∙ ap (λ (s : State). record p { state = s; accounts = q.accounts }) turn.1)) (elim beside.0 [
+      | inl same ↦ subst (λ a. Keeps (record p { state = record p.state { files = q.state.files }; accounts = a })) (sym same)
+          (keeps_failures p q.state.files p.state.failures keeps turn.0)
+      | inr room ↦ subst (λ a. Keeps (record p { state = record p.state { files = q.state.files }; accounts = a })) (sym room)
+          (keeps_failures (record p { accounts = after_ready p.accounts id key.ledger }) q.state.files p.state.failures
+          (keeps_ready p id key.ledger keeps) turn.0)
+    ])
+keeps_write p q id key payload (Err log_faults.Disk) keeps may flushing turn beside =
+    subst Keeps (sym (beside.1 ∙ ap (λ (s : State). record p { state = s; accounts = after_ready p.accounts id key.ledger; writing = None }) turn.3))
+    (failed_kept (record p { accounts = after_ready p.accounts id key.ledger }) id key payload (keeps_ready p id key.ledger keeps) may flushing beside.0
+    turn.0 turn.1 q.state.files (p.state.failures + 1) turn.2)
+keeps_write p q id key payload (Err log_faults.Odd) keeps may flushing turn beside =
+    subst Keeps (sym (beside.1 ∙ ap (λ (s : State). record p { state = s; accounts = after_ready p.accounts id key.ledger; writing = None }) turn.1.2))
+    (failed_kept (record p { accounts = after_ready p.accounts id key.ledger }) id key payload (keeps_ready p id key.ledger keeps) may flushing beside.0
+    turn.1.0 turn.1.1 q.state.files p.state.failures (λ honest. absurd (let wrong = turn.0 in cc)))
+keeps_write p q id key payload (Err log_faults.Failed) keeps may flushing never beside = absurd never

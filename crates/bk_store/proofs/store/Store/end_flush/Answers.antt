@@ -1,0 +1,9 @@
+use Rattle.std.proofs.Common.{sym, subst}
+use Rattle.bk_store.specs.Doors.{AllNamed}
+use Rattle.bk_store.proofs.KeptRuled.{keeps_end}
+use Rattle.bk_store.proofs.store.Store.end_flush.Goals as goal
+
+pub invariant_of-self : goal.invariant_of-self
+invariant_of-self g c =
+    keeps_end c.self.inside.fields c.end_flush.new.self c.self.invariant (subst AllNamed (sym c.self.view_is) c.requires) c.end_flush.ensures.turn
+    c.end_flush.ensures.beside
