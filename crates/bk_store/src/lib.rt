@@ -18,6 +18,8 @@ mod settings;
 mod showing;
 mod states;
 mod store;
+#[cfg(test)]
+mod tests;
 mod writing;
 
 pub use answer::{
