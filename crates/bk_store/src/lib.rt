@@ -14,6 +14,7 @@ mod log;
 mod logs;
 mod open;
 mod places;
+mod reading;
 mod settings;
 mod showing;
 mod states;

@@ -1,0 +1,57 @@
+//! What is to be seen of a store, for the crates above.
+
+ghost use Rattle.std.specs.Prelude.{◌≡◌, ◌↔◌, IsSome, IsTrue, option_map};
+ghost use Rattle.std.specs.FinMap as map;
+ghost use Rattle.bk_cache.specs.Caches.{flush_of};
+ghost use Rattle.bk_store.specs.Limits.{IsAllowed};
+ghost use Rattle.bk_store.specs.Logs.{last_view, view_of};
+
+use crate::{Settings, Store};
+use bk_disk::LogDisk;
+use bk_index::Index;
+use std::sync::Arc;
+
+impl<D: LogDisk> Store<D> {
+    /// The limits and thresholds.
+    pub fn settings(&self) -> Settings
+        ensures value { result ≡ self.now.settings }
+        ensures allowed { IsAllowed result }
+    {
+        self.fields.settings
+    }
+
+    /// The last view of a log, `None` where no such log is held or it has none.
+    pub fn log_view(&self, id: u32) -> Option<&Arc<D::View>>
+        ensures { option_map (λ view. view_of D.View.bytes D.View.honest D.View.sound view.now.value) result ≡ last_view self.now.logs id }
+    {
+        self.fields.logs.view(id)
+    }
+
+    /// Whether a flush runs.
+    pub fn is_flushing(&self) -> bool
+        ensures { IsTrue result ↔ IsSome self.now.caches.flush }
+    {
+        self.fields.caches.is_flushing()
+    }
+
+    /// How many entries the running flush has, 0 where none runs.
+    pub fn flush_len(&self) -> u64
+        ensures { result ≡ map.len (flush_of self.now.caches) }
+    {
+        self.fields.caches.flush_len()
+    }
+
+    /// How many entries of the flush have a place.
+    pub fn placed_len(&self) -> usize
+        ensures { result ≡ map.len self.now.places }
+    {
+        self.fields.places.len()
+    }
+
+    /// The index: the place of each key that is read from a log.
+    pub fn index(&self) -> &Index
+        ensures { result.now ≡ self.now.index }
+    {
+        &self.fields.index
+    }
+}
