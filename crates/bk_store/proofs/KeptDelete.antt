@@ -64,12 +64,12 @@ flush_left s ledger = either s.flush
     either (Some m) = refl
 
 module _ (s : State) (ledger : ℕ) where
-  written_gone : (key : EntryKey) → key.ledger ≡ ledger → written_at (deleted s ledger) key ≡ None
+  pub written_gone : (key : EntryKey) → key.ledger ≡ ledger → written_at (deleted s ledger) key ≡ None
   written_gone key own =
       (λ i. option_or (left_none s.caches.active ledger key own i) (finite.get (flush_left s.caches ledger i) key))
       ∙ left_none (caches.flush_of s.caches) ledger key own
 
-  written_same : (key : EntryKey) → key.ledger ≢ ledger → written_at (deleted s ledger) key ≡ written_at s key
+  pub written_same : (key : EntryKey) → key.ledger ≢ ledger → written_at (deleted s ledger) key ≡ written_at s key
   written_same key apart =
       (λ i. option_or (left_same s.caches.active ledger key apart i) (finite.get (flush_left s.caches ledger i) key))
       ∙ ap (option_or (finite.get s.caches.active key)) (left_same (caches.flush_of s.caches) ledger key apart)

@@ -46,3 +46,4 @@ pub mod KeptWrite
 pub mod Written
 pub mod AllChanged
 pub mod KeptRuled
+pub mod PlainCounts

@@ -1,5 +1,5 @@
 -- A store that keeps its promise beside an honest disk answers as the plain map does.
-use Rattle.std.proofs.Common.{◌≡◌, inl, inr, ℕ, List, Bool, Some, None, IsSome, [], length, ◌+◌, ◌<◌, true, false, cond, IsTrue, Result, Ok, Err, is_some, refl, sym, ap, subst, ◌∙◌, unwrap_or}
+use Rattle.std.proofs.Common.{◌≡◌, inl, inr, ℕ, List, Bool, Some, None, IsSome, [], length, ◌+◌, ◌<◌, true, false, cond, IsTrue, Result, Ok, Err, is_some, refl, sym, ap, subst, ◌∙◌, unwrap_or, option_map}
 use Rattle.std.specs.Option.{option_or, option_map_or}
 use Rattle.std.specs.FinMap as finite
 use Rattle.std.specs.FinSet as set
@@ -8,6 +8,7 @@ use Rattle.bk_record.specs.Location.{Place}
 use Rattle.bk_record.specs.Files.{file_of, records_of, In}
 use Rattle.bk_record.specs.Scan.{Payloads, scan_of}
 use Rattle.bk_record.proofs.Keys.{key_cmp_total, key_cmp_antisymmetric}
+use Rattle.bk_record.specs.Keyed.{without_ledger}
 use Rattle.bk_cache.specs.Caches as caches
 use Rattle.bk_cache.specs.Recents.{recent_of}
 use Rattle.bk_store.specs.Entries.{HasEntry}
@@ -16,8 +17,8 @@ use Rattle.bk_store.specs.Logs.{View, view_of, is_open, open_parts, published_pa
 use Rattle.bk_store.specs.State.{State, Parts}
 use Rattle.bk_store.specs.Meaning.{written_at, cached_at, holds}
 use Rattle.bk_store.specs.Kept.{Keeps, Promises}
-use Rattle.bk_store.specs.Turns.{AddTurn, TakeTurn, SwapTurn, IsOpenView}
-use Rattle.bk_store.specs.Plain.{Plain, IsNew, PlainAdd, PlainTake, after_swap, told_at, Agrees}
+use Rattle.bk_store.specs.Turns.{AddTurn, TakeTurn, SwapTurn, DeleteTurn, IsOpenView, deleted}
+use Rattle.bk_store.specs.Plain.{Plain, IsNew, PlainAdd, PlainTake, PlainDelete, after_swap, without, told_at, Agrees}
 use Rattle.bk_store.specs.declared.answer.Added.{Added}
 use Rattle.bk_store.specs.declared.answer.Added.TheVariants.{Accepted, Held}
 use Rattle.bk_store.specs.declared.answer.AddFault.{AddFault}
@@ -26,12 +27,17 @@ use Rattle.bk_store.specs.declared.answer.Taken.{Taken}
 use Rattle.bk_store.specs.declared.answer.Taken.TheVariants.{Deleted, Cached, NotHeld, Leased}
 use Rattle.bk_store.specs.declared.answer.TakeFault.{TakeFault}
 use Rattle.bk_store.specs.declared.answer.TakeFault.TheVariants as take_faults
+use Rattle.bk_store.specs.declared.answer.DeleteFault.{DeleteFault}
+use Rattle.bk_store.specs.declared.answer.DeleteFault.TheVariants as delete_faults
 use Rattle.bk_store.specs.declared.answer.SwapAnswer.{SwapAnswer}
 use Rattle.bk_store.specs.declared.answer.SwapAnswer.TheVariants.{Running, Nothing, Swapped}
 use Rattle.bk_store.proofs.Cases.{some_or_none, some_value}
 use Rattle.bk_store.proofs.PlaceOrder.{one_payload}
 use Rattle.bk_store.proofs.Meaning.{carries_meaning, unheld_unmapped, held_exactly}
 use Rattle.bk_store.proofs.CachedMoves.{carries_same_cached}
+use Rattle.bk_store.proofs.LedgerLeaves.{carries_without_ledger}
+use Rattle.bk_store.proofs.PlainCounts.{held_is_mapped}
+use Rattle.bk_store.proofs.KeptDelete as removed
 use Rattle.bk_store.proofs.KeptAdd as added
 use Rattle.bk_store.proofs.KeptSwap as swapped
 
@@ -89,6 +95,9 @@ module _ (parts : Parts) (keeps : Keeps parts) (promise : Promises parts) (p : P
 
   lives_in : (key : EntryKey) (b : Bool) → set.contains s.dead key.ledger ≡ b → set.contains p.dead key.ledger ≡ b
   lives_in key b is = ap (λ d. set.contains d key.ledger) (sym agrees.dead) ∙ is
+
+  dead_is : (ledger : ℕ) (b : Bool) → set.contains s.dead ledger ≡ b → set.contains p.dead ledger ≡ b
+  dead_is ledger b is = ap (λ d. set.contains d ledger) (sym agrees.dead) ∙ is
 
   pub plain_add : (t : State) (payload : List ℕ) (r : Result Added AddFault) → AddTurn s payload r t
       → (q : Plain) × PlainAdd s.caches.limit p payload r q × Agrees t q
@@ -176,3 +185,16 @@ module _ (parts : Parts) (keeps : Keeps parts) (promise : Promises parts) (p : P
       let after : State = record s { caches = record s.caches { active = finite.empty; flush = Some s.caches.active } } in
       agrees_same (agrees_of after (after_swap (Swapped n) p) (carries_same_cached carries (written_at after) (swapped.same_cached parts keeps turn.0))
       agrees.dead refl (ap Some agrees.active)) turn.3
+
+  pub plain_delete : caches.AreApart s.caches → (t : State) (ledger : ℕ) (r : Result ℕ DeleteFault) → DeleteTurn s ledger r t
+      → (q : Plain) × PlainDelete p ledger r q × Agrees t q
+  plain_delete apart t ledger (Err delete_faults.AlreadyDeleted) turn = (p, (dead_is ledger true turn.0, refl), agrees_same agrees turn.1)
+  plain_delete apart t ledger (Err delete_faults.Memory) turn = (p, (dead_is ledger false turn.0, refl), agrees_same agrees turn.1)
+  plain_delete apart t ledger (Ok n) turn = (
+    without p ledger,
+    (dead_is ledger false turn.0, turn.1 ∙ held_is_mapped s p.map carries ledger apart, refl),
+    agrees_same (agrees_of (deleted s ledger) (without p ledger)
+        (carries_without_ledger carries (written_at (deleted s ledger)) ledger (removed.written_gone s ledger) (removed.written_same s ledger))
+        (ap (λ d. set.insert d ledger) agrees.dead) (ap (λ m. without_ledger m ledger) agrees.active)
+        (ap (option_map (λ m. without_ledger m ledger)) agrees.flush)) turn.2,
+  )

@@ -1,5 +1,5 @@
 -- The plain map: what a store of entries answers that knows no log, no flush and no place.
-use Rattle.std.specs.Prelude.{◌≡◌, ℕ, ◌+◌, ◌<◌, Bool, true, false, if◌then◌else◌, List, length, Option, Some, None, IsSome, unwrap_or, Result, Ok, Err, IsTrue}
+use Rattle.std.specs.Prelude.{◌≡◌, ℕ, ◌+◌, ◌<◌, Bool, true, false, if◌then◌else◌, List, length, Option, Some, None, IsSome, unwrap_or, option_map, Result, Ok, Err, IsTrue}
 use Rattle.std.specs.Option.{option_or}
 use Rattle.std.specs.FinMap as finite
 use Rattle.std.specs.FinSet as set
@@ -8,7 +8,8 @@ use Rattle.bk_record.specs.Location.{Place}
 use Rattle.bk_record.specs.Record.{read_added}
 use Rattle.bk_record.specs.Files.{Files}
 use Rattle.bk_record.specs.Scan.{Payloads, Ledgers, scan_of}
-use Rattle.bk_cache.specs.Caches.{used_of}
+use Rattle.bk_record.specs.Keyed.{ledger_count, without_ledger}
+use Rattle.bk_cache.specs.Caches.{used_of, AreApart}
 use Rattle.bk_store.specs.Entries.{HasEntry}
 use Rattle.bk_store.specs.State.{State, Parts}
 use Rattle.bk_store.specs.Kept.{Keeps}
@@ -21,6 +22,8 @@ use Rattle.bk_store.specs.declared.answer.Taken.{Taken}
 use Rattle.bk_store.specs.declared.answer.Taken.TheVariants.{Deleted, Cached, NotHeld, Leased}
 use Rattle.bk_store.specs.declared.answer.TakeFault.{TakeFault}
 use Rattle.bk_store.specs.declared.answer.TakeFault.TheVariants as take_faults
+use Rattle.bk_store.specs.declared.answer.DeleteFault.{DeleteFault}
+use Rattle.bk_store.specs.declared.answer.DeleteFault.TheVariants as delete_faults
 use Rattle.bk_store.specs.declared.answer.SwapAnswer.{SwapAnswer}
 use Rattle.bk_store.specs.declared.answer.SwapAnswer.TheVariants.{Running, Nothing, Swapped}
 
@@ -80,6 +83,21 @@ after_swap Running p = p
 after_swap Nothing p = p
 after_swap (Swapped n) p = record p { active = finite.empty; flush = Some p.active }
 
+-- the plain state without a ledger, which is dead from then on
+abbrev pub without : Plain → ℕ → Plain
+without p ledger = record {
+  map = without_ledger p.map ledger;
+  dead = set.insert p.dead ledger;
+  active = without_ledger p.active ledger;
+  flush = option_map (λ m. without_ledger m ledger) p.flush;
+}
+
+-- A deletion takes the pairs of a ledger out, and tells how many the map had.
+abbrev pub PlainDelete : Plain → ℕ → Result ℕ DeleteFault → Plain → Type 0
+PlainDelete p ledger (Err delete_faults.AlreadyDeleted) q = (set.contains p.dead ledger ≡ true) × (q ≡ p)
+PlainDelete p ledger (Err delete_faults.Memory) q = (set.contains p.dead ledger ≡ false) × (q ≡ p)
+PlainDelete p ledger (Ok n) q = (set.contains p.dead ledger ≡ false) × (n ≡ ledger_count p.map ledger) × (q ≡ without p ledger)
+
 -- ---- a store, beside the plain map
 
 -- what the pairs that are only cached have of a key
@@ -99,8 +117,9 @@ pub record Agrees (s : State) (p : Plain) : Type 0 where
   pub active : s.caches.active ≡ p.active
   pub flush : s.caches.flush ≡ p.flush
 
--- the visible state of parts that keep their promise, as those of any store do
+-- the visible state of parts that keep their promise, as those of any store do, with no key in both write caches
 pub record IsKept (s : State) : Type 0 where
   pub parts : Parts
   pub seen : parts.state ≡ s
   pub keeps : Keeps parts
+  pub apart : AreApart s.caches

@@ -12,12 +12,13 @@ ghost use Rattle.bk_store.specs.Entries.{Bytes, Places, IsIndexOf};
 ghost use Rattle.bk_store.specs.Carried.{Cached, Carries};
 ghost use Rattle.bk_store.specs.Shown.{Shows};
 ghost use Rattle.bk_store.specs.State.{State};
-ghost use Rattle.bk_store.specs.Turns.{AddTurn, TakeTurn, SwapTurn};
-ghost use Rattle.bk_store.specs.Plain.{Plain, PlainAdd, PlainTake, after_swap, Agrees, IsKept};
+ghost use Rattle.bk_store.specs.Turns.{AddTurn, TakeTurn, SwapTurn, DeleteTurn};
+ghost use Rattle.bk_store.specs.Plain.{Plain, PlainAdd, PlainTake, PlainDelete, after_swap, Agrees, IsKept};
 ghost use Rattle.bk_store.specs.declared.answer.Added.{Added};
 ghost use Rattle.bk_store.specs.declared.answer.AddFault.{AddFault};
 ghost use Rattle.bk_store.specs.declared.answer.Taken.{Taken};
 ghost use Rattle.bk_store.specs.declared.answer.TakeFault.{TakeFault};
+ghost use Rattle.bk_store.specs.declared.answer.DeleteFault.{DeleteFault};
 ghost use Rattle.bk_store.specs.declared.answer.SwapAnswer.{SwapAnswer};
 
 use bk_disk::LogView;
@@ -92,4 +93,10 @@ pub fn take_is_plain<V: LogView>()
 pub fn swap_is_plain()
     ensures { (s t : State) (p : Plain) (answer : SwapAnswer) → IsKept s → IsTrue s.honest → Agrees s p
         → SwapTurn s answer t → Agrees t (after_swap answer p) }
+{}
+
+/// A deletion of a store answers as the plain map does, and leaves them agreeing.
+pub fn delete_is_plain()
+    ensures { (s t : State) (p : Plain) (ledger : ℕ) (answer : Result ℕ DeleteFault) → IsKept s → IsTrue s.honest → Agrees s p
+        → DeleteTurn s ledger answer t → (q : Plain) × PlainDelete p ledger answer q × Agrees t q }
 {}

@@ -115,7 +115,8 @@ impl<D: LogDisk> Store<D> {
     pub fn promise(&self)
         ensures { IsKept self.now }
     {
-        let _ = &self.fields;
+        // No key is in both write caches: what the caches say of themselves.
+        let _ = self.fields.caches.limit();
     }
 
     /// The state of a log, `None` where no such log is held.
