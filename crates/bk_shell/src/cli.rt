@@ -9,6 +9,7 @@ ghost use Rattle.bk_drive.specs.Limits.{IsAllowed};
 ghost use Rattle.bk_drive.specs.declared.settings.Settings.{Settings};
 ghost use Rattle.bk_shell.specs.CommandLine.{program, Asks, AsksSettings};
 
+mod folder;
 mod help;
 mod number_option;
 #[cfg(test)]
@@ -17,7 +18,8 @@ mod tests;
 use bk_drive::Settings;
 use clap::error::ErrorKind;
 use clap::{ArgMatches, Command, Error};
-use help::{ABOUT_SCRIPT, SCRIPT_HELP};
+pub(crate) use folder::{FolderCall, folder_call, is_folder_call};
+use help::{ABOUT_SCRIPT, PROGRAM_HELP, SCRIPT_HELP};
 use number_option::{BadValue, NumberOption};
 use std::alloc::{AllocError, Global};
 use std::convert::AsStr;
@@ -103,9 +105,9 @@ pub(crate) fn text_of(alloc: Global, error: &Error) -> Result<String, AllocError
     format!(in alloc; "{error}")
 }
 
-/// The word of an error's text that is told to be no option.
+/// The word of an error's text that is told to be no option, where no command on a folder was called.
 fn unknown_word<'t>(error: &Error, text: &'t str) -> Option<&'t str> {
-    if error.kind() != ErrorKind::UnknownArgument {
+    if error.kind() != ErrorKind::UnknownArgument || text.contains("<DIR>") {
         return None;
     }
     let (_, rest) = text.split_once("unexpected argument '")?;
@@ -142,7 +144,7 @@ fn command<'a>(alloc: Global) -> Result<Command<'a>, AllocError>
         .arg(SLOTS.arg(alloc))?;
     Command::new(alloc, "bk_shell")
         .about("Entry log storage of a bookie")
-        .after_help(SCRIPT_HELP)
+        .after_help(PROGRAM_HELP)
         .subcommand_required(true)
         .subcommand(script)
 }

@@ -1,9 +1,10 @@
-//! A program that runs scripts of steps over a store of entry logs.
+//! A program that runs scripts of steps over a store of entry logs, and shows what a folder of such logs has.
 #![tactic(auto)]
 
 mod cli;
 mod program;
 
+pub use bk_dir::{DirCommand, run_dir};
 pub use bk_script::run_script;
 use program::{StartFault, run_words, tell_fault, words_of};
 use std::io::{BufWriter, Stderr};
@@ -27,5 +28,5 @@ fn run(rt: &HostRuntime, errors: &mut Stderr) -> Result<u8, StartFault> {
     let Ok(mut writer) = BufWriter::new(alloc, rt.stdout()) else {
         return Err(StartFault::Memory);
     };
-    Ok(run_words(alloc, &words, &mut rt.stdin(), &mut writer, errors))
+    Ok(run_words(rt, &words, &mut rt.stdin(), &mut writer, errors))
 }

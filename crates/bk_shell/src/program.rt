@@ -9,7 +9,9 @@ ghost use Rattle.clap.specs.Values.{kind_of};
 #[cfg(test)]
 mod tests;
 
-use crate::cli::{settings_of, text_of};
+use crate::cli::{FolderCall, folder_call, is_folder_call, settings_of, text_of};
+use bk_dir::run_dir;
+use bk_disk::DirDisk;
 use bk_script::run_script;
 use clap::Error;
 use clap::error::ErrorKind;
@@ -61,12 +63,12 @@ pub(crate) fn tell_fault<E: Write>(fault: StartFault, errors: &mut E) {
     let _ = writeln!(errors, "{fault}");
 }
 
-/// Does what the words ask for: runs the script that the reader gives with the settings of its options, or writes the
-/// help that was asked for. Returns the program's status: 0, 1 as `run_script` says, or where no memory is to be had
+/// Does what the words ask for: runs the script that the reader gives with the settings of its options, or a command on
+/// a folder, or writes the help that was asked for. Returns the program's status: 0, 1 as `run_script` and `run_dir` say, or where no memory is to be had
 /// or the help can't be written, and 2 where the words are a wrong command line. The error stream gets the reason,
 /// `writer` nothing but answers and help.
 pub(crate) fn run_words<S: AsStr, R: Read, W: Write, E: Write>(
-    alloc: Global,
+    rt: &HostRuntime,
     words: &[S],
     reader: &mut R,
     writer: &mut W,
@@ -78,9 +80,46 @@ pub(crate) fn run_words<S: AsStr, R: Read, W: Write, E: Write>(
         (W.contents writer.old) (W.contents writer.new) }
     ensures right { (asked : Settings) → Asks (map S.text words.now) asked → result ≤ 1 }
 {
+    let alloc = rt.alloc();
     match settings_of(alloc, words) {
         Ok(settings) => run_script(alloc, settings, reader, writer, errors),
-        Err(error) => tell(alloc, &error, writer, errors),
+        Err(error) => run_other(rt, words, &error, writer, errors),
+    }
+}
+
+/// Does what words ask for that call no script, as the error says: a command on a folder, or help; or tells what is wrong
+/// with them. Returns the status.
+fn run_other<S: AsStr, W: Write, E: Write>(
+    rt: &HostRuntime,
+    words: &[S],
+    error: &Error,
+    writer: &mut W,
+    errors: &mut E,
+) -> u8
+    ensures { kind_of error.now ≡ ErrorKind.OutOfMemory → result ≡ 1 }
+{
+    if error.kind() == ErrorKind::OutOfMemory || !is_folder_call(words) {
+        return tell(rt.alloc(), error, writer, errors);
+    }
+    match folder_call(rt.alloc(), words) {
+        Ok(call) => run_folder(rt, call, writer, errors),
+        Err(error) => tell(rt.alloc(), &error, writer, errors),
+    }
+}
+
+/// Runs a command on a folder. Where that can't be opened, the status is 1, and the error stream gets the reason.
+fn run_folder<W: Write, E: Write>(
+    rt: &HostRuntime,
+    call: FolderCall<'_>,
+    writer: &mut W,
+    errors: &mut E,
+) -> u8 {
+    match DirDisk::open(rt, call.path) {
+        Ok(mut disk) => run_dir(rt.alloc(), &mut disk, call.command, writer, errors),
+        Err(fault) => {
+            let _ = writeln!(errors, "fault {fault}");
+            1
+        }
     }
 }
 

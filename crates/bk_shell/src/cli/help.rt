@@ -4,6 +4,22 @@
 pub(crate) const ABOUT_SCRIPT: &str =
     "Runs steps from standard input on a new store in memory, and prints an answer for each";
 
+/// What the program tells of its commands.
+pub(crate) const PROGRAM_HELP: &str = "\
+The commands logs, header, map, scan, find and check read a folder of entry logs, and never write in it. DIR is the
+folder. A log is a file of it that is named by its id in hexadecimal, as 1f.log; other files are passed over. A LOG is
+such an id in decimal, 0 to 2147483647. LEDGER and ENTRY are 0 to 9223372036854775807. Begin with `check`:
+  $ bk_shell check /var/bookie/current
+  0 ok
+  1 fault bad length 52310 7
+  2 unsealed
+
+`bk_shell help COMMAND` tells of a command, with an example.
+
+The status is 0 where all was shown. It is 1 where a command ends early, with a line `fault TEXT` on the error stream,
+or where `check` found a log with a fault. It is 2 where the command line is wrong.
+";
+
 /// What the program tells of its scripts.
 pub(crate) const SCRIPT_HELP: &str = "\
 `script` reads steps from standard input, one a line. The steps and their answers:

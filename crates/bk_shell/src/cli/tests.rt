@@ -1,4 +1,5 @@
-use super::{DEFAULTS, settings_of, text_of};
+use super::{DEFAULTS, folder_call, is_folder_call, settings_of, text_of};
+use bk_dir::DirCommand;
 use bk_drive::Settings;
 use std::alloc::Global;
 use std::process::Abort;
@@ -46,6 +47,109 @@ fn a_wrong_command_line_has_status_2_and_help_has_0(rt: HostRuntime) {
             Ok(_) => assert!(rt; false, "{words:?} is no call of the program"),
             Err(error) => assert_eq!(rt; error.exit_code(), status, "the status of {words:?}"),
         }
+    }
+}
+
+/// What the program tells of these words, which are no call on a folder.
+fn told_of_folder(rt: &impl Abort, alloc: Global, words: &[&str]) -> String {
+    match folder_call(alloc, words) {
+        Ok(_) => {
+            assert!(rt; false, "{words:?} is a call on a folder");
+            String::new(alloc)
+        }
+        Err(error) => text_of(alloc, &error).expect(rt, "memory"),
+    }
+}
+
+/// Wrong calls of the commands that read a folder, and a part of what is told of each.
+const WRONG_FOLDERS: [(&[&str], &str); 12] = [
+    (&["bk_shell", "logs"], "<DIR>"),
+    (&["bk_shell", "check"], "<DIR>"),
+    (&["bk_shell", "header", "folder"], "<LOG>"),
+    (&["bk_shell", "find", "folder", "1"], "<ENTRY>"),
+    (
+        &["bk_shell", "logs", "folder", "1"],
+        "unexpected argument '1' found\n\nUsage: bk_shell logs <DIR>\n",
+    ),
+    (
+        &["bk_shell", "map", "folder", "2147483648"],
+        "invalid value '2147483648' for '<LOG>': not a number from 0 to 2147483647 in plain digits\n\nUsage: bk_shell map <DIR> <LOG>\n",
+    ),
+    (&["bk_shell", "header", "folder", "01"], "'01' for '<LOG>'"),
+    (
+        &["bk_shell", "scan", "folder", "+1"],
+        "Usage: bk_shell scan <DIR> <LOG>\n",
+    ),
+    (&["bk_shell", "scan", "folder", "-1"], "unexpected argument"),
+    (
+        &["bk_shell", "find", "folder", "9223372036854775808", "0"],
+        "'9223372036854775808' for '<LEDGER>': not a number from 0 to 9223372036854775807",
+    ),
+    (
+        &["bk_shell", "find", "folder", "0", "x"],
+        "'x' for '<ENTRY>': not a number from 0 to 9223372036854775807 in plain digits\n\nUsage: bk_shell find <DIR> <LEDGER> <ENTRY>\n",
+    ),
+    (
+        &["bk_shell", "check", "--all", "folder"],
+        "unexpected argument '--all' found",
+    ),
+];
+
+#[test]
+fn a_wrong_call_on_a_folder_is_told(rt: HostRuntime) {
+    for (words, part) in WRONG_FOLDERS {
+        let text = told_of_folder(&rt, rt.alloc(), words);
+        assert!(rt; text.contains(part), "{part:?} in {text:?}");
+    }
+}
+
+#[test]
+fn a_call_on_a_folder(rt: HostRuntime) {
+    let lines: [(&[&str], DirCommand); 5] = [
+        (&["bk_shell", "logs", "folder"], DirCommand::Logs),
+        (
+            &["bk_shell", "header", "folder", "0"],
+            DirCommand::Header(0),
+        ),
+        (
+            &["bk_shell", "map", "folder", "2147483647"],
+            DirCommand::Map(2_147_483_647),
+        ),
+        (&["bk_shell", "scan", "folder", "31"], DirCommand::Scan(31)),
+        (&["bk_shell", "check", "folder"], DirCommand::Check),
+    ];
+    for (words, command) in lines {
+        assert!(rt; is_folder_call(words), "{words:?}");
+        match folder_call(rt.alloc(), words) {
+            Ok(call) => {
+                assert_eq!(rt; call.path, "folder", "the folder of {words:?}");
+                assert_eq!(rt; call.command, command, "the command of {words:?}");
+            }
+            Err(error) => assert!(rt; false, "{words:?}: {error}"),
+        }
+    }
+}
+
+/// Commands on folders, and parts of the help of each.
+const FOLDER_HELP: [(&str, &str); 6] = [
+    (
+        "logs",
+        "$ bk_shell logs /var/bookie/current\n  0 1089 sealed",
+    ),
+    ("header", "version 1 map 1049 count 1"),
+    ("map", "no map"),
+    ("scan", "entries 1 foreign 1 torn 0"),
+    ("find", "0 1028 68656c6c6f"),
+    ("check", "map differs"),
+];
+
+#[test]
+fn help_shows_each_command_on_a_folder(rt: HostRuntime) {
+    let all = told(&rt, rt.alloc(), &["bk_shell", "--help"]);
+    for (name, part) in FOLDER_HELP {
+        let text = told_of_folder(&rt, rt.alloc(), &["bk_shell", "help", name]);
+        assert!(rt; text.contains(part), "{part:?} in {text:?}");
+        assert!(rt; all.contains(name), "{name} in {all:?}");
     }
 }
 

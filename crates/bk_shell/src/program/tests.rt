@@ -1,5 +1,6 @@
+mod folder;
+
 use super::{StartFault, run_words, words_of};
-use std::alloc::Global;
 use std::env::{Env, FillError};
 use std::io;
 use std::io::{Read, Write};
@@ -12,11 +13,12 @@ struct Shown {
     errors: Vec<u8>,
 }
 
-fn run(alloc: Global, words: &[&str], input: &str) -> Shown {
+fn run(rt: &HostRuntime, words: &[&str], input: &str) -> Shown {
+    let alloc = rt.alloc();
     let mut output = Vec::new(alloc);
     let mut errors = Vec::new(alloc);
     let mut reader = input.as_bytes();
-    let status = run_words(alloc, words, &mut reader, &mut output, &mut errors);
+    let status = run_words(rt, words, &mut reader, &mut output, &mut errors);
     Shown {
         status,
         output,
@@ -55,7 +57,7 @@ fn options_are_used(rt: HostRuntime) {
         ),
     ];
     for (words, input, output) in runs {
-        let shown = run(rt.alloc(), words, input);
+        let shown = run(&rt, words, input);
         assert_eq!(rt; shown.status, 0, "the status of {words:?}");
         assert_eq!(rt;
             shown.output.as_slice(),
@@ -125,7 +127,7 @@ fn a_wrong_command_line_is_told_with_status_2_and_reads_no_input(rt: HostRuntime
     for (words, told) in lines {
         let mut output = Vec::new(rt.alloc());
         let mut errors = Vec::new(rt.alloc());
-        let status = run_words(rt.alloc(), words, &mut Closed, &mut output, &mut errors);
+        let status = run_words(&rt, words, &mut Closed, &mut output, &mut errors);
         assert_eq!(rt; status, 2, "the status of {words:?}");
         assert_eq!(rt; output.len(), 0, "the output of {words:?}");
         assert!(rt;
@@ -137,7 +139,7 @@ fn a_wrong_command_line_is_told_with_status_2_and_reads_no_input(rt: HostRuntime
 
 #[test]
 fn help_goes_to_the_output_or_is_a_fault_of_its_own(rt: HostRuntime) {
-    let shown = run(rt.alloc(), &["bk_shell", "--help"], "");
+    let shown = run(&rt, &["bk_shell", "--help"], "");
     assert_eq!(rt; shown.status, 0);
     assert!(rt;
         shown
@@ -148,8 +150,8 @@ fn help_goes_to_the_output_or_is_a_fault_of_its_own(rt: HostRuntime) {
     assert_eq!(rt; shown.errors.len(), 0);
     let mut errors = Vec::new(rt.alloc());
     let words: [&str; 3] = ["bk_shell", "help", "script"];
-    let closed = run_words(rt.alloc(), &words, &mut Closed, &mut Closed, &mut errors);
-    let full = run_words(rt.alloc(), &words, &mut Closed, &mut Full, &mut errors);
+    let closed = run_words(&rt, &words, &mut Closed, &mut Closed, &mut errors);
+    let full = run_words(&rt, &words, &mut Closed, &mut Full, &mut errors);
     assert_eq!(rt; (closed, full), (1, 1));
     assert_eq!(rt;
         errors.as_slice(),

@@ -5,7 +5,7 @@ pub returns-in-Ok-clause-done : goal.returns-in-Ok-clause-done
 returns-in-Ok-clause-done g c = λ asked asks ended. (c.in-Ok.settings, c.in-Ok.ensures.asked, c.run_script.ensures.done ended)
 
 pub returns-in-Err-clause-done : goal.returns-in-Err-clause-done
-returns-in-Err-clause-done g c = λ asked asks ended. absurd (omega (arith, ended, c.tell.ensures (c.in-Err.ensures.refused asked asks)))
+returns-in-Err-clause-done g c = λ asked asks ended. absurd (omega (arith, ended, c.run_other.ensures (c.in-Err.ensures.refused asked asks)))
 
 pub returns-in-Err-clause-right : goal.returns-in-Err-clause-right
-returns-in-Err-clause-right g c = λ asked asks. omega (arith, c.tell.ensures (c.in-Err.ensures.refused asked asks))
+returns-in-Err-clause-right g c = λ asked asks. omega (arith, c.run_other.ensures (c.in-Err.ensures.refused asked asks))

@@ -1,0 +1,86 @@
+//! What the program tells of the commands that read a folder.
+
+pub(crate) const ABOUT_LOGS: &str = "Lists the logs of a folder: id, length and state";
+
+pub(crate) const LOGS_HELP: &str = "\
+Prints for each log, by rising ids, `ID LENGTH STATE`. A STATE is
+  short   the file has fewer than the 1024 bytes of a header
+  bad     its header can't be read
+  open    its header names no ledgers map: the log was not sealed
+  sealed  its header names a ledgers map
+
+Example:
+  $ bk_shell logs /var/bookie/current
+  0 1089 sealed
+  3 1049 open
+";
+
+pub(crate) const ABOUT_HEADER: &str = "Shows the header of a log";
+
+pub(crate) const HEADER_HELP: &str = "\
+Prints `version V map OFFSET count COUNT`, or `short` where the file has fewer bytes than a header. OFFSET is where the
+log's ledgers map begins, COUNT how many ledgers it has; both are 0 in a log that was not sealed.
+
+Example:
+  $ bk_shell header /var/bookie/current 0
+  version 1 map 1049 count 1
+";
+
+pub(crate) const ABOUT_MAP: &str = "Shows the ledgers map that stands in a log";
+
+pub(crate) const MAP_HELP: &str = "\
+Prints for each ledger, rising, `LEDGER SIZE`: the bytes of its records in this log, the four of each length field
+included. Prints `no map` for a log that was not sealed, `short` where the file has fewer bytes than a header.
+
+Example:
+  $ bk_shell map /var/bookie/current 0
+  1 25
+";
+
+pub(crate) const ABOUT_SCAN: &str = "Shows the entries of a log";
+
+pub(crate) const SCAN_HELP: &str = "\
+Prints for each entry, in the order of the file, `AT LEDGER ENTRY SIZE`: where its payload begins, its ledger, its
+number in the ledger, and the bytes of its record. Then `entries N foreign N torn N`: how many entries there are, how
+many records with a negative id, such as the batches of a ledgers map, and how many bytes at the end are no whole
+record. The header isn't read. A length below 16 ends the scan with `fault bad length AT N`.
+
+Example:
+  $ bk_shell scan /var/bookie/current 0
+  1028 1 0 25
+  entries 1 foreign 1 torn 0
+";
+
+pub(crate) const ABOUT_FIND: &str = "Finds the last record of an entry in all logs of a folder";
+
+pub(crate) const FIND_HELP: &str = "\
+Prints `LOG AT DATA`: the log of the entry's last record, where its payload begins there, and its data in hexadecimal,
+`-` where there is none; or `not found`. Of several records of an entry the one in the log of the highest id counts, and
+in that log the last. All logs are scanned; headers aren't read.
+
+Example:
+  $ bk_shell find /var/bookie/current 1 0
+  0 1028 68656c6c6f
+";
+
+pub(crate) const ABOUT_CHECK: &str =
+    "Reads all logs of a folder, and tells of each whether it is whole";
+
+pub(crate) const CHECK_HELP: &str = "\
+Prints for each log, by rising ids and as soon as it is read, `ID WORD`. A WORD is the first of these that holds:
+  short        the file has fewer than the 1024 bytes of a header
+  fault TEXT   its header can't be read: `bad magic`, `version V`
+  fault TEXT   its records can't: `bad length AT N`
+  unsealed     its header names no ledgers map
+  fault TEXT   its map can't be read: `negative number`, `not a map AT`, `map length AT`, `repeated LEDGER`,
+               `count differs FOUND`
+  map differs  its map isn't that of its entries
+  ok           its map is
+
+The status is 1 where a line says `fault` or `map differs`.
+
+Example:
+  $ bk_shell check /var/bookie/current
+  0 ok
+  3 unsealed
+";
