@@ -91,11 +91,7 @@ fn word_of<'a>(found: &ArgMatches<'a>, name: &str) -> &'a str {
 }
 
 /// The number that the word of this name is.
-fn read_number<'a>(
-    found: &ArgMatches<'a>,
-    name: &'a str,
-    most: u64,
-) -> Result<u64, BadWord<'a>>
+fn read_number<'a>(found: &ArgMatches<'a>, name: &'a str, most: u64) -> Result<u64, BadWord<'a>>
     ensures { IfOk result (λ n. n ≤ most) }
 {
     let text = word_of(found, name);

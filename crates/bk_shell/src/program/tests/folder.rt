@@ -1,23 +1,23 @@
 //! Commands on real folders, which each test makes and takes away.
 
 use super::run;
-use bk_disk::DirDisk;
-use bk_drive::{Settings, Step, Work, drive};
+use bk_disk::{DirDisk, LogDisk};
 use std::os::unix::fs::symlink;
 use std::process::Abort;
 use std::test::Fail;
 use std::{fs, io};
 
-/// The settings of a store without options.
-const SETTINGS: Settings = Settings {
-    log_limit: 1_073_741_824,
-    cache_limit: 16_777_216,
-    recent: 0,
-    slots: 1024,
-    leases: 1024,
-    minor: 200,
-    major: 800,
-};
+/// The first bytes of a sealed log's header: the format's name, its version, where the map begins, how many ledgers it has.
+const HEAD: [u8; 20] = *b"BKLO\0\0\0\x01\0\0\0\0\0\0\x04\x19\0\0\0\x01";
+
+/// The length field of the record of 21 bytes.
+const LENGTH: [u8; 4] = [0, 0, 0, 0x15];
+
+/// The ledgers map of that log: the length of the batch, its two ids, the number of its pairs, and the pair.
+const MAP: [u8; 40] = [
+    0, 0, 0, 0x24, 0xff, 0xff, 0xff, 0xff, 0xff, 0xff, 0xff, 0xff, 0xff, 0xff, 0xff, 0xff, 0xff,
+    0xff, 0xff, 0xfe, 0, 0, 0, 1, 0, 0, 0, 0, 0, 0, 0, 1, 0, 0, 0, 0, 0, 0, 0, 0x19,
+];
 
 /// The payload of entry 0 of ledger 1, with the data `hello`.
 const HELLO: &[u8] = b"\0\0\0\0\0\0\0\x01\0\0\0\0\0\0\0\0hello";
@@ -76,15 +76,16 @@ fn told<'a>(words: &'a [&'a str], errors: &'a str) -> Row<'a> {
     }
 }
 
-/// Writes one sealed log into a folder, with one entry, by the steps of a store.
+/// Writes one sealed log with one entry into a folder: header, record and ledgers map.
 fn write_log(rt: &HostRuntime, folder: &str) -> Result<(), Fail> {
     let alloc = rt.alloc();
-    let mut steps = Vec::new(alloc);
-    steps.push(Step::Add(Vec::from_slice(alloc, HELLO)?))?;
-    for work in [Work::Swap, Work::WriteOne, Work::Publish, Work::Roll] {
-        steps.push(Step::Work(work))?;
+    let mut disk = DirDisk::open(rt, folder)?;
+    disk.create(alloc, 0)?;
+    disk.append(alloc, 0, &HEAD)?;
+    disk.append(alloc, 0, &[0; 1004])?;
+    for piece in [LENGTH.as_slice(), HELLO, MAP.as_slice()] {
+        disk.append(alloc, 0, piece)?;
     }
-    drive(alloc, DirDisk::open(rt, folder)?, SETTINGS, &steps)?;
     Ok(())
 }
 
