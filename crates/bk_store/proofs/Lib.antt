@@ -47,3 +47,5 @@ pub mod Written
 pub mod AllChanged
 pub mod KeptRuled
 pub mod PlainCounts
+pub mod KeptName
+pub mod Named

@@ -4,12 +4,13 @@
 ghost use Rattle.std.specs.Prelude.{◌≡◌, ℕ, List, Some};
 ghost use Rattle.std.specs.FinMap as map;
 ghost use Rattle.bk_cache.specs.Caches.{flush_of};
-ghost use Rattle.bk_store.specs.Doors.{MayWrite, WriteTurn, MaySeal, Seals, IsOpenLog, ShowTurn, AllNamed, Restarts, Ends, MaySet, SetTurn};
+ghost use Rattle.bk_store.specs.Doors.{MayWrite, WriteTurn, MaySeal, Seals, IsOpenLog, ShowTurn, MayName, NameTurn, AllNamed, Restarts, Ends, MaySet, SetTurn};
 
 use crate::{LogState, Store};
 use bk_disk::LogDisk;
 use bk_log::LogFault;
 use bk_record::{Key, Location};
+use std::alloc::AllocError;
 
 impl<D: LogDisk> Store<D> {
     /// Puts the flush's next entry at the end of the log that flushes write, notes its place and answers it: the first
@@ -45,6 +46,17 @@ impl<D: LogDisk> Store<D> {
         ensures { ShowTurn self.old log result self.new }
     {
         self.fields.show(log)
+    }
+
+    /// Sends a key of the flush to its place, in a log that shows its whole file, and remembers its entry as a recent one;
+    /// where memory is refused for that, it is not remembered. The entry stays in the flush's cache.
+    ///
+    /// The only fault is want of memory for the index, which leaves the store as it was.
+    pub fn name(&mut self, key: Key, place: Location) -> Result<(), AllocError>
+        requires { MayName self.old key place }
+        ensures { NameTurn self.old key place result self.new }
+    {
+        self.fields.name(key, place)
     }
 
     /// The flush starts again: the logs that it wrote are Readable, its places are forgotten, its cache stays whole.

@@ -12,6 +12,7 @@ mod laws;
 mod lease;
 mod log;
 mod logs;
+mod naming;
 mod open;
 mod places;
 mod reading;
