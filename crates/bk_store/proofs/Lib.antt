@@ -39,6 +39,8 @@ pub mod KeptOne
 pub mod KeptShow
 pub mod Closing
 pub mod KeptSet
+pub mod KeptMake
+pub mod MadeLogs
 pub mod ShowTurns
 pub mod KeptSeal
 pub mod Sealing

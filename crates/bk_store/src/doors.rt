@@ -1,18 +1,34 @@
 //! The doors of a store: the calls by which the crates above change it. Each is a turn of `specs/Doors.antt`, and a
 //! store keeps its promise through each of them.
 
-ghost use Rattle.std.specs.Prelude.{◌≡◌, ℕ, List, Some};
+ghost use Rattle.std.specs.Prelude.{◌≡◌, ℕ, List, Some, true};
 ghost use Rattle.std.specs.FinMap as map;
 ghost use Rattle.bk_cache.specs.Caches.{flush_of};
-ghost use Rattle.bk_store.specs.Doors.{MayWrite, WriteTurn, MaySeal, Seals, IsOpenLog, ShowTurn, MayName, NameTurn, AllNamed, Restarts, Ends, MaySet, SetTurn};
+ghost use Rattle.bk_store.specs.Logs.{is_written};
+ghost use Rattle.bk_store.specs.declared.log.LogState.TheVariants.{Writing};
+ghost use Rattle.bk_store.specs.Doors.{MakeTurn, HasNoWriting, MayWrite, WriteTurn, MaySeal, Seals, IsOpenLog, ShowTurn, MayName, NameTurn, AllNamed, Restarts, Ends, MaySet, SetTurn};
 
-use crate::{LogState, Store};
+use crate::{LogState, MakeFault, Store};
 use bk_disk::LogDisk;
 use bk_log::LogFault;
 use bk_record::{Key, Location};
 use std::alloc::AllocError;
 
 impl<D: LogDisk> Store<D> {
+    /// Makes the next log, a file with a header, and answers its id. It is in this state from then on: `Writing`, for a
+    /// flush, where no other log is that, or `Copying`.
+    ///
+    /// Faults: `LogsFull` and `NoMoreIds`, in this order and before anything is done; `Memory`, which leaves the store as
+    /// it was or comes as `Disk` and `Odd` do, where the device was asked with the id used up. A log whose file stands
+    /// then is held as a Readable one without records.
+    pub fn make_log(&mut self, state: LogState) -> Result<u32, MakeFault>
+        requires written { is_written state ≡ true }
+        requires one { state ≡ Writing → HasNoWriting self.old }
+        ensures { MakeTurn self.old state result self.new }
+    {
+        self.fields.make_log(state)
+    }
+
     /// Puts the flush's next entry at the end of the log that flushes write, notes its place and answers it: the first
     /// entry without a place, by their keys. The log stays at most 2^32 - 1 bytes long.
     ///

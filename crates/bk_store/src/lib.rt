@@ -12,6 +12,7 @@ mod laws;
 mod lease;
 mod log;
 mod logs;
+mod making;
 mod naming;
 mod open;
 mod places;

@@ -1,0 +1,476 @@
+-- A log that is made keeps what a store keeps, and so does one whose making is refused.
+use Rattle.std.proofs.Common.{◌≡◌, ◌≢◌, ◌⊎◌, inl, inr, ℕ, ◌+◌, ◌≤◌, ◌<◌, ◌^◌, ◌↔◌, Bool, true, false, cond, eqb, IsTrue, List, [], length, take, Option, Some, None, IsSome, IsNone, is_some, option_map, unwrap_or, not, Result, Ok, Err, refl, sym, ap, subst, ◌∙◌, arith, length-take}
+use Rattle.std.specs.Option.{option_map_or}
+use Rattle.std.specs.FinMap as finite
+use Rattle.std.specs.FinSet as set
+use Rattle.std.proofs.lemmas.Cmp.{nat_cmp_total}
+use Rattle.std.proofs.lemmas.Bool.{eqb-true, eq-eqb}
+use Rattle.bk_record.specs.Key.{EntryKey}
+use Rattle.bk_record.specs.Location.{Place}
+use Rattle.bk_record.specs.Files.{Files, file_of, header_length, In}
+use Rattle.bk_record.specs.Record.{is_foreign}
+use Rattle.std.specs.List.{filter}
+use Rattle.bk_record.specs.Scan.{entries_of}
+use Rattle.bk_record.specs.Keyed.{log_count}
+use Rattle.bk_record.proofs.Growth.{records_of-short}
+use Rattle.bk_record.proofs.KeyedCounts.{log_count-none}
+use Rattle.bk_head.specs.Header.{empty_header}
+use Rattle.bk_log.specs.Writing as writers
+use Rattle.bk_log.specs.Writing.{CreateTurn, CreateFails, new_writing}
+use Rattle.bk_log.specs.Growing.{Gains}
+use Rattle.bk_log.specs.declared.fault.LogFault.{LogFault}
+use Rattle.bk_log.specs.declared.fault.LogFault.TheVariants as log_faults
+use Rattle.bk_log.proofs.Gains.{create_gains}
+use Rattle.bk_log.proofs.Makes.{writes_new, length-empty_header}
+use Rattle.bk_accounts.specs.Book.{Book, named_in, total_at, total_in, after_open}
+use Rattle.bk_accounts.specs.Sums.{AreSums}
+use Rattle.bk_accounts.proofs.BookLaws.{named_in-after_open, total_in-after_open}
+use Rattle.bk_accounts.proofs.CallerLaws.{sums_open}
+use Rattle.bk_store.specs.Shown.{Shows}
+use Rattle.bk_store.specs.Logs.{Log, Logs, HasOpenView, IsFlushLog, is_open, is_written, made_log, unmade_log, open_parts, published_part}
+use Rattle.bk_store.specs.State.{State, Parts}
+use Rattle.bk_store.specs.Kept.{Keeps, Fits, Promises, IsHeld, IsWrittenBy, IsBacked, entry_measure, acknowledged_entries}
+use Rattle.bk_store.specs.Doors.{MakeTurn, MayMake, IsUnmade, HasNoWriting, IsIn, with_next, logs_left}
+use Rattle.bk_store.specs.Beside.{MakesBeside, GoesOn, opened_for, writing_in, made_writing}
+use Rattle.bk_store.specs.declared.log.LogState.{LogState}
+use Rattle.bk_store.specs.declared.log.LogState.TheVariants.{Writing, Filled, Copying, Readable, Retired, Closed}
+use Rattle.bk_store.specs.declared.answer.MakeFault.{MakeFault}
+use Rattle.bk_store.specs.declared.answer.MakeFault.TheVariants as makes
+use Rattle.bk_store.proofs.Cases.{some_or_none, same_or_apart}
+use Rattle.bk_store.proofs.Growing.{Grows, grows_behind, carries_grown}
+use Rattle.bk_store.proofs.ShownMoves.{shows_grown}
+use Rattle.bk_store.proofs.LogMaps.{log-inserted, log-insert_else, log-insert_cases}
+
+-- a file that is no longer than a header has no entry
+no_entries : (file : List ℕ) → length file ≤ header_length → entries_of file ≡ []
+unfolding entries_of
+no_entries file short = ap (filter (λ (r : ℕ × List ℕ). not (is_foreign r.1))) (records_of-short file short)
+
+-- a writer goes by its file alone
+writes_same : {files files' : Files} (w : writers.Writing) → finite.get files' w.log ≡ finite.get files w.log → writers.Writes files w → writers.Writes files' w
+writes_same w same writes = record {
+  file = writes.file;
+  records = writes.records;
+  stands = same ∙ writes.stands;
+  long = writes.long;
+  text = writes.text;
+  counted = writes.counted;
+  sized = writes.sized;
+  keyed = writes.keyed;
+}
+
+module _ (p : Parts) (keeps : Keeps p) where
+  abbrev next : ℕ
+  next = p.state.next
+
+  -- no log has the next id
+  pub unheld : finite.get p.state.logs next ≡ None
+  unheld = elim (some_or_none (finite.get p.state.logs next)) [
+    | inl none ↦ none
+    | inr there ↦ absurd (let below = (keeps.fits.held next there.0 there.1).below in omega (arith, below))
+  ]
+
+  apart : (id : ℕ) (log : Log) → finite.get p.state.logs id ≡ Some log → id ≢ next
+  apart id log held same = let below = (keeps.fits.held id log held).below in omega (arith, below, same)
+
+  unnamed : log_count p.state.index next ≡ 0
+  unnamed = log_count-none p.state.index next (λ key place is. let seen = keeps.fits.sent key place is in apart place.log seen.log seen.held)
+
+  -- ---- the id is used up
+
+  held_later : (id : ℕ) (log : Log) → IsHeld next id log → IsHeld (next + 1) id log
+  held_later id log was = record { below = let below = was.below in omega (arith, below); written = was.written; by = was.by }
+
+  -- the list may go on
+  pub keeps_listed : (filled : List ℕ) → GoesOn p.filled filled → Keeps (record p { filled = filled })
+  keeps_listed filled goes =
+      let fits = keeps.fits in
+      record {
+        fits = record {
+          allowed = fits.allowed;
+          limit = fits.limit;
+          ids = fits.ids;
+          slots = fits.slots;
+          held = fits.held;
+          sent = fits.sent;
+          placed = fits.placed;
+          writing = fits.writing;
+          filled = λ id log is flushed. goes id (fits.filled id log is flushed);
+          named = fits.named;
+          total = fits.total;
+        };
+        promises = λ honest.
+            let promise = keeps.promises honest in
+            record {
+              carried = promise.carried;
+              carries = promise.carries;
+              shows = promise.shows;
+              recent = promise.recent;
+              counted = promise.counted;
+              backed = promise.backed;
+              fresh = promise.fresh;
+              placed = promise.placed;
+            };
+      }
+
+  pub keeps_used : (files : Files) (failures : ℕ) (filled : List ℕ) → GoesOn p.filled filled → next < 2 ^ 31 → (IsTrue p.state.honest → files ≡ p.state.files)
+      → Keeps (record p { state = with_next p.state files failures p.state.logs; filled = filled })
+  keeps_used files failures filled goes room same =
+      let fits = keeps.fits in
+      record {
+        fits = record {
+          allowed = fits.allowed;
+          limit = fits.limit;
+          ids = omega (arith, room);
+          slots = fits.slots;
+          held = λ id log is. held_later id log (fits.held id log is);
+          sent = fits.sent;
+          placed = record { idle = fits.placed.idle; flushing = fits.placed.flushing; logs = fits.placed.logs; front = fits.placed.front };
+          writing = fits.writing;
+          filled = λ id log is flushed. goes id (fits.filled id log is flushed);
+          named = fits.named;
+          total = fits.total;
+        };
+        promises = λ honest.
+            let promise = keeps.promises honest in
+            subst (λ f. Promises (record p { state = with_next p.state f failures p.state.logs; filled = filled })) (sym (same honest)) (record {
+              carried = promise.carried;
+              carries = promise.carries;
+              shows = promise.shows;
+              recent = promise.recent;
+              counted = promise.counted;
+              backed = promise.backed;
+              fresh = λ id above. promise.fresh id (omega (arith, above));
+              placed = λ key place is.
+                  let old = promise.placed key place is in
+                  record { payload = old.payload; flushing = old.flushing; stands = old.stands };
+            });
+      }
+
+  -- ---- a log is held from now on
+
+  module _ (new : Log) (blank : new.view ≡ None) (short : new.acknowledged ≡ header_length) (files : Files) (failures : ℕ) (writing : Option ℕ) (filled : List ℕ) where
+    abbrev with_new : Parts
+    with_new = record p {
+      state = with_next p.state files failures (finite.insert p.state.logs next new);
+      accounts = after_open p.accounts next;
+      writing = writing;
+      filled = filled;
+    }
+
+    each_new : (P : ℕ → Log → Type 0) → P next new → ((id : ℕ) (log : Log) → finite.get p.state.logs id ≡ Some log → P id log)
+        → (id : ℕ) (log : Log) → finite.get (finite.insert p.state.logs next new) id ≡ Some log → P id log
+    each_new P made others id log is = elim (log-insert_cases p.state.logs next new id log is) [
+      | inl here ↦ subst (λ x. P id x) here.1 (subst (λ x. P x new) (sym here.0) made)
+      | inr other ↦ others id log other.1
+    ]
+
+    still_there : (id : ℕ) (log : Log) → finite.get p.state.logs id ≡ Some log → finite.get (finite.insert p.state.logs next new) id ≡ Some log
+    still_there id log held = log-insert_else p.state.logs next new id (apart id log held) ∙ held
+
+    named_now : (id : ℕ) → named_in (after_open p.accounts next) id
+        ≡ option_map (λ _. log_count p.state.index id) (finite.get (finite.insert p.state.logs next new) id)
+    named_now id = named_in-after_open p.accounts next id
+        ∙ elim (eqb id next) as (λ b. eqb id next ≡ b → cond b (Some 0) (named_in p.accounts id)
+        ≡ option_map (λ _. log_count p.state.index id) (finite.get (finite.insert p.state.logs next new) id)) [
+          | true ↦ λ tied.
+              let here = eqb-true id next tied in
+              ap (λ n. Some n) (sym unnamed ∙ ap (log_count p.state.index) (sym here))
+              ∙ sym (ap (option_map (λ _. log_count p.state.index id)) (log-inserted p.state.logs next new id here))
+          | false ↦ λ other.
+              keeps.fits.named id
+              ∙ ap (option_map (λ _. log_count p.state.index id)) (sym (log-insert_else p.state.logs next new id (λ same. let tied = eq-eqb id next same in cc)))
+        ] refl
+
+    total_now : (id : ℕ) → total_at (after_open p.accounts next) id ≡ cond (eqb id next) 0 (total_at p.accounts id)
+    total_now id = ap (λ o. unwrap_or o 0) (total_in-after_open p.accounts next id)
+        ∙ elim (eqb id next) as (λ b. unwrap_or (cond b (Some 0) (total_in p.accounts id)) 0 ≡ cond b 0 (total_at p.accounts id)) [ true ↦ refl | false ↦ refl ]
+
+    new_fits : MayMake p.state → IsHeld (next + 1) next new
+        → ((id : ℕ) → (writing ≡ Some id) ↔ ((log : Log) × (finite.get (finite.insert p.state.logs next new) id ≡ Some log) × (log.state ≡ Writing)))
+        → GoesOn p.filled filled → ((new.state ≡ Writing) ⊎ (new.state ≡ Filled) → In next filled) → Fits with_new
+    new_fits may held writes goes listed =
+        let fits = keeps.fits in
+        record {
+          allowed = fits.allowed;
+          limit = fits.limit;
+          ids = let room = may.id in omega (arith, room);
+          slots = let room = may.room in
+              let count = finite.len-insert nat_cmp_total p.state.logs next new
+              ∙ ap (λ (o : Option Log). cond (is_some o) (finite.len p.state.logs) (finite.len p.state.logs + 1)) unheld in
+              omega (arith, room, count);
+          held = each_new (λ id l. IsHeld (next + 1) id l) held (λ id l is. held_later id l (fits.held id l is));
+          sent = λ key place is.
+              let seen = fits.sent key place is in
+              record { log = seen.log; view = seen.view; held = still_there place.log seen.log seen.held; opened = seen.opened; view_is = seen.view_is };
+          placed = record {
+            idle = fits.placed.idle;
+            flushing = fits.placed.flushing;
+            logs = λ key place is.
+                let of = fits.placed.logs key place is in
+                record { log = of.log; held = still_there place.log of.log of.held; flushed = of.flushed };
+            front = fits.placed.front;
+          };
+          writing = writes;
+          filled = each_new (λ id l. (l.state ≡ Writing) ⊎ (l.state ≡ Filled) → In id filled) listed (λ id l is flushed. goes id (fits.filled id l is flushed));
+          named = named_now;
+          total = each_new (λ id l. total_at (after_open p.accounts next) id + header_length ≤ l.acknowledged)
+              (let zero : total_at (after_open p.accounts next) next ≡ 0 = total_now next ∙ ap (λ b. cond b 0 (total_at p.accounts next)) (eq-eqb next next refl) in
+              omega (arith, zero, short))
+              (λ id l is.
+              let old = fits.total id l is in
+              let same : total_at (after_open p.accounts next) id ≡ total_at p.accounts id =
+              total_now id ∙ elim (eqb id next) as (λ b. eqb id next ≡ b → cond b 0 (total_at p.accounts id) ≡ total_at p.accounts id) [
+                | true ↦ λ tied. absurd (apart id l is (eqb-true id next tied))
+                | false ↦ λ _. refl
+              ] refl in
+              omega (arith, old, same));
+        }
+
+    parts_now : (id : ℕ) → open_parts (finite.insert p.state.logs next new) id ≡ open_parts p.state.logs id
+    parts_now id =
+        let part : Option Log → List ℕ = λ o. option_map_or (λ (l : Log). cond (is_open l.state) (published_part l) []) o [] in
+        elim (same_or_apart id next) [
+          | inr other ↦ ap part (log-insert_else p.state.logs next new id other)
+          | inl here ↦
+              ap part (log-inserted p.state.logs next new id here)
+              ∙ ap (λ v. cond (is_open new.state) (option_map_or (λ x. x.bytes) v []) []) blank
+              ∙ elim (is_open new.state) as (λ b. cond {A = List ℕ} b [] [] ≡ []) [ true ↦ refl | false ↦ refl ]
+              ∙ sym (ap part (ap (finite.get p.state.logs) here ∙ unheld))
+        ]
+
+    later : length (file_of files next) ≤ header_length → ((id : ℕ) → id ≢ next → finite.get files id ≡ finite.get p.state.files id)
+        → (id : ℕ) → acknowledged_entries files (finite.insert p.state.logs next new) id
+        ≡ cond (eqb id next) (Some []) (acknowledged_entries p.state.files p.state.logs id)
+    later empty only id = elim (eqb id next) as (λ b. eqb id next ≡ b → acknowledged_entries files (finite.insert p.state.logs next new) id
+        ≡ cond b (Some []) (acknowledged_entries p.state.files p.state.logs id)) [
+          | true ↦ λ tied.
+              let here = eqb-true id next tied in
+              ap (option_map (λ (l : Log). entries_of (take l.acknowledged (file_of files id)))) (log-inserted p.state.logs next new id here)
+              ∙ ap (λ n. Some (entries_of (take new.acknowledged (file_of files n)))) here
+              ∙ ap (λ (es : List (ℕ × List ℕ)). Some es) (no_entries (take new.acknowledged (file_of files next))
+              (let cut = length-take new.acknowledged (file_of files next) in omega (arith, cut, empty)))
+          | false ↦ λ other.
+              let there : id ≢ next = λ same. let tied = eq-eqb id next same in cc in
+              ap (option_map (λ (l : Log). entries_of (take l.acknowledged (file_of files id)))) (log-insert_else p.state.logs next new id there)
+              ∙ ap (λ (o : Option (List ℕ)). option_map (λ (l : Log). entries_of (take l.acknowledged (unwrap_or o []))) (finite.get p.state.logs id)) (only id there)
+        ] refl
+
+    new_promises : (promise : Promises p) → Gains p.state.files next [] files → length (file_of files next) ≤ header_length → IsBacked files next new → Promises with_new
+    new_promises promise gains empty backed =
+        let grows : Grows p.state.dead promise.carried (file_of p.state.files) (file_of files) =
+        grows_behind p.state.dead promise.carried next (λ id other. ap (λ (o : Option (List ℕ)). unwrap_or o []) (gains.only id other)) [] gains.records
+        (λ at payload key never. absurd never) in
+        record {
+          carried = promise.carried;
+          carries = carries_grown grows promise.carries;
+          shows = subst (λ ps. Shows (file_of files) ps p.state.index) (λ i id. sym (parts_now id) i) (shows_grown promise.shows (file_of files) grows.stood);
+          recent = promise.recent;
+          counted = sums_open entry_measure promise.counted next (acknowledged_entries files (finite.insert p.state.logs next new)) unnamed (later empty gains.only);
+          backed = each_new (λ id l. IsBacked files id l) backed (λ id l is.
+              let old = promise.backed id l is in
+              let same = gains.only id (apart id l is) in
+              record {
+                stands = ap is_some same ∙ old.stands;
+                writes = λ w writer. writes_same w (ap (finite.get files) ((keeps.fits.held id l is).by w writer).own ∙ same
+                    ∙ ap (finite.get p.state.files) (sym ((keeps.fits.held id l is).by w writer).own)) (old.writes w writer);
+                honest = old.honest;
+              });
+          fresh = λ id above. gains.only id (λ here. omega (arith, above, here)) ∙ promise.fresh id (omega (arith, above));
+          placed = λ key place is.
+              let old = promise.placed key place is in
+              record { payload = old.payload; flushing = old.flushing; stands = grows.stood place key old.payload old.stands };
+        }
+
+    pub kept_new : MayMake p.state → IsHeld (next + 1) next new
+        → ((id : ℕ) → (writing ≡ Some id) ↔ ((log : Log) × (finite.get (finite.insert p.state.logs next new) id ≡ Some log) × (log.state ≡ Writing)))
+        → GoesOn p.filled filled → ((new.state ≡ Writing) ⊎ (new.state ≡ Filled) → In next filled)
+        → (IsTrue p.state.honest → Gains p.state.files next [] files × (length (file_of files next) ≤ header_length) × IsBacked files next new)
+        → Keeps (record p {
+          state = with_next p.state files failures (finite.insert p.state.logs next new);
+          accounts = after_open p.accounts next;
+          writing = writing;
+          filled = filled;
+        })
+    kept_new may held writes goes listed made = record {
+      fits = new_fits may held writes goes listed;
+      promises = λ honest. let m = made honest in new_promises (keeps.promises honest) m.0 m.1 m.2;
+    }
+
+-- ---- which log is Writing then
+
+module _ (p : Parts) (keeps : Keeps p) (new : Log) where
+  -- the new one is not
+  writing_as_before : ¬ (new.state ≡ Writing) → (id : ℕ)
+      → (p.writing ≡ Some id) ↔ ((log : Log) × (finite.get (finite.insert p.state.logs p.state.next new) id ≡ Some log) × (log.state ≡ Writing))
+  writing_as_before other id = (
+    (λ is. let old = (keeps.fits.writing id).0 is in (old.0, log-insert_else p.state.logs p.state.next new id (apart p keeps id old.0 old.1) ∙ old.1, old.2)),
+    (λ now. elim (log-insert_cases p.state.logs p.state.next new id now.0 now.1) [
+      | inl here ↦ absurd (other (ap (λ (l : Log). l.state) here.1 ∙ now.2))
+      | inr old ↦ (keeps.fits.writing id).1 (now.0, old.1, now.2)
+    ]),
+  )
+
+  -- the new one is, and no other
+  writing_now : new.state ≡ Writing → HasNoWriting p.state → (id : ℕ)
+      → (Some p.state.next ≡ Some id) ↔ ((log : Log) × (finite.get (finite.insert p.state.logs p.state.next new) id ≡ Some log) × (log.state ≡ Writing))
+  writing_now is none id = (
+    (λ same. let here : p.state.next ≡ id = cc in (new, log-inserted p.state.logs p.state.next new id (sym here), is)),
+    (λ now. elim (log-insert_cases p.state.logs p.state.next new id now.0 now.1) [
+      | inl here ↦ ap (λ n. Some n) (sym here.0)
+      | inr old ↦ absurd (none id (record { log = now.0; held = old.1; state_is = now.2 }))
+    ]),
+  )
+
+held_made : (state : LogState) (id : ℕ) → is_written state ≡ true → IsHeld (id + 1) id (made_log state id)
+held_made state id written = record {
+  below = omega arith;
+  written = λ _. refl;
+  by = λ w is.
+      let same : new_writing id ≡ w = cc in
+      subst (λ x. IsWrittenBy id (made_log state id) x) same (record { state = written; own = refl; going = refl; long = refl; empty = λ _. refl });
+}
+
+held_unmade : (id : ℕ) → IsHeld (id + 1) id unmade_log
+held_unmade id = record { below = omega arith; written = λ wrong. absurd (cc); by = λ w wrong. absurd (cc) }
+
+file_now : (files files' : Files) (id : ℕ) (bytes : List ℕ) → files' ≡ finite.insert files id bytes → finite.get files' id ≡ Some bytes
+file_now files files' id bytes is = ap (λ m. finite.get m id) is ∙ log-inserted files id bytes id refl
+
+short_now : (files files' : Files) (id : ℕ) (bytes : List ℕ) → files' ≡ finite.insert files id bytes → length bytes ≤ header_length
+    → length (file_of files' id) ≤ header_length
+short_now files files' id bytes is short =
+    let same = ap (λ (o : Option (List ℕ)). length (unwrap_or o [])) (file_now files files' id bytes is) in omega (arith, same, short)
+
+-- what a refused making left, where the file stands
+left_made : (files files' : Files) (id : ℕ) (fault : LogFault) → CreateFails files id true fault files'
+    → (length (file_of files' id) ≤ header_length) × IsSome (finite.get files' id)
+left_made files files' id log_faults.Disk fails =
+    let n = fails.1.0 in
+    let short = length-take n empty_header in
+    let whole = length-empty_header in
+    (short_now files files' id (take n empty_header) fails.1.1 (omega (arith, short, whole)), ap is_some (file_now files files' id (take n empty_header) fails.1.1))
+left_made files files' id log_faults.Memory fails = (short_now files files' id [] fails.1 (omega arith), ap is_some (file_now files files' id [] fails.1))
+left_made files files' id log_faults.Odd never = absurd never
+left_made files files' id log_faults.Failed never = absurd never
+
+left_unmade : (files files' : Files) (id : ℕ) (fault : LogFault) → CreateFails files id false fault files' → files' ≡ files
+left_unmade files files' id log_faults.Disk is = is
+left_unmade files files' id log_faults.Memory is = is.1
+left_unmade files files' id log_faults.Odd is = is.1
+left_unmade files files' id log_faults.Failed never = absurd never
+
+module _ (p q : Parts) (keeps : Keeps p) (state : LogState) (result : Result ℕ MakeFault) (beside : MakesBeside p state result q) where
+  abbrev beside_of : State → Parts
+  beside_of s = record p {
+    state = s;
+    accounts = opened_for s.logs p.accounts p.state.next;
+    writing = made_writing p.writing state result;
+    filled = q.filled;
+  }
+
+  -- the next log is held, and its account is open
+  opened_now : (files : Files) (failures : ℕ) (new : Log)
+      → Keeps (record p {
+        state = with_next p.state files failures (finite.insert p.state.logs p.state.next new);
+        accounts = after_open p.accounts p.state.next;
+        writing = made_writing p.writing state result;
+        filled = q.filled;
+      })
+      → q.state ≡ with_next p.state files failures (finite.insert p.state.logs p.state.next new) → Keeps q
+  opened_now files failures new kept is =
+      let there : opened_for (finite.insert p.state.logs p.state.next new) p.accounts p.state.next ≡ after_open p.accounts p.state.next =
+      ap (λ (o : Option Log). cond (is_some o) (after_open p.accounts p.state.next) p.accounts) (log-inserted p.state.logs p.state.next new p.state.next refl) in
+      subst Keeps (sym (beside.parts ∙ ap beside_of is)) (subst (λ a. Keeps (record p {
+        state = with_next p.state files failures (finite.insert p.state.logs p.state.next new);
+        accounts = a;
+        writing = made_writing p.writing state result;
+        filled = q.filled;
+      })) (sym there) kept)
+
+  -- it is not, and the accounts are as they were
+  unopened : opened_for p.state.logs p.accounts p.state.next ≡ p.accounts
+  unopened = ap (λ (o : Option Log). cond (is_some o) (after_open p.accounts p.state.next) p.accounts) (unheld p keeps)
+
+module _ (p q : Parts) (keeps : Keeps p) (state : LogState) (fault : MakeFault) (beside : MakesBeside p state (Err fault) q) where
+  refused : q.state ≡ p.state → Keeps q
+  refused same =
+      subst Keeps (sym (beside.parts ∙ ap (beside_of p q keeps state (Err fault) beside) same))
+      (subst (λ a. Keeps (record p { accounts = a; filled = q.filled })) (sym (unopened p q keeps state (Err fault) beside))
+      (keeps_listed p keeps q.filled beside.still))
+
+  -- a making that was refused when the device was asked
+  unmade : (told : LogFault) (failures : ℕ) → p.state.next < 2 ^ 31 → MayMake p.state → IsUnmade p.state told failures q.state → Keeps q
+  unmade told failures room may is =
+      elim (is.made) as (λ b. is.made ≡ b → Keeps q) [
+        | true ↦ λ made.
+            let fails = λ (honest : IsTrue p.state.honest).
+            subst (λ b. CreateFails p.state.files p.state.next b told q.state.files) made (is.files honest) in
+            opened_now p q keeps state (Err fault) beside q.state.files failures unmade_log
+            (kept_new p keeps unmade_log refl refl q.state.files failures p.writing q.filled may (held_unmade p.state.next)
+            (writing_as_before p keeps unmade_log (λ wrong. cc)) beside.still (λ wrong. elim wrong [ inl w ↦ cc | inr w ↦ cc ])
+            (λ honest.
+            let left = left_made p.state.files q.state.files p.state.next told (fails honest) in (
+              create_gains {W = Unit {0}} p.state.files q.state.files p.state.next (Err (record { made = is.made; fault = told })) (is.files honest),
+              left.0,
+              record { stands = left.1; writes = λ w wrong. absurd (cc); honest = λ v wrong. absurd (cc) },
+            )))
+            (is.left ∙ ap (λ b. with_next p.state q.state.files failures (logs_left p.state b)) made)
+        | false ↦ λ made.
+            let fails = λ (honest : IsTrue p.state.honest).
+            subst (λ b. CreateFails p.state.files p.state.next b told q.state.files) made (is.files honest) in
+            let left : q.state ≡ with_next p.state q.state.files failures p.state.logs =
+            is.left ∙ ap (λ b. with_next p.state q.state.files failures (logs_left p.state b)) made in
+            subst Keeps (sym (beside.parts ∙ ap (beside_of p q keeps state (Err fault) beside) left))
+            (subst (λ a. Keeps (record p { state = with_next p.state q.state.files failures p.state.logs; accounts = a; filled = q.filled }))
+            (sym (unopened p q keeps state (Err fault) beside))
+            (keeps_used p keeps q.state.files failures q.filled beside.still room
+            (λ honest. left_unmade p.state.files q.state.files p.state.next told (fails honest))))
+      ] refl
+
+made : (p q : Parts) (state : LogState) (id : ℕ) → Keeps p → is_written state ≡ true → (state ≡ Writing → HasNoWriting p.state)
+    → MakeTurn p.state state (Ok id) q.state → MakesBeside p state (Ok id) q
+    → ((n : ℕ) → (made_writing p.writing state (Ok id) ≡ Some n)
+    ↔ ((log : Log) × (finite.get (finite.insert p.state.logs p.state.next (made_log state p.state.next)) n ≡ Some log) × (log.state ≡ Writing)))
+    → ¬ (state ≡ Filled) → Keeps q
+made p q state id keeps written none turn beside writes unfilled =
+    opened_now p q keeps state (Ok id) beside q.state.files p.state.failures (made_log state p.state.next)
+    (kept_new p keeps (made_log state p.state.next) refl refl q.state.files p.state.failures (made_writing p.writing state (Ok id)) q.filled turn.0
+    (held_made state p.state.next written) writes beside.still
+    (λ flushed. elim flushed [ inl w ↦ beside.listed w refl | inr wrong ↦ absurd (unfilled wrong) ])
+    (λ honest.
+    let create = turn.2 honest in
+    let short = length-empty_header in (
+      create_gains {W = Unit {0}} p.state.files q.state.files p.state.next (Ok tt) create,
+      short_now p.state.files q.state.files p.state.next empty_header create.1 (omega (arith, short)),
+      record {
+        stands = ap is_some (file_now p.state.files q.state.files p.state.next empty_header create.1);
+        writes = λ w is. let same : new_writing p.state.next ≡ w = cc in
+            writes_new p.state.files q.state.files p.state.next w create.1 (sym same);
+        honest = λ v wrong. absurd (cc);
+      },
+    )))
+    turn.3
+
+pub keeps_make : (p q : Parts) (state : LogState) (result : Result ℕ MakeFault) → Keeps p → is_written state ≡ true → (state ≡ Writing → HasNoWriting p.state)
+    → MakeTurn p.state state result q.state → MakesBeside p state result q → Keeps q
+keeps_make p q state (Err makes.LogsFull) keeps written none turn beside = refused p q keeps state makes.LogsFull beside turn.1
+keeps_make p q state (Err makes.NoMoreIds) keeps written none turn beside = refused p q keeps state makes.NoMoreIds beside turn.2
+keeps_make p q state (Err makes.Memory) keeps written none turn beside = elim turn.1 [
+  | inl same ↦ refused p q keeps state makes.Memory beside same
+  | inr is ↦ unmade p q keeps state makes.Memory beside log_faults.Memory p.state.failures turn.0.id turn.0 is
+]
+keeps_make p q state (Err makes.Disk) keeps written none turn beside =
+    unmade p q keeps state makes.Disk beside log_faults.Disk (p.state.failures + 1) turn.0.id turn.0 turn.1
+keeps_make p q state (Err makes.Odd) keeps written none turn beside =
+    unmade p q keeps state makes.Odd beside log_faults.Odd p.state.failures turn.0.id turn.0 turn.2
+keeps_make p q Writing (Ok id) keeps written none turn beside =
+    made p q Writing id keeps written none turn beside
+    (λ n. subst (λ m. (Some m ≡ Some n) ↔ ((log : Log) × (finite.get (finite.insert p.state.logs p.state.next (made_log Writing p.state.next)) n ≡ Some log)
+    × (log.state ≡ Writing))) (sym turn.1) (writing_now p keeps (made_log Writing p.state.next) refl (none refl) n)) (λ wrong. cc)
+keeps_make p q Copying (Ok id) keeps written none turn beside =
+    made p q Copying id keeps written none turn beside (writing_as_before p keeps (made_log Copying p.state.next) (λ wrong. cc)) (λ wrong. cc)
+keeps_make p q Filled (Ok id) keeps wrong none turn beside = absurd (cc)
+keeps_make p q Readable (Ok id) keeps wrong none turn beside = absurd (cc)
+keeps_make p q Retired (Ok id) keeps wrong none turn beside = absurd (cc)
+keeps_make p q Closed (Ok id) keeps wrong none turn beside = absurd (cc)

@@ -1,0 +1,234 @@
+-- A log is made: what its slot, its account and its file give the turn.
+use Rattle.std.proofs.Common.{◌≡◌, ◌⊎◌, inl, inr, ℕ, ◌+◌, ◌<◌, ◌^◌, Bool, true, false, cond, IsTrue, List, Option, Some, None, IsNone, is_some, option_map, not, Result, Ok, Err, refl, sym, ap, subst, ◌∙◌, arith}
+use Rattle.std.specs.FinMap as finite
+use Rattle.std.specs.Ordering.{nat_cmp}
+use Rattle.std.specs.FinMap.{nat_cmp-IsAntisymmetric}
+use Rattle.std.proofs.lemmas.Cmp.{nat_cmp_total}
+use Rattle.bk_record.specs.Files.{Files, In}
+use Rattle.bk_record.proofs.Maps.{key_cases, get-insert_else, get-remove_here, get-remove_else, insert-insert}
+use Rattle.bk_record.specs.Keyed.{log_count}
+use Rattle.bk_head.specs.Header.{empty_header}
+use Rattle.bk_disk.specs.Disk.{IsCaused}
+use Rattle.bk_log.specs.Writing as writers
+use Rattle.bk_log.specs.Writing.{CreateFails, new_writing}
+use Rattle.bk_log.specs.declared.fault.LogFault.{LogFault}
+use Rattle.bk_log.specs.declared.fault.LogFault.TheVariants as log_faults
+use Rattle.bk_accounts.specs.Account.{Account, fresh}
+use Rattle.bk_accounts.specs.Book.{Book, IsNotOpen, after_open, after_drop}
+use Rattle.bk_store.specs.Logs.{Log, Logs, made_log, unmade_log}
+use Rattle.bk_store.specs.State.{State, Parts}
+use Rattle.bk_store.specs.Kept.{Keeps}
+use Rattle.bk_store.specs.Doors.{MakeTurn, MayMake, MayMakeTurn, IsUnmade, with_next, logs_left}
+use Rattle.bk_store.specs.Beside.{MakesBeside, HasSlot, HasNoSlot, GoesOn, make_told, opened_for, writing_in, made_writing}
+use Rattle.bk_store.specs.declared.log.LogState.{LogState}
+use Rattle.bk_store.specs.declared.log.LogState.TheVariants.{Writing}
+use Rattle.bk_store.specs.declared.answer.MakeFault.{MakeFault}
+use Rattle.bk_store.specs.declared.answer.MakeFault.TheVariants as makes
+use Rattle.bk_store.proofs.KeptMake.{unheld}
+use Rattle.bk_store.proofs.LogMaps.{log-inserted}
+use Rattle.bk_store.proofs.ShowTurns.{not_failed, failed_once}
+use Rattle.bk_store.proofs.Sealing.{dishonest}
+
+pub not_made : (b : Bool) → not b ≡ true → b ≡ false
+not_made true wrong = sym wrong
+not_made false is = refl
+
+pub was_made : (b : Bool) → not b ≡ false → b ≡ true
+was_made true is = refl
+was_made false wrong = sym wrong
+
+-- ---- the slot
+
+-- a key that was not there is put in and taken out again
+remove-insert : {X : Type 0} (m : finite.FinMap nat_cmp X) (k : ℕ) (v : X) → finite.get m k ≡ None → finite.remove (finite.insert m k v) k ≡ m
+remove-insert {X} m k v none = finite.same_map nat_cmp_total nat_cmp-IsAntisymmetric (finite.remove (finite.insert m k v) k) m
+    (λ q. elim (key_cases nat_cmp_total nat_cmp-IsAntisymmetric q k) [
+      | inl e ↦ ap (finite.get (finite.remove (finite.insert m k v) k)) e ∙ get-remove_here nat_cmp_total nat_cmp-IsAntisymmetric (finite.insert m k v) k
+          ∙ sym (ap (finite.get m) e ∙ none)
+      | inr other ↦ get-remove_else nat_cmp_total nat_cmp-IsAntisymmetric (finite.insert m k v) k q other.1
+          ∙ get-insert_else nat_cmp_total nat_cmp-IsAntisymmetric m k v q other.1
+    ])
+
+none_there : (o : Option Account) → option_map (λ account. account.named) o ≡ None → o ≡ None
+none_there None is = refl
+none_there (Some account) wrong = absurd (cc)
+
+-- the next log has no account
+no_account : (p : Parts) → Keeps p → finite.get p.accounts p.state.next ≡ None
+no_account p keeps = none_there (finite.get p.accounts p.state.next)
+    (keeps.fits.named p.state.next ∙ ap (option_map (λ (l : Log). log_count p.state.index p.state.next)) (unheld p keeps))
+
+pub not_open : (p : Parts) → Keeps p → IsNotOpen p.accounts p.state.next
+not_open p keeps = subst IsNone (sym (no_account p keeps)) refl
+
+-- an account that is opened and dropped
+pub reopened : (p : Parts) → Keeps p → (book left : Book) → book ≡ after_open p.accounts p.state.next → left ≡ after_drop book p.state.next → left ≡ p.accounts
+reopened p keeps book left opened dropped =
+    dropped ∙ ap (λ b. after_drop b p.state.next) opened ∙ remove-insert p.accounts p.state.next fresh (no_account p keeps)
+
+module _ (p now : Parts) (here : p ≡ now) (filled : List ℕ) (book : Book) (logs : Logs) (still : GoesOn p.filled filled) where
+  pub slot_taken : (state : LogState) → book ≡ after_open p.accounts p.state.next → logs ≡ finite.insert p.state.logs p.state.next unmade_log
+      → (state ≡ Writing → In p.state.next filled)
+      → HasSlot now state (record p { state = record p.state { logs = logs }; accounts = book; filled = filled })
+  slot_taken state opened held listed =
+      subst (λ (n : Parts). HasSlot n state (record p { state = record p.state { logs = logs }; accounts = book; filled = filled })) here (record {
+        parts = λ i. record p { state = record p.state { logs = held i }; accounts = opened i; filled = filled };
+        still = still;
+        listed = listed;
+      })
+
+  pub no_slot : book ≡ p.accounts → logs ≡ p.state.logs
+      → HasNoSlot now (record p { state = record p.state { logs = logs }; accounts = book; filled = filled })
+  no_slot same held =
+      subst (λ (n : Parts). HasNoSlot n (record p { state = record p.state { logs = logs }; accounts = book; filled = filled })) here (record {
+        parts = λ i. record p { state = record p.state { logs = held i }; accounts = same i; filled = filled };
+        still = still;
+      })
+
+-- ---- the turn
+
+-- where the log may not be made
+pub may_not : (s : State) (state : LogState) (fault : MakeFault) → MayMakeTurn s (Err fault) → MakeTurn s state (Err fault) s
+may_not s state makes.LogsFull full = (full, refl)
+may_not s state makes.NoMoreIds none = (none.0, none.1, refl)
+may_not s state makes.Memory never = absurd never
+may_not s state makes.Disk never = absurd never
+may_not s state makes.Odd never = absurd never
+
+module _ (p s : Parts) (state : LogState) (slot : HasSlot p state s) where
+  pub slot_held : finite.get s.state.logs s.state.next ≡ Some unmade_log
+  slot_held = ap (λ (q : Parts). finite.get q.state.logs q.state.next) slot.parts ∙ log-inserted p.state.logs p.state.next unmade_log p.state.next refl
+
+  pub slot_next : s.state.next ≡ p.state.next
+  slot_next = ap (λ (q : Parts). q.state.next) slot.parts
+
+  failures_now : s.state.failures ≡ p.state.failures
+  failures_now = ap (λ (q : Parts). q.state.failures) slot.parts
+
+  honest_now : s.state.honest ≡ p.state.honest
+  honest_now = ap (λ (q : Parts). q.state.honest) slot.parts
+
+  pub beside_slot : (t : State) (book : Book) (w : Option ℕ) (result : Result ℕ MakeFault) → book ≡ opened_for t.logs p.accounts p.state.next
+      → w ≡ made_writing p.writing state result → MakesBeside p state result (record s { state = t; accounts = book; writing = w })
+  beside_slot t book w result opened writes = record {
+    parts = λ i. record { state = t; accounts = opened i; writing = writes i; filled = s.filled };
+    still = slot.still;
+    listed = λ is _. slot.listed is;
+  }
+
+  -- the account is open where the log is held
+  opened_there : (logs : Logs) (log : Log) → finite.get logs p.state.next ≡ Some log → s.accounts ≡ opened_for logs p.accounts p.state.next
+  opened_there logs log held = ap (λ (q : Parts). q.accounts) slot.parts
+      ∙ sym (ap (λ (o : Option Log). cond (is_some o) (after_open p.accounts p.state.next) p.accounts) held)
+
+  -- the slot is given back
+  pub slot_gone : Keeps p → (logs : Logs) → logs ≡ finite.remove s.state.logs s.state.next → logs ≡ p.state.logs
+  slot_gone keeps logs gone = gone ∙ ap (λ (q : Parts). finite.remove q.state.logs q.state.next) slot.parts
+      ∙ remove-insert p.state.logs p.state.next unmade_log (unheld p keeps)
+
+  account_gone : Keeps p → (book : Book) → book ≡ after_drop s.accounts s.state.next → book ≡ p.accounts
+  account_gone keeps book gone = gone ∙ ap (λ (q : Parts). after_drop q.accounts q.state.next) slot.parts
+      ∙ remove-insert p.accounts p.state.next fresh (no_account p keeps)
+
+  pub gone_beside : Keeps p → (t : State) (book : Book) (fault : MakeFault) → t.logs ≡ p.state.logs → book ≡ after_drop s.accounts s.state.next
+      → MakesBeside p state (Err fault) (record s { state = t; accounts = book })
+  gone_beside keeps t book fault same gone = beside_slot t book s.writing (Err fault)
+      (account_gone keeps book gone ∙ sym (ap (λ (o : Option Log). cond (is_some o) (after_open p.accounts p.state.next) p.accounts)
+      (ap (λ (l : Logs). finite.get l p.state.next) same ∙ unheld p keeps)))
+      (ap (λ (q : Parts). q.writing) slot.parts)
+
+  pub left_beside : (t : State) (fault : MakeFault) → t.logs ≡ s.state.logs → MakesBeside p state (Err fault) (record s { state = t })
+  left_beside t fault same = beside_slot t s.accounts s.writing (Err fault)
+      (opened_there t.logs unmade_log (ap (finite.get t.logs) (sym slot_next) ∙ ap (λ (l : Logs). finite.get l s.state.next) same ∙ slot_held))
+      (ap (λ (q : Parts). q.writing) slot.parts)
+
+  pub slot_left : s.state.logs ≡ finite.insert p.state.logs p.state.next unmade_log
+  slot_left = ap (λ (q : Parts). q.state.logs) slot.parts
+
+  pub written_slot : (w : Option ℕ) → w ≡ writing_in s.writing s.state.next state → w ≡ writing_in p.writing s.state.next state
+  written_slot w is = is ∙ ap (λ (o : Option ℕ). writing_in o s.state.next state) (ap (λ (q : Parts). q.writing) slot.parts)
+
+  module _ (files : Files) (honest : Bool) (failures : ℕ) (logs : Logs) (same_honest : honest ≡ s.state.honest) where
+    abbrev after : State
+    after = record s.state { files = files; honest = honest; failures = failures; logs = logs; next = s.state.next + 1 }
+
+    -- the file was made
+    pub made_turn : {Told : Type 0} → MayMake p.state → IsCaused s.state.failures failures Told → ¬ Told
+        → logs ≡ finite.insert s.state.logs s.state.next (made_log state s.state.next)
+        → (IsTrue s.state.honest → IsNone (finite.get s.state.files s.state.next) × (files ≡ finite.insert s.state.files s.state.next empty_header))
+        → MakeTurn p.state state (Ok s.state.next) after
+    made_turn may cause never put create = (
+      may,
+      slot_next,
+      (λ h. subst (λ (q : Parts). IsNone (finite.get q.state.files q.state.next) × (files ≡ finite.insert q.state.files q.state.next empty_header))
+          slot.parts (create (honest_now ∙ h))),
+      (λ i. record s.state {
+        files = files;
+        honest = same_honest i;
+        failures = not_failed cause never i;
+        logs = put i;
+        next = s.state.next + 1;
+      })
+          ∙ ap (λ (q : Parts). record q.state {
+            files = files;
+            logs = finite.insert q.state.logs q.state.next (made_log state q.state.next);
+            next = q.state.next + 1;
+          }) slot.parts
+          ∙ ap (λ (l : Logs). with_next p.state files p.state.failures l)
+          (insert-insert nat_cmp_total nat_cmp-IsAntisymmetric p.state.logs p.state.next unmade_log (made_log state p.state.next)),
+    )
+
+    pub made_beside : (w : Option ℕ) → logs ≡ finite.insert s.state.logs s.state.next (made_log state s.state.next)
+        → w ≡ made_writing p.writing state (Ok s.state.next)
+        → MakesBeside p state (Ok s.state.next) (record s { state = after; writing = w })
+    made_beside w put writes = beside_slot after s.accounts w (Ok s.state.next)
+        (opened_there logs (made_log state s.state.next)
+        (ap (finite.get logs) (sym slot_next) ∙ ap (λ (l : Logs). finite.get l s.state.next) put
+        ∙ log-inserted s.state.logs s.state.next (made_log state s.state.next) s.state.next refl)) writes
+
+    -- the making was refused
+    module _ (keeps : Keeps p) (may : MayMake p.state) (made : Bool) (left : logs ≡ logs_left p.state made) where
+      left_is : (n : ℕ) → failures ≡ n → after ≡ with_next p.state files n (logs_left p.state made)
+      left_is n same =
+          (λ i. record s.state { files = files; honest = same_honest i; failures = same i; logs = left i; next = s.state.next + 1 })
+          ∙ ap (λ (q : Parts). record q.state { files = files; failures = n; logs = logs_left p.state made; next = q.state.next + 1 }) slot.parts
+
+      fails_at : (fault : LogFault) → (IsTrue s.state.honest → CreateFails s.state.files s.state.next made fault files)
+          → IsTrue p.state.honest → CreateFails p.state.files p.state.next made fault files
+      fails_at fault fails h = subst (λ (q : Parts). CreateFails q.state.files q.state.next made fault files) slot.parts (fails (honest_now ∙ h))
+
+      unmade_is : (fault : LogFault) (n : ℕ) → failures ≡ n → (IsTrue p.state.honest → CreateFails p.state.files p.state.next made fault files)
+          → IsUnmade p.state fault n after
+      unmade_is fault n same fails = record { made = made; files = fails; left = left_is n same }
+
+      -- no file of the next id stands beside an honest disk, so that nothing is odd
+      never_odd : IsTrue p.state.honest → CreateFails p.state.files p.state.next made log_faults.Odd files → ⊥
+      never_odd h = elim made as (λ b. CreateFails p.state.files p.state.next b log_faults.Odd files → ⊥) [
+        | true ↦ λ wrong. wrong
+        | false ↦ λ fails. let none = (keeps.promises h).fresh p.state.next (omega arith) in let there = fails.0 in let some = sym there ∙ ap is_some none in cc
+      ]
+
+      never_failed : CreateFails p.state.files p.state.next made log_faults.Failed files → ⊥
+      never_failed = elim made as (λ b. CreateFails p.state.files p.state.next b log_faults.Failed files → ⊥) [ true ↦ λ wrong. wrong | false ↦ λ wrong. wrong ]
+
+      unmade_turn : (fault : LogFault) → IsCaused s.state.failures failures (fault ≡ log_faults.Disk)
+          → (IsTrue p.state.honest → CreateFails p.state.files p.state.next made fault files) → MakeTurn p.state state (Err (make_told fault)) after
+      unmade_turn log_faults.Memory cause fails =
+          (may, inr (unmade_is log_faults.Memory p.state.failures (not_failed cause (λ wrong. cc) ∙ failures_now) fails))
+      unmade_turn log_faults.Disk cause fails =
+          (may, unmade_is log_faults.Disk (p.state.failures + 1) (failed_once cause refl ∙ ap (λ n. n + 1) failures_now) fails)
+      unmade_turn log_faults.Odd cause fails = (
+        may,
+        dishonest p.state.honest (λ h. never_odd h (fails h)),
+        unmade_is log_faults.Odd p.state.failures (not_failed cause (λ wrong. cc) ∙ failures_now) fails,
+      )
+      unmade_turn log_faults.Failed cause fails = (
+        may,
+        dishonest p.state.honest (λ h. never_failed (fails h)),
+        unmade_is log_faults.Odd p.state.failures (not_failed cause (λ wrong. cc) ∙ failures_now) (λ h. absurd (never_failed (fails h))),
+      )
+
+      pub refused_turn : (fault : LogFault) (told : MakeFault) → told ≡ make_told fault → IsCaused s.state.failures failures (fault ≡ log_faults.Disk)
+          → (IsTrue s.state.honest → CreateFails s.state.files s.state.next made fault files) → MakeTurn p.state state (Err told) after
+      refused_turn fault told is cause fails =
+          subst (λ t. MakeTurn p.state state (Err t) after) (sym is) (unmade_turn fault cause (fails_at fault fails))
