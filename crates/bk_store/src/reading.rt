@@ -1,14 +1,16 @@
 //! What is to be seen of a store, for the crates above.
 
-ghost use Rattle.std.specs.Prelude.{◌≡◌, ◌↔◌, IsSome, IsTrue, option_map};
+ghost use Rattle.std.specs.Prelude.{◌≡◌, ◌↔◌, IsSome, IsTrue, IfSome, option_map, slice_get};
 ghost use Rattle.std.specs.FinMap as map;
+ghost use Rattle.bk_record.specs.Keyed.{log_count};
 ghost use Rattle.bk_cache.specs.Caches.{flush_of};
 ghost use Rattle.bk_store.specs.Limits.{IsAllowed};
-ghost use Rattle.bk_store.specs.Logs.{last_view, view_of};
+ghost use Rattle.bk_store.specs.Logs.{IsFlushLog, last_view, view_of};
 
 use crate::{Settings, Store};
 use bk_disk::LogDisk;
 use bk_index::Index;
+use bk_record::{Key, Location};
 use std::sync::Arc;
 
 impl<D: LogDisk> Store<D> {
@@ -46,6 +48,21 @@ impl<D: LogDisk> Store<D> {
         ensures { result ≡ map.len self.now.places }
     {
         self.fields.places.len()
+    }
+
+    /// The place of the flush's entry of this number in the order of their keys, and its key; its log is the flush's.
+    pub fn placed(&self, number: usize) -> Option<(Key, Location)>
+        ensures value { result ≡ slice_get (map.entries self.now.places) number }
+        ensures log { IfSome result (λ e. IsFlushLog self.now.logs e.1.log) }
+    {
+        Some(*self.fields.places.pairs().get(number)?)
+    }
+
+    /// How many keys the index sends to a log, `None` where no such log is held.
+    pub fn named(&self, id: u32) -> Option<u64>
+        ensures { result ≡ option_map (λ _. log_count self.now.index id) (map.get self.now.logs id) }
+    {
+        self.fields.accounts.named(id).ok()
     }
 
     /// The index: the place of each key that is read from a log.
