@@ -149,7 +149,8 @@ module _ (p : Parts) (keeps : Keeps p) where
 
   -- ---- a log is held from now on
 
-  module _ (new : Log) (blank : new.view ≡ None) (short : new.acknowledged ≡ header_length) (files : Files) (failures : ℕ) (writing : Option ℕ) (filled : List ℕ) where
+  module _ (new : Log) (blank : new.view ≡ None) (short : new.acknowledged ≡ header_length)
+      (files : Files) (failures : ℕ) (writing : Option ℕ) (filled : List ℕ) where
     abbrev with_new : Parts
     with_new = record p {
       state = with_next p.state files failures (finite.insert p.state.logs next new);
@@ -179,7 +180,8 @@ module _ (p : Parts) (keeps : Keeps p) where
               ∙ sym (ap (option_map (λ _. log_count p.state.index id)) (log-inserted p.state.logs next new id here))
           | false ↦ λ other.
               keeps.fits.named id
-              ∙ ap (option_map (λ _. log_count p.state.index id)) (sym (log-insert_else p.state.logs next new id (λ same. let tied = eq-eqb id next same in cc)))
+              ∙ ap (option_map (λ _. log_count p.state.index id))
+              (sym (log-insert_else p.state.logs next new id (λ same. let tied = eq-eqb id next same in cc)))
         ] refl
 
     total_now : (id : ℕ) → total_at (after_open p.accounts next) id ≡ cond (eqb id next) 0 (total_at p.accounts id)
@@ -215,7 +217,8 @@ module _ (p : Parts) (keeps : Keeps p) where
           filled = each_new (λ id l. (l.state ≡ Writing) ⊎ (l.state ≡ Filled) → In id filled) listed (λ id l is flushed. goes id (fits.filled id l is flushed));
           named = named_now;
           total = each_new (λ id l. total_at (after_open p.accounts next) id + header_length ≤ l.acknowledged)
-              (let zero : total_at (after_open p.accounts next) next ≡ 0 = total_now next ∙ ap (λ b. cond b 0 (total_at p.accounts next)) (eq-eqb next next refl) in
+              (let zero : total_at (after_open p.accounts next) next ≡ 0 =
+              total_now next ∙ ap (λ b. cond b 0 (total_at p.accounts next)) (eq-eqb next next refl) in
               omega (arith, zero, short))
               (λ id l is.
               let old = fits.total id l is in
@@ -253,10 +256,12 @@ module _ (p : Parts) (keeps : Keeps p) where
           | false ↦ λ other.
               let there : id ≢ next = λ same. let tied = eq-eqb id next same in cc in
               ap (option_map (λ (l : Log). entries_of (take l.acknowledged (file_of files id)))) (log-insert_else p.state.logs next new id there)
-              ∙ ap (λ (o : Option (List ℕ)). option_map (λ (l : Log). entries_of (take l.acknowledged (unwrap_or o []))) (finite.get p.state.logs id)) (only id there)
+              ∙ ap (λ (o : Option (List ℕ)). option_map (λ (l : Log). entries_of (take l.acknowledged (unwrap_or o []))) (finite.get p.state.logs id))
+              (only id there)
         ] refl
 
-    new_promises : (promise : Promises p) → Gains p.state.files next [] files → length (file_of files next) ≤ header_length → IsBacked files next new → Promises with_new
+    new_promises : (promise : Promises p) → Gains p.state.files next [] files → length (file_of files next) ≤ header_length → IsBacked files next new
+        → Promises with_new
     new_promises promise gains empty backed =
         let grows : Grows p.state.dead promise.carried (file_of p.state.files) (file_of files) =
         grows_behind p.state.dead promise.carried next (λ id other. ap (λ (o : Option (List ℕ)). unwrap_or o []) (gains.only id other)) [] gains.records
@@ -266,7 +271,8 @@ module _ (p : Parts) (keeps : Keeps p) where
           carries = carries_grown grows promise.carries;
           shows = subst (λ ps. Shows (file_of files) ps p.state.index) (λ i id. sym (parts_now id) i) (shows_grown promise.shows (file_of files) grows.stood);
           recent = promise.recent;
-          counted = sums_open entry_measure promise.counted next (acknowledged_entries files (finite.insert p.state.logs next new)) unnamed (later empty gains.only);
+          counted = sums_open entry_measure promise.counted next (acknowledged_entries files (finite.insert p.state.logs next new)) unnamed
+              (later empty gains.only);
           backed = each_new (λ id l. IsBacked files id l) backed (λ id l is.
               let old = promise.backed id l is in
               let same = gains.only id (apart id l is) in
@@ -348,8 +354,10 @@ left_made : (files files' : Files) (id : ℕ) (fault : LogFault) → CreateFails
 left_made files files' id log_faults.Disk fails =
     let n = fails.1.0 in
     let short = length-take n empty_header in
-    let whole = length-empty_header in
-    (short_now files files' id (take n empty_header) fails.1.1 (omega (arith, short, whole)), ap is_some (file_now files files' id (take n empty_header) fails.1.1))
+    let whole = length-empty_header in (
+      short_now files files' id (take n empty_header) fails.1.1 (omega (arith, short, whole)),
+      ap is_some (file_now files files' id (take n empty_header) fails.1.1),
+    )
 left_made files files' id log_faults.Memory fails = (short_now files files' id [] fails.1 (omega arith), ap is_some (file_now files files' id [] fails.1))
 left_made files files' id log_faults.Odd never = absurd never
 left_made files files' id log_faults.Failed never = absurd never
@@ -380,7 +388,8 @@ module _ (p q : Parts) (keeps : Keeps p) (state : LogState) (result : Result ℕ
       → q.state ≡ with_next p.state files failures (finite.insert p.state.logs p.state.next new) → Keeps q
   opened_now files failures new kept is =
       let there : opened_for (finite.insert p.state.logs p.state.next new) p.accounts p.state.next ≡ after_open p.accounts p.state.next =
-      ap (λ (o : Option Log). cond (is_some o) (after_open p.accounts p.state.next) p.accounts) (log-inserted p.state.logs p.state.next new p.state.next refl) in
+      ap (λ (o : Option Log). cond (is_some o) (after_open p.accounts p.state.next) p.accounts)
+      (log-inserted p.state.logs p.state.next new p.state.next refl) in
       subst Keeps (sym (beside.parts ∙ ap beside_of is)) (subst (λ a. Keeps (record p {
         state = with_next p.state files failures (finite.insert p.state.logs p.state.next new);
         accounts = a;

@@ -18,7 +18,7 @@ use Rattle.bk_accounts.specs.Book.{Book, IsNotOpen, after_open, after_drop}
 use Rattle.bk_store.specs.Logs.{Log, Logs, made_log, unmade_log}
 use Rattle.bk_store.specs.State.{State, Parts}
 use Rattle.bk_store.specs.Kept.{Keeps}
-use Rattle.bk_store.specs.Doors.{MakeTurn, MayMake, MayMakeTurn, IsUnmade, with_next, logs_left}
+use Rattle.bk_store.specs.Doors.{MakeTurn, MayMake, IsUnmade, with_next, logs_left}
 use Rattle.bk_store.specs.Beside.{MakesBeside, HasSlot, HasNoSlot, GoesOn, make_told, opened_for, writing_in, made_writing}
 use Rattle.bk_store.specs.declared.log.LogState.{LogState}
 use Rattle.bk_store.specs.declared.log.LogState.TheVariants.{Writing}
@@ -86,14 +86,6 @@ module _ (p now : Parts) (here : p ≡ now) (filled : List ℕ) (book : Book) (l
       })
 
 -- ---- the turn
-
--- where the log may not be made
-pub may_not : (s : State) (state : LogState) (fault : MakeFault) → MayMakeTurn s (Err fault) → MakeTurn s state (Err fault) s
-may_not s state makes.LogsFull full = (full, refl)
-may_not s state makes.NoMoreIds none = (none.0, none.1, refl)
-may_not s state makes.Memory never = absurd never
-may_not s state makes.Disk never = absurd never
-may_not s state makes.Odd never = absurd never
 
 module _ (p s : Parts) (state : LogState) (slot : HasSlot p state s) where
   pub slot_held : finite.get s.state.logs s.state.next ≡ Some unmade_log

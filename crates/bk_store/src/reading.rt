@@ -4,10 +4,11 @@ ghost use Rattle.std.specs.Prelude.{◌≡◌, ◌↔◌, IsSome, IsTrue, IfSome
 ghost use Rattle.std.specs.FinMap as map;
 ghost use Rattle.bk_record.specs.Keyed.{log_count};
 ghost use Rattle.bk_cache.specs.Caches.{flush_of};
+ghost use Rattle.bk_store.specs.Doors.{IsWritingLog, MayMakeTurn};
 ghost use Rattle.bk_store.specs.Limits.{IsAllowed};
 ghost use Rattle.bk_store.specs.Logs.{IsFlushLog, last_view, view_of};
 
-use crate::{Settings, Store};
+use crate::{MakeFault, Settings, Store};
 use bk_disk::LogDisk;
 use bk_index::Index;
 use bk_record::{Key, Location};
@@ -27,6 +28,20 @@ impl<D: LogDisk> Store<D> {
         ensures { option_map (λ view. view_of D.View.bytes D.View.honest D.View.sound view.now.value) result ≡ last_view self.now.logs id }
     {
         self.fields.logs.view(id)
+    }
+
+    /// The log that flushes write, if there is one.
+    pub fn writing(&self) -> Option<u32>
+        ensures { IsWritingLog self.now result }
+    {
+        self.fields.writing
+    }
+
+    /// Whether the next log may be made: `LogsFull` where all slots are taken, then `NoMoreIds` where the last id is used up.
+    pub fn may_make(&self) -> Result<(), MakeFault>
+        ensures { MayMakeTurn self.now result }
+    {
+        self.fields.may_make()
     }
 
     /// Whether a flush runs.
