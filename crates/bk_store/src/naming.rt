@@ -34,7 +34,7 @@ impl<D: LogDisk> Fields<D> {
         ensures err { OnErr result (self.new ≡ self.old) }
     {
         let before = self.index.insert(key, place)?;
-        // There is one name for each key at most.
+        // A log has at most as many names as the index has keys, so there is room for one more.
         let _keys = self.index.len();
         if let Some(before) = before {
             self.accounts.unname(before.log());
