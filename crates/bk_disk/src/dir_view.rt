@@ -23,6 +23,8 @@ impl LogView for DirView {
 
     ghost sound = { λ _. false };
 
+    fn bounds(&self) {}
+
     fn end(&self) -> u64 {
         self.end
     }

@@ -5,6 +5,7 @@
 //! doesn't fall, and `Disk` is answered only where it rose. An honest disk may fail.
 
 ghost use Rattle.std.specs.Prelude.{◌≡◌, ℕ, ◌<◌, ◌^◌, Bool, false, List, IsTrue, IsErrOf};
+ghost use Rattle.std.specs.List.{All};
 ghost use Rattle.bk_record.specs.Files.{Files};
 ghost use Rattle.bk_disk.specs.Disk.{AreLogFiles, HasCause, Lists, Measures, Creates, Appends, Patches, Syncs, Reads, Views, Removes, ReadsView, view_end};
 
@@ -23,6 +24,10 @@ pub trait LogView: Send + Sync + Drop {
     ghost honest: { Self → Bool };
 
     ghost sound: { Self → Bool };
+
+    /// Does nothing: what a view keeps. An honest view shows bytes, numbers below 2^8.
+    fn bounds(&self)
+        ensures { IsTrue (honest self.now) → All (λ b. b < 2 ^ 8) (bytes self.now) };
 
     /// The position at which the view ends: the log's length when the view was made, or 1024 where that is less.
     fn end(&self) -> u64

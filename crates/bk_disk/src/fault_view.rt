@@ -36,6 +36,10 @@ impl<V: LogView> LogView for FaultView<V> {
 
     ghost sound = { λ view. view.sound && not view.broken };
 
+    fn bounds(&self) {
+        self.inner.bounds()
+    }
+
     fn end(&self) -> u64 {
         self.inner.end()
     }

@@ -1,6 +1,7 @@
 //! A view of a log in memory: the log's blocks as they were, shared with the log.
 
-ghost use Rattle.std.specs.Prelude.{◌≡◌, true};
+ghost use Rattle.std.specs.Prelude.{◌≡◌, ◌<◌, ◌^◌, true};
+ghost use Rattle.std.specs.List.{All};
 
 use crate::blocks::Blocks;
 use crate::disk::HEADER;
@@ -15,15 +16,19 @@ pub struct MemView {
 }
 
 impl Model for MemView {
-    ghost use Rattle.std.specs.Prelude.{ℕ, List};
+    ghost use Rattle.std.specs.Prelude.{ℕ, List, ◌<◌, ◌^◌};
+    ghost use Rattle.std.specs.List.{All};
 
     ghost Value = { List ℕ };
 
     ghost view = { λ view. view.bytes };
+
+    ghost invariant = { λ view. All (λ b. b < 2 ^ 8) view.bytes };
 }
 
 impl MemView {
     pub(crate) fn new(bytes: Blocks) -> Self
+        requires { All (λ b. b < 2 ^ 8) bytes }
         ensures { result ≡ bytes }
     {
         MemView { bytes }
@@ -36,6 +41,10 @@ impl LogView for MemView {
     ghost honest = { λ _. true };
 
     ghost sound = { λ _. true };
+
+    fn bounds(&self) {
+        let _ = &self.bytes;
+    }
 
     fn end(&self) -> u64 {
         self.bytes.len().max(HEADER)
