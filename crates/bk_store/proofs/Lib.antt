@@ -51,3 +51,5 @@ pub mod KeptRuled
 pub mod PlainCounts
 pub mod KeptName
 pub mod Named
+pub mod NextEntry
+pub mod HeldWriters

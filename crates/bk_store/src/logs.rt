@@ -8,6 +8,7 @@ ghost use Rattle.bk_disk.specs.Disk.{IsCaused};
 ghost use Rattle.bk_log.specs.Writing.{Writing, Writes, PutTurn};
 ghost use Rattle.bk_store.specs.Logs.{Log, AllChanged, IsFlushLog, in_state, closed_log, settled_as, unfilled_as, last_view, view_of, with_view};
 ghost use Rattle.bk_store.specs.Putting.{put_log, IsPutAt, MayPut};
+ghost use Rattle.bk_store.specs.Doors.{writer_of};
 
 use crate::LogState;
 use crate::log::HeldLog;
@@ -82,6 +83,13 @@ impl<V: LogView> LogTable<V> {
         ensures { option_map (λ view. view_of V.bytes V.honest V.sound view.now.value) result ≡ last_view self.now id }
     {
         self.get(id)?.view.as_ref()
+    }
+
+    /// The writer of a log, `None` where no such log is held or it is not written.
+    pub fn writer(&self, id: u32) -> Option<&LogWriter>
+        ensures { option_map (λ writer. writer.now) result ≡ writer_of self.now id }
+    {
+        self.get(id)?.writer.as_ref()
     }
 
     /// Puts a log into a state.

@@ -1,16 +1,19 @@
 //! What is to be seen of a store, for the crates above.
 
-ghost use Rattle.std.specs.Prelude.{◌≡◌, ◌↔◌, IsSome, IsTrue, IfSome, option_map, slice_get};
+ghost use Rattle.std.specs.Prelude.{◌≡◌, ◌≤◌, ◌↔◌, Ok, IsSome, IsTrue, IfSome, length, option_map, slice_get};
 ghost use Rattle.std.specs.FinMap as map;
+ghost use Rattle.bk_record.specs.Files.{header_length};
 ghost use Rattle.bk_record.specs.Keyed.{log_count};
+ghost use Rattle.bk_record.specs.Record.{max_added, read_added};
 ghost use Rattle.bk_cache.specs.Caches.{flush_of};
-ghost use Rattle.bk_store.specs.Doors.{IsWritingLog, MayMakeTurn};
+ghost use Rattle.bk_store.specs.Doors.{IsNextEntry, IsWritingLog, MayMakeTurn, writer_of};
 ghost use Rattle.bk_store.specs.Limits.{IsAllowed};
 ghost use Rattle.bk_store.specs.Logs.{IsFlushLog, last_view, view_of};
 
 use crate::{MakeFault, Settings, Store};
 use bk_disk::LogDisk;
 use bk_index::Index;
+use bk_log::LogWriter;
 use bk_record::{Key, Location};
 use std::sync::Arc;
 
@@ -37,6 +40,15 @@ impl<D: LogDisk> Store<D> {
         self.fields.writing
     }
 
+    /// The writer of a log, `None` where no such log is held or it is not written. A log without records ends at its
+    /// header's end.
+    pub fn writer(&self, id: u32) -> Option<&LogWriter>
+        ensures value { option_map (λ writer. writer.now) result ≡ writer_of self.now.logs id }
+        ensures empty { IfSome result (λ writer. writer.now.count ≡ 0 → writer.now.end ≡ header_length) }
+    {
+        self.fields.logs.writer(id)
+    }
+
     /// Whether the next log may be made: `LogsFull` where all slots are taken, then `NoMoreIds` where the last id is used up.
     pub fn may_make(&self) -> Result<(), MakeFault>
         ensures { MayMakeTurn self.now result }
@@ -56,6 +68,17 @@ impl<D: LogDisk> Store<D> {
         ensures { result ≡ map.len (flush_of self.now.caches) }
     {
         self.fields.caches.flush_len()
+    }
+
+    /// The flush's first entry without a place, by their keys: its key, and its payload of 16 to 1,048,576 bytes. `None`
+    /// where every entry has a place, or no flush runs.
+    pub fn next_entry(&self) -> Option<(Key, &Arc<Vec<u8>>)>
+        ensures next { IsNextEntry self.now (option_map (λ e. (e.0, e.1.now.value.items)) result) }
+        ensures keyed { IfSome result (λ e. read_added e.1.now.value.items ≡ Ok e.0) }
+        ensures least { IfSome result (λ e. 16 ≤ length e.1.now.value.items) }
+        ensures most { IfSome result (λ e. length e.1.now.value.items ≤ max_added) }
+    {
+        self.fields.caches.flushing_after(self.fields.places.last())
     }
 
     /// How many entries of the flush have a place.
