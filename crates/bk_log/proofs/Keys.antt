@@ -1,5 +1,5 @@
 -- Keys of payloads that are compared.
-use Rattle.std.proofs.Common.{◌≡◌, Bool, true, ◌&&◌, Some, eqb, eq-eqb, ap}
+use Rattle.std.proofs.Common.{◌≡◌, true, ◌&&◌, Some, eqb, eq-eqb, ap}
 use Rattle.std.proofs.lemmas.Bool.{and_parts, and_from, eqb-true}
 use Rattle.bk_record.specs.Key.{EntryKey}
 

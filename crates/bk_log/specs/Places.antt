@@ -4,7 +4,8 @@ use Rattle.bk_record.specs.Key.{EntryKey}
 use Rattle.bk_record.specs.Record.{key_of}
 use Rattle.bk_record.specs.Body.{Body}
 use Rattle.bk_record.specs.Piece.{BeginsWith}
-use Rattle.bk_record.specs.Files.{header_length, In}
+use Rattle.bk_record.specs.Files.{header_length, records_of, In}
+use Rattle.bk_record.specs.Spelling.{IsBytes}
 use Rattle.bk_disk.specs.Disk.{IsInView}
 use Rattle.bk_log.specs.declared.reading.ReadFault.{ReadFault}
 use Rattle.bk_log.specs.declared.reading.ReadFault.TheVariants as reads
@@ -42,8 +43,10 @@ missed reads.PastEnd = NotThere
 missed reads.Memory = Memory
 missed reads.Odd = Odd
 
--- At a position stands one record at most, and where a record of the log's list has its payload there, it is that one.
+-- At a position stands one record at most, and where a record of the log's list has its payload there, it is that one;
+-- also of the list that is computed, where the file's numbers are bytes.
 pub record StandsOnce (file : List ℕ) (at : ℕ) : Type 0 where
   pub one : (payload other : List ℕ) → HasRecordAt file at payload → HasRecordAt file at other → payload ≡ other
   pub listed : (payload rest : List ℕ) (records : List (ℕ × List ℕ)) → Body header_length (drop header_length file) records rest
       → In (at, payload) records → HasRecordAt file at payload
+  pub computed : (payload : List ℕ) → IsBytes file → In (at, payload) (records_of file) → HasRecordAt file at payload

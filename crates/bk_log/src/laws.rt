@@ -25,7 +25,7 @@ pub fn a_scan_goes_on()
 {}
 
 /// At each position of a log stands one record at most, so a fetch has one answer; and where a record of the log's list
-/// has its payload there, it is that record.
+/// has its payload there, it is that record, also of the list that is computed, where the log's numbers are bytes.
 pub fn one_record_at_a_place()
     ensures { (file : List ℕ) (at : ℕ) → StandsOnce file at }
 {}
