@@ -62,6 +62,17 @@ pub flush_written : (s : State) (key : EntryKey) (payload : List ℕ) → caches
     → written_at s key ≡ Some payload
 flush_written s key payload = flush_held s.caches key payload
 
+-- the record that is put has what the map has
+pub put_mapped : (map : Payloads) (w : writers.Writing) (key : EntryKey) (payload : List ℕ) → key_of payload ≡ Some key → finite.get map key ≡ Some payload
+    → (at : ℕ) (b : List ℕ) (k : EntryKey) → In (at, b) (put_record w payload) → key_of b ≡ Some k → finite.get map k ≡ Some b
+put_mapped map w key payload keyed mapped at b k there is_key = elim there [
+  | inr never ↦ absurd never
+  | inl here ↦
+      let same : payload ≡ b = ap (λ (r : ℕ × List ℕ). r.1) here in
+      let one : key ≡ k = same_Some key k (sym keyed ∙ ap key_of same ∙ is_key) in
+      ap (λ x. finite.get map x) (sym one) ∙ mapped ∙ ap (λ (x : List ℕ). Some x) same
+]
+
 -- ---- room is made in an account
 
 total_readied : (book : Book) (log ledger q : ℕ) → total_at (after_ready book log ledger) q ≡ total_at book q
@@ -277,20 +288,11 @@ module _ (p : Parts) (keeps : Keeps p) (id : ℕ) (log : Log) (held : finite.get
         (w.end + 4, payload) (acknowledged_entries files (finite.insert p.state.logs id new)) (entries_were p.state.logs id log new held p.state.files)
         (ap (set.contains p.state.dead) (sym ledger) ∙ alive) later)
 
-    put_mapped : (at : ℕ) (b : List ℕ) (k : EntryKey) → In (at, b) (put_record w payload) → key_of b ≡ Some k → set.contains p.state.dead k.ledger ≡ false
-        → finite.get promise.carried k ≡ Some b
-    put_mapped at b k there is_key _ = elim there [
-      | inr never ↦ absurd never
-      | inl here ↦
-          let same : payload ≡ b = ap (λ (r : ℕ × List ℕ). r.1) here in
-          let one : key ≡ k = same_Some key k (sym keyed ∙ ap key_of same ∙ is_key) in
-          ap (λ x. finite.get promise.carried x) (sym one) ∙ mapped ∙ ap (λ (x : List ℕ). Some x) same
-    ]
-
     pub put_promises : Promises (with_one p id new files p.state.failures counted_book p.writing)
     put_promises =
         let old = promise.backed id log held in
-        promises_one p id log new held files p.state.failures counted_book p.writing keeps.fits promise (put_record w payload) put_gained put_mapped
+        promises_one p id log new held files p.state.failures counted_book p.writing keeps.fits promise (put_record w payload) put_gained
+        (λ at b k there is_key _. put_mapped promise.carried w key payload keyed mapped at b k there is_key)
         (λ stood. subst (λ ps. Shows (file_of files) ps p.state.index) (λ i q. sym (parts_same p.state.logs id log new held refl refl q) i)
         (shows_grown promise.shows (file_of files) stood))
         (record {
@@ -372,13 +374,7 @@ failed_kept p id key payload keeps may flushing sound log held files failures pa
           elim gains [
             | inl all ↦ closed_promise p keeps id Filled log held w writer refl refl opened files failures promise (put_record w payload)
                 (subst (λ n. Gains p.state.files n (put_record w payload) files) own all)
-                (λ at b k there is_key _. elim there [
-                  | inr never ↦ absurd never
-                  | inl here ↦
-                      let same : payload ≡ b = ap (λ (r : ℕ × List ℕ). r.1) here in
-                      let tied : key ≡ k = same_Some key k (sym keyed ∙ ap key_of same ∙ is_key) in
-                      ap (λ x. finite.get promise.carried x) (sym tied) ∙ mapped ∙ ap (λ (x : List ℕ). Some x) same
-                ])
+                (λ at b k there is_key _. put_mapped promise.carried w key payload keyed mapped at b k there is_key)
             | inr none ↦ closed_promise p keeps id Filled log held w writer refl refl opened files failures promise []
                 (subst (λ n. Gains p.state.files n [] files) own none) (λ at b k never. absurd never)
           ];

@@ -51,5 +51,6 @@ pub mod KeptRuled
 pub mod PlainCounts
 pub mod KeptName
 pub mod Named
+pub mod SameMeaning
 pub mod NextEntry
 pub mod HeldWriters

@@ -27,3 +27,7 @@ meaning_at s key = if set.contains s.dead key.ledger then None else option_or (w
 -- The map is what the files and the cached pairs give, at every key.
 abbrev pub IsMeaning : Payloads → State → Type 0
 IsMeaning map s = (key : EntryKey) → finite.get map key ≡ meaning_at s key
+
+-- At every key the second means what the first means.
+abbrev pub MeansTheSame : State → State → Type 0
+MeansTheSame s t = (key : EntryKey) → meaning_at t key ≡ meaning_at s key

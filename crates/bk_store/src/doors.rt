@@ -1,10 +1,12 @@
 //! The doors of a store: the calls by which the crates above change it. Each is a turn of `specs/Doors.antt`, and a
-//! store keeps its promise through each of them.
+//! store keeps its promise through each of them. None changes what a store means: beside an honest disk each key has the
+//! payload that it had (`meaning`).
 
-ghost use Rattle.std.specs.Prelude.{◌≡◌, ℕ, List, Some, true};
+ghost use Rattle.std.specs.Prelude.{◌≡◌, ℕ, List, Some, IsTrue, true};
 ghost use Rattle.std.specs.FinMap as map;
 ghost use Rattle.bk_cache.specs.Caches.{flush_of};
 ghost use Rattle.bk_store.specs.Logs.{is_written};
+ghost use Rattle.bk_store.specs.Meaning.{MeansTheSame};
 ghost use Rattle.bk_store.specs.declared.log.LogState.TheVariants.{Writing};
 ghost use Rattle.bk_store.specs.Doors.{MakeTurn, HasNoWriting, MayWrite, WriteTurn, MaySeal, Seals, IsOpenLog, ShowTurn, MayName, NameTurn, AllNamed, Restarts, Ends, MaySet, SetTurn};
 
@@ -24,7 +26,8 @@ impl<D: LogDisk> Store<D> {
     pub fn make_log(&mut self, state: LogState) -> Result<u32, MakeFault>
         requires written { is_written state ≡ true }
         requires one { state ≡ Writing → HasNoWriting self.old }
-        ensures { MakeTurn self.old state result self.new }
+        ensures turn { MakeTurn self.old state result self.new }
+        ensures meaning { IsTrue self.old.honest → MeansTheSame self.old self.new }
     {
         self.fields.make_log(state)
     }
@@ -36,8 +39,9 @@ impl<D: LogDisk> Store<D> {
     /// `Odd`: the log is Filled, written no more, and the entry has no place. `Failed` never comes.
     pub fn write(&mut self, log: u32, key: Key) -> Result<Location, LogFault>
         requires { MayWrite self.old log key }
-        ensures { (payload : List ℕ) → map.get (flush_of self.old.caches) key ≡ Some payload
+        ensures turn { (payload : List ℕ) → map.get (flush_of self.old.caches) key ≡ Some payload
             → WriteTurn self.old log key payload result self.new }
+        ensures meaning { IsTrue self.old.honest → MeansTheSame self.old self.new }
     {
         self.fields.write(log, key)
     }
@@ -49,7 +53,8 @@ impl<D: LogDisk> Store<D> {
     /// have no map. `Failed` never comes.
     pub fn seal(&mut self, log: u32, state: LogState) -> Result<(), LogFault>
         requires { MaySeal self.old log state }
-        ensures { Seals self.old log state result self.new }
+        ensures turn { Seals self.old log state result self.new }
+        ensures meaning { IsTrue self.old.honest → MeansTheSame self.old self.new }
     {
         self.fields.seal(log, state)
     }
@@ -59,7 +64,8 @@ impl<D: LogDisk> Store<D> {
     /// Faults: `Memory`, `Disk`, `Odd`. The log shows what it showed. `Failed` never comes.
     pub fn show(&mut self, log: u32) -> Result<(), LogFault>
         requires { IsOpenLog self.old log }
-        ensures { ShowTurn self.old log result self.new }
+        ensures turn { ShowTurn self.old log result self.new }
+        ensures meaning { IsTrue self.old.honest → MeansTheSame self.old self.new }
     {
         self.fields.show(log)
     }
@@ -70,14 +76,16 @@ impl<D: LogDisk> Store<D> {
     /// The only fault is want of memory for the index, which leaves the store as it was.
     pub fn name(&mut self, key: Key, place: Location) -> Result<(), AllocError>
         requires { MayName self.old key place }
-        ensures { NameTurn self.old key place result self.new }
+        ensures turn { NameTurn self.old key place result self.new }
+        ensures meaning { IsTrue self.old.honest → MeansTheSame self.old self.new }
     {
         self.fields.name(key, place)
     }
 
     /// The flush starts again: the logs that it wrote are Readable, its places are forgotten, its cache stays whole.
     pub fn restart_flush(&mut self)
-        ensures { Restarts self.old self.new }
+        ensures turn { Restarts self.old self.new }
+        ensures meaning { IsTrue self.old.honest → MeansTheSame self.old self.new }
     {
         self.fields.restart_flush()
     }
@@ -85,7 +93,8 @@ impl<D: LogDisk> Store<D> {
     /// The flush is over, all of whose entries are indexed: its cache is let go, and the logs that it filled are Readable.
     pub fn end_flush(&mut self)
         requires { AllNamed self.old }
-        ensures { Ends self.old self.new }
+        ensures turn { Ends self.old self.new }
+        ensures meaning { IsTrue self.old.honest → MeansTheSame self.old self.new }
     {
         self.fields.end_flush()
     }
@@ -94,7 +103,8 @@ impl<D: LogDisk> Store<D> {
     /// key names becomes Retired; a Retired one Closed.
     pub fn set_log_state(&mut self, log: u32, state: LogState)
         requires { MaySet self.old log state }
-        ensures { SetTurn self.old log state self.new }
+        ensures turn { SetTurn self.old log state self.new }
+        ensures meaning { IsTrue self.old.honest → MeansTheSame self.old self.new }
     {
         self.fields.set_log_state(log, state)
     }

@@ -1,9 +1,11 @@
-use Rattle.std.proofs.Common.{◌≡◌, Some, sym, ap, subst, ◌∙◌}
+use Rattle.std.proofs.Common.{◌≡◌, Some, IsTrue, sym, ap, subst, ◌∙◌}
 use Rattle.std.specs.FinMap as finite
 use Rattle.bk_cache.specs.Caches.{flush_of}
 use Rattle.bk_store.specs.State.{State}
+use Rattle.bk_store.specs.Meaning.{MeansTheSame}
 use Rattle.bk_store.specs.Doors.{MayWrite}
 use Rattle.bk_store.proofs.KeptWrite.{keeps_write}
+use Rattle.bk_store.proofs.SameMeaning.{write_means}
 use Rattle.bk_store.proofs.store.Store.write.Goals as goal
 
 pub invariant_of-self : goal.invariant_of-self
@@ -11,3 +13,10 @@ invariant_of-self g c =
     let may = subst (λ s. MayWrite s c.args.log c.args.key) (sym c.self.view_is) c.requires in
     keeps_write c.self.inside.fields c.write.new.self c.args.log c.args.key may.payload c.write.result c.self.invariant may may.next.flushing
     (c.write.ensures.turn may.payload may.next.flushing) (c.write.ensures.beside may.payload may.next.flushing)
+
+pub returns-clause-meaning : goal.returns-clause-meaning
+returns-clause-meaning g c =
+    let may = subst (λ s. MayWrite s c.args.log c.args.key) (sym c.self.view_is) c.requires in
+    subst (λ s. IsTrue s.honest → MeansTheSame s c.write.new.self.state) c.self.view_is
+    (write_means c.self.inside.fields c.write.new.self c.args.log c.args.key may.payload c.write.result c.self.invariant may may.next.flushing
+    (c.write.ensures.turn may.payload may.next.flushing) (c.write.ensures.beside may.payload may.next.flushing))

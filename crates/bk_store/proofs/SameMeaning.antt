@@ -1,0 +1,145 @@
+-- No door changes what a store means: beside an honest disk each key has the payload that it had.
+use Rattle.std.proofs.Common.{◌≡◌, ◌⊎◌, inl, inr, ℕ, ◌+◌, false, IsTrue, List, [], take, Some, None, unwrap_or, Result, Ok, Err, refl, sym, ap, subst, ◌∙◌}
+use Rattle.std.specs.FinMap as finite
+use Rattle.std.specs.FinSet as set
+use Rattle.bk_record.specs.Key.{EntryKey}
+use Rattle.bk_record.specs.Location.{Place}
+use Rattle.bk_record.specs.Record.{IsPayload, key_of, record_of}
+use Rattle.bk_record.specs.Files.{Files, file_of, In}
+use Rattle.bk_record.specs.Scan.{Payloads}
+use Rattle.bk_record.proofs.ReadKeys.{addable, addable_payload}
+use Rattle.bk_disk.specs.Disk.{grown}
+use Rattle.bk_log.specs.Writing as writers
+use Rattle.bk_log.specs.Growing.{Gains, put_record}
+use Rattle.bk_log.specs.declared.fault.LogFault.{LogFault}
+use Rattle.bk_log.specs.declared.fault.LogFault.TheVariants as log_faults
+use Rattle.bk_log.proofs.Gains.{create_gains, put_gains}
+use Rattle.bk_cache.specs.Caches as caches
+use Rattle.bk_cache.specs.Kept.{IsSound}
+use Rattle.bk_store.specs.Carried.{Carries}
+use Rattle.bk_store.specs.State.{State, Parts}
+use Rattle.bk_store.specs.Meaning.{MeansTheSame, meaning_at, written_at}
+use Rattle.bk_store.specs.Kept.{Keeps, Promises}
+use Rattle.bk_store.specs.Putting.{next_place}
+use Rattle.bk_store.specs.Doors.{MakeTurn, IsUnmade, MayWrite, WriteTurn, Seals, AllNamed, Ends}
+use Rattle.bk_store.specs.Beside.{WritesBeside}
+use Rattle.bk_store.specs.declared.log.LogState.{LogState}
+use Rattle.bk_store.specs.declared.answer.MakeFault.{MakeFault}
+use Rattle.bk_store.specs.declared.answer.MakeFault.TheVariants as makes
+use Rattle.bk_store.proofs.Meaning.{carries_meaning}
+use Rattle.bk_store.proofs.Growing.{grows_behind, carries_grown}
+use Rattle.bk_store.proofs.CachedMoves.{carries_let_go}
+use Rattle.bk_store.proofs.Closing.{none_keyed}
+use Rattle.bk_store.proofs.KeptWrite.{flush_written, put_mapped}
+use Rattle.bk_store.proofs.KeptRuled.{let_go}
+
+-- two states of which the same map is carried mean the same
+same_map : (s t : State) (map : Payloads) → Carries (file_of s.files) s.index (written_at s) s.dead map
+    → Carries (file_of t.files) t.index (written_at t) t.dead map → MeansTheSame s t
+same_map s t map was now key = sym (carries_meaning t.files now key) ∙ carries_meaning s.files was key
+
+-- a state with the same files, caches and dead ledgers
+means_same : (s t : State) → t ≡ s → MeansTheSame s t
+means_same s t same = subst (MeansTheSame s) (sym same) (λ key. refl)
+
+same_files : (s : State) (files : Files) → files ≡ s.files → MeansTheSame s (record s { files = files })
+same_files s files same key = ap (λ f. meaning_at (record s { files = f }) key) same
+
+-- in one log others stand behind the old records, and those that have keys of live ledgers have what the map has
+gained : (p : Parts) (promise : Promises p) (id : ℕ) (files : Files) (others : List (ℕ × List ℕ)) → Gains p.state.files id others files
+    → ((at : ℕ) (payload : List ℕ) (key : EntryKey) → In (at, payload) others → key_of payload ≡ Some key → set.contains p.state.dead key.ledger ≡ false
+    → finite.get promise.carried key ≡ Some payload)
+    → MeansTheSame p.state (record p.state { files = files })
+gained p promise id files others gains each =
+    same_map p.state (record p.state { files = files }) promise.carried promise.carries
+    (carries_grown (grows_behind p.state.dead promise.carried id (λ q apart. ap (λ o. unwrap_or o []) (gains.only q apart)) others gains.records each)
+    promise.carries)
+
+-- ---- making a log
+
+unmade_means : (p q : Parts) (fault : LogFault) (failures : ℕ) → Keeps p → IsUnmade p.state fault failures q.state → IsTrue p.state.honest
+    → MeansTheSame p.state q.state
+unmade_means p q fault failures keeps is honest =
+    subst (MeansTheSame p.state) (sym is.left) (gained p (keeps.promises honest) p.state.next q.state.files []
+    (create_gains {W = Unit {0}} p.state.files q.state.files p.state.next (Err (record { made = is.made; fault = fault })) (is.files honest))
+    (λ at payload key never. absurd never))
+
+pub make_means : (p q : Parts) (state : LogState) (result : Result ℕ MakeFault) → Keeps p → MakeTurn p.state state result q.state → IsTrue p.state.honest
+    → MeansTheSame p.state q.state
+make_means p q state (Err makes.LogsFull) keeps turn honest = means_same p.state q.state turn.1
+make_means p q state (Err makes.NoMoreIds) keeps turn honest = means_same p.state q.state turn.2
+make_means p q state (Err makes.Memory) keeps turn honest = elim turn.1 [
+  | inl same ↦ means_same p.state q.state same
+  | inr is ↦ unmade_means p q log_faults.Memory p.state.failures keeps is honest
+]
+make_means p q state (Err makes.Disk) keeps turn honest = unmade_means p q log_faults.Disk (p.state.failures + 1) keeps turn.1 honest
+make_means p q state (Err makes.Odd) keeps turn honest = absurd (let wrong = turn.1 in cc)
+make_means p q state (Ok id) keeps turn honest =
+    subst (MeansTheSame p.state) (sym turn.3) (gained p (keeps.promises honest) p.state.next q.state.files []
+    (create_gains {W = Unit {0}} p.state.files q.state.files p.state.next (Ok tt) (turn.2 honest)) (λ at payload key never. absurd never))
+
+-- ---- writing and sealing
+
+module _ (p : Parts) (keeps : Keeps p) (id : ℕ) (key : EntryKey) (payload : List ℕ) (may : MayWrite p.state id key)
+    (flushing : finite.get (caches.flush_of p.state.caches) key ≡ Some payload) (sound : IsSound p.state.caches) (honest : IsTrue p.state.honest)
+    (files : Files) where
+  abbrev w : writers.Writing
+  w = may.takes.w
+
+  own : w.log ≡ id
+  own = ((keeps.fits.held id may.takes.log may.takes.writer.held).by may.takes.w may.takes.writer.writer).own
+
+  writes : writers.Writes p.state.files w
+  writes = ((keeps.promises honest).backed id may.takes.log may.takes.writer.held).writes may.takes.w may.takes.writer.writer
+
+  legal : IsPayload payload
+  legal = addable_payload payload key (sound.flush_keyed key payload flushing)
+
+  own_grown : (bytes : List ℕ) → files ≡ grown p.state.files id bytes → files ≡ grown p.state.files w.log bytes
+  own_grown bytes grew = grew ∙ ap (λ n. grown p.state.files n bytes) (sym own)
+
+  each : (at : ℕ) (b : List ℕ) (k : EntryKey) → In (at, b) (put_record w payload) → key_of b ≡ Some k → set.contains p.state.dead k.ledger ≡ false
+      → finite.get (keeps.promises honest).carried k ≡ Some b
+  each at b k there is_key _ =
+      let promise = keeps.promises honest in
+      put_mapped promise.carried w key payload (addable payload key (sound.flush_keyed key payload flushing)).keyed
+      (promise.carries.cached_is key payload (flush_written p.state key payload sound.apart flushing)) at b k there is_key
+
+  put_means : files ≡ grown p.state.files id (record_of payload) → MeansTheSame p.state (record p.state { files = files })
+  put_means grew =
+      gained p (keeps.promises honest) w.log files (put_record w payload)
+      (put_gains p.state.files files w payload (Ok (next_place w)) writes legal (own_grown (record_of payload) grew)) each
+
+  part_means : (n : ℕ) × (files ≡ grown p.state.files id (take n (record_of payload))) → MeansTheSame p.state (record p.state { files = files })
+  part_means grew = elim (put_gains p.state.files files w payload (Err log_faults.Disk) writes legal (grew.0, own_grown (take grew.0 (record_of payload)) grew.1)) [
+    | inl all ↦ gained p (keeps.promises honest) w.log files (put_record w payload) all each
+    | inr none ↦ gained p (keeps.promises honest) w.log files [] none (λ at b k never. absurd never)
+  ]
+
+pub write_means : (p q : Parts) (id : ℕ) (key : EntryKey) (payload : List ℕ) (result : Result Place LogFault) → Keeps p → MayWrite p.state id key
+    → finite.get (caches.flush_of p.state.caches) key ≡ Some payload → WriteTurn p.state id key payload result q.state
+    → WritesBeside p id key payload result q → IsTrue p.state.honest → MeansTheSame p.state q.state
+write_means p q id key payload (Ok place) keeps may flushing turn beside honest =
+    subst (MeansTheSame p.state) (sym turn.1.4) (put_means p keeps id key payload may flushing beside.0 honest q.state.files (turn.1.3 honest))
+write_means p q id key payload (Err log_faults.Memory) keeps may flushing turn beside honest =
+    subst (MeansTheSame p.state) (sym turn.1) (same_files p.state q.state.files (turn.0 honest))
+write_means p q id key payload (Err log_faults.Disk) keeps may flushing turn beside honest =
+    subst (MeansTheSame p.state) (sym turn.3) (part_means p keeps id key payload may flushing beside.0 honest q.state.files (turn.2 honest))
+write_means p q id key payload (Err log_faults.Odd) keeps may flushing turn beside honest = absurd (let wrong = turn.0 in cc)
+write_means p q id key payload (Err log_faults.Failed) keeps may flushing never beside honest = absurd never
+
+pub seal_means : (p q : Parts) (id : ℕ) (state : LogState) (result : Result (Unit {0}) LogFault) → Keeps p → Seals p.state id state result q.state
+    → IsTrue p.state.honest → MeansTheSame p.state q.state
+seal_means p q id state result keeps turn honest =
+    let sealed = turn.sealed honest in
+    subst (MeansTheSame p.state) (sym turn.left) (gained p (keeps.promises honest) turn.w.log q.state.files sealed.gains.others sealed.gains.gains
+    (λ at payload key there keyed _. absurd (none_keyed sealed.gains.others sealed.gains.foreign at payload key there keyed)))
+
+-- ---- the end of a flush
+
+pub end_means : (p q : Parts) → Keeps p → AllNamed p.state → Ends p.state q.state → IsTrue p.state.honest → MeansTheSame p.state q.state
+end_means p q keeps named turn honest =
+    let promise = keeps.promises honest in
+    let ended : State = record p.state { caches = record p.state.caches { flush = None } } in
+    subst (MeansTheSame p.state) (sym turn.left)
+    (same_map p.state ended promise.carried promise.carries (carries_let_go promise.carries (written_at ended) (let_go p.state named)))
