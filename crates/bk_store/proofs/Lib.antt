@@ -54,3 +54,4 @@ pub mod Named
 pub mod SameMeaning
 pub mod NextEntry
 pub mod HeldWriters
+pub mod KeptReplace

@@ -113,7 +113,7 @@ turned a b = elim (a == b) as (λ c. (a == b) ≡ c → c ≡ (b == a)) [
   ] refl
 ] refl
 
-plus_none : (n : ℕ) → n ≡ n + 0
+pub plus_none : (n : ℕ) → n ≡ n + 0
 plus_none n = omega arith
 
 -- a name more, counted first or last
@@ -123,7 +123,7 @@ name_moved n rest true false same = cc
 name_moved n rest false true same = cc
 name_moved n rest false false same = omega arith
 
-name_counted : (names : ℕ → ℕ) (e : EntryKey × Place) (pairs : List (EntryKey × Place)) (log : ℕ)
+pub name_counted : (names : ℕ → ℕ) (e : EntryKey × Place) (pairs : List (EntryKey × Place)) (log : ℕ)
     → (if log == e.1.log then names log + 1 else names log) + names_in pairs log ≡ names log + names_in (e ∷ pairs) log
 name_counted names e pairs log =
     name_moved (names log) (names_in pairs log) (log == e.1.log) (e.1.log == log) (turned log e.1.log)

@@ -22,7 +22,7 @@ abbrev Listed : Type 0
 Listed = List (EntryKey × Place)
 
 -- how many of the entries stand in a log
-abbrev in_log : ℕ → Listed → ℕ
+abbrev pub in_log : ℕ → Listed → ℕ
 in_log log entries = count_by (λ e. e.1.log == log) entries
 
 abbrev pub one_if : Bool → ℕ
@@ -32,11 +32,51 @@ one_if b = cond b 1 0
 abbrev is_alone : CacheState → EntryKey × Place → Bool
 is_alone s e = not (is_some (held s e.0))
 
+-- each log has so many names, and those of the entries still to come
+abbrev pub IsUnnaming : (ℕ → ℕ) → Book → Book → Listed → Type 0
+IsUnnaming names old now rest = (log : ℕ)
+    → finite.get now log ≡ option_map (λ (account : Account). record account { named = names log + in_log log rest }) (finite.get old log)
+
+module _ (names : ℕ → ℕ) (old now : Book) (e : EntryKey × Place) (rest : Listed) (so_far : IsUnnaming names old now (e ∷ rest)) where
+  -- what a log has of the entries to come
+  more : (log : ℕ) → in_log log (e ∷ rest) ≡ cond (e.1.log == log) 1 0 + in_log log rest
+  more log = sum_by-cons (λ (x : EntryKey × Place). cond (x.1.log == log) 1 0) e rest
+
+  pub unnamed : IsUnnaming names old (after_unname now e.1.log) rest
+  unnamed log =
+      get-changed now e.1.log log without_name
+      ∙ ap (option_map (λ account. if log == e.1.log then without_name account else account)) (so_far log)
+      ∙ elim (log == e.1.log) as (λ b. (log == e.1.log) ≡ b → option_map (λ account. if b then without_name account else account)
+      (option_map (λ (account : Account). record account { named = names log + in_log log (e ∷ rest) }) (finite.get old log))
+      ≡ option_map (λ (account : Account). record account { named = names log + in_log log rest }) (finite.get old log)) [
+        | true ↦ λ same.
+            let one = more log ∙ ap (λ b. one_if b + in_log log rest) (eq-eqb e.1.log log (sym (eqb-true log e.1.log same))) in
+            less log (finite.get old log) (omega (arith, one))
+        | false ↦ λ apart.
+            let none = more log ∙ ap (λ b. one_if b + in_log log rest) (other log apart (e.1.log == log) refl) in
+            kept log (finite.get old log) (omega (arith, none))
+      ] refl
+    where
+      other : (log : ℕ) → (log == e.1.log) ≡ false → (b : Bool) → (e.1.log == log) ≡ b → b ≡ false
+      other log apart false is = refl
+      other log apart true is = let same = eq-eqb log e.1.log (sym (eqb-true e.1.log log is)) in cc
+
+      less : (log : ℕ) (o : Option Account) → in_log log (e ∷ rest) ≡ in_log log rest + 1
+          → option_map without_name (option_map (λ (account : Account). record account { named = names log + in_log log (e ∷ rest) }) o)
+          ≡ option_map (λ (account : Account). record account { named = names log + in_log log rest }) o
+      less log None is = refl
+      less log (Some account) is = ap (λ n. Some (record account { named = n })) (omega (arith, is))
+
+      kept : (log : ℕ) (o : Option Account) → in_log log (e ∷ rest) ≡ in_log log rest
+          → option_map (λ account. account) (option_map (λ (account : Account). record account { named = names log + in_log log (e ∷ rest) }) o)
+          ≡ option_map (λ (account : Account). record account { named = names log + in_log log rest }) o
+      kept log None is = refl
+      kept log (Some account) is = ap (λ n. Some (record account { named = names log + n })) is
+
 -- So far: each log has the names of the keys that the index will have, and of those still to come; and so many were counted
 -- that with those to come they are all.
 pub record Goes (index : Places) (s : CacheState) (ledger : ℕ) (old now : Book) (alone : ℕ) (rest : Listed) : Type 0 where
-  pub named : (log : ℕ) → finite.get now log
-      ≡ option_map (λ (account : Account). record account { named = log_count (without_ledger index ledger) log + in_log log rest }) (finite.get old log)
+  pub named : IsUnnaming (log_count (without_ledger index ledger)) old now rest
   pub counted : alone + count_by (is_alone s) rest ≡ count_by (λ e. (e.0.ledger == ledger) && is_alone s e) (finite.entries index)
 
 -- ---- before the first
@@ -84,49 +124,13 @@ goes_first index s ledger book names = record {
 
 module _ {index : Places} {s : CacheState} {ledger : ℕ} {old now : Book} {alone : ℕ} (e : EntryKey × Place) (rest : Listed)
     (goes : Goes index s ledger old now alone (e ∷ rest)) where
-  -- what a log has of the entries to come
-  more : (log : ℕ) → in_log log (e ∷ rest) ≡ cond (e.1.log == log) 1 0 + in_log log rest
-  more log = sum_by-cons (λ (x : EntryKey × Place). cond (x.1.log == log) 1 0) e rest
-
-  unnamed : (log : ℕ) → finite.get (after_unname now e.1.log) log
-      ≡ option_map (λ (account : Account). record account { named = log_count (without_ledger index ledger) log + in_log log rest }) (finite.get old log)
-  unnamed log =
-      get-changed now e.1.log log without_name
-      ∙ ap (option_map (λ account. if log == e.1.log then without_name account else account)) (goes.named log)
-      ∙ elim (log == e.1.log) as (λ b. (log == e.1.log) ≡ b → option_map (λ account. if b then without_name account else account)
-      (option_map (λ (account : Account). record account { named = log_count (without_ledger index ledger) log + in_log log (e ∷ rest) }) (finite.get old log))
-      ≡ option_map (λ (account : Account). record account { named = log_count (without_ledger index ledger) log + in_log log rest }) (finite.get old log)) [
-        | true ↦ λ same.
-            let one = more log ∙ ap (λ b. one_if b + in_log log rest) (eq-eqb e.1.log log (sym (eqb-true log e.1.log same))) in
-            less log (finite.get old log) (omega (arith, one))
-        | false ↦ λ apart.
-            let none = more log ∙ ap (λ b. one_if b + in_log log rest) (other log apart (e.1.log == log) refl) in
-            kept log (finite.get old log) (omega (arith, none))
-      ] refl
-    where
-      other : (log : ℕ) → (log == e.1.log) ≡ false → (b : Bool) → (e.1.log == log) ≡ b → b ≡ false
-      other log apart false is = refl
-      other log apart true is = let same = eq-eqb log e.1.log (sym (eqb-true e.1.log log is)) in cc
-
-      less : (log : ℕ) (o : Option Account) → in_log log (e ∷ rest) ≡ in_log log rest + 1
-          → option_map without_name (option_map (λ (account : Account). record account { named = log_count (without_ledger index ledger) log + in_log log (e ∷ rest) }) o)
-          ≡ option_map (λ (account : Account). record account { named = log_count (without_ledger index ledger) log + in_log log rest }) o
-      less log None is = refl
-      less log (Some account) is = ap (λ n. Some (record account { named = n })) (omega (arith, is))
-
-      kept : (log : ℕ) (o : Option Account) → in_log log (e ∷ rest) ≡ in_log log rest
-          → option_map (λ account. account) (option_map (λ (account : Account). record account { named = log_count (without_ledger index ledger) log + in_log log (e ∷ rest) }) o)
-          ≡ option_map (λ (account : Account). record account { named = log_count (without_ledger index ledger) log + in_log log rest }) o
-      kept log None is = refl
-      kept log (Some account) is = ap (λ n. Some (record account { named = log_count (without_ledger index ledger) log + n })) is
-
   counts : count_by (is_alone s) (e ∷ rest) ≡ cond (is_alone s e) 1 0 + count_by (is_alone s) rest
   counts = sum_by-cons (λ x. cond (is_alone s x) 1 0) e rest
 
   -- so many are counted of the one entry
   pub goes_on : (new : Book) (n : ℕ) → new ≡ after_unname now e.1.log → n ≡ one_if (is_alone s e) → Goes index s ledger old new (alone + n) rest
   goes_on new n is one = record {
-    named = λ log. ap (λ b. finite.get b log) is ∙ unnamed log;
+    named = λ log. ap (λ b. finite.get b log) is ∙ unnamed (log_count (without_ledger index ledger)) old now e rest goes.named log;
     counted = omega (arith, goes.counted, counts, one);
   }
 

@@ -11,6 +11,7 @@ use Rattle.bk_cache.specs.Kept.{IsSound}
 use Rattle.bk_accounts.specs.Book.{Book, after_open, after_ready, after_count, after_name, after_unname}
 use Rattle.bk_store.specs.Logs.{Logs, unmade_log}
 use Rattle.bk_store.specs.State.{State, Parts}
+use Rattle.bk_store.specs.Deletion.{AreNamedBy}
 use Rattle.bk_store.specs.declared.log.LogState.{LogState}
 use Rattle.bk_store.specs.declared.log.LogState.TheVariants.{Writing, Filled, Copying, Readable, Retired, Closed}
 use Rattle.bk_store.specs.declared.answer.MakeFault.{MakeFault}
@@ -138,3 +139,9 @@ RestartsBeside p q = q ≡ record p { state = q.state; writing = None; filled = 
 pub record EndsBeside (p q : Parts) : Type 0 where
   pub parts : q ≡ record p { state = q.state; filled = q.filled }
   pub still : (id : ℕ) → In id p.filled → p.writing ≡ Some id → In id q.filled
+
+-- ---- another index
+
+-- the names of each log are counted anew
+abbrev pub ReplacesBeside : Parts → Parts → Type 0
+ReplacesBeside p q = AreNamedBy q.state.index p.accounts q.accounts × (q ≡ record p { state = q.state; accounts = q.accounts })

@@ -267,3 +267,7 @@ SetTurn s id state t = (log : Log) × (finite.get s.logs id ≡ Some log)
 pub record MayReplace (s : State) (index : Places) : Type 0 where
   pub made : IsTrue s.honest → IsIndexOf (open_parts s.logs) s.dead index
   pub sent : (key : EntryKey) (place : Place) → finite.get index key ≡ Some place → HasOpenView s.logs place.log
+
+-- The index is this one from then on.
+abbrev pub Replaces : State → Places → State → Type 0
+Replaces s index t = t ≡ record s { index = index }

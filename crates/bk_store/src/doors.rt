@@ -8,10 +8,11 @@ ghost use Rattle.bk_cache.specs.Caches.{flush_of};
 ghost use Rattle.bk_store.specs.Logs.{is_written};
 ghost use Rattle.bk_store.specs.Meaning.{MeansTheSame};
 ghost use Rattle.bk_store.specs.declared.log.LogState.TheVariants.{Writing};
-ghost use Rattle.bk_store.specs.Doors.{MakeTurn, HasNoWriting, MayWrite, WriteTurn, MaySeal, Seals, IsOpenLog, ShowTurn, MayName, NameTurn, AllNamed, Restarts, Ends, MaySet, SetTurn};
+ghost use Rattle.bk_store.specs.Doors.{MakeTurn, HasNoWriting, MayWrite, WriteTurn, MaySeal, Seals, IsOpenLog, ShowTurn, MayName, NameTurn, AllNamed, Restarts, Ends, MaySet, SetTurn, MayReplace, Replaces};
 
 use crate::{LogState, MakeFault, Store};
 use bk_disk::LogDisk;
+use bk_index::Index;
 use bk_log::LogFault;
 use bk_record::{Key, Location};
 use std::alloc::AllocError;
@@ -107,5 +108,14 @@ impl<D: LogDisk> Store<D> {
         ensures meaning { IsTrue self.old.honest → MeansTheSame self.old self.new }
     {
         self.fields.set_log_state(log, state)
+    }
+
+    /// Sends each key where this index does, which was made anew of all that the logs show. It takes no memory.
+    pub fn replace_index(&mut self, index: Index)
+        requires { MayReplace self.old index }
+        ensures turn { Replaces self.old index self.new }
+        ensures meaning { IsTrue self.old.honest → MeansTheSame self.old self.new }
+    {
+        self.fields.replace_index(index);
     }
 }

@@ -17,6 +17,7 @@ mod naming;
 mod open;
 mod places;
 mod reading;
+mod replacing;
 mod settings;
 mod showing;
 mod states;

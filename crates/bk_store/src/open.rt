@@ -25,6 +25,7 @@ use fault::open_fault;
 use logs::find_all;
 use std::alloc::Global;
 use tally::Tally;
+pub(crate) use tally::name_each;
 
 impl<D: LogDisk> Fields<D> {
     pub fn open(

@@ -70,7 +70,7 @@ impl Tally {
 }
 
 /// Names for each key of an index the log that it is sent to.
-fn name_each(index: &Index, accounts: &mut Accounts)
+pub(crate) fn name_each(index: &Index, accounts: &mut Accounts)
     requires { AreUnnamed accounts.old }
     ensures { accounts.new ≡ named_by (map.entries index.now) accounts.old }
 {
