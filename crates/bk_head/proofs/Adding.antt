@@ -1,5 +1,5 @@
 -- Pairs that are added to a map one by one, and the first that can't be.
-use Rattle.std.proofs.Common.{◌≡◌, ℕ, ◌+◌, ◌-◌, ◌*◌, ◌≤◌, List, [], ◌∷◌, ◌++◌, length, take, drop, Option, Some, None, refl, sym, ap, subst, ◌∙◌, append_assoc, arith}
+use Rattle.std.proofs.Common.{◌≡◌, ℕ, ◌+◌, ◌-◌, ◌*◌, ◌≤◌, List, [], ◌∷◌, ◌++◌, length, take, drop, Option, Some, None, refl, sym, ap, subst, ap₂, ◌∙◌, append_assoc, arith}
 use Rattle.std.specs.Prelude.{IsSome}
 use Rattle.std.specs.Int.{w64, from_be_bytes}
 use Rattle.std.specs.Ordering.{nat_cmp}
@@ -124,3 +124,16 @@ refused before at left bytes m p (Version version) each long is numbers a h = h
 refused before at left bytes m p (NotAMap place) each long is numbers a h = h
 refused before at left bytes m p (MapLength place) each long is numbers a h = h
 refused before at left bytes m p (CountDiffers found) each long is numbers a h = h
+
+-- more pairs behind those that were added
+pub adds_then : (before : List (ℕ × ℕ)) (bytes piece : List ℕ) (m n : LedgersMap) → (a : Adds before bytes m) → Adds (before ++ a.good) piece n
+    → Adds before (bytes ++ piece) n
+adds_then before bytes piece m n a b =
+    let joined : (before ++ a.good) ++ b.good ≡ before ++ (a.good ++ b.good) = append_assoc before a.good b.good in
+    record {
+      good = a.good ++ b.good;
+      bytes_are = ap₂ (λ (x y : List ℕ). x ++ y) a.bytes_are b.bytes_are ∙ sym (flat_map-append a.good b.good);
+      each = each-append IsPair a.good b.good a.each b.each;
+      distinct = subst (λ (ps : List (ℕ × ℕ)). AreDistinct (ledgers_of ps)) joined b.distinct;
+      map_is = b.map_is ∙ ap (λ (ps : List (ℕ × ℕ)). ledgers.from_entries ps) joined;
+    }

@@ -2,10 +2,10 @@ pub mod Adding
 pub mod Again
 pub mod Answering
 pub mod BatchBytes
+pub mod BatchHeads
 pub mod Batching
 pub mod Bytes
 pub mod Distinct
-pub mod Foreign
 pub mod HeaderLemmas
 pub mod MapViews
 pub mod OneFault

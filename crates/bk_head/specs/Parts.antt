@@ -1,10 +1,12 @@
 -- What the functions behind `write_map` and `read_map` answer for.
-use Rattle.std.specs.Prelude.{◌≡◌, ℕ, ◌+◌, ◌*◌, List, ◌++◌, IsSome}
+use Rattle.std.specs.Prelude.{◌≡◌, ℕ, ◌+◌, ◌*◌, List, ◌++◌, length, take, IsSome}
 use Rattle.std.specs.Int.{w32, to_be_bytes}
 use Rattle.std.specs.List.{flat_map, AllByRecursion}
 use Rattle.std.specs.FinMap as ledgers
 use Rattle.bk_head.specs.declared.fault.HeadFault.{HeadFault}
 use Rattle.bk_head.specs.declared.fault.HeadFault.TheVariants.{Negative, Repeated}
+use Rattle.bk_record.specs.Piece.{BeginsWith}
+use Rattle.bk_head.specs.Faults.{IsForMap}
 use Rattle.bk_head.specs.Ledgers.{LedgersMap, batch_ids, pair_bytes, IsPair, ledgers_of, AreDistinct}
 
 -- what stands before the pairs of a batch: its length field, its ids and the number of its pairs
@@ -24,3 +26,14 @@ abbrev pub PairRefusal : LedgersMap → ℕ × ℕ → HeadFault → Type 0
 PairRefusal map pair Negative = ¬ (IsPair pair)
 PairRefusal map pair (Repeated ledger) = (ledger ≡ pair.0) × (IsPair pair × IsSome (ledgers.get map pair.0))
 PairRefusal map pair fault = ⊥
+
+-- the first 24 of these bytes, or all where there are fewer, and how many bytes there are
+abbrev pub IsShown : List ℕ → ℕ → List ℕ → Type 0
+IsShown head left bytes = (left ≡ length bytes) × (head ≡ take 24 bytes)
+
+-- the bytes begin with a record that is meant to be a batch, whose payload has this length
+pub record IsSizedBatch (size : ℕ) (bytes : List ℕ) : Type 0 where
+  pub payload : List ℕ
+  pub begins : BeginsWith bytes payload
+  pub for_map : IsForMap payload
+  pub size_is : length payload ≡ size

@@ -8,10 +8,11 @@ mod laws;
 mod reading;
 mod writing;
 
+pub use batch::{BATCH_HEAD, PAIR};
 pub use fault::HeadFault;
 pub use header::{Header, new_header, patch_bytes, read_header};
 pub use laws::{patched_header_is_read, written_map_is_read};
-pub use reading::read_map;
+pub use reading::{add_pairs, pairs_in_batch, place_of_map, read_map};
 pub use writing::write_map;
 
 #[cfg(test)]

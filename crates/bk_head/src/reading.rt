@@ -1,17 +1,16 @@
 //! Reading the ledgers map: batch by batch from the left, so that the fault that is told is the first one.
 
-ghost use Rattle.std.specs.Prelude.{◌≡◌, ◌+◌, ◌*◌, ◌<◌, ◌^◌, ℕ, List, Option, Result, length, OnOk, IfOk, IfErr, MatchOption, MatchResult};
+ghost use Rattle.std.specs.Prelude.{◌≡◌, ◌+◌, ◌*◌, ◌<◌, ◌≤◌, ◌^◌, ℕ, List, Option, Result, length, take, drop, min, OnOk, IfOk, IfErr, IfSome, MatchOption, MatchResult};
 ghost use Rattle.std.specs.FinMap as ledgers;
-ghost use Rattle.bk_record.specs.Piece.{BeginsWith};
 ghost use Rattle.bk_head.specs.declared.fault.HeadFault.{HeadFault as Fault};
 ghost use Rattle.bk_head.specs.Ledgers.{LedgersMap, map_of, SpellsMap, IsPair, ledgers_of, AreDistinct};
 ghost use Rattle.bk_head.specs.Faults.{HasNoBatch, HasPairs, PairFault, FaultAt, FirstFault, ReachesNew, AsksForMemory, OrMemory};
 ghost use Rattle.bk_head.specs.Reading.{MapAnswer, WantsMemory, UnlessMemory, seen, IsTail, map_place};
-ghost use Rattle.bk_head.specs.Parts.{Adds, PairRefusal};
+ghost use Rattle.bk_head.specs.Parts.{Adds, IsShown, IsSizedBatch, PairRefusal};
 
-use crate::batch::{IDS_AND_COUNT, PAIR, batch_ids};
+use crate::batch::{BATCH_HEAD, IDS_AND_COUNT, PAIR, batch_ids};
 use crate::{HeadFault, Header};
-use bk_record::{HEADER_LENGTH, IDS_LENGTH, LENGTH_FIELD, Piece, read_record};
+use bk_record::{HEADER_LENGTH, IDS_LENGTH, LENGTH_FIELD, MAX_PAYLOAD, RECORD_HEAD};
 use byteorder::{BigEndian, ByteOrder};
 use std::alloc::Global;
 use std::collections::BTreeMap;
@@ -39,7 +38,7 @@ pub fn read_map(
     ensures only { (answer : Result (Option LedgersMap) Fault)
         → MapAnswer tail.now length header.now answer → UnlessMemory (seen result) (Unit {0}) (seen result ≡ answer) }
 {
-    let Some((offset, count)) = place_of(length, header)? else {
+    let Some((offset, count)) = place_of_map(length, header)? else {
         return Ok(None);
     };
     let map = read_batches(alloc, tail, offset)?;
@@ -50,8 +49,12 @@ pub fn read_map(
     Ok(Some(map))
 }
 
-/// The map's offset and the header's count, which are no faults; `None` where the log has no map.
-fn place_of(length: u64, header: &Header) -> Result<Option<(u64, u64)>, HeadFault>
+/// The map's offset in a log of `length` bytes, and the header's count; `None` where both are 0, as in a log that is not
+/// sealed.
+///
+/// Faults, tried in this order: `Negative` where one of them is negative; `NotAMap` with the offset where it is not in
+/// 1024 to `length`.
+pub fn place_of_map(length: u64, header: &Header) -> Result<Option<(u64, u64)>, HeadFault>
     ensures { result ≡ map_place length header.now.map_offset header.now.count }
 {
     if header.map_offset < 0 || header.count < 0 {
@@ -90,36 +93,64 @@ fn pairs_at(bytes: &[u8], at: u64) -> Result<&[u8], HeadFault>
     ensures ok { IfOk result (λ pairs. HasPairs bytes.now pairs.now) }
     ensures err { IfErr result (λ fault. (before : List (ℕ × ℕ)) → FaultAt at before bytes.now fault) }
 {
-    let Some(payload) = payload_at(bytes) else {
+    let head = &bytes[..BATCH_HEAD.min(bytes.len())];
+    let count = pairs_in_batch(head, at, bytes.len() as u64)? as usize;
+    Ok(&bytes[BATCH_HEAD..BATCH_HEAD + PAIR * count])
+}
+
+/// How many pairs the batch has that begins at position `at` of a log, where `left` bytes are left. `head` are the first
+/// 24 of these, or all where there are fewer: so a map can be read that is longer than the memory at hand.
+///
+/// Faults, with the position: `NotAMap` where no whole record with the ids -1 and -2 stands there, `MapLength` where it has
+/// not the length that its number of pairs wants.
+pub fn pairs_in_batch(head: &[u8], at: u64, left: u64) -> Result<u32, HeadFault>
+    requires some { 0 < left }
+    requires shown { length head.now ≡ min BATCH_HEAD left }
+    ensures fits { IfOk result (λ count. BATCH_HEAD + PAIR * count ≤ left) }
+    ensures ok { IfOk result (λ count. (bytes : List ℕ) → IsShown head.now left bytes
+        → HasPairs bytes (take (PAIR * count) (drop BATCH_HEAD bytes))) }
+    ensures err { IfErr result (λ fault. (bytes : List ℕ) → IsShown head.now left bytes
+        → (before : List (ℕ × ℕ)) → FaultAt at before bytes fault) }
+{
+    let Some(size) = batch_size(head, left) else {
         return Err(HeadFault::NotAMap(at));
     };
-    if !payload.starts_with(&batch_ids()) {
-        return Err(HeadFault::NotAMap(at));
-    }
-    if payload.len() < IDS_AND_COUNT {
+    if size < IDS_AND_COUNT {
         return Err(HeadFault::MapLength(at));
     }
-    let (head, pairs) = payload.split_at(IDS_AND_COUNT);
-    let count = BigEndian::read_u32(&head[IDS_LENGTH..]) as usize;
-    if pairs.len() != PAIR * count {
+    let count = BigEndian::read_u32(&head[RECORD_HEAD..]);
+    if size - IDS_AND_COUNT != PAIR * count as usize {
         return Err(HeadFault::MapLength(at));
     }
-    Ok(pairs)
+    Ok(count)
 }
 
-/// The payload of the whole record without a key that begins here, and `None` where none does. A batch has no key,
-/// since its ids are negative.
-fn payload_at(bytes: &[u8]) -> Option<&[u8]>
-    ensures { MatchOption result (HasNoBatch bytes.now) (λ payload. BeginsWith bytes.now payload.now) }
+/// The length of the payload of the whole record with a batch's ids that begins here, and `None` where none does.
+fn batch_size(head: &[u8], left: u64) -> Option<usize>
+    requires shown { length head.now ≡ min BATCH_HEAD left }
+    ensures within { IfSome result (λ size. LENGTH_FIELD + size ≤ left) }
+    ensures size { MatchOption result ((bytes : List ℕ) → IsShown head.now left bytes → HasNoBatch bytes)
+        (λ size. (bytes : List ℕ) → IsShown head.now left bytes → IsSizedBatch size bytes) }
 {
-    match read_record(bytes, 0) {
-        Piece::Foreign { to } => Some(&bytes[LENGTH_FIELD..to]),
-        _ => None,
+    if left < RECORD_HEAD as u64 {
+        return None;
     }
+    let size = BigEndian::read_u32(head) as usize;
+    if size < IDS_LENGTH || size > MAX_PAYLOAD || left - (LENGTH_FIELD as u64) < size as u64 {
+        return None;
+    }
+    if !head[LENGTH_FIELD..].starts_with(&batch_ids()) {
+        return None;
+    }
+    Some(size)
 }
 
-/// Adds the pairs that have these bytes.
-fn add_pairs(bytes: &[u8], map: &mut BTreeMap<u64, u64>) -> Result<(), HeadFault>
+/// Adds the pairs that have these bytes, 16 each, to a map that has the pairs before them. After a fault the map is not to be
+/// used: some of them may have been added.
+///
+/// Faults, of the first pair that can't be added: `Negative` where its ledger or its size is negative, `Repeated` where its
+/// ledger was there before, `Memory`.
+pub fn add_pairs(bytes: &[u8], map: &mut BTreeMap<u64, u64>) -> Result<(), HeadFault>
     requires { (count : ℕ) × (length bytes.now ≡ 16 * count) }
     ensures { (before : List (ℕ × ℕ))
         → AreDistinct (ledgers_of before) → map_of map.old ≡ ledgers.from_entries before
