@@ -1,5 +1,5 @@
 -- A log's length and its first bytes, as two calls on a disk give them.
-use Rattle.std.proofs.Common.{◌≡◌, ℕ, ◌≤◌, List, length, take, drop, Vec, Some, Ok, sym, ap, ◌∙◌, subst, arith}
+use Rattle.std.proofs.Common.{◌≡◌, ℕ, ◌≤◌, List, length, take, Vec, Some, Ok, sym, ap, ◌∙◌, subst, arith}
 use Rattle.std.specs.Global.{Global}
 use Rattle.std.specs.FinMap as map
 use Rattle.std.proofs.lemmas.List.{take-take}

@@ -3,3 +3,5 @@ pub mod Reading
 pub mod Heads
 pub mod Scans
 pub mod Sums
+pub mod Maps
+pub mod LedgerLines

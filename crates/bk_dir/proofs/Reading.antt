@@ -1,5 +1,5 @@
 -- One reading of a disk behind another.
-use Rattle.std.proofs.Common.{◌≡◌, Bool, IsTrue, sym, ◌∙◌, subst}
+use Rattle.std.proofs.Common.{Bool, IsTrue, sym, ◌∙◌, subst}
 use Rattle.bk_record.specs.Files.{Files}
 use Rattle.bk_dir.specs.Reading.{OnlyReads}
 

@@ -7,7 +7,7 @@ use Rattle.std.proofs.lemmas.Option.{slice_get_within, get_or_from_slice_get}
 use Rattle.bk_record.specs.Key.{EntryKey}
 use Rattle.bk_record.specs.Record.{key_of, ledger_field, entry_field}
 use Rattle.bk_record.specs.Body.{Body}
-use Rattle.bk_record.specs.Files.{header_length, records_of, rest_of}
+use Rattle.bk_record.specs.Files.{header_length, rest_of}
 use Rattle.bk_record.specs.Scan.{entries_of, foreign_of, torn_of}
 use Rattle.bk_record.specs.Spelling.{all_pieces, all_leftover}
 use Rattle.bk_disk.specs.Disk.{view_end}
@@ -15,7 +15,7 @@ use Rattle.bk_log.specs.declared.found.Found.{Found}
 use Rattle.bk_log.specs.Ranges.{entries_in, foreign_in, part}
 use Rattle.bk_log.specs.Scanning.{Scan, part_of, IsGiven, IsFinished, NextMoves}
 use Rattle.bk_log.proofs.Ranges.{all_pieces-file, all_leftover-file, entries_in-file, foreign_in-file}
-use Rattle.bk_dir.specs.Texts.{found_line, entry_line, counts_line, scan_lines}
+use Rattle.bk_dir.specs.Texts.{found_line, entry_line, counts_line}
 use Rattle.bk_dir.specs.Shown.{Writes, IsScanText}
 use Rattle.bk_dir.proofs.Lines.{appends_none, appends_then}
 

@@ -1,4 +1,5 @@
 pub mod Heads
 pub mod Reading
 pub mod Texts
+pub mod Maps
 pub mod Shown

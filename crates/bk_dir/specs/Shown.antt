@@ -9,7 +9,9 @@ use Rattle.bk_dir.specs.declared.command.DirCommand.TheVariants.{Logs, Header, M
 use Rattle.bk_dir.specs.declared.header.Head.{Head}
 use Rattle.bk_dir.specs.declared.header.Head.TheVariants as heads
 use Rattle.bk_dir.specs.declared.listing.LogState.{LogState}
+use Rattle.bk_head.specs.Ledgers.{LedgersMap}
 use Rattle.bk_dir.specs.Heads.{IsHead, HasState}
+use Rattle.bk_dir.specs.Maps.{IsMapIn, map_lines}
 use Rattle.bk_dir.specs.Reading.{OfFile}
 use Rattle.bk_dir.specs.Texts.{log_line, header_line, scan_lines}
 
@@ -37,11 +39,17 @@ pub record IsScanText (file text : List ℕ) : Type 0 where
   pub spelled : Body header_length (drop header_length file) (records_of file) (rest_of file)
   pub lines : text ≡ scan_lines file
 
--- What a command does to the writer. Of `map`, `find` and `check` nothing is said here.
-abbrev pub Shows : DirCommand → Files → Option (List ℕ) → Option (List ℕ) → Type 0
-Shows Logs files before now = Writes (AreLines (IsLogLine files) (map.keys files)) before now
-Shows (Header log) files before now = Writes (λ text. OfFile files log (λ file. (head : Head) × IsHead file head × HeadText head text)) before now
-Shows (Scan log) files before now = Writes (λ text. OfFile files log (λ file. IsScanText file text)) before now
-Shows (Map log) files before now = Unit {0}
-Shows (Find key) files before now = Unit {0}
-Shows Check files before now = Unit {0}
+-- what is shown of a log's ledgers map; a bad header or map is a fault
+abbrev pub MapText : List ℕ → Head → List ℕ → Type 0
+MapText file heads.Short text = text ≡ codes "short\n"
+MapText file (heads.Bad fault) text = ⊥
+MapText file (heads.Whole header) text = (map : Option LedgersMap) × IsMapIn file header map × (text ≡ map_lines map)
+
+-- What a command does to the writer where it is done. Of `find` and `check` nothing is said here.
+abbrev pub Prints : DirCommand → Files → Option (List ℕ) → Option (List ℕ) → Type 0
+Prints Logs files before now = Writes (AreLines (IsLogLine files) (map.keys files)) before now
+Prints (Header log) files before now = Writes (λ text. OfFile files log (λ file. (head : Head) × IsHead file head × HeadText head text)) before now
+Prints (Scan log) files before now = Writes (λ text. OfFile files log (λ file. IsScanText file text)) before now
+Prints (Map log) files before now = Writes (λ text. OfFile files log (λ file. (head : Head) × IsHead file head × MapText file head text)) before now
+Prints (Find key) files before now = Unit {0}
+Prints Check files before now = Unit {0}

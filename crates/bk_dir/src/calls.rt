@@ -1,12 +1,12 @@
-//! The calls on a disk that commands make. All of them only read.
+//! The calls on a disk and on views that commands make. All of them only read.
 
-ghost use Rattle.std.specs.Prelude.{◌≡◌, IsTrue, IfOk};
+ghost use Rattle.std.specs.Prelude.{◌≡◌, IsTrue, IfOk, length, drop, take};
 ghost use Rattle.std.specs.FinMap as map;
-ghost use Rattle.bk_disk.specs.Disk.{IsFile};
+ghost use Rattle.bk_disk.specs.Disk.{IsFile, IsInView};
 ghost use Rattle.bk_dir.specs.Reading.{OnlyReads};
 
 use crate::DirFault;
-use bk_disk::LogDisk;
+use bk_disk::{LogDisk, LogView};
 use std::alloc::Global;
 
 /// The ids of all logs, rising.
@@ -33,5 +33,23 @@ pub(crate) fn view_of<D: LogDisk>(
     match disk.view(alloc, log) {
         Ok(view) => Ok(view),
         Err(fault) => Err(DirFault::from(fault)),
+    }
+}
+
+/// The `n` bytes of a view from a position on, which were said to be there.
+pub(crate) fn read_view<V: LogView>(
+    alloc: Global,
+    view: &V,
+    at: u64,
+    n: u64,
+) -> Result<Vec<u8>, DirFault>
+    ensures long { IfOk result (λ bytes. length bytes.items ≡ n) }
+    ensures ok { IsTrue (V.honest view.now) → IfOk result (λ bytes. IsInView (V.bytes view.now) at n
+        × (bytes.items ≡ take n (drop at (V.bytes view.now)))) }
+{
+    match view.read_at(alloc, at, n) {
+        Ok(bytes) if bytes.len() as u64 == n => Ok(bytes),
+        Ok(_) => Err(DirFault::Odd),
+        Err(fault) => Err(DirFault::from(fault).of_known()),
     }
 }

@@ -5,7 +5,8 @@ ghost use Rattle.bk_dir.specs.Reading.{OnlyReads};
 
 use crate::calls::{list_logs, view_of};
 use crate::header::{Head, read_head};
-use crate::ledgers::{counted_ledgers, written_ledgers};
+use crate::ledgers::counted_ledgers;
+use crate::written::written_ledgers;
 use crate::{DirFault, LogFault};
 use bk_disk::{LogDisk, LogView};
 use bk_head::Header;

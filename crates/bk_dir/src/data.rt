@@ -2,6 +2,7 @@
 //! memory.
 
 use crate::DirFault;
+use crate::calls::read_view;
 use bk_disk::LogView;
 use bk_log::Found;
 use bk_record::{IDS_LENGTH, RECORD_HEAD};
@@ -26,10 +27,8 @@ pub(crate) fn show_data<V: LogView, W: Write>(
     let mut at = found.at.saturating_add(IDS_LENGTH as u64);
     while left > 0 {
         let n = left.min(WINDOW);
-        match view.read_at(alloc, at, n) {
-            Ok(bytes) => show_bytes(&bytes, writer)?,
-            Err(fault) => return Err(DirFault::from(fault).of_known()),
-        }
+        let bytes = read_view(alloc, view, at, n)?;
+        show_bytes(&bytes, writer)?;
         at = at.saturating_add(n);
         left -= n;
     }

@@ -3,7 +3,7 @@
 ghost use Rattle.std.specs.Prelude.{IsTrue, IfOk, IfSome, OnOk};
 ghost use Rattle.bk_dir.specs.Heads.{IsHeadOf, StartsWith};
 ghost use Rattle.bk_dir.specs.Reading.{OfFile, OnlyReads};
-ghost use Rattle.bk_dir.specs.Shown.{HeadText, Shows, Writes};
+ghost use Rattle.bk_dir.specs.Shown.{HeadText, Prints, Writes};
 ghost use Rattle.bk_dir.specs.declared.command.DirCommand.TheVariants as commands;
 
 use crate::{DirFault, LogFault};
@@ -81,7 +81,7 @@ pub(crate) fn show_header<D: LogDisk, W: Write>(
     writer: &mut W,
 ) -> Result<(), DirFault>
     ensures reads { OnlyReads (D.honest disk.old) (D.files disk.old) (D.honest disk.new) (D.files disk.new) }
-    ensures ok { IsTrue (D.honest disk.old) → OnOk result (Shows (commands.Header log) (D.files disk.old)
+    ensures ok { IsTrue (D.honest disk.old) → OnOk result (Prints (commands.Header log) (D.files disk.old)
         (W.contents writer.old) (W.contents writer.new)) }
 {
     let found = read_head(alloc, disk, log)?;

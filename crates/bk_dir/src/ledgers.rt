@@ -1,52 +1,24 @@
 //! The ledgers map of a log, as it stands in the log, and as the log's entries want it.
 
-ghost use Rattle.std.specs.Prelude.{IfOk};
-ghost use Rattle.bk_head.specs.Reading.{IsTail};
+ghost use Rattle.std.specs.Prelude.{IsTrue, OnOk, flat_map};
+ghost use Rattle.std.specs.Io.KnownBytes.{Appends};
+ghost use Rattle.bk_dir.specs.Maps.{ledger_line};
 ghost use Rattle.bk_dir.specs.Reading.{OnlyReads};
+ghost use Rattle.bk_dir.specs.Shown.{MapText, Prints, Writes};
+ghost use Rattle.bk_dir.specs.declared.command.DirCommand.TheVariants as commands;
+ghost use Rattle.bk_dir.specs.declared.header.Head.TheVariants as heads;
 
 use crate::calls::view_of;
 use crate::header::{HEADER, Head, read_head};
+use crate::written::written_ledgers;
 use crate::{DirFault, LogFault};
 use bk_disk::{LogDisk, LogView};
-use bk_head::{Header, read_map};
+use bk_head::Header;
 use bk_log::{LedgerSizes, Scanner};
 use std::alloc::Global;
 use std::collections::BTreeMap;
+use std::io;
 use std::io::Write;
-
-/// The ledgers map that stands in a log, whose header was read.
-pub(crate) fn written_ledgers<V: LogView>(
-    alloc: Global,
-    view: &V,
-    header: &Header,
-) -> Result<Option<BTreeMap<u64, u64>>, DirFault> {
-    let end = view.end().max(HEADER);
-    let tail = tail_of(alloc, view, header, end)?;
-    Ok(read_map(alloc, &tail, end, header)?)
-}
-
-/// The log's bytes from the header's offset on; none where that doesn't lie in the log behind the header.
-fn tail_of<V: LogView>(
-    alloc: Global,
-    view: &V,
-    header: &Header,
-    end: u64,
-) -> Result<Vec<u8>, DirFault>
-    ensures { IfOk result (λ tail. IsTail tail.items end header.now.map_offset) }
-{
-    if header.map_offset < 0 {
-        return Ok(Vec::new(alloc));
-    }
-    let offset = header.map_offset as u64;
-    if offset < HEADER || offset > end {
-        return Ok(Vec::new(alloc));
-    }
-    match view.read_at(alloc, offset, end - offset) {
-        Ok(tail) if tail.len() as u64 == end - offset => Ok(tail),
-        Ok(_) => Err(DirFault::Odd),
-        Err(fault) => Err(DirFault::from(fault).of_known()),
-    }
-}
 
 /// The bytes of the log's entries by ledger.
 pub(crate) fn counted_ledgers<V: LogView>(
@@ -74,6 +46,8 @@ pub(crate) fn show_map<D: LogDisk, W: Write>(
     writer: &mut W,
 ) -> Result<(), DirFault>
     ensures reads { OnlyReads (D.honest disk.old) (D.files disk.old) (D.honest disk.new) (D.files disk.new) }
+    ensures ok { IsTrue (D.honest disk.old) → OnOk result (Prints (commands.Map log) (D.files disk.old)
+        (W.contents writer.old) (W.contents writer.new)) }
 {
     let header = match read_head(alloc, disk, log)?.head {
         Head::Short => return Ok(writeln!(writer, "short")?),
@@ -92,17 +66,30 @@ fn show_view<V: LogView, W: Write>(
     view: &V,
     header: &Header,
     writer: &mut W,
-) -> Result<(), DirFault> {
+) -> Result<(), DirFault>
+    ensures { IsTrue (V.honest view.now) → OnOk result (Writes (MapText (V.bytes view.now) (heads.Whole header.now))
+        (W.contents writer.old) (W.contents writer.new)) }
+{
     match written_ledgers(alloc, view, header)? {
-        Some(map) => show_ledgers(&map, writer),
-        None => Ok(writeln!(writer, "no map")?),
+        Some(map) => show_ledgers(&map, writer)?,
+        None => writeln!(writer, "no map")?,
     }
+    Ok(())
 }
 
 /// Shows a line for each ledger of a map.
-fn show_ledgers<W: Write>(map: &BTreeMap<u64, u64>, writer: &mut W) -> Result<(), DirFault> {
+fn show_ledgers<W: Write>(map: &BTreeMap<u64, u64>, writer: &mut W) -> io::Result<()>
+    ensures { OnOk result (Appends (W.contents writer.old) (W.contents writer.new) (flat_map ledger_line map.now.entries)) }
+{
     for (ledger, size) in map {
-        writeln!(writer, "{ledger} {size}")?;
+        write_ledger(*ledger, *size, writer)?;
     }
     Ok(())
+}
+
+/// Writes the line of a ledger.
+fn write_ledger<W: Write>(ledger: u64, size: u64, writer: &mut W) -> io::Result<()>
+    ensures { OnOk result (Appends (W.contents writer.old) (W.contents writer.new) (ledger_line (ledger, size))) }
+{
+    writeln!(writer, "{ledger} {size}")
 }

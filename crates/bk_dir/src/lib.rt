@@ -14,6 +14,7 @@ mod run;
 mod scan;
 #[cfg(test)]
 mod tests;
+mod written;
 
 pub use command::DirCommand;
 use fault::{DirFault, LogFault};

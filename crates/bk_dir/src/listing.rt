@@ -4,7 +4,7 @@ ghost use Rattle.std.specs.Prelude.{IsTrue, OnOk, Some};
 ghost use Rattle.std.specs.Io.KnownBytes.{Appends};
 ghost use Rattle.bk_dir.specs.Heads.{HeadState};
 ghost use Rattle.bk_dir.specs.Reading.{OnlyReads};
-ghost use Rattle.bk_dir.specs.Shown.{IsLogLine, Shows, Writes};
+ghost use Rattle.bk_dir.specs.Shown.{IsLogLine, Prints, Writes};
 ghost use Rattle.bk_dir.specs.Texts.{log_line, state_text};
 ghost use Rattle.bk_dir.specs.declared.command.DirCommand.TheVariants as commands;
 
@@ -62,7 +62,7 @@ pub(crate) fn show_logs<D: LogDisk, W: Write>(
     writer: &mut W,
 ) -> Result<(), DirFault>
     ensures reads { OnlyReads (D.honest disk.old) (D.files disk.old) (D.honest disk.new) (D.files disk.new) }
-    ensures ok { IsTrue (D.honest disk.old) → OnOk result (Shows commands.Logs (D.files disk.old)
+    ensures ok { IsTrue (D.honest disk.old) → OnOk result (Prints commands.Logs (D.files disk.old)
         (W.contents writer.old) (W.contents writer.new)) }
 {
     let ids = list_logs(alloc, disk)?;

@@ -2,7 +2,7 @@
 
 ghost use Rattle.std.specs.Prelude.{◌≡◌, ◌≤◌, IsTrue, IfOk};
 ghost use Rattle.bk_dir.specs.Reading.{OnlyReads};
-ghost use Rattle.bk_dir.specs.Shown.{Shows};
+ghost use Rattle.bk_dir.specs.Shown.{Prints};
 
 use crate::check::show_check;
 use crate::find::show_last;
@@ -31,7 +31,7 @@ pub fn run_dir<D: LogDisk, W: Write, E: Write>(
 ) -> u8
     ensures status { result ≤ 1 }
     ensures reads { OnlyReads (D.honest disk.old) (D.files disk.old) (D.honest disk.new) (D.files disk.new) }
-    ensures done { IsTrue (D.honest disk.old) → result ≡ 0 → Shows command (D.files disk.old)
+    ensures done { IsTrue (D.honest disk.old) → result ≡ 0 → Prints command (D.files disk.old)
         (W.contents writer.old) (W.contents writer.new) }
 {
     match show_all(alloc, disk, command, writer) {
@@ -53,7 +53,7 @@ fn show_all<D: LogDisk, W: Write>(
 ) -> Result<u8, DirFault>
     ensures status { IfOk result (λ status. status ≤ 1) }
     ensures reads { OnlyReads (D.honest disk.old) (D.files disk.old) (D.honest disk.new) (D.files disk.new) }
-    ensures done { IsTrue (D.honest disk.old) → IfOk result (λ status. status ≡ 0 → Shows command (D.files disk.old)
+    ensures done { IsTrue (D.honest disk.old) → IfOk result (λ status. status ≡ 0 → Prints command (D.files disk.old)
         (W.contents writer.old) (W.contents writer.new)) }
 {
     let shown = show(alloc, disk, command, writer);
@@ -72,7 +72,7 @@ fn show<D: LogDisk, W: Write>(
 ) -> Result<u8, DirFault>
     ensures status { IfOk result (λ status. status ≤ 1) }
     ensures reads { OnlyReads (D.honest disk.old) (D.files disk.old) (D.honest disk.new) (D.files disk.new) }
-    ensures done { IsTrue (D.honest disk.old) → IfOk result (λ status. status ≡ 0 → Shows command (D.files disk.old)
+    ensures done { IsTrue (D.honest disk.old) → IfOk result (λ status. status ≡ 0 → Prints command (D.files disk.old)
         (W.contents writer.old) (W.contents writer.new)) }
 {
     match command {

@@ -3,7 +3,7 @@
 ghost use Rattle.std.specs.Prelude.{IsTrue, OnOk};
 ghost use Rattle.std.specs.Io.KnownBytes.{Appends};
 ghost use Rattle.bk_dir.specs.Reading.{OnlyReads};
-ghost use Rattle.bk_dir.specs.Shown.{IsScanText, Shows, Writes};
+ghost use Rattle.bk_dir.specs.Shown.{IsScanText, Prints, Writes};
 ghost use Rattle.bk_dir.specs.Texts.{counts_line, found_line};
 ghost use Rattle.bk_dir.specs.declared.command.DirCommand.TheVariants as commands;
 
@@ -25,7 +25,7 @@ pub(crate) fn show_scan<D: LogDisk, W: Write>(
     writer: &mut W,
 ) -> Result<(), DirFault>
     ensures reads { OnlyReads (D.honest disk.old) (D.files disk.old) (D.honest disk.new) (D.files disk.new) }
-    ensures ok { IsTrue (D.honest disk.old) → OnOk result (Shows (commands.Scan log) (D.files disk.old)
+    ensures ok { IsTrue (D.honest disk.old) → OnOk result (Prints (commands.Scan log) (D.files disk.old)
         (W.contents writer.old) (W.contents writer.new)) }
 {
     let view = view_of(alloc, disk, log)?;

@@ -4,6 +4,7 @@ ghost use Rattle.std.specs.Prelude.{◌<◌, ◌^◌};
 
 mod failing;
 mod hostile;
+mod maps;
 mod rows;
 
 use crate::{DirCommand, run_dir};

@@ -1,4 +1,4 @@
-use Rattle.std.proofs.Common.{Option, Some, Ok, subst}
+use Rattle.std.proofs.Common.{Option, Ok, subst}
 use Rattle.bk_log.specs.declared.found.Found.{Found}
 use Rattle.bk_log.specs.Scanning.{NextMoves}
 use Rattle.bk_dir.proofs.Sums.{sizes_none, sizes_more}
