@@ -119,6 +119,15 @@ impl<D: LogDisk> Store<D> {
         let _ = self.fields.caches.limit();
     }
 
+    /// The disk as it is: its files are those of the store's state, and so are its honesty and its count of failures.
+    pub fn disk(&self) -> &D
+        ensures files { D.files result.now ≡ self.now.files }
+        ensures honest { D.honest result.now ≡ self.now.honest }
+        ensures failures { D.failures result.now ≡ self.now.failures }
+    {
+        &self.fields.disk
+    }
+
     /// The state of a log, `None` where no such log is held.
     pub fn log_state(&self, id: u32) -> Option<LogState>
         ensures { result ≡ option_map (λ log. log.state) (map.get self.now.logs id) }
