@@ -1,0 +1,9 @@
+mod Filled
+mod Filling
+mod Failures
+mod Steps
+mod NextLogs
+mod ShownLogs
+mod SameKeys
+mod NamedEntries
+mod Published

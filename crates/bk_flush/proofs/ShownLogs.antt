@@ -1,0 +1,216 @@
+-- The logs of a flush are shown one by one, by rising ids.
+use Rattle.std.proofs.Common.{◌≡◌, ◌≢◌, ◌⊎◌, inl, inr, ℕ, ◌+◌, ◌<◌, ◌≤◌, ◌^◌, true, IsTrue, Option, Some, None, Result, Ok, Err, refl, sym, ap, subst, ◌∙◌, arith}
+use Rattle.std.proofs.Math.Decide.{dec_le}
+use Rattle.std.specs.FinMap as finite
+use Rattle.bk_record.specs.Key.{EntryKey}
+use Rattle.bk_record.specs.Location.{Place}
+use Rattle.bk_log.specs.declared.fault.LogFault.{LogFault}
+use Rattle.bk_log.specs.declared.fault.LogFault.TheVariants as log_faults
+use Rattle.bk_store.specs.Logs.{Log, Logs, IsFlushLog, is_open, with_view}
+use Rattle.bk_store.specs.State.{State}
+use Rattle.bk_store.specs.Kept.{IsPlaced}
+use Rattle.bk_store.specs.Plain.{IsKept}
+use Rattle.bk_store.specs.Meaning.{MeansTheSame}
+use Rattle.bk_store.specs.Doors.{IsOpenLog, ShowTurn, ShowsAll, failed_in}
+use Rattle.bk_store.specs.declared.log.LogState.TheVariants.{Writing, Filled}
+use Rattle.bk_store.proofs.Cases.{same_or_apart}
+use Rattle.bk_store.proofs.LogMaps.{log-inserted, log-insert_else}
+use Rattle.bk_flush.specs.Flushing.{HasPlace, IsShown, ShowsThose, ShowsPlaced, StopsShowing, told}
+use Rattle.bk_flush.specs.Meaning.{Stays}
+use Rattle.bk_flush.specs.Showing.{AllShown, IsNextLog, ShowsLogs}
+use Rattle.bk_flush.specs.declared.answer.FlushFault.{FlushFault}
+
+-- the logs below this id are shown
+pub record IsShowing (s : State) (from : ℕ) (t : State) : Type 0 where
+  pub shown : ShowsThose (λ id. HasPlace s id × (id < from)) s t
+  pub failures : t.failures ≡ s.failures
+  pub stays : Stays s t
+
+pub none_shown : (s : State) → IsShowing s 0 s
+none_shown s = record {
+  shown = record {
+    shown = λ id is. let below = is.1 in absurd (omega (arith, below));
+    others = λ id _. refl;
+    files = λ _. refl;
+    left = refl;
+  };
+  failures = refl;
+  stays = record { honest = refl; meaning = λ _ _. refl };
+}
+
+-- a log that a flush wrote is one that keys may be sent to
+flush_log_open : (logs : Logs) (id : ℕ) → IsFlushLog logs id → (log : Log) × (finite.get logs id ≡ Some log) × (is_open log.state ≡ true)
+flush_log_open logs id is = (
+  is.log,
+  is.held,
+  (elim is.flushed [
+    | inl writing ↦ ap is_open writing
+    | inr filled ↦ ap is_open filled
+  ]),
+)
+
+pub open_log : (s : State) (id : ℕ) → IsFlushLog s.logs id → IsOpenLog s id
+open_log s id is = let log = flush_log_open s.logs id is in record { log = log.0; held = log.1; opened = log.2 }
+
+-- what a store in which so much is shown says of the places
+module _ (s t : State) (from : ℕ) (is : IsShowing s from t) where
+  same_places : t.places ≡ s.places
+  same_places = ap (λ (x : State). x.places) is.shown.left
+
+  has_before : (id : ℕ) → HasPlace t id → HasPlace s id
+  has_before id has = (has.0, (has.1.0, ap (λ m. finite.get m has.0) (sym same_places) ∙ has.1.1, has.1.2))
+
+  has_now : (id : ℕ) → HasPlace s id → HasPlace t id
+  has_now id has = (has.0, (has.1.0, ap (λ m. finite.get m has.0) same_places ∙ has.1.1, has.1.2))
+
+  module _ (log : ℕ) (next : IsNextLog t from (Some log)) where
+    -- those before the next log are shown
+    before_next : (id : ℕ) → HasPlace s id → id < log → id < from
+    before_next id has below = elim (dec_le from id) [
+      | no less ↦ omega (arith, less)
+      | yes above ↦ let least = next.2 id (has_now id has) above in absurd (omega (arith, least, below))
+    ]
+
+    from_next : (id : ℕ) → HasPlace s id → id < log + 1 → (id < from) ⊎ (id ≡ log)
+    from_next id has below = elim (dec_le from id) [
+      | no less ↦ inl (omega (arith, less))
+      | yes above ↦ let least = next.2 id (has_now id has) above in inr (omega (arith, least, below))
+    ]
+
+    pub one_more : (u : State) → ShowTurn t log (Ok tt) u → (IsTrue t.honest → MeansTheSame t u) → IsShowing s (log + 1) u
+    one_more u turn meaning =
+        let held = turn.0 in
+        let view = turn.2.0 in
+        let left : u ≡ _ = turn.2.3 in
+        let files : IsTrue s.honest → u.files ≡ s.files = λ honest. turn.2.2 (is.stays.honest ∙ honest) ∙ is.shown.files honest in
+        let above = next.1 in
+        let was : finite.get t.logs log ≡ finite.get s.logs log =
+        is.shown.others log (λ both. let below = both.1 in omega (arith, below, above)) in
+        record {
+          shown = record {
+            shown = λ id those. elim (from_next id those.0 those.1) [
+              | inl below ↦
+                  let one = is.shown.shown id (those.0, below) in
+                  let apart : id ≢ log = (λ same. omega (arith, below, above, same)) in
+                  record {
+                    log = one.log;
+                    view = one.view;
+                    held = one.held;
+                    now = ap (λ (x : State). finite.get x.logs id) left ∙ log-insert_else t.logs log (with_view view held) id apart ∙ one.now;
+                    honest = one.honest;
+                    whole = one.whole;
+                  }
+              | inr same ↦ subst (λ x. IsShown s x u) (sym same) (record {
+                log = held;
+                view = view;
+                held = sym was ∙ turn.1;
+                now = ap (λ (x : State). finite.get x.logs log) left ∙ log-inserted t.logs log (with_view view held) log refl;
+                honest = λ honest. (turn.2.1 (is.stays.honest ∙ honest)).0;
+                whole = λ honest.
+                    ap (λ fs. finite.get fs log) (sym (is.shown.files honest)) ∙ (turn.2.1 (is.stays.honest ∙ honest)).1;
+              })
+            ];
+            others = λ id none.
+                let apart : id ≢ log = (λ same. none (subst (HasPlace s) (sym same) (has_before log next.0), omega (arith, same))) in
+                ap (λ (x : State). finite.get x.logs id) left
+                ∙ log-insert_else t.logs log (with_view view held) id apart
+                ∙ is.shown.others id (λ both. let below = both.1 in none (both.0, omega (arith, below, above)));
+            files = files;
+            left = ap (λ (x : State). record x { files = u.files; failures = u.failures; logs = u.logs }) left
+                ∙ ap (λ (x : State). record x { files = u.files; failures = u.failures; logs = u.logs }) is.shown.left;
+          };
+          failures = ap (λ (x : State). x.failures) left ∙ is.failures;
+          stays = record {
+            honest = ap (λ (x : State). x.honest) left ∙ is.stays.honest;
+            meaning = λ honest key. meaning (is.stays.honest ∙ honest) key ∙ is.stays.meaning honest key;
+          };
+        }
+
+    -- the next log is refused: what was shown stays so
+    stops : (u : State) (more : ℕ) → (IsTrue t.honest → u.files ≡ t.files) → u ≡ record t { files = u.files; failures = t.failures + more }
+        → StopsShowing s more u
+    stops u more files left = record {
+      refused = log;
+      has = has_before log next.0;
+      before = record {
+        shown = λ id those.
+            let one = is.shown.shown id (those.0, before_next id those.0 those.1) in
+            record {
+              log = one.log;
+              view = one.view;
+              held = one.held;
+              now = ap (λ (x : State). finite.get x.logs id) left ∙ one.now;
+              honest = one.honest;
+              whole = one.whole;
+            };
+        others = λ id none.
+            ap (λ (x : State). finite.get x.logs id) left
+            ∙ is.shown.others id (λ both. let below = both.1 in let above = next.1 in none (both.0, omega (arith, below, above)));
+        files = λ honest. files (is.stays.honest ∙ honest) ∙ is.shown.files honest;
+        left = ap (λ (x : State). record x { files = u.files; failures = u.failures; logs = u.logs }) left
+            ∙ ap (λ (x : State). record x { files = u.files; failures = u.failures; logs = u.logs }) is.shown.left;
+      };
+      failures = ap (λ (x : State). x.failures) left ∙ ap (λ n. n + more) is.failures;
+    }
+
+    stops_even : (u : State) → (IsTrue t.honest → u.files ≡ t.files) → u ≡ record t { files = u.files } → StopsShowing s 0 u
+    stops_even u files left =
+        let none : t.failures ≡ t.failures + 0 = omega arith in
+        stops u 0 files (left ∙ ap (λ n. record t { files = u.files; failures = n }) none)
+
+    pub not_shown : (cause : LogFault) (fault : FlushFault) (u : State) → ShowTurn t log (Err cause) u → fault ≡ told cause → ShowsLogs s (Err fault) u
+    not_shown cause fault u turn is_told = subst (λ f. ShowsLogs s (Err f) u) (sym is_told) (by_cause cause turn)
+      where
+        by_cause : (cause : LogFault) → ShowTurn t log (Err cause) u → ShowsLogs s (Err (told cause)) u
+        by_cause log_faults.Disk turn = stops u 1 turn.0 turn.1
+        by_cause log_faults.Memory turn = (refl, stops_even u turn.0 turn.1)
+        by_cause log_faults.Odd turn =
+            let never : IsTrue t.honest → ⊥ = λ honest. let wrong = sym turn.0 ∙ honest in cc in
+            (sym is.stays.honest ∙ turn.0, stops_even u (λ honest. absurd (never honest)) turn.1)
+        by_cause log_faults.Failed never = absurd never
+
+    pub not_shown_stays : (cause : LogFault) (u : State) → ShowTurn t log (Err cause) u → (IsTrue t.honest → MeansTheSame t u) → Stays s u
+    not_shown_stays cause u turn meaning = record {
+      honest = same_honest cause turn ∙ is.stays.honest;
+      meaning = λ honest key. meaning (is.stays.honest ∙ honest) key ∙ is.stays.meaning honest key;
+    }
+      where
+        same_honest : (cause : LogFault) → ShowTurn t log (Err cause) u → u.honest ≡ t.honest
+        same_honest log_faults.Disk turn = ap (λ (x : State). x.honest) turn.1
+        same_honest log_faults.Memory turn = ap (λ (x : State). x.honest) turn.1
+        same_honest log_faults.Odd turn = ap (λ (x : State). x.honest) turn.1
+        same_honest log_faults.Failed never = absurd never
+
+  -- no log is left to be shown
+  module _ (over : IsNextLog t from None) where
+    pub all_shown : ShowsPlaced s t
+    all_shown = record {
+      all = record {
+        shown = λ id has. is.shown.shown id (has, over id (has_now id has));
+        others = λ id none. is.shown.others id (λ both. none both.0);
+        files = is.shown.files;
+        left = is.shown.left;
+      };
+      failures = is.failures;
+    }
+
+    pub shows_whole : IsKept s → AllShown t
+    shows_whole kept key place at =
+        let there : finite.get s.places key ≡ Some place = ap (λ m. finite.get m key) (sym same_places) ∙ at in
+        let one = all_shown.all.shown place.log (key, (place, there, refl)) in
+        let wrote : IsFlushLog s.logs place.log =
+        subst (λ (x : State). IsFlushLog x.logs place.log) kept.seen
+        (kept.keeps.fits.placed.logs key place (ap (λ (x : State). finite.get x.places key) kept.seen ∙ there)) in
+        let log = flush_log_open s.logs place.log wrote in
+        let both : Some one.log ≡ Some log.0 = sym one.held ∙ log.1 in
+        let same : one.log ≡ log.0 = cc in
+        record {
+          log = with_view one.view one.log;
+          view = one.view;
+          held = one.now;
+          opened = ap (λ (l : Log). is_open l.state) same ∙ log.2;
+          view_is = refl;
+          whole = λ honest.
+              let was : IsTrue s.honest = sym is.stays.honest ∙ honest in
+              ap (λ fs. finite.get fs place.log) (is.shown.files was) ∙ one.whole was;
+        }

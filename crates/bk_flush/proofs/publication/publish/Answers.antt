@@ -1,0 +1,30 @@
+use Rattle.std.proofs.Common.{Err, sym, ap, subst, ◌∙◌}
+use Rattle.std.proofs.lemmas.Result.{err_from_is_err_and}
+use Rattle.bk_store.specs.Doors.{AllPlaced}
+use Rattle.bk_flush.specs.Flushing.{PublishTurn}
+use Rattle.bk_flush.proofs.Published.{none_next, names_refused, all_named, published}
+use Rattle.bk_flush.proofs.publication.publish.Goals as goal
+
+pub returns-in_err-name_entries-clause-turn : goal.returns-in_err-name_entries-clause-turn
+returns-in_err-name_entries-clause-turn g c =
+    let runs = c.is_flushing.ensures.0 c.if-not-is_flushing.false in
+    let placed : AllPlaced c.args.store.now =
+    none_next c.args.store.now _ c.next_entry.result (sym c.is_some.ensures ∙ c.if-is_some.false) c.next_entry.ensures.next in
+    let told = err_from_is_err_and c.from_residual-in_err-name_entries.result c.from_residual-in_err-name_entries.ensures.1 in
+    subst (λ r. PublishTurn c.args.store.now r c.name_entries.new.store) (sym (told.1 ∙ ap Err told.2))
+    (names_refused c.args.store.now c.promise.ensures placed c.show_logs.new.store c.in_ok-show_logs.ensures.turn c.name_entries.new.store _ runs
+    c.in_err-name_entries.ensures.turn)
+
+pub end_flush-requires-after_bounds : goal.end_flush-requires-after_bounds
+end_flush-requires-after_bounds g c κs within =
+    let placed : AllPlaced c.args.store.now =
+    none_next c.args.store.now _ c.next_entry.result (sym c.is_some.ensures ∙ c.if-is_some.false) c.next_entry.ensures.next in
+    all_named c.args.store.now c.promise.ensures placed c.show_logs.new.store c.in_ok-show_logs.ensures.turn c.name_entries.new.store c.in_ok-name_entries.ensures.turn
+
+pub returns-clause-turn : goal.returns-clause-turn
+returns-clause-turn g c =
+    let runs = c.is_flushing.ensures.0 c.if-not-is_flushing.false in
+    let placed : AllPlaced c.args.store.now =
+    none_next c.args.store.now _ c.next_entry.result (sym c.is_some.ensures ∙ c.if-is_some.false) c.next_entry.ensures.next in
+    published c.args.store.now c.promise.ensures placed c.show_logs.new.store c.in_ok-show_logs.ensures.turn c.name_entries.new.store c.in_ok-name_entries.ensures.turn
+    c.end_flush.new.self c.flush_len-entries.result runs c.flush_len-entries.ensures c.end_flush.ensures.turn

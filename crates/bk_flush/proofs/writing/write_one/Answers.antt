@@ -1,0 +1,46 @@
+use Rattle.std.proofs.Common.{◌≡◌, length, Err, ap, ◌∙◌}
+use Rattle.bk_flush.proofs.Failures.{step_caused}
+use Rattle.bk_flush.proofs.Steps.{put_step, unput_step, write_stays, stays_on}
+use Rattle.bk_flush.proofs.writing.write_one.Goals as goal
+
+pub returns-in-Ok-clause-turn : goal.returns-in-Ok-clause-turn
+returns-in-Ok-clause-turn g c =
+    let size : c.len-size.result ≡ length c.in-Some.next.1.now.value.items =
+    c.len-size.ensures ∙ c.deref.result.now.ok.0 ∙ ap (λ v. length v.items) c.deref.ensures in
+    put_step c.args.store.now c.ready.new.store c.write.new.self c.in-Some.next.0 c.in-Some.next.1.now.value.items c.len-size.result c.in_ok-log.log
+    c.in-Some.ensures.next size c.in_ok-log.ensures.turn c.in_ok-log.ensures.caches c.in-Ok.location c.in-Ok.ensures.turn
+
+pub returns-in-Err-clause-turn : goal.returns-in-Err-clause-turn
+returns-in-Err-clause-turn g c =
+    let size : c.len-size.result ≡ length c.in-Some.next.1.now.value.items =
+    c.len-size.ensures ∙ c.deref.result.now.ok.0 ∙ ap (λ v. length v.items) c.deref.ensures in
+    unput_step c.args.store.now c.ready.new.store c.write.new.self c.in-Some.next.0 c.in-Some.next.1.now.value.items c.len-size.result c.in_ok-log.log
+    c.in-Some.ensures.next size c.in_ok-log.ensures.turn c.in_ok-log.ensures.caches c.in-Err.fault c.flush_fault.result c.flush_fault.new.store
+    c.in-Err.ensures.turn c.flush_fault.ensures.value c.flush_fault.ensures.left
+
+pub returns-in-Err-clause-cause : goal.returns-in-Err-clause-cause
+returns-in-Err-clause-cause g c =
+    let size : c.len-size.result ≡ length c.in-Some.next.1.now.value.items =
+    c.len-size.ensures ∙ c.deref.result.now.ok.0 ∙ ap (λ v. length v.items) c.deref.ensures in
+    step_caused c.args.store.now c.flush_fault.new.store (Err c.flush_fault.result)
+    (unput_step c.args.store.now c.ready.new.store c.write.new.self c.in-Some.next.0 c.in-Some.next.1.now.value.items c.len-size.result c.in_ok-log.log
+    c.in-Some.ensures.next size c.in_ok-log.ensures.turn c.in_ok-log.ensures.caches c.in-Err.fault c.flush_fault.result c.flush_fault.new.store
+    c.in-Err.ensures.turn c.flush_fault.ensures.value c.flush_fault.ensures.left)
+
+pub returns-in-Err-clause-honest : goal.returns-in-Err-clause-honest
+returns-in-Err-clause-honest g c =
+    let size : c.len-size.result ≡ length c.in-Some.next.1.now.value.items =
+    c.len-size.ensures ∙ c.deref.result.now.ok.0 ∙ ap (λ v. length v.items) c.deref.ensures in
+    let wrote = write_stays c.args.store.now c.ready.new.store c.write.new.self c.in-Some.next.0 c.in-Some.next.1.now.value.items c.len-size.result c.in_ok-log.log
+    c.in-Some.ensures.next size c.in_ok-log.ensures.turn c.in_ok-log.ensures.caches (Err c.in-Err.fault) c.in-Err.ensures.turn
+    c.in_ok-log.ensures.stays c.in-Err.ensures.meaning in
+    (stays_on _ _ _ wrote c.flush_fault.ensures.stays).honest
+
+pub returns-in-Err-clause-meaning : goal.returns-in-Err-clause-meaning
+returns-in-Err-clause-meaning g c =
+    let size : c.len-size.result ≡ length c.in-Some.next.1.now.value.items =
+    c.len-size.ensures ∙ c.deref.result.now.ok.0 ∙ ap (λ v. length v.items) c.deref.ensures in
+    let wrote = write_stays c.args.store.now c.ready.new.store c.write.new.self c.in-Some.next.0 c.in-Some.next.1.now.value.items c.len-size.result c.in_ok-log.log
+    c.in-Some.ensures.next size c.in_ok-log.ensures.turn c.in_ok-log.ensures.caches (Err c.in-Err.fault) c.in-Err.ensures.turn
+    c.in_ok-log.ensures.stays c.in-Err.ensures.meaning in
+    (stays_on _ _ _ wrote c.flush_fault.ensures.stays).meaning

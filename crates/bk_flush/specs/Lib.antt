@@ -1,0 +1,3 @@
+pub mod Flushing
+pub mod Meaning
+pub mod Showing

@@ -1,0 +1,110 @@
+//! Publishing: the logs that a flush wrote are shown, and its keys are sent to their places.
+//!
+//! A log that has a place of the flush is synced and gets a view of its whole file; then the index learns the places,
+//! in the order of the keys. A refusal leaves the flush running, with all its entries in their cache, so a later
+//! publish does the rest.
+
+ghost use Rattle.std.specs.Prelude.{◌≡◌, ◌⊎◌, ◌<◌, ◌≤◌, ◌^◌, IsTrue, Some, IfSome, OnOk};
+ghost use Rattle.bk_store.specs.Logs.{IsFlushLog};
+ghost use Rattle.bk_store.specs.Meaning.{MeansTheSame};
+ghost use Rattle.bk_flush.specs.Flushing.{IsCaused, PublishTurn};
+ghost use Rattle.bk_flush.specs.Meaning.{Stays};
+ghost use Rattle.bk_flush.specs.Showing.{AllShown, IsNextLog, NamesEntries, ShowsLogs};
+
+use crate::faults::fault_of_log;
+use crate::{FlushFault, PublishAnswer};
+use bk_disk::LogDisk;
+use bk_store::Store;
+
+/// Ends the flush, once every entry of it has a place: its entries are read from their logs from now on.
+///
+/// # Errors
+/// `Disk` where a log could not be synced or shown, `Memory` where an allocation was refused, and then `done` says how
+/// many entries the index has learnt, and `Odd` where the disk behaved as no honest one does. After each the flush still
+/// runs, with all its entries, and a later publish may end it.
+pub fn publish<D: LogDisk>(store: &mut Store<D>) -> Result<PublishAnswer, FlushFault>
+    ensures turn { PublishTurn store.old result store.new }
+    ensures cause { IsCaused store.old result store.new }
+    ensures honest { store.new.honest ≡ store.old.honest }
+    ensures meaning { IsTrue store.old.honest → MeansTheSame store.old store.new }
+{
+    store.promise();
+    if !store.is_flushing() {
+        return Ok(PublishAnswer::NoFlush);
+    }
+    if store.next_entry().is_some() {
+        return Ok(PublishAnswer::NotAllWritten);
+    }
+    let entries = store.flush_len();
+    show_logs(store)?;
+    name_entries(store)?;
+    store.end_flush();
+    Ok(PublishAnswer::Published(entries))
+}
+
+/// Shows each log that has a place of the flush, once, by rising ids.
+fn show_logs<D: LogDisk>(store: &mut Store<D>) -> Result<(), FlushFault>
+    ensures turn { ShowsLogs store.old result store.new }
+    ensures shown { OnOk result (AllShown store.new) }
+    ensures stays { Stays store.old store.new }
+{
+    store.promise();
+    let mut from = 0;
+    while let Some(log) = next_log(store, from) {
+        if let Err(fault) = store.show(log) {
+            return Err(fault_of_log(fault));
+        }
+        from = log + 1;
+    }
+    Ok(())
+}
+
+/// The least id from this one on of a log that has a place of the flush.
+fn next_log<D: LogDisk>(store: &Store<D>, from: u32) -> Option<u32>
+    ensures value { IsNextLog store.now from result }
+    ensures flushed { IfSome result (λ log. IsFlushLog store.now.logs log) }
+    ensures bound { IfSome result (λ log. log < 2 ^ 31) }
+{
+    let mut least = None;
+    for number in 0..store.placed_len() {
+        let Some((_, place)) = store.placed(number) else {
+            unreachable!();
+        };
+        let log = place.log();
+        if log >= from {
+            least = Some(lesser(least, log));
+        }
+    }
+    least
+}
+
+/// The lesser of an id and the least one so far.
+fn lesser(least: Option<u32>, log: u32) -> u32
+    ensures most { result ≤ log }
+    ensures below { IfSome least (λ id. result ≤ id) }
+    ensures one { (result ≡ log) ⊎ (least ≡ Some result) }
+{
+    match least {
+        Some(least) if least < log => least,
+        _ => log,
+    }
+}
+
+/// Names each entry of the flush, in the order of their keys. The only fault is `Memory`.
+fn name_entries<D: LogDisk>(store: &mut Store<D>) -> Result<(), FlushFault>
+    requires { AllShown store.old }
+    ensures turn { NamesEntries store.old result store.new }
+    ensures stays { Stays store.old store.new }
+{
+    for number in 0..store.placed_len() {
+        let Some((key, place)) = store.placed(number) else {
+            unreachable!();
+        };
+        let Ok(()) = store.name(key, place) else {
+            return Err(FlushFault::Memory {
+                done: number as u64,
+            });
+        };
+    }
+    Ok(())
+}

@@ -1,0 +1,33 @@
+//! Rolling: the log that flushes write is sealed, so that the next flush begins another.
+
+ghost use Rattle.std.specs.Prelude.{◌≡◌, IsTrue};
+ghost use Rattle.bk_store.specs.Meaning.{MeansTheSame};
+ghost use Rattle.bk_flush.specs.Flushing.{IsCaused, RollTurn};
+
+use crate::faults::fault_of_log;
+use crate::{FlushFault, RollAnswer};
+use bk_disk::LogDisk;
+use bk_store::{LogState, Store};
+
+/// Seals the log that flushes write, so that the next flush begins another.
+///
+/// # Errors
+/// `Disk` where the device failed, `Memory` where an allocation was refused, and `Odd` where the disk behaved as no
+/// honest one does. After each the log is written no more, and it may have no ledgers map.
+pub fn roll<D: LogDisk>(store: &mut Store<D>) -> Result<RollAnswer, FlushFault>
+    ensures turn { RollTurn store.old result store.new }
+    ensures cause { IsCaused store.old result store.new }
+    ensures honest { store.new.honest ≡ store.old.honest }
+    ensures meaning { IsTrue store.old.honest → MeansTheSame store.old store.new }
+{
+    if store.is_flushing() {
+        return Ok(RollAnswer::FlushRunning);
+    }
+    let Some(log) = store.writing() else {
+        return Ok(RollAnswer::NothingOpen);
+    };
+    match store.seal(log, LogState::Readable) {
+        Ok(()) => Ok(RollAnswer::Sealed(log)),
+        Err(fault) => Err(fault_of_log(fault)),
+    }
+}
