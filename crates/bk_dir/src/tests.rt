@@ -3,6 +3,7 @@
 ghost use Rattle.std.specs.Prelude.{◌<◌, ◌^◌};
 
 mod failing;
+mod folder;
 mod hostile;
 mod maps;
 mod rows;

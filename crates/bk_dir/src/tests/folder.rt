@@ -1,0 +1,105 @@
+//! Folders of the system that have what is no log, or can't be read. Each test makes its folder and takes it away.
+
+use super::{HELLO_AND_MAP, Row, SEALED, check, done, find};
+use crate::DirCommand;
+use bk_disk::DirDisk;
+use std::fs;
+use std::os::unix::fs::symlink;
+use std::test::Fail;
+
+/// Makes a folder with one sealed log, and opens it.
+fn anew(rt: &HostRuntime, folder: &str) -> Result<DirDisk, Fail> {
+    let alloc = rt.alloc();
+    let mut bytes = Vec::from_slice(alloc, SEALED)?;
+    bytes.resize(1024, 0)?;
+    bytes.extend_from_slice(HELLO_AND_MAP)?;
+    let _ = fs::remove_dir_all(rt, folder);
+    fs::create_dir(rt, folder)?;
+    fs::write(rt, format!(in alloc; "{folder}/0.log")?.as_str(), bytes)?;
+    Ok(DirDisk::open(rt, folder)?)
+}
+
+/// A command that ends early without having shown anything.
+fn told<'a>(command: DirCommand, errors: &'a str) -> Row<'a> {
+    Row {
+        command,
+        status: 1,
+        output: "",
+        errors,
+    }
+}
+
+#[test]
+fn names_that_are_no_logs(rt: HostRuntime) -> Result<(), Fail> {
+    let rows = [
+        done(DirCommand::Logs, "0 1089 sealed\n"),
+        done(DirCommand::Check, "0 ok\n"),
+        done(find(&rt, 1, 0), "0 1028 68656c6c6f\n"),
+        told(DirCommand::Scan(5), "fault no log\n"),
+    ];
+    let mut disk = anew(&rt, "bk_dir_names")?;
+    for path in [
+        "bk_dir_names/01f.log",
+        "bk_dir_names/0.log.compacted",
+        "bk_dir_names/notes",
+    ] {
+        fs::write(&rt, path, b"bytes".as_slice())?;
+    }
+    fs::create_dir(&rt, "bk_dir_names/5.log")?;
+    check(&rt, rt.alloc(), &mut disk, &rows, "other names");
+    fs::remove_dir_all(&rt, "bk_dir_names")?;
+    Ok(())
+}
+
+#[test]
+fn a_name_that_is_not_utf_8(rt: HostRuntime) -> Result<(), Fail> {
+    let rows = [
+        told(DirCommand::Logs, "fault disk\n"),
+        told(find(&rt, 1, 0), "fault disk\n"),
+        told(DirCommand::Check, "fault disk\n"),
+        done(DirCommand::Map(0), "1 25\n"),
+    ];
+    let mut disk = anew(&rt, "bk_dir_bytes")?;
+    assert_eq!(rt; os::symlink(b"0.log", b"bk_dir_bytes/\xff.log"), 0);
+    check(&rt, rt.alloc(), &mut disk, &rows, "a name of bytes");
+    assert_eq!(rt; os::unlink(b"bk_dir_bytes/\xff.log"), 0);
+    check(
+        &rt,
+        rt.alloc(),
+        &mut disk,
+        &[done(DirCommand::Check, "0 ok\n")],
+        "that name gone",
+    );
+    fs::remove_dir_all(&rt, "bk_dir_bytes")?;
+    Ok(())
+}
+
+#[test]
+fn a_log_that_can_not_be_opened(rt: HostRuntime) -> Result<(), Fail> {
+    let rows = [
+        told(DirCommand::Logs, "fault disk\n"),
+        told(DirCommand::Check, "fault disk\n"),
+        told(DirCommand::Header(5), "fault disk\n"),
+        told(DirCommand::Scan(5), "fault disk\n"),
+        done(DirCommand::Map(0), "1 25\n"),
+    ];
+    let mut disk = anew(&rt, "bk_dir_loop")?;
+    symlink(&rt, "5.log", "bk_dir_loop/5.log")?;
+    check(&rt, rt.alloc(), &mut disk, &rows, "a link to itself");
+    fs::remove_dir_all(&rt, "bk_dir_loop")?;
+    Ok(())
+}
+
+#[test]
+fn a_folder_that_is_taken_away(rt: HostRuntime) -> Result<(), Fail> {
+    let rows = [
+        told(DirCommand::Logs, "fault disk\n"),
+        told(find(&rt, 1, 0), "fault disk\n"),
+        told(DirCommand::Check, "fault disk\n"),
+        told(DirCommand::Scan(0), "fault no log\n"),
+    ];
+    let mut disk = anew(&rt, "bk_dir_gone")?;
+    fs::remove_dir_all(&rt, "bk_dir_gone")?;
+    check(&rt, rt.alloc(), &mut disk, &rows, "no folder");
+    Ok(())
+}
