@@ -2,43 +2,6 @@
 
 use super::*;
 
-/// Records of ledgers 1 to 4, each entry 0, with one byte of data: 21 bytes each.
-const FIRST: [u8; 21] = *b"\0\0\0\x11\0\0\0\0\0\0\0\x01\0\0\0\0\0\0\0\0a";
-
-const SECOND: [u8; 21] = *b"\0\0\0\x11\0\0\0\0\0\0\0\x02\0\0\0\0\0\0\0\0b";
-
-const THIRD: [u8; 21] = *b"\0\0\0\x11\0\0\0\0\0\0\0\x03\0\0\0\0\0\0\0\0c";
-
-const FOURTH: [u8; 21] = *b"\0\0\0\x11\0\0\0\0\0\0\0\x04\0\0\0\0\0\0\0\0d";
-
-/// The map of a log with the first two records, and the header that says where it stands.
-const MAP: [u8; 56] =
-    *b"\0\0\0\x34\xff\xff\xff\xff\xff\xff\xff\xff\xff\xff\xff\xff\xff\xff\xff\xfe\0\0\0\x02\
-\0\0\0\0\0\0\0\x01\0\0\0\0\0\0\0\x15\0\0\0\0\0\0\0\x02\0\0\0\0\0\0\0\x15";
-
-const SEALED: [u8; 20] = *b"BKLO\0\0\0\x01\0\0\0\0\0\0\x04\x2a\0\0\0\x02";
-
-/// Three logs: a sealed one, one that is torn, and one with a later record of a key of the first.
-fn three_logs(alloc: Global) -> Result<MemDisk, Fail> {
-    let mut first = log_of(alloc, &SEALED, &FIRST)?;
-    first.extend_from_slice(&SECOND)?;
-    first.extend_from_slice(&MAP)?;
-    let mut second = log_of(alloc, &HEADER, &THIRD)?;
-    second.extend_from_slice(&FIRST[..20])?;
-    let mut third = log_of(alloc, &HEADER, &FIRST)?;
-    third.extend_from_slice(&FOURTH)?;
-    disk_of(alloc, &[first, second, third])
-}
-
-/// Where a store has the entry 0 of a ledger: `None` where it has none, or the ledger is dead.
-fn place_of<D: LogDisk>(store: &Store<D>, ledger: u64) -> Result<Option<u64>, Fail> {
-    let key = Key::new(ledger, 0).ok_or("no key")?;
-    match store.take(key)? {
-        Taken::Leased(_, location) => Ok(Some(location.value())),
-        _ => Ok(None),
-    }
-}
-
 #[test]
 fn last_records_of_live_ledgers_are_found(rt: HostRuntime) -> Result<(), Fail> {
     let disk = three_logs(rt.alloc())?;
@@ -61,11 +24,8 @@ fn last_records_of_live_ledgers_are_found(rt: HostRuntime) -> Result<(), Fail> {
 fn found_logs_have_accounts(rt: HostRuntime) -> Result<(), Fail> {
     let disk = three_logs(rt.alloc())?;
     let store = Store::open(rt.alloc(), disk, SETTINGS, &[4])?;
-    for (log, total, remaining, named) in [(0, 42, 42, 1), (1, 21, 21, 1), (2, 42, 21, 1)] {
-        let accounts = &store.fields.accounts;
-        assert_eq!(rt; accounts.total(log), Ok(total));
-        assert_eq!(rt; accounts.remaining(log), Ok(remaining));
-        assert_eq!(rt; accounts.named(log), Ok(named));
+    for (log, account) in [(0, (42, 42, 1)), (1, (21, 21, 1)), (2, (42, 21, 1))] {
+        assert_eq!(rt; account_of(&store, log), Some(account));
     }
     Ok(())
 }
