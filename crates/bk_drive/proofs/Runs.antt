@@ -1,153 +1,124 @@
--- Runs of the machine beside the plain map: each turn goes on, and a run is made longer by one turn.
-use Rattle.std.proofs.Common.{◌≡◌, ℕ, List, [], ◌∷◌, ◌++◌, Some, None, Bool, true, false, Result, Ok, Err, cond, refl, sym, ap, ◌∙◌, subst, arith, unwrap_or, not}
+-- Runs of the machine beside the plain one: how one begins, goes on, ends.
+use Rattle.std.proofs.Common.{◌≡◌, ℕ, List, [], ◌∷◌, ◌++◌, None, Bool, true, false, IsTrue, Result, Ok, Err, cond, not, refl, sym, ap, subst, ◌∙◌}
+use Rattle.std.specs.Option.{option_or}
 use Rattle.std.specs.FinMap as finite
 use Rattle.std.specs.FinSet as set
 use Rattle.bk_record.specs.Key.{EntryKey, key_cmp}
-use Rattle.bk_record.specs.Location.{Place}
-use Rattle.std.specs.Option.{option_or}
-use Rattle.std.proofs.lemmas.Option.{none-some}
-use Rattle.bk_record.specs.Files.{Files, HasRecord, In, records_of}
-use Rattle.bk_record.proofs.Keys.{key_cmp_antisymmetric}
-use Rattle.bk_record.proofs.Growth.{records_of-short}
-use Rattle.bk_record.proofs.Scans.{scan-some}
-use Rattle.bk_drive.proofs.Longer.{record-has}
+use Rattle.bk_record.specs.Files.{Files}
 use Rattle.bk_record.specs.Scan.{Payloads, Ledgers, scan_of, live}
-use Rattle.bk_drive.specs.Plain.{Plain, PlainAdd}
-use Rattle.bk_drive.specs.Machine.{Desk, Turn, PlainTurn, after_swap, after_publish}
-use Rattle.bk_drive.specs.Machine.Turn.{added, taken, fetched, released, swapped_caches, wrote, published_flush, rolled}
-use Rattle.bk_drive.specs.Machine.PlainTurn.{added as plain_added, taken as plain_taken, fetched as plain_fetched, released as plain_released, rolled as plain_rolled, swapped_caches as plain_swapped, wrote as plain_wrote, published_flush as plain_published}
-use Rattle.bk_drive.specs.Headline.{Agrees, AreOwed, Run, opened, first_desk, first_plain}
+use Rattle.bk_record.proofs.Keys.{key_cmp_antisymmetric}
+use Rattle.bk_store.specs.State.{State}
+use Rattle.bk_cache.specs.Caches as caches
+use Rattle.bk_store.specs.Kept.{Promises}
+use Rattle.bk_store.specs.Turns.{ledgers_of, AddTurn, DeleteTurn, SwapTurn}
+use Rattle.bk_store.specs.Opening.{IsOpened}
+use Rattle.bk_store.specs.Plain.{Plain, PlainAdd, PlainDelete, after_swap, IsKept}
+use Rattle.bk_store.specs.Plain as plain
+use Rattle.bk_store.specs.declared.settings.Settings.{Settings}
+use Rattle.bk_store.specs.declared.answer.Added.{Added}
+use Rattle.bk_store.specs.declared.answer.Added.TheVariants.{Accepted, Held}
+use Rattle.bk_store.specs.declared.answer.AddFault.{AddFault}
+use Rattle.bk_store.specs.declared.answer.AddFault.TheVariants as add_faults
+use Rattle.bk_store.specs.declared.answer.DeleteFault.{DeleteFault}
+use Rattle.bk_store.specs.declared.answer.DeleteFault.TheVariants as delete_faults
+use Rattle.bk_store.specs.declared.answer.SwapAnswer.{SwapAnswer}
+use Rattle.bk_store.specs.declared.answer.SwapAnswer.TheVariants as swaps
+use Rattle.bk_store.proofs.PlainMaps.{plain_add, plain_delete, plain_swap}
+use Rattle.bk_drive.specs.Plain.{PlainDesk}
+use Rattle.bk_drive.specs.Machine.{Desk, Turn, PlainTurn}
+use Rattle.bk_drive.specs.Headline.{Agrees, Run, first_desk, first_plain}
 use Rattle.bk_drive.specs.Headline.Run.{stop, step}
-use Rattle.bk_drive.specs.declared.answer.Added.{Added}
-use Rattle.bk_drive.specs.declared.answer.Added.TheVariants.{Accepted, Held}
-use Rattle.bk_drive.specs.declared.answer.AddFault.{AddFault}
-use Rattle.bk_drive.specs.declared.answer.AddFault.TheVariants as add_faults
-use Rattle.bk_drive.specs.declared.answer.SwapAnswer.{SwapAnswer}
-use Rattle.bk_drive.specs.declared.answer.SwapAnswer.TheVariants as swaps
-use Rattle.bk_drive.specs.declared.answer.PublishAnswer.{PublishAnswer}
-use Rattle.bk_drive.specs.declared.answer.PublishAnswer.TheVariants as publishes
-use Rattle.bk_drive.specs.declared.answer.FlushFault.{FlushFault}
-use Rattle.bk_drive.specs.declared.settings.Settings.{Settings}
 use Rattle.bk_drive.specs.declared.step.Step.{Step}
 use Rattle.bk_drive.specs.declared.step.Answer.{Answer}
-use Rattle.bk_drive.proofs.Kept.{KeptDesk}
-use Rattle.bk_drive.proofs.KeptMeaning.{kept_meaning}
-use Rattle.bk_drive.proofs.KeptAdd.{kept_add}
-use Rattle.bk_drive.proofs.KeptSwap.{kept_swap}
-use Rattle.bk_drive.proofs.KeptTake.{kept_take}
-use Rattle.bk_drive.proofs.KeptRead.{kept_fetch, kept_release}
-use Rattle.bk_drive.proofs.KeptSeal.{kept_roll}
-use Rattle.bk_drive.proofs.KeptWrite.{kept_write}
-use Rattle.bk_drive.proofs.KeptPublish.{kept_publish}
 
--- an add is nothing to the readers
-add_readers : (p q : Plain) (payload : List ℕ) (r : Result Added AddFault) → PlainAdd p payload r q → q.readers ≡ p.readers
-add_readers p q payload (Err (add_faults.Bad fault)) is = ap (λ (x : Plain). x.readers) is.1
-add_readers p q payload (Ok Held) is = ap (λ (x : Plain). x.readers) is.3
-add_readers p q payload (Ok Accepted) is = ap (λ (x : Plain). x.readers) is.3
-add_readers p q payload (Err add_faults.Memory) is = ap (λ (x : Plain). x.readers) is.3
+-- ---- steps that ask no device
 
-swap_readers : (p : Plain) (r : SwapAnswer) → (after_swap r p).readers ≡ p.readers
-swap_readers p swaps.Running = refl
-swap_readers p swaps.Nothing = refl
-swap_readers p (swaps.Swapped n) = refl
+-- a store that keeps what any does, beside an honest disk, and agrees with the plain map
+module _ (s t : State) (p : Plain) (kept : IsKept s) (honest : IsTrue s.honest) (agrees : plain.Agrees s p) where
+  abbrev keeps_promises : Promises kept.parts
+  keeps_promises = kept.keeps.promises (subst (λ (x : State). IsTrue x.honest) (sym kept.seen) honest)
 
-publish_readers : (p : Plain) (r : Result PublishAnswer FlushFault) → (after_publish r p).readers ≡ p.readers
-publish_readers p (Ok publishes.NoFlush) = refl
-publish_readers p (Ok publishes.NotAllWritten) = refl
-publish_readers p (Ok (publishes.Published n)) = refl
-publish_readers p (Err fault) = refl
+  agrees_seen : plain.Agrees kept.parts.state p
+  agrees_seen = subst (λ (x : State). plain.Agrees x p) (sym kept.seen) agrees
 
-owed_still : (d : Desk) (p q : Plain) → q.readers ≡ p.readers → AreOwed d.readers p.readers → AreOwed d.readers q.readers
-owed_still d p q same owed = subst (λ rs. AreOwed d.readers rs) (sym same) owed
+  -- the limit of the active cache is that of the settings
+  limit_is : kept.parts.state.caches.limit ≡ s.settings.cache_limit
+  limit_is = kept.keeps.fits.limit ∙ ap (λ (x : State). x.settings.cache_limit) kept.seen
 
--- whatever turn the machine makes, the plain map has one, and what is kept is kept
-pub kept_turn : (p : Plain) {d e : Desk} {x : Step} {a : Answer} → KeptDesk p d → Turn d x a e → (q : Plain) × (PlainTurn p x a q × KeptDesk q e)
-kept_turn p kept (added {d = d} {t = t} {payload = payload} {r = r} turn) =
-    let k = kept_add p d.store t payload.items r kept.store turn in
-    (k.0, (plain_added k.1.0, record { store = k.1.1; readers = owed_still d p k.0 (add_readers p k.0 payload.items r k.1.0) kept.readers }))
-kept_turn p kept (taken {d = d} {e = e} {reader = reader} {key = key} {r = r} turn) =
-    let k = kept_take p d kept reader key r e turn in
-    (k.0, (plain_taken k.1.0, k.1.1))
-kept_turn p kept (fetched {d = d} {reader = reader} {r = r} turn) = (p, (plain_fetched (kept_fetch p d kept reader r turn), kept))
-kept_turn p kept (released {d = d} {readers = readers} {reader = reader} {r = r} turn) =
-    let k = kept_release p d kept reader r readers turn in
-    (k.0, (plain_released k.1.0, k.1.1))
-kept_turn p kept (swapped_caches {d = d} {t = t} {r = r} turn) =
-    (after_swap r p, (plain_swapped, record { store = kept_swap p d.store t r kept.store turn; readers = owed_still d p (after_swap r p) (swap_readers p r) kept.readers }))
-kept_turn p kept (wrote {d = d} {t = t} {r = r} turn cause) =
-    (p, (plain_wrote, record { store = kept_write p d.store t r kept.store turn; readers = kept.readers }))
-kept_turn p kept (published_flush {d = d} {t = t} {r = r} turn cause) =
-    (after_publish r p, (plain_published, record { store = kept_publish p d.store t r kept.store turn; readers = owed_still d p (after_publish r p) (publish_readers p r) kept.readers }))
-kept_turn p kept (rolled {d = d} {t = t} {r = r} turn cause) =
-    (p, (plain_rolled, record { store = kept_roll p d.store t r kept.store turn; readers = kept.readers }))
+  pub added_plain : (payload : List ℕ) (r : Result Added AddFault) → AddTurn s payload r t
+      → (q : Plain) × PlainAdd s.settings.cache_limit p payload r q × plain.Agrees t q
+  added_plain payload r turn =
+      let done = plain_add kept.parts kept.keeps keeps_promises p agrees_seen t payload r (subst (λ (x : State). AddTurn x payload r t) (sym kept.seen) turn) in
+      (done.0, subst (λ limit. PlainAdd limit p payload r done.0) limit_is done.1, done.2)
 
--- what is kept makes the machine and the plain map agree
-pub kept_agrees : (p : Plain) (d : Desk) → KeptDesk p d → Agrees d p
-kept_agrees p d kept = record { meaning = kept_meaning p d.store kept.store; dead = sym kept.store.same_dead; readers = kept.readers }
+  pub deleted_plain : (ledger : ℕ) (r : Result ℕ DeleteFault) → DeleteTurn s ledger r t → (q : Plain) × PlainDelete p ledger r q × plain.Agrees t q
+  deleted_plain ledger r turn =
+      plain_delete kept.parts kept.keeps keeps_promises p agrees_seen (subst (λ (x : State). caches.AreApart x.caches) (sym kept.seen) kept.apart) t ledger r
+      (subst (λ (x : State). DeleteTurn x ledger r t) (sym kept.seen) turn)
 
--- one more turn at the end of a run
-pub run_push : {d e f : Desk} {p q r : Plain} {ss : List Step} {as' : List Answer} {x : Step} {a : Answer} → Run d p ss as' e q
-    → Turn e x a f → PlainTurn q x a r → Agrees f r → Run d p (ss ++ x ∷ []) (as' ++ a ∷ []) f r
-run_push stop turn plain agrees = step turn plain agrees stop
-run_push (step first beside agreed later) turn plain agrees = step first beside agreed (run_push later turn plain agrees)
+  pub swapped_plain : (r : SwapAnswer) → SwapTurn s r t → plain.Agrees t (after_swap r p)
+  swapped_plain r turn =
+      plain_swap kept.parts kept.keeps keeps_promises p agrees_seen t r (subst (λ (x : State). SwapTurn x r t) (sym kept.seen) turn)
 
--- a run so far, and what lets it go on
-pub record Goes (d : Desk) (p : Plain) (ss : List Step) (as' : List Answer) (e : Desk) : Type 0 where
-  pub plain : Plain
-  pub run : Run d p ss as' e plain
-  pub kept : KeptDesk plain e
+-- ---- settings stay
 
-pub goes_on : (d : Desk) (p : Plain) (ss : List Step) (as' : List Answer) (e f : Desk) (x : Step) (a : Answer) → Goes d p ss as' e → Turn e x a f
-    → Goes d p (ss ++ x ∷ []) (as' ++ a ∷ []) f
-goes_on d p ss as' e f x a goes turn =
-    let k = kept_turn goes.plain goes.kept turn in
-    record { plain = k.0; run = run_push goes.run turn k.1.0 (kept_agrees k.0 f k.1.1); kept = k.1.1 }
+pub add_settings : (s t : State) (payload : List ℕ) (r : Result Added AddFault) → AddTurn s payload r t → t.settings ≡ s.settings
+add_settings s t payload (Err (add_faults.Bad fault)) turn = ap (λ (x : State). x.settings) turn.1
+add_settings s t payload (Err add_faults.Deleted) turn = ap (λ (x : State). x.settings) turn.3
+add_settings s t payload (Ok Held) turn = ap (λ (x : State). x.settings) turn.1
+add_settings s t payload (Err (add_faults.Full used limit)) turn = ap (λ (x : State). x.settings) turn.4
+add_settings s t payload (Err add_faults.Memory) turn = ap (λ (x : State). x.settings) turn.2
+add_settings s t payload (Ok Accepted) turn = ap (λ (x : State). x.settings) turn.2
+
+pub delete_settings : (s t : State) (ledger : ℕ) (r : Result ℕ DeleteFault) → DeleteTurn s ledger r t → t.settings ≡ s.settings
+delete_settings s t ledger (Err delete_faults.AlreadyDeleted) turn = ap (λ (x : State). x.settings) turn.1
+delete_settings s t ledger (Err delete_faults.Memory) turn = ap (λ (x : State). x.settings) turn.1
+delete_settings s t ledger (Ok n) turn = ap (λ (x : State). x.settings) turn.2
+
+pub swap_settings : (s t : State) (r : SwapAnswer) → SwapTurn s r t → t.settings ≡ s.settings
+swap_settings s t swaps.Running turn = ap (λ (x : State). x.settings) turn.1
+swap_settings s t swaps.Nothing turn = ap (λ (x : State). x.settings) turn.2
+swap_settings s t (swaps.Swapped n) turn = ap (λ (x : State). x.settings) turn.3
+
+-- ---- a run goes on
+
+-- the machine and the plain one agree at its end
+pub run_end : {limit : ℕ} {d e : Desk} {p q : PlainDesk} {ss : List Step} {as' : List Answer} → Run limit d p ss as' e q → Agrees e q
+run_end (stop agrees) = agrees
+run_end (step agreed turn beside later) = run_end later
+
+-- one more turn at the end
+pub run_push : {limit : ℕ} {d e f : Desk} {p q r : PlainDesk} {ss : List Step} {as' : List Answer} {x : Step} {a : Answer} → Run limit d p ss as' e q
+    → Turn e x a f → PlainTurn limit q x a r → Agrees f r → Run limit d p (ss ++ x ∷ []) (as' ++ a ∷ []) f r
+run_push (stop agreed) turn beside agrees = step agreed turn beside (stop agrees)
+run_push (step agreed first with later) turn beside agrees = step agreed first with (run_push later turn beside agrees)
 
 -- ---- the beginning
 
-no_record : (fs : Files) → ((log : ℕ) → finite.get fs log ≡ None) → (place : Place) (b : List ℕ) → HasRecord fs place b → ⊥
-no_record fs none place b there =
-    subst (λ (l : List (ℕ × List ℕ)). In (place.at, b) l) (ap (λ o. records_of (unwrap_or o [])) (none place.log) ∙ records_of-short [] (omega arith)) (record-has fs place b there)
-
--- what lives was there
-live-get : (m : Payloads) (dead : Ledgers) (k : EntryKey) (b : List ℕ) → finite.get (live m dead) k ≡ Some b → finite.get m k ≡ Some b
+-- what a live part has of a key
+get-live : (m : Payloads) (dead : Ledgers) (key : EntryKey)
+    → finite.get (live m dead) key ≡ cond (set.contains dead key.ledger) None (finite.get m key)
 unfolding live
-live-get m dead k b is =
-    let lives : EntryKey → Bool = λ key. not (set.contains dead key.ledger) in
-    elim (lives k) as (λ c. cond c (finite.get m k) None ≡ Some b → finite.get m k ≡ Some b) [
-      | true ↦ λ e. e
-      | false ↦ λ e. cc
-    ] (sym (finite.get-retain_keys m lives k (λ x tied. ap lives (sym (key_cmp_antisymmetric k x tied)))) ∙ is)
+get-live m dead key =
+    let lives : EntryKey → Bool = λ k. not (set.contains dead k.ledger) in
+    finite.get-retain_keys m lives key (λ x tied. ap lives (sym (key_cmp_antisymmetric key x tied)))
+    ∙ elim (set.contains dead key.ledger) as (λ b. cond (not b) (finite.get m key) None ≡ cond b None (finite.get m key)) [ true ↦ refl | false ↦ refl ]
 
-first_kept : (settings : Settings) (fs : Files) (failures : ℕ) → ((log : ℕ) → finite.get fs log ≡ None)
-    → KeptDesk (first_plain fs set.empty) (first_desk (opened settings fs failures))
-first_kept settings fs failures none =
-    let nothing : (k : EntryKey) (b : List ℕ) → option_or (finite.get {X = List ℕ} {R = key_cmp} finite.empty k) None ≡ Some b → ⊥ =
-    λ k b is. none-some b (sym (ap (λ o. option_or o None) (finite.get-empty key_cmp k)) ∙ is) in
+nothing_told : (key : EntryKey) → option_or (finite.get {X = List ℕ} {R = key_cmp} finite.empty key) (finite.get {X = List ℕ} {R = key_cmp} finite.empty key) ≡ None
+nothing_told key = ap (λ o. option_or o o) (finite.get-empty key_cmp key)
+
+-- a store that was opened on files agrees with the plain map of their last entries
+pub first_agrees : (settings : Settings) (files : Files) (dead : List ℕ) (s : State) → IsOpened true files settings dead s
+    → Agrees (first_desk s) (first_plain files (ledgers_of dead))
+first_agrees settings files dead s opened =
+    let same = (opened.holds refl).same in
     record {
       store = record {
-        no_dead = refl;
-        same_dead = refl;
-        active = refl;
-        flush = refl;
-        cached_is = λ k b is. absurd (nothing k b is);
-        keyed = λ k b is. absurd (nothing k b is);
-        recorded = λ place b k there is. absurd (no_record fs none place b there);
-        covered = λ k b is _. let r = scan-some fs k b (live-get (scan_of fs) set.empty k b is) in absurd (no_record fs none r.0 b r.1.0);
-        indexed = λ k place is. absurd (none-some place (sym (finite.get-empty key_cmp k) ∙ is));
-        flush_is = λ pairs k b is there. cc;
-        placed = λ f i e place is here place_is. cc;
-        parts = λ id log is. cc;
-        views = λ id log view is. cc;
-        writes = λ w is. cc;
-        held = λ w is. cc;
-        below = λ id log is. cc;
-        fresh = λ id _. none id;
+        meaning = λ key. get-live (scan_of files) (ledgers_of dead) key
+            ∙ sym (λ i. cond (set.contains (ledgers_of dead) key.ledger) None (option_or (nothing_told key i) (finite.get (scan_of (same i)) key)));
+        dead = opened.dead_are;
+        active = (λ i. (opened.caches_are i).active);
+        flush = (λ i. (opened.caches_are i).flush);
       };
       readers = tt;
     }
-
-pub goes_first : (settings : Settings) (fs : Files) (failures : ℕ) → ((log : ℕ) → finite.get fs log ≡ None)
-    → Goes (first_desk (opened settings fs failures)) (first_plain fs set.empty) [] [] (first_desk (opened settings fs failures))
-goes_first settings fs failures none = record { plain = first_plain fs set.empty; run = stop; kept = first_kept settings fs failures none }

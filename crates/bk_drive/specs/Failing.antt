@@ -2,7 +2,7 @@
 use Rattle.std.specs.Prelude.{◌≡◌, ℕ, Bool, List, IsTrue, IsErrOf}
 use Rattle.std.specs.List.{All}
 use Rattle.bk_log.specs.declared.fault.FetchFault.TheVariants as fetch_faults
-use Rattle.bk_drive.specs.declared.answer.FlushFault.TheVariants as flush_faults
+use Rattle.bk_flush.specs.declared.answer.FlushFault.TheVariants as flush_faults
 use Rattle.bk_drive.specs.declared.step.Answer.{Answer}
 use Rattle.bk_drive.specs.declared.step.Answer.TheVariants as answers
 
@@ -12,6 +12,7 @@ IsDiskFault (answers.Add r) = ⊥
 IsDiskFault (answers.Take r) = ⊥
 IsDiskFault (answers.Fetch r) = IsErrOf r fetch_faults.Disk
 IsDiskFault (answers.Release r) = ⊥
+IsDiskFault (answers.Delete r) = ⊥
 IsDiskFault (answers.Swap r) = ⊥
 IsDiskFault (answers.Write r) = IsErrOf r flush_faults.Disk
 IsDiskFault (answers.Publish r) = IsErrOf r flush_faults.Disk

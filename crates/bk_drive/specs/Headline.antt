@@ -2,26 +2,26 @@
 -- when they were taken, and its files, with the cached pairs, mean the plain map.
 use Rattle.std.specs.Prelude.{◌≡◌, ℕ, true, List, [], ◌∷◌, replicate, Option, Some, None, IsTrue}
 use Rattle.std.specs.FinMap as finite
-use Rattle.std.specs.FinSet as set
-use Rattle.bk_record.specs.Files.{Files, records_of, In}
+use Rattle.bk_record.specs.Files.{Files}
 use Rattle.bk_record.specs.Scan.{Ledgers, scan_of, live}
-use Rattle.bk_log.specs.Places.{HasEntryAt}
-use Rattle.bk_drive.specs.State.{State}
-use Rattle.bk_drive.specs.Meaning.{IsMeaning}
-use Rattle.bk_drive.specs.Plain.{Owed, Plain}
+use Rattle.bk_store.specs.Entries.{HasEntry}
+use Rattle.bk_store.specs.State.{State}
+use Rattle.bk_store.specs.Turns.{ledgers_of}
+use Rattle.bk_store.specs.Opening.{IsOpened}
+use Rattle.bk_store.specs.Plain as plain
+use Rattle.bk_store.specs.declared.settings.Settings.{Settings}
+use Rattle.bk_drive.specs.Plain.{Owed, PlainDesk}
 use Rattle.bk_drive.specs.Machine.{Hold, Desk, Turn, PlainTurn}
 use Rattle.bk_drive.specs.declared.step.Step.{Step}
 use Rattle.bk_drive.specs.declared.step.Answer.{Answer}
-use Rattle.bk_drive.specs.declared.settings.Settings.{Settings}
 
 -- The reader holds what it is owed: its lease is on the log that it keeps, where its place lies, and its view, which shows
--- what that log held, has the entry of its key at that place, among the log's records.
+-- what that log held, has the entry of its key at that place.
 pub record IsOwed (hold : Hold) (owed : Owed) : Type 0 where
   pub log : hold.log ≡ owed.log
   pub place : hold.place.log ≡ owed.log
   pub honest : IsTrue hold.view.is_honest
-  pub listed : In (hold.place.at, owed.payload) (records_of hold.view.bytes)
-  pub shown : HasEntryAt hold.view.bytes hold.place.at hold.key owed.payload
+  pub shown : HasEntry (λ _. hold.view.bytes) hold.place hold.key owed.payload
 
 -- the same of each reader: it holds a lease exactly where it is owed something
 abbrev pub AreOwed : List (Option Hold) → List (Option Owed) → Type 0
@@ -33,50 +33,38 @@ AreOwed (Some h ∷ holds) (None ∷ owed) = ⊥
 AreOwed [] (o ∷ owed) = ⊥
 AreOwed (h ∷ holds) [] = ⊥
 
--- what holds of a machine and the plain map between two steps
-pub record Agrees (d : Desk) (p : Plain) : Type 0 where
-  -- the files, with the cached pairs, give the plain map
-  pub meaning : IsMeaning p.map d.store.files p.active p.flush p.dead
-  pub dead : d.store.dead ≡ p.dead
+-- What holds of the machine and the plain one between two steps: the files, with the cached pairs, give the plain map, and
+-- each reader holds what it is owed.
+pub record Agrees (d : Desk) (p : PlainDesk) : Type 0 where
+  pub store : plain.Agrees d.store p.store
   pub readers : AreOwed d.readers p.readers
 
--- These answers to these steps lead the machine and the plain map from here to there, side by side, agreeing after each.
-pub data Run : Desk → Plain → List Step → List Answer → Desk → Plain → Type 0 where
-  stop : {d : Desk} {p : Plain} → Run d p [] [] d p
-  step : {d e f : Desk} {p q r : Plain} {s : Step} {a : Answer} {ss : List Step} {as' : List Answer}
-      → Turn d s a e → PlainTurn p s a q → Agrees e q → Run e q ss as' f r → Run d p (s ∷ ss) (a ∷ as') f r
+-- These answers to these steps lead the machine and the plain one from here to there, side by side, agreeing at each moment;
+-- so many payload bytes may be in the active pairs.
+pub data Run : ℕ → Desk → PlainDesk → List Step → List Answer → Desk → PlainDesk → Type 0 where
+  stop : {limit : ℕ} {d : Desk} {p : PlainDesk} → Agrees d p → Run limit d p [] [] d p
+  step : {limit : ℕ} {d e f : Desk} {p q r : PlainDesk} {s : Step} {a : Answer} {ss : List Step} {as' : List Answer}
+      → Agrees d p → Turn d s a e → PlainTurn limit p s a q → Run limit e q ss as' f r → Run limit d p (s ∷ ss) (a ∷ as') f r
 
 -- how many readers there are
 abbrev pub reader_count : ℕ
 reader_count = 4
 
--- a store that was opened on a disk without files
-abbrev pub opened : Settings → Files → ℕ → State
-opened settings files failures = record {
-  settings = settings;
-  files = files;
-  honest = true;
-  failures = failures;
-  active = finite.empty;
-  flush = None;
-  index = finite.empty;
-  logs = [];
-  writing = None;
-  next = 0;
-  dead = set.empty;
-}
-
--- where the machine and the plain map begin: the entries of the files, of ledgers that live, and readers without a lease
+-- where the machine begins: a store, and readers without a lease
 abbrev pub first_desk : State → Desk
 first_desk store = record { store = store; readers = replicate reader_count None }
 
-abbrev pub first_plain : Files → Ledgers → Plain
-first_plain files dead = record { map = live (scan_of files) dead; dead = dead; active = finite.empty; flush = None; readers = replicate reader_count None }
+-- where the plain one begins: with the last entries of the files, of ledgers that live
+abbrev pub first_plain : Files → Ledgers → PlainDesk
+first_plain files dead = record {
+  store = record { map = live (scan_of files) dead; dead = dead; active = finite.empty; flush = None };
+  readers = replicate reader_count None;
+}
 
--- From these files these steps were answered so, and left this store and these readers: a run leads there, and the
--- machine agrees with the plain map at its end.
-pub record Headline (settings : Settings) (files : Files) (steps : List Step) (answers : List Answer) (store : State) (readers : List (Option Hold)) : Type 0 where
-  pub failures : ℕ
-  pub plain : Plain
-  pub run : Run (first_desk (opened settings files failures)) (first_plain files set.empty) steps answers (record { store = store; readers = readers }) plain
-  pub agrees : Agrees (record { store = store; readers = readers }) plain
+-- From these files, with these ledgers dead, these steps were answered so, and left this store and these readers: a run leads
+-- there from a store that was opened on the files.
+pub record Headline (settings : Settings) (files : Files) (dead : List ℕ) (steps : List Step) (answers : List Answer) (store : State) (readers : List (Option Hold)) : Type 0 where
+  pub first : State
+  pub opened : IsOpened true files settings dead first
+  pub plain : PlainDesk
+  pub run : Run settings.cache_limit (first_desk first) (first_plain files (ledgers_of dead)) steps answers (record { store = store; readers = readers }) plain

@@ -4,8 +4,9 @@ use Rattle.std.proofs.Common.{refl}
 use Rattle.std.specs.Coded.{Coded, code_by, coded×, coded_ℕ, coded_list, coded_option}
 use Rattle.bk_record.specs.Key.{EntryKey}
 use Rattle.bk_record.specs.Location.{Place}
-use Rattle.bk_drive.specs.Logs.{View, view_of}
-use Rattle.bk_drive.specs.State.{key_code, place_code, view_code}
+use Rattle.bk_record.specs.Keyed.{key_code, place_code}
+use Rattle.bk_store.specs.Logs.{View, view_of}
+use Rattle.bk_store.specs.State.{view_code}
 use Rattle.bk_drive.specs.Machine.{Hold}
 use Rattle.bk_drive.specs.declared.readers.Reading.{Reading}
 

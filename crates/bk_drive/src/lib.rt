@@ -1,30 +1,17 @@
 //! Steps and their answers over one store.
 #![tactic(auto)]
 
-mod answer;
-mod cache;
-mod flush;
-mod lease;
-mod log;
-mod open;
-mod publish;
 mod readers;
-mod roll;
 mod run;
-mod settings;
 mod step;
-mod store;
 #[cfg(test)]
 mod tests;
 
-pub use answer::{
-    AddFault, Added, FlushFault, OpenFault, PublishAnswer, RollAnswer, SwapAnswer, TakeFault,
-    Taken, WriteAnswer,
+pub use bk_flush::{FlushFault, PublishAnswer, RollAnswer, WriteAnswer};
+pub use bk_store::{
+    AddFault, Added, DeleteFault, Lease, LogCause, OpenFault, Settings, Store, SwapAnswer,
+    TakeFault,
 };
-pub use lease::Lease;
-pub use log::LogState;
 pub use readers::{Readers, Reading};
 pub use run::{Ran, apply, drive};
-pub use settings::Settings;
 pub use step::{Answer, FetchAnswer, ReleaseAnswer, Step, TakeAnswer, Work};
-pub use store::Store;

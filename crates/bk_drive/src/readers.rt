@@ -6,9 +6,9 @@ ghost use Rattle.bk_drive.specs.Plain.{IsFree, IsBusy, HasAt};
 ghost use Rattle.bk_drive.specs.Headline.{reader_count};
 ghost use Rattle.bk_drive.specs.Held.{seen_hold};
 
-use crate::Lease;
 use bk_disk::LogView;
 use bk_record::{Key, Location};
+use bk_store::Lease;
 use std::marker::Model;
 
 /// What a reader holds: a lease on a log, and the location and the key of its entry there.

@@ -1,21 +1,21 @@
 //! The machine: a store and its readers take the steps of a script, one after another.
 
-ghost use Rattle.std.specs.Prelude.{◌≡◌, ◌<◌, ◌≤◌, ℕ, None, List, Option, IsTrue, IfOk, IsErrOf, length};
-ghost use Rattle.std.specs.FinMap as map;
+ghost use Rattle.std.specs.Prelude.{◌≡◌, ◌↔◌, ◌<◌, ◌≤◌, ℕ, List, Option, IsTrue, IfOk, IfErr, IsErrOf, length};
 ghost use Rattle.bk_disk.specs.Disk.{IsCaused};
-ghost use Rattle.bk_drive.specs.Machine.{Hold, ReaderFetch, ReaderRelease, ReaderTake, Turn};
-ghost use Rattle.bk_drive.specs.Headline.{Headline};
+ghost use Rattle.bk_store.specs.Limits.{IsAllowed};
+ghost use Rattle.bk_store.specs.Opening.{OpenFails};
+ghost use Rattle.bk_store.specs.Plain.{Plain, Agrees as StoreAgrees};
+ghost use Rattle.bk_drive.specs.Plain.{PlainDesk, after_work};
+ghost use Rattle.bk_drive.specs.Machine.{Hold, ReaderFetch, ReaderRelease, ReaderTake, WorkTurn, Turn, PlainTurn};
+ghost use Rattle.bk_drive.specs.Headline.{Agrees, Headline};
 ghost use Rattle.bk_drive.specs.Failing.{IsDiskFault, NoneIsDiskFault, NeverFails, AreSound};
-ghost use Rattle.bk_drive.specs.Limits.{IsAllowed};
-ghost use Rattle.bk_drive.specs.declared.step.Step.TheVariants as steps;
 
-use crate::{
-    Answer, FetchAnswer, OpenFault, Readers, Reading, ReleaseAnswer, Settings, Step, Store,
-    TakeAnswer, TakeFault, Taken, Work,
-};
+use crate::{Answer, FetchAnswer, Readers, Reading, ReleaseAnswer, Step, TakeAnswer, Work};
 use bk_disk::{LogDisk, LogView};
+use bk_flush::{publish, roll, swap, write_one};
 use bk_log::{FetchFault, fetch};
 use bk_record::Key;
+use bk_store::{OpenFault, Settings, Store, TakeFault, Taken};
 use std::alloc::Global;
 
 /// What a run left: the store, the answer of each step, and the readers with the leases that they hold.
@@ -26,47 +26,54 @@ pub struct Ran<D: LogDisk> {
     pub readers: Readers<D::View>,
 }
 
-/// One step of the store alone, and its answer.
+/// One step of the store alone, and its answer. It changes nothing of the plain map but which pairs are only cached.
 pub fn apply<D: LogDisk>(store: &mut Store<D>, work: Work) -> Answer
     ensures honest { store.new.honest ≡ store.old.honest }
     ensures cause { IsCaused store.old.failures store.new.failures (IsDiskFault result) }
-    ensures turn { IsTrue store.old.honest → (readers : List (Option Hold))
-        → Turn (record { store = store.old; readers = readers }) (steps.Work work) result
-        (record { store = store.new; readers = readers }) }
+    ensures settings { store.new.settings ≡ store.old.settings }
+    ensures turn { WorkTurn store.old work result store.new }
+    ensures plain { IsTrue store.old.honest → (p : Plain) → StoreAgrees store.old p → StoreAgrees store.new (after_work result p) }
 {
+    store.promise();
     match work {
-        Work::Swap => Answer::Swap(store.swap()),
-        Work::WriteOne => Answer::Write(store.write_one()),
-        Work::Publish => Answer::Publish(store.publish()),
-        Work::Roll => Answer::Roll(store.roll()),
+        Work::Swap => Answer::Swap(swap(store)),
+        Work::WriteOne => Answer::Write(write_one(store)),
+        Work::Publish => Answer::Publish(publish(store)),
+        Work::Roll => Answer::Roll(roll(store)),
     }
 }
 
-/// Opens a store on a disk without logs, and takes the steps one after another. Room for all answers is made first.
+/// Opens a store on a disk's logs, and takes the steps one after another. `dead` are the ledgers that were deleted before;
+/// a number past 2^63 - 1, or one that stands there again, means nothing. Room for all answers is made before the first
+/// step.
 ///
-/// Faults, each of which comes before the first step: those of opening, and `Memory` where that room can't be had.
+/// Faults: those of `Store::open`, in its order, and `Memory` where that room can't be had. A refusal lets the disk go.
 pub fn drive<D: LogDisk>(
     alloc: Global,
     disk: D,
     settings: Settings,
+    dead: &[u64],
     steps: &[Step],
 ) -> Result<Ran<D>, OpenFault>
-    requires none { (log : ℕ) → map.get (D.files disk) log ≡ None }
-    requires allowed { IsAllowed settings }
     ensures headline { IsTrue (D.honest disk)
-        → IfOk result (λ ran. Headline settings (D.files disk) steps.now ran.answers.items ran.store ran.readers) }
+        → IfOk result (λ ran. Headline settings (D.files disk) dead.now steps.now ran.answers.items ran.store ran.readers) }
+    ensures settings { IsErrOf result OpenFault.Settings ↔ ¬ (IsAllowed settings) }
+    ensures fails { IfErr result (λ fault. IsTrue (D.honest disk) → OpenFails (D.files disk) settings fault) }
     ensures unfailing { NeverFails D.failures → AreSound D.View.sound
         → IfOk result (λ ran. NoneIsDiskFault ran.answers.items) }
     ensures one_answer { IfOk result (λ ran. length ran.answers.items ≡ length steps.now) }
-    ensures never_odd { IsTrue (D.honest disk) → ¬ (IsErrOf result OpenFault.Odd) }
 {
+    let mut store = Store::open(alloc, disk, settings, dead)?;
+    // It keeps what any store does; so its settings lie in their ranges.
+    store.promise();
     let Ok(mut answers) = Vec::with_capacity(alloc, steps.len()) else {
         return Err(OpenFault::Memory);
     };
-    let mut store = Store::open(disk, alloc, settings)?;
     let mut readers = Readers::new();
     for step in steps {
-        answers.push(turn(&mut store, &mut readers, step)).unwrap();
+        answers
+            .push(turn(alloc, &mut store, &mut readers, step))
+            .unwrap();
     }
     // What the store counts are the failures of its disk.
     let _ = store.disk();
@@ -77,20 +84,31 @@ pub fn drive<D: LogDisk>(
     })
 }
 
-/// One step of the machine, and its answer.
-fn turn<D: LogDisk>(store: &mut Store<D>, readers: &mut Readers<D::View>, step: &Step) -> Answer
+/// One step of the machine, and its answer: that of the plain machine, which agrees with it as before.
+fn turn<D: LogDisk>(
+    alloc: Global,
+    store: &mut Store<D>,
+    readers: &mut Readers<D::View>,
+    step: &Step,
+) -> Answer
     ensures honest { store.new.honest ≡ store.old.honest }
+    ensures settings { store.new.settings ≡ store.old.settings }
     ensures later { store.old.failures ≤ store.new.failures }
     ensures disk { AreSound D.View.sound → IsDiskFault result → store.old.failures < store.new.failures }
-    ensures turn { IsTrue store.old.honest → Turn (record { store = store.old; readers = readers.old }) step.now result
+    ensures turn { Turn (record { store = store.old; readers = readers.old }) step.now result
         (record { store = store.new; readers = readers.new }) }
+    ensures plain { IsTrue store.old.honest → (p : PlainDesk) → Agrees (record { store = store.old; readers = readers.old }) p
+        → (q : PlainDesk) × PlainTurn store.old.settings.cache_limit p step.now result q
+        × Agrees (record { store = store.new; readers = readers.new }) q }
 {
+    store.promise();
     match step {
         Step::Work(work) => apply(store, *work),
         Step::Add(payload) => Answer::Add(store.add(payload)),
         Step::Take(reader, key) => Answer::Take(take(store, readers, *reader, *key)),
-        Step::Fetch(reader) => Answer::Fetch(fetch_by(store.alloc, readers, *reader)),
+        Step::Fetch(reader) => Answer::Fetch(fetch_by(alloc, readers, *reader)),
         Step::Release(reader) => Answer::Release(release(readers, *reader)),
+        Step::Delete(ledger) => Answer::Delete(store.delete(*ledger)),
     }
 }
 
@@ -111,6 +129,7 @@ fn take<D: LogDisk>(
         return Ok(TakeAnswer::ReaderBusy);
     }
     match store.take(key)? {
+        Taken::Deleted => Ok(TakeAnswer::Deleted),
         Taken::NotHeld => Ok(TakeAnswer::NotHeld),
         Taken::Cached(payload) => Ok(TakeAnswer::Cached(payload)),
         Taken::Leased(lease, location) => {
@@ -142,6 +161,7 @@ fn fetch_by<V: LogView>(
     let Some(reading) = readers.reading(reader) else {
         return Ok(FetchAnswer::NoLease);
     };
+    reading.lease.view.bounds();
     let payload = fetch(&*reading.lease.view, alloc, reading.location, reading.key)?;
     Ok(FetchAnswer::Bytes(payload))
 }

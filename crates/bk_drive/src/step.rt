@@ -1,10 +1,9 @@
 //! The steps of a script and their answers.
 
-use crate::{
-    AddFault, Added, FlushFault, PublishAnswer, RollAnswer, SwapAnswer, TakeFault, WriteAnswer,
-};
+use bk_flush::{FlushFault, PublishAnswer, RollAnswer, WriteAnswer};
 use bk_log::FetchFault;
 use bk_record::{Key, Location};
+use bk_store::{AddFault, Added, DeleteFault, SwapAnswer, TakeFault};
 use std::sync::Arc;
 
 /// A step of the store alone.
@@ -23,7 +22,7 @@ pub enum Work {
 /// One step. Readers are numbered from 0 to 3.
 #[derive(Debug, Drop)]
 pub enum Step {
-    /// A call of the flush.
+    /// A step of the store alone.
     Work(Work),
     /// An add of this payload: the ledger id and the entry id, eight bytes each, then the data.
     Add(Vec<u8>),
@@ -33,6 +32,8 @@ pub enum Step {
     Fetch(u32),
     /// The end of the lease that the reader of this number holds.
     Release(u32),
+    /// A deletion of this ledger.
+    Delete(u64),
 }
 
 /// What a take answered.
@@ -42,6 +43,8 @@ pub enum TakeAnswer {
     NoReader,
     /// The reader holds a lease already.
     ReaderBusy,
+    /// The entry's ledger was deleted.
+    Deleted,
     /// The store has no entry of that key.
     NotHeld,
     /// The payload, from a cache.
@@ -79,6 +82,8 @@ pub enum Answer {
     Take(Result<TakeAnswer, TakeFault>),
     Fetch(Result<FetchAnswer, FetchFault>),
     Release(ReleaseAnswer),
+    /// How many keys the deleted ledger had, each counted once.
+    Delete(Result<u64, DeleteFault>),
     Swap(SwapAnswer),
     Write(Result<WriteAnswer, FlushFault>),
     Publish(Result<PublishAnswer, FlushFault>),

@@ -1,19 +1,18 @@
 //! Worked runs over a disk in memory, with bytes and numbers written by hand. Logs are short: two records of 500 bytes
 //! are the most that one has, and there are two of them.
 
-ghost use Rattle.std.specs.Prelude.{◌≡◌, ℕ, None};
-ghost use Rattle.std.specs.FinMap as map;
-
 use crate::{
-    Added, Answer, FetchAnswer, FlushFault, OpenFault, PublishAnswer, Ran, ReleaseAnswer,
-    RollAnswer, Settings, Step, SwapAnswer, TakeAnswer, Work, WriteAnswer, drive,
+    AddFault, Added, Answer, DeleteFault, FetchAnswer, FlushFault, OpenFault, PublishAnswer, Ran,
+    ReleaseAnswer, RollAnswer, Settings, Step, SwapAnswer, TakeAnswer, Work, WriteAnswer, drive,
 };
 use bk_disk::{LogDisk, MemDisk};
 use bk_record::Key;
 use std::alloc::Global;
 use std::test::Fail;
 
+mod deleting;
 mod failing;
+mod found;
 mod one_log;
 mod recording;
 mod several_logs;
@@ -39,12 +38,13 @@ const HELLO: [u8; 21] = [
 enum Plan {
     /// An add of `hello` as entry 0 of ledger 1.
     Hello,
-    /// An add of so many zero bytes as this entry of ledger 1.
-    Zeros(u8, usize),
-    /// A take by a reader of this entry of ledger 1.
-    Take(u32, u64),
+    /// An add of so many zero bytes as this entry of this ledger.
+    Zeros(u8, u8, usize),
+    /// A take by a reader of this entry of this ledger.
+    Take(u32, u64, u64),
     Fetch(u32),
     Release(u32),
+    Delete(u64),
     Do(Work),
 }
 
@@ -63,20 +63,22 @@ type Told = (&'static str, u64);
 fn step_of(alloc: Global, plan: Plan) -> Result<Step, Fail> {
     Ok(match plan {
         Plan::Hello => Step::Add(HELLO.to_vec(alloc)?),
-        Plan::Zeros(entry, size) => Step::Add(zeros(alloc, entry, size)?),
-        Plan::Take(reader, entry) => {
-            Step::Take(reader, Key::new(1, entry).ok_or("an id past 2^63 - 1")?)
-        }
+        Plan::Zeros(ledger, entry, size) => Step::Add(zeros(alloc, ledger, entry, size)?),
+        Plan::Take(reader, ledger, entry) => Step::Take(
+            reader,
+            Key::new(ledger, entry).ok_or("an id past 2^63 - 1")?,
+        ),
         Plan::Fetch(reader) => Step::Fetch(reader),
         Plan::Release(reader) => Step::Release(reader),
+        Plan::Delete(ledger) => Step::Delete(ledger),
         Plan::Do(work) => Step::Work(work),
     })
 }
 
-/// The payload of an entry of ledger 1, with so many zero bytes of data.
-fn zeros(alloc: Global, entry: u8, size: usize) -> Result<Vec<u8>, Fail> {
+/// The payload of an entry, with so many zero bytes of data.
+fn zeros(alloc: Global, ledger: u8, entry: u8, size: usize) -> Result<Vec<u8>, Fail> {
     let mut payload = Vec::with_capacity(alloc, 16)?;
-    payload.extend_from_slice(&1u64.to_be_bytes())?;
+    payload.extend_from_slice(&u64::from(ledger).to_be_bytes())?;
     payload.extend_from_slice(&u64::from(entry).to_be_bytes())?;
     for _ in 0..size {
         payload.push(0)?;
@@ -92,59 +94,30 @@ fn steps_of(alloc: Global, plans: &[Plan]) -> Result<Vec<Step>, Fail> {
     Ok(steps)
 }
 
-/// Takes the steps over a disk that has no log.
-fn run_over<D: LogDisk>(alloc: Global, disk: D, steps: &[Step]) -> Result<Ran<D>, OpenFault>
-    requires { (log : ℕ) → map.get (D.files disk) log ≡ None }
-{
-    drive(alloc, disk, SETTINGS, steps)
-}
-
-/// A worked run over a disk in memory that has no log.
+/// A worked run over a disk that has no log.
 struct Worked {
     plans: &'static [Plan],
     /// What the answers tell.
     told: &'static [Told],
-    /// The lengths of logs at the end.
-    lengths: &'static [(u32, u64)],
-    /// Bytes of logs at the end, each with its log and its position there.
-    bytes: &'static [(u32, u64, &'static [u8])],
 }
 
-/// Whether the steps are answered so, and leave the logs so.
-fn holds(alloc: Global, worked: &Worked) -> Result<bool, Fail> {
+/// The number of the first step that is answered otherwise, over a disk in memory that has no log.
+fn first_wrong(alloc: Global, worked: &Worked) -> Result<Option<usize>, Fail> {
     let steps = steps_of(alloc, worked.plans)?;
-    let Ran { store, answers, .. } = run_over(alloc, MemDisk::new(alloc), &steps)?;
-    Ok(first_other(&answers, worked.told).is_none() && stands(alloc, store.disk, worked)?)
-}
-
-/// Whether the disk's logs are as long and have the bytes.
-fn stands(alloc: Global, mut disk: MemDisk, worked: &Worked) -> Result<bool, Fail> {
-    for (log, length) in worked.lengths {
-        if disk.length(alloc, *log)? != *length {
-            return Ok(false);
-        }
-    }
-    for (log, at, bytes) in worked.bytes {
-        let found = disk.read_at(alloc, *log, *at, bytes.len() as u64)?;
-        if found.as_slice() != *bytes {
-            return Ok(false);
-        }
-    }
-    Ok(true)
+    let Ran { answers, .. } = drive(alloc, MemDisk::new(alloc), SETTINGS, &[], &steps)?;
+    Ok(first_other(&answers, worked.told))
 }
 
 fn told(answer: &Answer) -> Told {
     match answer {
-        Answer::Add(Ok(Added::Accepted)) => ("accepted", 0),
-        Answer::Add(Ok(Added::Held)) => ("held", 0),
+        Answer::Add(added) => told_of_add(added),
         Answer::Take(Ok(taken)) => told_of_take(taken),
-        Answer::Fetch(Ok(FetchAnswer::NoReader)) => ("no reader", 0),
-        Answer::Fetch(Ok(FetchAnswer::NoLease)) => ("no lease", 0),
-        Answer::Fetch(Ok(FetchAnswer::Bytes(payload))) if payload.as_slice() == HELLO.as_slice() =>
-            { ("hello", 21) }
+        Answer::Fetch(Ok(fetched)) => told_of_fetch(fetched),
         Answer::Release(ReleaseAnswer::NoReader) => ("no reader", 0),
         Answer::Release(ReleaseAnswer::NoLease) => ("no lease", 0),
         Answer::Release(ReleaseAnswer::Released) => ("released", 0),
+        Answer::Delete(Ok(dropped)) => ("dropped", *dropped),
+        Answer::Delete(Err(DeleteFault::AlreadyDeleted)) => ("already deleted", 0),
         Answer::Swap(SwapAnswer::Running) => ("running", 0),
         Answer::Swap(SwapAnswer::Nothing) => ("nothing", 0),
         Answer::Swap(SwapAnswer::Swapped(entries)) => ("swapped", *entries),
@@ -162,13 +135,33 @@ fn told(answer: &Answer) -> Told {
     }
 }
 
+fn told_of_add(added: &Result<Added, AddFault>) -> Told {
+    match added {
+        Ok(Added::Accepted) => ("accepted", 0),
+        Ok(Added::Held) => ("held", 0),
+        Err(AddFault::Deleted) => ("deleted", 0),
+        Err(AddFault::Full { used, .. }) => ("full", *used),
+        Err(AddFault::Bad(_) | AddFault::Memory) => ("another fault", 0),
+    }
+}
+
 fn told_of_take(taken: &TakeAnswer) -> Told {
     match taken {
         TakeAnswer::NoReader => ("no reader", 0),
         TakeAnswer::ReaderBusy => ("reader busy", 0),
+        TakeAnswer::Deleted => ("deleted", 0),
         TakeAnswer::NotHeld => ("not held", 0),
         TakeAnswer::Cached(payload) => ("cached", payload.len() as u64),
         TakeAnswer::Leased(location) => ("leased", location.value()),
+    }
+}
+
+fn told_of_fetch(fetched: &FetchAnswer) -> Told {
+    match fetched {
+        FetchAnswer::NoReader => ("no reader", 0),
+        FetchAnswer::NoLease => ("no lease", 0),
+        FetchAnswer::Bytes(payload) if payload.as_slice() == HELLO.as_slice() => ("hello", 21),
+        FetchAnswer::Bytes(payload) => ("other bytes", payload.len() as u64),
     }
 }
 

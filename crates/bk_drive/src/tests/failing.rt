@@ -1,8 +1,8 @@
 //! Each call of the device fails in turn, once: one answer says so, the same step taken again does its work, and no
 //! entry is lost.
 
-use super::{PUBLISH, Plan, ROLL, SWAP, Told, WRITE, run_over, steps_of, told};
-use crate::{Answer, FlushFault, OpenFault, Ran};
+use super::{PUBLISH, Plan, ROLL, SETTINGS, SWAP, Told, WRITE, steps_of, told};
+use crate::{Answer, FlushFault, OpenFault, Ran, drive};
 use bk_disk::{FaultDisk, MemDisk};
 use bk_log::FetchFault;
 use std::alloc::Global;
@@ -16,7 +16,7 @@ const TWICE: [Plan; 11] = [
     WRITE,
     PUBLISH,
     PUBLISH,
-    Plan::Take(0, 0),
+    Plan::Take(0, 1, 0),
     Plan::Fetch(0),
     ROLL,
     ROLL,
@@ -75,7 +75,7 @@ fn goes_on(
 ) -> Result<bool, Fail> {
     let steps = steps_of(alloc, &TWICE)?;
     let disk = FaultDisk::new(MemDisk::new(alloc), call, kept);
-    let Ran { answers, .. } = run_over(alloc, disk, &steps)?;
+    let Ran { answers, .. } = drive(alloc, disk, SETTINGS, &[], &steps)?;
     Ok(is_done(&answers, failed, location))
 }
 
@@ -95,7 +95,7 @@ fn a_step_whose_call_failed_is_done_by_the_next_try(rt: HostRuntime) -> Result<(
 #[test]
 fn a_listing_that_fails_opens_nothing(rt: HostRuntime) -> Result<(), Fail> {
     let disk = FaultDisk::new(MemDisk::new(rt.alloc()), 1, 0);
-    let ran = run_over(rt.alloc(), disk, &[]);
+    let ran = drive(rt.alloc(), disk, SETTINGS, &[], &[]);
     assert!(rt; matches!(ran, Err(OpenFault::Disk)));
     Ok(())
 }
@@ -111,7 +111,7 @@ const BROKEN: [Plan; 7] = [
     SWAP,
     WRITE,
     PUBLISH,
-    Plan::Take(0, 0),
+    Plan::Take(0, 1, 0),
     Plan::Fetch(0),
     Plan::Release(0),
 ];
@@ -120,7 +120,7 @@ const BROKEN: [Plan; 7] = [
 fn broken_end(alloc: Global) -> Result<(bool, Told), Fail> {
     let steps = steps_of(alloc, &BROKEN)?;
     let disk = FaultDisk::broken_view(MemDisk::new(alloc), 1);
-    let Ran { answers, .. } = run_over(alloc, disk, &steps)?;
+    let Ran { answers, .. } = drive(alloc, disk, SETTINGS, &[], &steps)?;
     let failed = matches!(answers.get(5), Some(Answer::Fetch(Err(FetchFault::Disk))));
     Ok((failed, told_at(&answers, 6)))
 }

@@ -1,10 +1,10 @@
-//! Which calls a run makes on its disk, in which order.
+//! Which calls a run makes on its disk, in which order, and the bytes that they write.
 
 ghost use Rattle.std.specs.Prelude.{◌≡◌, true};
 ghost use Rattle.std.specs.FinMap as map;
 
-use super::{PUBLISH, Plan, ROLL, SWAP, WRITE, run_over, steps_of};
-use crate::Ran;
+use super::{PUBLISH, Plan, ROLL, SETTINGS, SWAP, WRITE, steps_of};
+use crate::{Ran, drive};
 use bk_disk::{DiskFault, LogDisk, MemDisk, MemView};
 use std::alloc::Global;
 use std::test::Fail;
@@ -23,11 +23,18 @@ enum Call {
     Remove(u32),
 }
 
+/// A call, and the bytes that it was to write.
+#[derive(Debug, Drop)]
+struct Noted {
+    call: Call,
+    bytes: Vec<u8>,
+}
+
 /// A disk in memory that writes down its calls.
 #[derive(Drop)]
 struct Recorder {
     inner: MemDisk,
-    calls: Vec<Call>,
+    noted: Vec<Noted>,
 }
 
 impl Recorder {
@@ -36,14 +43,16 @@ impl Recorder {
     {
         Recorder {
             inner: MemDisk::new(alloc),
-            calls: Vec::new(alloc),
+            noted: Vec::new(alloc),
         }
     }
 
-    fn note(&mut self, call: Call)
+    fn note(&mut self, call: Call, alloc: Global, bytes: &[u8])
         ensures { self.new.inner ≡ self.old.inner }
     {
-        let _ = self.calls.push(call);
+        if let Ok(bytes) = bytes.to_vec(alloc) {
+            let _ = self.noted.push(Noted { call, bytes });
+        }
     }
 }
 
@@ -61,89 +70,178 @@ impl LogDisk for Recorder {
     }
 
     fn list(&mut self, alloc: Global) -> Result<Vec<u32>, DiskFault> {
-        self.note(Call::List);
+        self.note(Call::List, alloc, &[]);
         self.inner.list(alloc)
     }
 
     fn length(&mut self, alloc: Global, log: u32) -> Result<u64, DiskFault> {
-        self.note(Call::Length(log));
+        self.note(Call::Length(log), alloc, &[]);
         self.inner.length(alloc, log)
     }
 
     fn create(&mut self, alloc: Global, log: u32) -> Result<(), DiskFault> {
-        self.note(Call::Create(log));
+        self.note(Call::Create(log), alloc, &[]);
         self.inner.create(alloc, log)
     }
 
     fn append(&mut self, alloc: Global, log: u32, bytes: &[u8]) -> Result<(), DiskFault> {
-        self.note(Call::Append(log));
+        self.note(Call::Append(log), alloc, bytes);
         self.inner.append(alloc, log, bytes)
     }
 
     fn patch(&mut self, alloc: Global, log: u32, bytes: &[u8; 12]) -> Result<(), DiskFault> {
-        self.note(Call::Patch(log));
+        self.note(Call::Patch(log), alloc, bytes);
         self.inner.patch(alloc, log, bytes)
     }
 
     fn sync(&mut self, alloc: Global, log: u32) -> Result<(), DiskFault> {
-        self.note(Call::Sync(log));
+        self.note(Call::Sync(log), alloc, &[]);
         self.inner.sync(alloc, log)
     }
 
     fn read_at(&mut self, alloc: Global, log: u32, at: u64, n: u64) -> Result<Vec<u8>, DiskFault> {
-        self.note(Call::Read(log));
+        self.note(Call::Read(log), alloc, &[]);
         self.inner.read_at(alloc, log, at, n)
     }
 
     fn view(&mut self, alloc: Global, log: u32) -> Result<MemView, DiskFault> {
-        self.note(Call::View(log));
+        self.note(Call::View(log), alloc, &[]);
         self.inner.view(alloc, log)
     }
 
     fn remove(&mut self, alloc: Global, log: u32) -> Result<(), DiskFault> {
-        self.note(Call::Remove(log));
+        self.note(Call::Remove(log), alloc, &[]);
         self.inner.remove(alloc, log)
     }
 }
 
-/// An entry is added, flushed and its log rolled, twice.
-const TWO_LOGS: [Plan; 10] = [
-    Plan::Hello,
-    SWAP,
-    WRITE,
-    PUBLISH,
-    ROLL,
-    Plan::Zeros(1, 1),
-    SWAP,
-    WRITE,
-    PUBLISH,
-    ROLL,
+/// A run, the calls that it makes, and how the bytes begin that some of them write, with their number.
+struct Recorded {
+    plans: &'static [Plan],
+    calls: &'static [Call],
+    written: &'static [(usize, &'static [u8], usize)],
+}
+
+/// The first bytes of a new log: the format's name and its version, behind which all is zero.
+const NEW_LOG: [u8; 24] = *b"BKLO\0\0\0\x01\0\0\0\0\0\0\0\0\0\0\0\0\0\0\0\0";
+
+/// The record of `hello`: its length, then its payload.
+const RECORD: [u8; 25] = *b"\0\0\0\x15\0\0\0\0\0\0\0\x01\0\0\0\0\0\0\0\0hello";
+
+/// The ledgers map of a log with one record of 25 bytes, of ledger 1: the length of the batch, its two ids, the number
+/// of its pairs, and the pair.
+const MAP: [u8; 40] = [
+    0, 0, 0, 0x24, 0xff, 0xff, 0xff, 0xff, 0xff, 0xff, 0xff, 0xff, 0xff, 0xff, 0xff, 0xff, 0xff,
+    0xff, 0xff, 0xfe, 0, 0, 0, 1, 0, 0, 0, 0, 0, 0, 0, 1, 0, 0, 0, 0, 0, 0, 0, 0x19,
 ];
 
-/// The log is made with its header, its record is put, it is synced before it is viewed, and its map is put before the
-/// header is patched.
-const CALLS: [Call; 15] = [
-    Call::List,
-    Call::Create(0),
-    Call::Append(0),
-    Call::Append(0),
-    Call::Sync(0),
-    Call::View(0),
-    Call::Append(0),
-    Call::Patch(0),
-    Call::Create(1),
-    Call::Append(1),
-    Call::Append(1),
-    Call::Sync(1),
-    Call::View(1),
-    Call::Append(1),
-    Call::Patch(1),
-];
+/// Bytes 8 to 20 of that log's header: where the map begins, and how many ledgers it has.
+const MAP_AT_1049: [u8; 12] = [0, 0, 0, 0, 0, 0, 4, 0x19, 0, 0, 0, 1];
+
+/// The same of a log whose map begins at byte 2024 and has one ledger.
+const MAP_AT_2024: [u8; 12] = [0, 0, 0, 0, 0, 0, 7, 0xe8, 0, 0, 0, 1];
+
+/// An entry is added, flushed and its log rolled, twice. The log is made with its header, its record is put, it is synced
+/// before it is viewed, and its map is put before the header is patched.
+const ROLLED: Recorded = Recorded {
+    plans: &[
+        Plan::Hello,
+        SWAP,
+        WRITE,
+        PUBLISH,
+        ROLL,
+        Plan::Zeros(1, 1, 1),
+        SWAP,
+        WRITE,
+        PUBLISH,
+        ROLL,
+    ],
+    calls: &[
+        Call::List,
+        Call::Create(0),
+        Call::Append(0),
+        Call::Append(0),
+        Call::Sync(0),
+        Call::View(0),
+        Call::Append(0),
+        Call::Patch(0),
+        Call::Create(1),
+        Call::Append(1),
+        Call::Append(1),
+        Call::Sync(1),
+        Call::View(1),
+        Call::Append(1),
+        Call::Patch(1),
+    ],
+    written: &[
+        (2, &NEW_LOG, 1024),
+        (3, &RECORD, 25),
+        (6, &MAP, 40),
+        (7, &MAP_AT_1049, 12),
+    ],
+};
+
+/// Three records of 500 bytes, of which two go into a log: it is sealed before the third, and both logs are shown.
+const FULL: Recorded = Recorded {
+    plans: &[
+        Plan::Zeros(1, 0, 480),
+        Plan::Zeros(1, 1, 480),
+        Plan::Zeros(1, 2, 480),
+        SWAP,
+        WRITE,
+        WRITE,
+        WRITE,
+        PUBLISH,
+    ],
+    calls: &[
+        Call::List,
+        Call::Create(0),
+        Call::Append(0),
+        Call::Append(0),
+        Call::Append(0),
+        Call::Append(0),
+        Call::Patch(0),
+        Call::Create(1),
+        Call::Append(1),
+        Call::Append(1),
+        Call::Sync(0),
+        Call::View(0),
+        Call::Sync(1),
+        Call::View(1),
+    ],
+    written: &[(4, &[0, 0, 1, 0xf0], 500), (6, &MAP_AT_2024, 12)],
+};
+
+/// Whether these are the calls of the run, and write its bytes.
+fn is_recorded(noted: &[Noted], run: &Recorded) -> bool {
+    noted.len() == run.calls.len()
+        && noted
+            .iter()
+            .zip(run.calls)
+            .all(|(noted, call)| noted.call == *call)
+        && run.written.iter().all(|(number, first, length)| is_written(
+            noted.get(*number),
+            first,
+            *length,
+        ))
+}
+
+fn is_written(noted: Option<&Noted>, first: &[u8], length: usize) -> bool {
+    match noted {
+        Some(noted) => noted.bytes.len() == length && noted.bytes.starts_with(first),
+        None => false,
+    }
+}
 
 #[test]
-fn a_log_is_synced_before_it_is_viewed(rt: HostRuntime) -> Result<(), Fail> {
-    let steps = steps_of(rt.alloc(), &TWO_LOGS)?;
-    let Ran { store, .. } = run_over(rt.alloc(), Recorder::new(rt.alloc()), &steps)?;
-    assert_eq!(rt; store.disk.calls.as_slice(), CALLS.as_slice());
+fn logs_are_synced_before_views_and_mapped_before_headers_say_so(
+    rt: HostRuntime,
+) -> Result<(), Fail> {
+    for run in [&ROLLED, &FULL] {
+        let steps = steps_of(rt.alloc(), run.plans)?;
+        let disk = Recorder::new(rt.alloc());
+        let Ran { store, .. } = drive(rt.alloc(), disk, SETTINGS, &[], &steps)?;
+        assert!(rt; is_recorded(&store.disk().noted, run));
+    }
     Ok(())
 }

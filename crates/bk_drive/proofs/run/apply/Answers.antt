@@ -1,14 +1,40 @@
-use Rattle.bk_drive.specs.Machine.Turn.{swapped_caches, wrote, published_flush, rolled}
+use Rattle.bk_drive.specs.Machine.WorkTurn.{swapped, wrote, published, rolled}
+use Rattle.bk_drive.proofs.Working.{step_stays, roll_stays, publish_settings, agrees_still, publish_agrees}
+use Rattle.bk_drive.proofs.Runs.{swapped_plain, swap_settings}
 use Rattle.bk_drive.proofs.run.apply.Goals as goal
 
 pub returns-in-Swap-clause-turn : goal.returns-in-Swap-clause-turn
-returns-in-Swap-clause-turn g c = λ honest readers. rw c.in-Swap.is (swapped_caches c.swap.ensures)
+returns-in-Swap-clause-turn g c = rw c.in-Swap.is (swapped c.swap.ensures)
 
 pub returns-in-WriteOne-clause-turn : goal.returns-in-WriteOne-clause-turn
-returns-in-WriteOne-clause-turn g c = λ honest readers. rw c.in-WriteOne.is (wrote (c.write_one.ensures.turn honest) c.write_one.ensures.cause)
+returns-in-WriteOne-clause-turn g c = rw c.in-WriteOne.is (wrote c.write_one.ensures.turn)
 
 pub returns-in-Publish-clause-turn : goal.returns-in-Publish-clause-turn
-returns-in-Publish-clause-turn g c = λ honest readers. rw c.in-Publish.is (published_flush (c.publish.ensures.turn honest) c.publish.ensures.cause)
+returns-in-Publish-clause-turn g c = rw c.in-Publish.is (published c.publish.ensures.turn)
 
 pub returns-in-Roll-clause-turn : goal.returns-in-Roll-clause-turn
-returns-in-Roll-clause-turn g c = λ honest readers. rw c.in-Roll.is (rolled (c.roll.ensures.turn honest) c.roll.ensures.cause)
+returns-in-Roll-clause-turn g c = rw c.in-Roll.is (rolled c.roll.ensures.turn)
+
+pub returns-in-Swap-clause-settings : goal.returns-in-Swap-clause-settings
+returns-in-Swap-clause-settings g c = swap_settings _ _ _ c.swap.ensures
+
+pub returns-in-WriteOne-clause-settings : goal.returns-in-WriteOne-clause-settings
+returns-in-WriteOne-clause-settings g c = (step_stays _ _ _ c.write_one.ensures.turn).settings
+
+pub returns-in-Publish-clause-settings : goal.returns-in-Publish-clause-settings
+returns-in-Publish-clause-settings g c = publish_settings _ _ _ c.publish.ensures.turn
+
+pub returns-in-Roll-clause-settings : goal.returns-in-Roll-clause-settings
+returns-in-Roll-clause-settings g c = (roll_stays _ _ _ c.roll.ensures.turn).settings
+
+pub returns-in-Swap-clause-plain : goal.returns-in-Swap-clause-plain
+returns-in-Swap-clause-plain g c = λ honest p agrees. swapped_plain _ _ p c.promise.ensures honest agrees _ c.swap.ensures
+
+pub returns-in-WriteOne-clause-plain : goal.returns-in-WriteOne-clause-plain
+returns-in-WriteOne-clause-plain g c = λ honest p agrees. agrees_still _ _ p agrees (c.write_one.ensures.meaning honest) (step_stays _ _ _ c.write_one.ensures.turn)
+
+pub returns-in-Publish-clause-plain : goal.returns-in-Publish-clause-plain
+returns-in-Publish-clause-plain g c = λ honest p agrees. publish_agrees _ _ p agrees (c.publish.ensures.meaning honest) _ c.publish.ensures.turn
+
+pub returns-in-Roll-clause-plain : goal.returns-in-Roll-clause-plain
+returns-in-Roll-clause-plain g c = λ honest p agrees. agrees_still _ _ p agrees (c.roll.ensures.meaning honest) (roll_stays _ _ _ c.roll.ensures.turn)

@@ -9,5 +9,5 @@ invariant-loop-step g l = record {
   room : length l.steps ≤ vec_capacity l.answers;
   counted_faults : AreSound g.D.View.LogView.sound → AreCounted l.store.failures l.answers.items;
   driven : IsTrue (g.D.LogDisk.honest l.fn.disk)
-      → IsDriven l.fn.settings (g.D.LogDisk.files l.fn.disk) (take l.step-index l.steps) l.answers.items l.store l.readers;
+      → IsDriven l.fn.settings (g.D.LogDisk.files l.fn.disk) l.dead (take l.step-index l.steps) l.answers.items l.store l.readers;
 }

@@ -1,0 +1,75 @@
+-- Each turn of the machine has one of the plain machine beside it.
+use Rattle.std.proofs.Common.{ℕ, List, Option, IsTrue, Result, Vec}
+use Rattle.std.specs.declared.alloc.Global.{Global}
+use Rattle.bk_record.specs.Key.{EntryKey}
+use Rattle.bk_log.specs.declared.fault.FetchFault.{FetchFault}
+use Rattle.bk_store.specs.State.{State}
+use Rattle.bk_store.specs.Turns.{AddTurn, DeleteTurn}
+use Rattle.bk_store.specs.Plain.{Plain, IsKept}
+use Rattle.bk_store.specs.Plain as plain
+use Rattle.bk_store.specs.declared.answer.Added.{Added}
+use Rattle.bk_store.specs.declared.answer.AddFault.{AddFault}
+use Rattle.bk_store.specs.declared.answer.TakeFault.{TakeFault}
+use Rattle.bk_store.specs.declared.answer.DeleteFault.{DeleteFault}
+use Rattle.bk_drive.specs.Plain.{PlainDesk, after_work}
+use Rattle.bk_drive.specs.Machine.{Hold, WorkTurn, ReaderTake, ReaderFetch, ReaderRelease, PlainTurn}
+use Rattle.bk_drive.specs.Machine.WorkTurn.{swapped as work_swapped, wrote as work_wrote, published as work_published, rolled as work_rolled}
+use Rattle.bk_drive.specs.Machine.PlainTurn.{swapped, wrote, published, rolled, added, deleted, taken, fetched, released}
+use Rattle.bk_drive.specs.Headline.{Agrees}
+use Rattle.bk_drive.specs.declared.step.Step.{Step}
+use Rattle.bk_drive.specs.declared.step.Step.TheVariants as steps
+use Rattle.bk_drive.specs.declared.step.Work.{Work}
+use Rattle.bk_drive.specs.declared.step.Answer.{Answer}
+use Rattle.bk_drive.specs.declared.step.Answer.TheVariants as answers
+use Rattle.bk_drive.specs.declared.step.TakeAnswer.{TakeAnswer}
+use Rattle.bk_drive.specs.declared.step.FetchAnswer.{FetchAnswer}
+use Rattle.bk_drive.specs.declared.step.ReleaseAnswer.{ReleaseAnswer}
+use Rattle.bk_drive.proofs.Runs.{added_plain, deleted_plain}
+use Rattle.bk_drive.proofs.ReaderTurns.{owed_take, owed_fetch, owed_release}
+
+-- one turn of the machine beside one of the plain one, wherever they agree
+abbrev pub GoesOn : State → List (Option Hold) → Step → Answer → State → List (Option Hold) → Type 0
+GoesOn store readers x a store' readers' = (p : PlainDesk) → Agrees (record { store = store; readers = readers }) p
+    → (q : PlainDesk) × PlainTurn store.settings.cache_limit p x a q × Agrees (record { store = store'; readers = readers' }) q
+
+work_beside : (limit : ℕ) (p : PlainDesk) {s t : State} {work : Work} {a : Answer} → WorkTurn s work a t
+    → PlainTurn limit p (steps.Work work) a (record p { store = after_work a p.store })
+work_beside limit p (work_swapped turn) = swapped
+work_beside limit p (work_wrote turn) = wrote
+work_beside limit p (work_published turn) = published
+work_beside limit p (work_rolled turn) = rolled
+
+pub goes_worked : (s t : State) (readers : List (Option Hold)) (work : Work) (a : Answer) → WorkTurn s work a t
+    → ((p : Plain) → plain.Agrees s p → plain.Agrees t (after_work a p)) → GoesOn s readers (steps.Work work) a t readers
+goes_worked s t readers work a turn agreeing = λ p agrees.
+    (record p { store = after_work a p.store }, work_beside s.settings.cache_limit p turn, record { store = agreeing p.store agrees.store; readers = agrees.readers })
+
+module _ (s t : State) (kept : IsKept s) (honest : IsTrue s.honest) (readers : List (Option Hold)) where
+  pub goes_added : (payload : Vec ℕ Global) (r : Result Added AddFault) → AddTurn s payload.items r t
+      → GoesOn s readers (steps.Add payload) (answers.Add r) t readers
+  goes_added payload r turn = λ p agrees.
+      let done = added_plain s t p.store kept honest agrees.store payload.items r turn in
+      (record p { store = done.0 }, added done.1, record { store = done.2; readers = agrees.readers })
+
+  pub goes_deleted : (ledger : ℕ) (r : Result ℕ DeleteFault) → DeleteTurn s ledger r t
+      → GoesOn s readers (steps.Delete ledger) (answers.Delete r) t readers
+  goes_deleted ledger r turn = λ p agrees.
+      let done = deleted_plain s t p.store kept honest agrees.store ledger r turn in
+      (record p { store = done.0 }, deleted done.1, record { store = done.2; readers = agrees.readers })
+
+pub goes_taken : (s : State) (readers readers' : List (Option Hold)) (reader : ℕ) (key : EntryKey) (r : Result TakeAnswer TakeFault) → IsKept s → IsTrue s.honest
+    → ReaderTake (record { store = s; readers = readers }) reader key r (record { store = s; readers = readers' })
+    → GoesOn s readers (steps.Take reader key) (answers.Take r) s readers'
+goes_taken s readers readers' reader key r kept honest turn = λ p agrees.
+    let done = owed_take _ p agrees reader kept honest key r _ turn in
+    (done.0, taken done.1, done.2)
+
+pub goes_fetched : (s : State) (readers : List (Option Hold)) (reader : ℕ) (r : Result FetchAnswer FetchFault) → ReaderFetch readers reader r
+    → GoesOn s readers (steps.Fetch reader) (answers.Fetch r) s readers
+goes_fetched s readers reader r turn = λ p agrees. (p, fetched (owed_fetch _ p agrees reader r turn), agrees)
+
+pub goes_released : (s : State) (readers readers' : List (Option Hold)) (reader : ℕ) (r : ReleaseAnswer) → ReaderRelease readers reader r readers'
+    → GoesOn s readers (steps.Release reader) (answers.Release r) s readers'
+goes_released s readers readers' reader r turn = λ p agrees.
+    let done = owed_release _ p agrees reader r readers' turn in
+    (record p { readers = done.0 }, released done.1, record { store = agrees.store; readers = done.2 })

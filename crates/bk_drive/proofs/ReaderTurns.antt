@@ -1,0 +1,118 @@
+-- Steps of a reader: it gets what it is owed.
+use Rattle.std.proofs.Common.{◌≡◌, ℕ, List, Option, Some, None, Result, Ok, Err, IsTrue, refl, sym, subst, slice_set, arith}
+use denote.RawPtr.Ptr.{null_ptr}
+use Rattle.bk_record.specs.Key.{EntryKey}
+use Rattle.bk_log.specs.Places.{HasEntryAt}
+use Rattle.bk_log.specs.declared.fault.FetchFault.{FetchFault}
+use Rattle.bk_log.specs.declared.fault.FetchFault.TheVariants as fetch_faults
+use Rattle.bk_log.proofs.OneRecord.{stands_once}
+use Rattle.bk_store.specs.Logs.{View}
+use Rattle.bk_store.specs.State.{State}
+use Rattle.bk_store.specs.Turns.{TakeTurn}
+use Rattle.bk_store.specs.Plain.{Plain, PlainTake, IsKept}
+use Rattle.bk_store.specs.Plain as plain
+use Rattle.bk_store.specs.declared.lease.Lease.{Lease}
+use Rattle.bk_store.specs.declared.answer.Taken.{Taken}
+use Rattle.bk_store.specs.declared.answer.Taken.TheVariants as taken
+use Rattle.bk_store.specs.declared.answer.TakeFault.{TakeFault}
+use Rattle.bk_store.specs.declared.answer.TakeFault.TheVariants as take_faults
+use Rattle.bk_store.proofs.PlainMaps.{plain_take}
+use Rattle.bk_drive.specs.Plain.{Owed, PlainDesk, IsFree, IsBusy, OwedTake, OwedFetch, OwedRelease}
+use Rattle.bk_drive.specs.Machine.{Desk, Hold, hold_on, ShowsBytes, ReaderTake, ReaderFetch, ReaderRelease}
+use Rattle.bk_drive.specs.Headline.{IsOwed, AreOwed, Agrees}
+use Rattle.bk_drive.specs.declared.step.TakeAnswer.{TakeAnswer}
+use Rattle.bk_drive.specs.declared.step.TakeAnswer.TheVariants as takes
+use Rattle.bk_drive.specs.declared.step.FetchAnswer.{FetchAnswer}
+use Rattle.bk_drive.specs.declared.step.FetchAnswer.TheVariants as fetches
+use Rattle.bk_drive.specs.declared.step.ReleaseAnswer.{ReleaseAnswer}
+use Rattle.bk_drive.specs.declared.step.ReleaseAnswer.TheVariants as releases
+use Rattle.bk_drive.proofs.Standing.{stands_here}
+use Rattle.bk_drive.proofs.Owing.{length_owed, free_owed, busy_owed, set_owed, owed_at, unset_owed}
+
+-- a take of a store, where leases show views as they are seen, answers as the plain map does
+abbrev Takes : State → EntryKey → Result (Taken View) TakeFault → Type 0
+Takes s key r = TakeTurn (λ v. v.bytes) (λ v. v.is_honest) (λ v. v.is_sound) s key r
+
+seen_take : (s : State) (p : Plain) (key : EntryKey) (r : Result (Taken View) TakeFault) → IsKept s → IsTrue s.honest → plain.Agrees s p → Takes s key r
+    → PlainTake (λ v. v.bytes) (λ v. v.is_honest) p key r
+seen_take s p key r kept honest agrees turn =
+    plain_take kept.parts kept.keeps (kept.keeps.promises (subst (λ (x : State). IsTrue x.honest) (sym kept.seen) honest)) p
+    (subst (λ (x : State). plain.Agrees x p) (sym kept.seen) agrees) (λ v. v.bytes) (λ v. v.is_honest) (λ v. v.is_sound) key r
+    (subst (λ (x : State). Takes x key r) (sym kept.seen) turn)
+
+-- the lease whose view is seen so
+abbrev lease_of : ℕ → View → Lease View
+lease_of log view = record { log = log; view = record { ptr = null_ptr; value = view } }
+
+-- the entry of a key at a place has one payload
+one_entry : (h : Hold) (o : Owed) (payload : List ℕ) → ShowsBytes h.view → IsOwed h o → HasEntryAt h.view.bytes h.place.at h.key payload → payload ≡ o.payload
+one_entry h o payload shows owed found =
+    (stands_once h.view.bytes h.place.at).one payload o.payload found.here
+    (stands_here h.view.bytes h.place h.key o.payload (shows owed.honest) owed.shown).here
+
+module _ (d : Desk) (p : PlainDesk) (agrees : Agrees d p) (reader : ℕ) where
+  stays : (e : Desk) → e ≡ d → Agrees e p
+  stays e is = subst (λ (x : Desk). Agrees x p) (sym is) agrees
+
+  free : IsFree d.readers reader → IsFree p.readers reader
+  free is = free_owed d.readers p.readers reader agrees.readers is
+
+  busy : IsBusy d.readers reader → IsBusy p.readers reader
+  busy is = busy_owed d.readers p.readers reader agrees.readers is
+
+  module _ (kept : IsKept d.store) (honest : IsTrue d.store.honest) (key : EntryKey) where
+    reads : (r : Result (Taken View) TakeFault) → Takes d.store key r → PlainTake (λ v. v.bytes) (λ v. v.is_honest) p.store key r
+    reads r turn = seen_take d.store p.store key r kept honest agrees.store turn
+
+    pub owed_take : (r : Result TakeAnswer TakeFault) (e : Desk) → ReaderTake d reader key r e → (q : PlainDesk) × OwedTake p reader key r q × Agrees e q
+    owed_take (Ok takes.NoReader) e turn = (p, (omega (arith, turn.0, length_owed d.readers p.readers agrees.readers), refl), stays e turn.1)
+    owed_take (Ok takes.ReaderBusy) e turn = (p, (busy turn.0, refl), stays e turn.1)
+    owed_take (Ok takes.Deleted) e turn = (p, (free turn.0, reads (Ok taken.Deleted) turn.1, refl), stays e turn.2)
+    owed_take (Ok (takes.Cached payload)) e turn =
+        let is = reads (Ok (taken.Cached payload)) (turn.0.lives, turn.1) in
+        (p, (free turn.0.free, is.0, is.1, refl), stays e turn.2)
+    owed_take (Ok takes.NotHeld) e turn =
+        let is = reads (Ok taken.NotHeld) (turn.0.lives, turn.1, turn.2) in
+        (p, (free turn.0.free, is.0, is.1, refl), stays e turn.3)
+    owed_take (Ok (takes.Leased place)) e turn =
+        let view = turn.3.0 in
+        let is = reads (Ok (taken.Leased (lease_of place.log view) place)) (turn.0.lives, turn.1, turn.2, refl, turn.3.1) in
+        let owed : Owed = record { log = place.log; payload = is.1.0 } in
+        let q : PlainDesk = record p { readers = slice_set p.readers reader (Some owed) } in
+        let holds : IsOwed (hold_on place key view) owed = record { log = refl; place = refl; honest = is.1.2.honest_is; shown = is.1.2.shown } in (
+          q,
+          (free turn.0.free, is.0, (is.1.0, is.1.1, refl)),
+          subst (λ (x : Desk). Agrees x q) (sym turn.3.2)
+              (record { store = agrees.store; readers = set_owed d.readers p.readers reader _ owed agrees.readers holds }),
+        )
+    owed_take (Err take_faults.Memory) e turn =
+        let is = reads (Err take_faults.Memory) (turn.0.lives, turn.1) in
+        (p, (free turn.0.free, is.0, is.1, refl), stays e turn.2)
+
+  pub owed_fetch : (r : Result FetchAnswer FetchFault) → ReaderFetch d.readers reader r → OwedFetch p.readers reader r
+  owed_fetch (Ok fetches.NoReader) turn = omega (arith, turn, length_owed d.readers p.readers agrees.readers)
+  owed_fetch (Ok fetches.NoLease) turn = free turn
+  owed_fetch (Ok (fetches.Bytes payload)) (h, is, shows, found) =
+      let owed = owed_at d.readers p.readers reader h agrees.readers is in
+      (owed.0, owed.1.0, one_entry h owed.0 payload.items shows owed.1.1 (found owed.1.1.honest))
+  owed_fetch (Err fetch_faults.Disk) (h, is, shows, fails, unsound) = busy (h, is)
+  owed_fetch (Err fetch_faults.Memory) (h, is, shows, fails, unsound) = busy (h, is)
+  owed_fetch (Err fetch_faults.NotThere) (h, is, shows, fails, unsound) =
+      let owed = owed_at d.readers p.readers reader h agrees.readers is in
+      absurd (fails owed.1.1.honest owed.0.payload (stands_here h.view.bytes h.place h.key owed.0.payload (shows owed.1.1.honest) owed.1.1.shown))
+  owed_fetch (Err fetch_faults.Odd) (h, is, shows, fails, unsound) =
+      absurd (fails (owed_at d.readers p.readers reader h agrees.readers is).1.1.honest)
+
+  pub owed_release : (r : ReleaseAnswer) (readers : List (Option Hold)) → ReaderRelease d.readers reader r readers
+      → (rs : List (Option Owed)) × OwedRelease p.readers reader r rs × AreOwed readers rs
+  owed_release releases.NoReader readers turn = (
+    p.readers,
+    (omega (arith, turn.0, length_owed d.readers p.readers agrees.readers), refl),
+    subst (λ (hs : List (Option Hold)). AreOwed hs p.readers) (sym turn.1) agrees.readers,
+  )
+  owed_release releases.NoLease readers turn = (p.readers, (free turn.0, refl), subst (λ (hs : List (Option Hold)). AreOwed hs p.readers) (sym turn.1) agrees.readers)
+  owed_release releases.Released readers turn = (
+    slice_set p.readers reader None,
+    (busy turn.0, refl),
+    subst (λ (hs : List (Option Hold)). AreOwed hs (slice_set p.readers reader None)) (sym turn.1) (unset_owed d.readers p.readers reader agrees.readers),
+  )

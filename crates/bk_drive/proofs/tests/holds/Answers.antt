@@ -1,8 +1,0 @@
-use Rattle.std.proofs.Common.{ap, ◌∙◌, arith}
-use Rattle.std.specs.Ordering.{nat_cmp}
-use Rattle.std.specs.FinMap as finite
-use Rattle.bk_record.specs.Files.{Files}
-use Rattle.bk_drive.proofs.tests.holds.Goals as goal
-
-pub run_over-requires-after_bounds : goal.run_over-requires-after_bounds
-run_over-requires-after_bounds c κs = (omega arith, λ log. ap (λ (files : Files). finite.get files log) c.new.ensures ∙ finite.get-empty nat_cmp log)
