@@ -4,7 +4,7 @@ use Rattle.std.proofs.lemmas.Bool.{false≢true}
 use Rattle.std.specs.Fmt.{decimal}
 use Rattle.bk_drive.specs.declared.step.Step.{Step}
 use Rattle.bk_drive.specs.declared.step.Work.{Work}
-use Rattle.bk_script.specs.Line.{IsWord, words, followed, word_of, Spells, work, add, add_text, pad, take, fetch, release}
+use Rattle.bk_script.specs.Line.{IsWord, words, followed, word_of, Spells, work, add, add_text, pad, take, fetch, release, delete}
 use Rattle.bk_script.proofs.Words.{IsWord-from_test, IsWord-word_of, followed-injective}
 
 -- what stands behind `add` and a space
@@ -43,6 +43,12 @@ pub record IsReader (text : List ℕ) : Type 0 where
   pub fits : reader ≤ 3
   pub is : text ≡ decimal reader
 
+-- a ledger: what stands behind `delete` and a space
+pub record IsLedger (text : List ℕ) : Type 0 where
+  pub ledger : ℕ
+  pub fits : ledger < 2 ^ 63
+  pub is : text ≡ decimal ledger
+
 -- the first word of a line that spells a step, and what stands behind it
 pub data Parts : List ℕ → Option (List ℕ) → Type 0 where
   alone : (call : Work) → Parts (word_of call) None
@@ -51,6 +57,7 @@ pub data Parts : List ℕ → Option (List ℕ) → Type 0 where
   takes : {text : List ℕ} → IsTakeText text → Parts (codes "take") (Some text)
   fetches : {text : List ℕ} → IsReader text → Parts (codes "fetch") (Some text)
   releases : {text : List ℕ} → IsReader text → Parts (codes "release") (Some text)
+  deletes : {text : List ℕ} → IsLedger text → Parts (codes "delete") (Some text)
 
 record HasParts (line : List ℕ) : Type 0 where
   name : List ℕ
@@ -103,6 +110,13 @@ parted (release {reader = reader} few) = record {
   whole = refl;
   parts = releases (record { reader = reader; fits = few; is = refl });
 }
+parted (delete {ledger = ledger} low) = record {
+  name = codes "delete";
+  rest = _;
+  word = IsWord-from_test (codes "delete") refl;
+  whole = refl;
+  parts = deletes (record { ledger = ledger; fits = low; is = refl });
+}
 
 parts_of : {line : List ℕ} {step : Step} (name : List ℕ) (rest : Option (List ℕ)) → IsWord name → line ≡ followed name rest
     → Spells line step → Parts name rest
@@ -125,6 +139,7 @@ adds_of (pads h) text e f = absurd (apart (codes "pad") (codes "add") refl e)
 adds_of (takes h) text e f = absurd (apart (codes "take") (codes "add") refl e)
 adds_of (fetches h) text e f = absurd (apart (codes "fetch") (codes "add") refl e)
 adds_of (releases h) text e f = absurd (apart (codes "release") (codes "add") refl e)
+adds_of (deletes h) text e f = absurd (apart (codes "delete") (codes "add") refl e)
 
 pads_of : {name : List ℕ} {rest : Option (List ℕ)} → Parts name rest → (text : List ℕ) → name ≡ codes "pad" → rest ≡ Some text → IsPadText text
 pads_of (alone call) text e f = cc
@@ -133,6 +148,7 @@ pads_of (pads {text = t} h) text e f = let same : t ≡ text = cc in subst IsPad
 pads_of (takes h) text e f = absurd (apart (codes "take") (codes "pad") refl e)
 pads_of (fetches h) text e f = absurd (apart (codes "fetch") (codes "pad") refl e)
 pads_of (releases h) text e f = absurd (apart (codes "release") (codes "pad") refl e)
+pads_of (deletes h) text e f = absurd (apart (codes "delete") (codes "pad") refl e)
 
 takes_of : {name : List ℕ} {rest : Option (List ℕ)} → Parts name rest → (text : List ℕ) → name ≡ codes "take" → rest ≡ Some text → IsTakeText text
 takes_of (alone call) text e f = cc
@@ -141,6 +157,7 @@ takes_of (pads h) text e f = absurd (apart (codes "pad") (codes "take") refl e)
 takes_of (takes {text = t} h) text e f = let same : t ≡ text = cc in subst IsTakeText same h
 takes_of (fetches h) text e f = absurd (apart (codes "fetch") (codes "take") refl e)
 takes_of (releases h) text e f = absurd (apart (codes "release") (codes "take") refl e)
+takes_of (deletes h) text e f = absurd (apart (codes "delete") (codes "take") refl e)
 
 fetches_of : {name : List ℕ} {rest : Option (List ℕ)} → Parts name rest → (text : List ℕ) → name ≡ codes "fetch" → rest ≡ Some text → IsReader text
 fetches_of (alone call) text e f = cc
@@ -149,6 +166,7 @@ fetches_of (pads h) text e f = absurd (apart (codes "pad") (codes "fetch") refl 
 fetches_of (takes h) text e f = absurd (apart (codes "take") (codes "fetch") refl e)
 fetches_of (fetches {text = t} h) text e f = let same : t ≡ text = cc in subst IsReader same h
 fetches_of (releases h) text e f = absurd (apart (codes "release") (codes "fetch") refl e)
+fetches_of (deletes h) text e f = absurd (apart (codes "delete") (codes "fetch") refl e)
 
 releases_of : {name : List ℕ} {rest : Option (List ℕ)} → Parts name rest → (text : List ℕ) → name ≡ codes "release" → rest ≡ Some text → IsReader text
 releases_of (alone call) text e f = cc
@@ -157,6 +175,16 @@ releases_of (pads h) text e f = absurd (apart (codes "pad") (codes "release") re
 releases_of (takes h) text e f = absurd (apart (codes "take") (codes "release") refl e)
 releases_of (fetches h) text e f = absurd (apart (codes "fetch") (codes "release") refl e)
 releases_of (releases {text = t} h) text e f = let same : t ≡ text = cc in subst IsReader same h
+releases_of (deletes h) text e f = absurd (apart (codes "delete") (codes "release") refl e)
+
+deletes_of : {name : List ℕ} {rest : Option (List ℕ)} → Parts name rest → (text : List ℕ) → name ≡ codes "delete" → rest ≡ Some text → IsLedger text
+deletes_of (alone call) text e f = cc
+deletes_of (adds h) text e f = absurd (apart (codes "add") (codes "delete") refl e)
+deletes_of (pads h) text e f = absurd (apart (codes "pad") (codes "delete") refl e)
+deletes_of (takes h) text e f = absurd (apart (codes "take") (codes "delete") refl e)
+deletes_of (fetches h) text e f = absurd (apart (codes "fetch") (codes "delete") refl e)
+deletes_of (releases h) text e f = absurd (apart (codes "release") (codes "delete") refl e)
+deletes_of (deletes {text = t} h) text e f = let same : t ≡ text = cc in subst IsLedger same h
 
 alone_of : {name : List ℕ} {rest : Option (List ℕ)} → Parts name rest → rest ≡ None → (call : Work) × (name ≡ word_of call)
 alone_of (alone call) f = (call, refl)
@@ -165,10 +193,12 @@ alone_of (pads h) f = cc
 alone_of (takes h) f = cc
 alone_of (fetches h) f = cc
 alone_of (releases h) f = cc
+alone_of (deletes h) f = cc
 
 -- the words that go on
 abbrev pub IsCalled : List ℕ → Type 0
-IsCalled name = (name ≡ codes "add") ⊎ ((name ≡ codes "pad") ⊎ ((name ≡ codes "take") ⊎ ((name ≡ codes "fetch") ⊎ (name ≡ codes "release"))))
+IsCalled name = (name ≡ codes "add") ⊎ ((name ≡ codes "pad") ⊎ ((name ≡ codes "take") ⊎ ((name ≡ codes "fetch")
+    ⊎ ((name ≡ codes "release") ⊎ (name ≡ codes "delete")))))
 
 named_of : {name : List ℕ} {rest : Option (List ℕ)} → Parts name rest → (text : List ℕ) → rest ≡ Some text → IsCalled name
 named_of (alone call) text f = cc
@@ -176,7 +206,8 @@ named_of (adds h) text f = inl refl
 named_of (pads h) text f = inr (inl refl)
 named_of (takes h) text f = inr (inr (inl refl))
 named_of (fetches h) text f = inr (inr (inr (inl refl)))
-named_of (releases h) text f = inr (inr (inr (inr refl)))
+named_of (releases h) text f = inr (inr (inr (inr (inl refl))))
+named_of (deletes h) text f = inr (inr (inr (inr (inr refl))))
 
 pub add_text_of : (text : List ℕ) (step : Step) → Spells (codes "add" ++ 32 ∷ text) step → IsAddText text
 add_text_of text step h = adds_of (parts_of (codes "add") (Some text) (IsWord-from_test (codes "add") refl) refl h) text refl refl
@@ -192,6 +223,9 @@ fetch_text_of text step h = fetches_of (parts_of (codes "fetch") (Some text) (Is
 
 pub release_text_of : (text : List ℕ) (step : Step) → Spells (codes "release" ++ 32 ∷ text) step → IsReader text
 release_text_of text step h = releases_of (parts_of (codes "release") (Some text) (IsWord-from_test (codes "release") refl) refl h) text refl refl
+
+pub delete_text_of : (text : List ℕ) (step : Step) → Spells (codes "delete" ++ 32 ∷ text) step → IsLedger text
+delete_text_of text step h = deletes_of (parts_of (codes "delete") (Some text) (IsWord-from_test (codes "delete") refl) refl h) text refl refl
 
 -- a line without a space that spells a step is the word of a call
 pub call_of : (line : List ℕ) (step : Step) → IsWord line → Spells line step → (call : Work) × (line ≡ word_of call)

@@ -58,3 +58,4 @@ pub data Spells : List ℕ → Step → Type 0 where
       (steps.Take reader (record { ledger = ledger; entry = entry }))
   fetch : {reader : ℕ} → reader ≤ 3 → Spells (words (codes "fetch" ∷ decimal reader ∷ [])) (steps.Fetch reader)
   release : {reader : ℕ} → reader ≤ 3 → Spells (words (codes "release" ∷ decimal reader ∷ [])) (steps.Release reader)
+  delete : {ledger : ℕ} → ledger < 2 ^ 63 → Spells (words (codes "delete" ∷ decimal ledger ∷ [])) (steps.Delete ledger)

@@ -7,22 +7,24 @@ use Rattle.bk_record.specs.declared.fault.RecordFault.{RecordFault}
 use Rattle.bk_record.specs.declared.fault.RecordFault.TheVariants as record_faults
 use Rattle.bk_log.specs.declared.fault.FetchFault.{FetchFault}
 use Rattle.bk_log.specs.declared.fault.FetchFault.TheVariants as fetch_faults
-use Rattle.bk_drive.specs.declared.answer.Added.{Added}
-use Rattle.bk_drive.specs.declared.answer.Added.TheVariants.{Accepted, Held}
-use Rattle.bk_drive.specs.declared.answer.AddFault.{AddFault}
-use Rattle.bk_drive.specs.declared.answer.AddFault.TheVariants as add_faults
-use Rattle.bk_drive.specs.declared.answer.TakeFault.{TakeFault}
-use Rattle.bk_drive.specs.declared.answer.TakeFault.TheVariants as take_faults
-use Rattle.bk_drive.specs.declared.answer.SwapAnswer.{SwapAnswer}
-use Rattle.bk_drive.specs.declared.answer.SwapAnswer.TheVariants as swaps
-use Rattle.bk_drive.specs.declared.answer.WriteAnswer.{WriteAnswer}
-use Rattle.bk_drive.specs.declared.answer.WriteAnswer.TheVariants as writes
-use Rattle.bk_drive.specs.declared.answer.PublishAnswer.{PublishAnswer}
-use Rattle.bk_drive.specs.declared.answer.PublishAnswer.TheVariants as publishes
-use Rattle.bk_drive.specs.declared.answer.RollAnswer.{RollAnswer}
-use Rattle.bk_drive.specs.declared.answer.RollAnswer.TheVariants as rolls
-use Rattle.bk_drive.specs.declared.answer.FlushFault.{FlushFault}
-use Rattle.bk_drive.specs.declared.answer.FlushFault.TheVariants as flush_faults
+use Rattle.bk_store.specs.declared.answer.Added.{Added}
+use Rattle.bk_store.specs.declared.answer.Added.TheVariants.{Accepted, Held}
+use Rattle.bk_store.specs.declared.answer.AddFault.{AddFault}
+use Rattle.bk_store.specs.declared.answer.AddFault.TheVariants as add_faults
+use Rattle.bk_store.specs.declared.answer.TakeFault.{TakeFault}
+use Rattle.bk_store.specs.declared.answer.TakeFault.TheVariants as take_faults
+use Rattle.bk_store.specs.declared.answer.DeleteFault.{DeleteFault}
+use Rattle.bk_store.specs.declared.answer.DeleteFault.TheVariants as delete_faults
+use Rattle.bk_store.specs.declared.answer.SwapAnswer.{SwapAnswer}
+use Rattle.bk_store.specs.declared.answer.SwapAnswer.TheVariants as swaps
+use Rattle.bk_flush.specs.declared.answer.WriteAnswer.{WriteAnswer}
+use Rattle.bk_flush.specs.declared.answer.WriteAnswer.TheVariants as writes
+use Rattle.bk_flush.specs.declared.answer.PublishAnswer.{PublishAnswer}
+use Rattle.bk_flush.specs.declared.answer.PublishAnswer.TheVariants as publishes
+use Rattle.bk_flush.specs.declared.answer.RollAnswer.{RollAnswer}
+use Rattle.bk_flush.specs.declared.answer.RollAnswer.TheVariants as rolls
+use Rattle.bk_flush.specs.declared.answer.FlushFault.{FlushFault}
+use Rattle.bk_flush.specs.declared.answer.FlushFault.TheVariants as flush_faults
 use Rattle.bk_drive.specs.declared.step.TakeAnswer.{TakeAnswer}
 use Rattle.bk_drive.specs.declared.step.TakeAnswer.TheVariants as takes
 use Rattle.bk_drive.specs.declared.step.FetchAnswer.{FetchAnswer}
@@ -54,15 +56,21 @@ record_fault_text record_faults.Negative = codes "negative number"
 record_fault_text (record_faults.TooLong n) = codes "too long " ++ decimal n
 record_fault_text record_faults.Memory = codes "memory"
 
+abbrev pub add_fault_text : AddFault → List ℕ
+add_fault_text (add_faults.Bad fault) = record_fault_text fault
+add_fault_text add_faults.Deleted = codes "deleted"
+add_fault_text (add_faults.Full used limit) = codes "full " ++ decimal used ++ codes " " ++ decimal limit
+add_fault_text add_faults.Memory = codes "memory"
+
 abbrev pub add_text : Result Added AddFault → List ℕ
 add_text (Ok Accepted) = codes "accepted"
 add_text (Ok Held) = codes "held"
-add_text (Err (add_faults.Bad fault)) = codes "fault " ++ record_fault_text fault
-add_text (Err add_faults.Memory) = codes "fault memory"
+add_text (Err fault) = codes "fault " ++ add_fault_text fault
 
 abbrev pub take_text : Result TakeAnswer TakeFault → List ℕ
 take_text (Ok takes.NoReader) = codes "no reader"
 take_text (Ok takes.ReaderBusy) = codes "reader busy"
+take_text (Ok takes.Deleted) = codes "deleted"
 take_text (Ok takes.NotHeld) = codes "not held"
 take_text (Ok (takes.Cached payload)) = codes "cached " ++ shown_data payload.value.items
 take_text (Ok (takes.Leased place)) = codes "leased " ++ decimal (packed place)
@@ -84,6 +92,14 @@ abbrev pub release_text : ReleaseAnswer → List ℕ
 release_text releases.NoReader = codes "no reader"
 release_text releases.NoLease = codes "no lease"
 release_text releases.Released = codes "released"
+
+abbrev pub delete_fault_text : DeleteFault → List ℕ
+delete_fault_text delete_faults.AlreadyDeleted = codes "already deleted"
+delete_fault_text delete_faults.Memory = codes "memory"
+
+abbrev pub delete_text : Result ℕ DeleteFault → List ℕ
+delete_text (Ok n) = codes "dropped " ++ decimal n
+delete_text (Err fault) = codes "fault " ++ delete_fault_text fault
 
 abbrev pub swap_text : SwapAnswer → List ℕ
 swap_text swaps.Running = codes "running"
@@ -121,6 +137,7 @@ text_of (answers.Add answer) = add_text answer
 text_of (answers.Take answer) = take_text answer
 text_of (answers.Fetch answer) = fetch_text answer
 text_of (answers.Release answer) = release_text answer
+text_of (answers.Delete answer) = delete_text answer
 text_of (answers.Swap answer) = swap_text answer
 text_of (answers.Write answer) = write_text answer
 text_of (answers.Publish answer) = publish_text answer

@@ -2,13 +2,14 @@
 
 ghost use Rattle.std.specs.Prelude.{◌≡◌, ◌<◌, false, [], ◌∷◌, Some, drop};
 ghost use Rattle.std.specs.Fmt.{WritesOnOk, digit_glyph};
-ghost use Rattle.bk_script.specs.Text.{add_text, data_text, digit_pair, fetch_fault_text, fetch_text};
+ghost use Rattle.bk_script.specs.Text.{add_fault_text, add_text, data_text, delete_fault_text, delete_text};
+ghost use Rattle.bk_script.specs.Text.{digit_pair, fetch_fault_text, fetch_text};
 ghost use Rattle.bk_script.specs.Text.{flush_fault_text, publish_text, record_fault_text, release_text};
 ghost use Rattle.bk_script.specs.Text.{roll_text, swap_text, take_text, text_of, write_text};
 
 use bk_drive::{
-    AddFault, Added, Answer, FetchAnswer, FlushFault, PublishAnswer, ReleaseAnswer, RollAnswer,
-    SwapAnswer, TakeAnswer, TakeFault, WriteAnswer,
+    AddFault, Added, Answer, DeleteFault, FetchAnswer, FlushFault, PublishAnswer, ReleaseAnswer,
+    RollAnswer, SwapAnswer, TakeAnswer, TakeFault, WriteAnswer,
 };
 use bk_log::FetchFault;
 use bk_record::RecordFault;
@@ -28,6 +29,7 @@ impl Display for Text<'_, Answer> {
             Answer::Take(answer) => write!(f, "{}", Text(answer)),
             Answer::Fetch(answer) => write!(f, "{}", Text(answer)),
             Answer::Release(answer) => write!(f, "{}", Text(answer)),
+            Answer::Delete(answer) => write!(f, "{}", Text(answer)),
             Answer::Swap(answer) => write!(f, "{}", Text(answer)),
             Answer::Write(answer) => write!(f, "{}", Text(answer)),
             Answer::Publish(answer) => write!(f, "{}", Text(answer)),
@@ -43,8 +45,20 @@ impl Display for Text<'_, Result<Added, AddFault>> {
         match self.0 {
             Ok(Added::Accepted) => write!(f, "accepted"),
             Ok(Added::Held) => write!(f, "held"),
-            Err(AddFault::Bad(fault)) => write!(f, "fault {}", Text(fault)),
-            Err(AddFault::Memory) => write!(f, "fault memory"),
+            Err(fault) => write!(f, "fault {}", Text(fault)),
+        }
+    }
+}
+
+impl Display for Text<'_, AddFault> {
+    ghost output = { λ text. Some (add_fault_text text.0.now) };
+
+    fn fmt<W: fmt::Write>(&self, f: &mut Formatter<W>) -> fmt::Result {
+        match self.0 {
+            AddFault::Bad(fault) => write!(f, "{}", Text(fault)),
+            AddFault::Deleted => write!(f, "deleted"),
+            AddFault::Full { used, limit } => write!(f, "full {used} {limit}"),
+            AddFault::Memory => write!(f, "memory"),
         }
     }
 }
@@ -69,6 +83,7 @@ impl Display for Text<'_, Result<TakeAnswer, TakeFault>> {
         match self.0 {
             Ok(TakeAnswer::NoReader) => write!(f, "no reader"),
             Ok(TakeAnswer::ReaderBusy) => write!(f, "reader busy"),
+            Ok(TakeAnswer::Deleted) => write!(f, "deleted"),
             Ok(TakeAnswer::NotHeld) => write!(f, "not held"),
             Ok(TakeAnswer::Cached(payload)) => {
                 write!(f, "cached ")?;
@@ -117,6 +132,28 @@ impl Display for Text<'_, ReleaseAnswer> {
             ReleaseAnswer::NoReader => write!(f, "no reader"),
             ReleaseAnswer::NoLease => write!(f, "no lease"),
             ReleaseAnswer::Released => write!(f, "released"),
+        }
+    }
+}
+
+impl Display for Text<'_, Result<u64, DeleteFault>> {
+    ghost output = { λ text. Some (delete_text text.0.now) };
+
+    fn fmt<W: fmt::Write>(&self, f: &mut Formatter<W>) -> fmt::Result {
+        match self.0 {
+            Ok(count) => write!(f, "dropped {count}"),
+            Err(fault) => write!(f, "fault {}", Text(fault)),
+        }
+    }
+}
+
+impl Display for Text<'_, DeleteFault> {
+    ghost output = { λ text. Some (delete_fault_text text.0.now) };
+
+    fn fmt<W: fmt::Write>(&self, f: &mut Formatter<W>) -> fmt::Result {
+        match self.0 {
+            DeleteFault::AlreadyDeleted => write!(f, "already deleted"),
+            DeleteFault::Memory => write!(f, "memory"),
         }
     }
 }

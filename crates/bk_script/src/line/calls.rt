@@ -87,3 +87,14 @@ pub(crate) fn read_release(text: &str) -> Result<Step, LineFault>
         None => Err(LineFault::Bad),
     }
 }
+
+/// The deletion of what follows `delete` and a space.
+pub(crate) fn read_delete(text: &str) -> Result<Step, LineFault>
+    ensures ok { IfOk result (Spells (codes "delete" ++ 32 ∷ text.now)) }
+    ensures err { OnErr result ((step : _) → ¬ (Spells (codes "delete" ++ 32 ∷ text.now) step)) }
+{
+    match number(text, MAX_ID) {
+        Some(ledger) => Ok(Step::Delete(ledger)),
+        None => Err(LineFault::Bad),
+    }
+}

@@ -1,5 +1,3 @@
-ghost use Rattle.bk_drive.specs.Limits.{IsAllowed};
-
 mod faults;
 mod lines;
 mod long;
@@ -33,16 +31,14 @@ struct Shown {
 
 /// Runs a script on a store without options.
 fn run(alloc: Global, script: &str) -> Shown {
-    run_from(alloc, DEFAULTS, &mut script.as_bytes())
+    run_from(alloc, DEFAULTS, &[], &mut script.as_bytes())
 }
 
-/// Runs the script that a reader gives on a store with these settings.
-fn run_from<R: Read>(alloc: Global, settings: Settings, reader: &mut R) -> Shown
-    requires { IsAllowed settings }
-{
+/// Runs the script that a reader gives on a store with these settings, of which these ledgers were deleted before.
+fn run_from<R: Read>(alloc: Global, settings: Settings, dead: &[u64], reader: &mut R) -> Shown {
     let mut output = Vec::new(alloc);
     let mut errors = Vec::new(alloc);
-    let status = run_script(alloc, settings, reader, &mut output, &mut errors);
+    let status = run_script(alloc, settings, dead, reader, &mut output, &mut errors);
     Shown {
         status,
         output,

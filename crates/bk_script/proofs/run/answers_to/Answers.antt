@@ -16,5 +16,5 @@ returns-in-Ok-clause-ok g c = record {
   taken = c.in_ok-input.ensures.bytes;
   ended = c.in_ok-input.ensures.end;
   spelled = subst (λ bytes. IsScript bytes c.in_ok-steps.steps.items) c.deref.ensures.value c.in_ok-steps.ensures.ok;
-  answered = subst (λ steps. AnswersSteps c.args.settings steps c.in-Ok.answers.items) c.deref-2.ensures.value c.in-Ok.ensures;
+  answered = subst (λ steps. AnswersSteps c.args.settings c.args.dead.now steps c.in-Ok.answers.items) c.deref-2.ensures.value c.in-Ok.ensures;
 }

@@ -3,7 +3,7 @@
 use crate::ScriptFault;
 use crate::run::tell;
 use crate::text::Text;
-use bk_drive::{FlushFault, OpenFault};
+use bk_drive::{AddFault, DeleteFault, FlushFault, OpenFault};
 use bk_log::FetchFault;
 use bk_record::RecordFault;
 use std::alloc::Global;
@@ -18,6 +18,7 @@ fn why_a_script_is_not_run_goes_to_the_error_stream(rt: HostRuntime) {
         (ScriptFault::Open(OpenFault::Disk), "fault disk\n"),
         (ScriptFault::Open(OpenFault::Memory), "fault memory\n"),
         (ScriptFault::Open(OpenFault::Odd), "fault odd disk\n"),
+        (ScriptFault::Open(OpenFault::Settings), "fault settings\n"),
         (ScriptFault::Memory, "fault memory\n"),
     ];
     for (fault, text) in faults {
@@ -50,6 +51,28 @@ fn faults_of_steps_print_their_own_texts(rt: HostRuntime) {
         (RecordFault::Memory, "memory"),
     ];
     for (fault, text) in records {
+        assert_text(&rt, rt.alloc(), Text(&fault), fault, text);
+    }
+    let adds = [
+        (AddFault::Bad(RecordFault::Short(15)), "short 15"),
+        (AddFault::Deleted, "deleted"),
+        (
+            AddFault::Full {
+                used: 100,
+                limit: 115,
+            },
+            "full 100 115",
+        ),
+        (AddFault::Memory, "memory"),
+    ];
+    for (fault, text) in adds {
+        assert_text(&rt, rt.alloc(), Text(&fault), fault, text);
+    }
+    let deletions = [
+        (DeleteFault::AlreadyDeleted, "already deleted"),
+        (DeleteFault::Memory, "memory"),
+    ];
+    for (fault, text) in deletions {
         assert_text(&rt, rt.alloc(), Text(&fault), fault, text);
     }
     let fetches = [

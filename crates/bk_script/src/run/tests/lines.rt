@@ -35,7 +35,7 @@ fn lines_are_read_to_the_letter(rt: HostRuntime) {
 }
 
 /// Lines that spell no step.
-const NO_STEPS: [&str; 63] = [
+const NO_STEPS: [&str; 70] = [
     "add 1 0 ",
     "add 1",
     "add",
@@ -84,6 +84,13 @@ const NO_STEPS: [&str; 63] = [
     "release 03",
     "release 0 0",
     "release  0",
+    "delete",
+    "delete ",
+    "delete 01",
+    "delete -1",
+    "delete 1 0",
+    "delete  1",
+    "delete 9223372036854775808",
     "roll ",
     "roll 0",
     "Roll",

@@ -34,7 +34,7 @@ fn the_input_has_bounds(rt: HostRuntime) {
         (100, 7, true, 1),
     ];
     for (left, most, fails, status) in inputs {
-        let shown = run_from(rt.alloc(), DEFAULTS, &mut Feeds { left, most, fails });
+        let shown = run_from(rt.alloc(), DEFAULTS, &[], &mut Feeds { left, most, fails });
         let errors = if status == 0 { "" } else { "read fault\n" };
         assert_eq!(rt; shown.status, status, "{left} bytes, {most} a read");
         assert_eq!(rt; shown.output.len(), 0);
@@ -99,6 +99,6 @@ fn run_on(alloc: Global, write: usize, flush: bool) -> (u8, Vec<u8>) {
         taken: Vec::new(alloc),
     };
     let mut script = "add 1 0 a\npublish\n".as_bytes();
-    let status = run_script(alloc, DEFAULTS, &mut script, &mut writer, &mut errors);
+    let status = run_script(alloc, DEFAULTS, &[], &mut script, &mut writer, &mut errors);
     (status, writer.taken)
 }

@@ -1,7 +1,5 @@
 //! Worked scripts: each line with its answer, written by hand.
 
-ghost use Rattle.bk_drive.specs.Limits.{IsAllowed};
-
 use super::{DEFAULTS, assert_shown, run_from};
 use bk_drive::Settings;
 use std::alloc::Global;
@@ -99,6 +97,83 @@ const DATA: Worked = &[
     ("fetch 1", "bytes 0000"),
 ];
 
+/// A deletion takes the entries of a ledger from the cache, from a flush and from the logs; the ledger stays deleted.
+const DELETED: Worked = &[
+    ("add 1 0 hello", "accepted"),
+    ("swap", "swapped 1"),
+    ("write", "wrote 1028"),
+    ("delete 1", "dropped 1"),
+    ("take 0 1 0", "deleted"),
+    ("publish", "published 0"),
+    ("delete 1", "fault already deleted"),
+    ("add 1 1 x", "fault deleted"),
+    ("publish", "no flush"),
+];
+
+/// A lease that was taken before a deletion reads on.
+const DELETED_UNDER_A_LEASE: Worked = &[
+    ("add 1 0 hello", "accepted"),
+    ("swap", "swapped 1"),
+    ("write", "wrote 1028"),
+    ("publish", "published 1"),
+    ("take 0 1 0", "leased 1028"),
+    ("delete 1", "dropped 1"),
+    ("fetch 0", "bytes 68656c6c6f"),
+    ("take 0 1 0", "reader busy"),
+    ("take 1 1 0", "deleted"),
+    ("release 0", "released"),
+    ("fetch 0", "no lease"),
+];
+
+/// A deletion counts each entry of its ledger once, wherever it is kept, and leaves other ledgers alone.
+const DELETED_EVERYWHERE: Worked = &[
+    ("add 1 0 a", "accepted"),
+    ("add 2 0 b", "accepted"),
+    ("swap", "swapped 2"),
+    ("write", "wrote 1028"),
+    ("write", "wrote 1049"),
+    ("publish", "published 2"),
+    ("add 1 1 c", "accepted"),
+    ("swap", "swapped 1"),
+    ("add 1 2 d", "accepted"),
+    ("delete 1", "dropped 3"),
+    ("take 0 1 2", "deleted"),
+    ("take 0 2 0", "leased 1049"),
+    ("delete 9223372036854775807", "dropped 0"),
+    ("take 1 9223372036854775807 0", "deleted"),
+];
+
+/// The active cache has room for 100 payload bytes, and what is held already needs no room.
+const FULL_CACHE: Worked = &[
+    ("pad 1 0 44", "accepted"),
+    ("pad 1 1 24", "accepted"),
+    ("add 1 2", "fault full 100 100"),
+    ("pad 1 0 9", "held"),
+    ("swap", "swapped 2"),
+    ("add 1 2", "accepted"),
+];
+
+/// The entry that was flushed last is read from memory, the one before it from its log.
+const RECENT: Worked = &[
+    ("add 1 0 a", "accepted"),
+    ("add 1 1 b", "accepted"),
+    ("swap", "swapped 2"),
+    ("write", "wrote 1028"),
+    ("write", "wrote 1049"),
+    ("publish", "published 2"),
+    ("take 0 1 1", "cached 62"),
+    ("take 0 1 0", "leased 1028"),
+];
+
+/// Ledger 9 was deleted before the first step.
+const DEAD_FROM_THE_START: Worked = &[
+    ("add 9 0 x", "fault deleted"),
+    ("take 0 9 0", "deleted"),
+    ("delete 9", "fault already deleted"),
+    ("add 8 0 x", "accepted"),
+    ("take 0 8 0", "cached 78"),
+];
+
 /// Steps without a flush say so.
 const NO_FLUSH: Worked = &[
     ("publish", "no flush"),
@@ -155,17 +230,22 @@ const FULL_LOG: Worked = &[
     ("publish", "published 4"),
 ];
 
-/// Runs the lines on a store with these settings, and compares what each prints.
-fn assert_answers(rt: &impl Abort, alloc: Global, settings: Settings, steps: &[(&str, &str)])
-    requires { IsAllowed settings }
-{
+/// Runs the lines on a store with these settings, of which these ledgers were deleted before, and compares what each
+/// prints.
+fn assert_answers(
+    rt: &impl Abort,
+    alloc: Global,
+    settings: Settings,
+    dead: &[u64],
+    steps: &[(&str, &str)],
+) {
     let mut script = String::new(alloc);
     let mut output = String::new(alloc);
     for (line, answer) in steps {
         push_line(rt, &mut script, line);
         push_line(rt, &mut output, answer);
     }
-    let shown = run_from(alloc, settings, &mut script.as_bytes());
+    let shown = run_from(alloc, settings, dead, &mut script.as_bytes());
     assert_shown(rt, &shown, 0, &output, "", &script);
 }
 
@@ -176,8 +256,19 @@ fn push_line(rt: &impl Abort, text: &mut String, line: &str) {
 
 #[test]
 fn scripts_are_answered_as_written(rt: HostRuntime) {
-    for steps in [READ, HELD, FLUSHING, LONGEST, READERS, DATA, NO_FLUSH] {
-        assert_answers(&rt, rt.alloc(), DEFAULTS, steps);
+    for steps in [
+        READ,
+        HELD,
+        FLUSHING,
+        LONGEST,
+        READERS,
+        DATA,
+        DELETED,
+        DELETED_UNDER_A_LEASE,
+        DELETED_EVERYWHERE,
+        NO_FLUSH,
+    ] {
+        assert_answers(&rt, rt.alloc(), DEFAULTS, &[], steps);
     }
 }
 
@@ -188,7 +279,7 @@ fn with_one_slot_there_is_one_log(rt: HostRuntime) {
         ..DEFAULTS
     };
     for steps in [NO_SECOND_LOG] {
-        assert_answers(&rt, rt.alloc(), settings, steps);
+        assert_answers(&rt, rt.alloc(), settings, &[], steps);
     }
 }
 
@@ -199,6 +290,31 @@ fn a_log_limit_is_kept(rt: HostRuntime) {
         ..DEFAULTS
     };
     for steps in [NEXT_LOG, FULL_LOG] {
-        assert_answers(&rt, rt.alloc(), settings, steps);
+        assert_answers(&rt, rt.alloc(), settings, &[], steps);
+    }
+}
+
+#[test]
+fn a_cache_limit_is_kept(rt: HostRuntime) {
+    let settings = Settings {
+        cache_limit: 100,
+        ..DEFAULTS
+    };
+    assert_answers(&rt, rt.alloc(), settings, &[], FULL_CACHE);
+}
+
+#[test]
+fn recent_entries_are_read_from_memory(rt: HostRuntime) {
+    let settings = Settings {
+        recent: 1,
+        ..DEFAULTS
+    };
+    assert_answers(&rt, rt.alloc(), settings, &[], RECENT);
+}
+
+#[test]
+fn ledgers_may_be_dead_from_the_start(rt: HostRuntime) {
+    for dead in [[9, 9], [7, 9]] {
+        assert_answers(&rt, rt.alloc(), DEFAULTS, &dead, DEAD_FROM_THE_START);
     }
 }
