@@ -1,6 +1,10 @@
 -- What clap's contracts say of the program's command line.
-use Rattle.std.proofs.Common.{◌≡◌, ℕ, ◌<◌, ◌^◌, true, List, [], inl, inr, Option, Some, None, option_map, Result, Ok, Err, Box, Bor, refl, sym, ◌∙◌, ap, subst}
+use Rattle.std.proofs.Common.{◌≡◌, ◌≢◌, ℕ, ◌+◌, ◌<◌, ◌≤◌, ◌^◌, zero, suc, Bool, true, false, ◌||◌, List, [], ◌∷◌, ◌++◌, length, map, take, get_or, inl, inr}
+use Rattle.std.proofs.Common.{Option, Some, None, option_map, Result, Ok, Err, Box, Bor, arith, refl, sym, ◌∙◌, ap, subst}
 use Rattle.std.specs.Fmt.{decimal}
+use Rattle.std.specs.List.{AllZip}
+use Rattle.std.proofs.lemmas.List.{map-append, take_more}
+use Rattle.std.proofs.lemmas.Slice.Zip.{all_zipped_more}
 use Rattle.std.specs.Box.{box_value}
 use Rattle.std.specs.Result.{IfErr, IsErrAnd}
 use Rattle.std.proofs.lemmas.Fmt.{decimal_injective}
@@ -9,17 +13,17 @@ use Rattle.clap.specs.Kinds.{HasKind, Kinds}
 use Rattle.clap.specs.Values.{kind_of}
 use Rattle.clap.specs.declared.error.Error.{Error}
 use Rattle.clap.specs.declared.error.kind.ErrorKind.TheVariants.{OutOfMemory}
-use Rattle.clap.specs.Matches.{first_value}
-use Rattle.clap.specs.Walk.{Row, Text, first_of, rows_of}
+use Rattle.clap.specs.Matches.{first_value, matched_of, raw_values}
+use Rattle.clap.specs.Walk.{Row, Text, all_of, first_of, rows_of, texts}
 use Rattle.clap.specs.Simple.{App, HasMatchesOf, is_simple, subcommand_of, subcommand_rows, subcommand_rows_of}
 use Rattle.clap.specs.declared.parser.matches.ArgMatches.{ArgMatches}
 use Rattle.clap.specs.declared.parser.matches.ArgMatches.TheViews.{out-SubCommand}
 use Rattle.clap.specs.declared.parser.matches.Found.{Found}
 use Rattle.clap.specs.declared.parser.matches.SubCommand.{SubCommand}
 use Rattle.clap.proofs.OnLiterals.{clap_on_literals}
-use Rattle.clap.proofs.WalkLemmas.{first_value-rows}
-use Rattle.bk_drive.specs.declared.settings.Settings.{Settings}
-use Rattle.bk_shell.specs.CommandLine.{program, Asks}
+use Rattle.clap.proofs.WalkLemmas.{first_value-rows, raw_values-rows}
+use Rattle.bk_store.specs.declared.settings.Settings.{Settings}
+use Rattle.bk_shell.specs.CommandLine.{program, last_ledger, Asks, IsNumberIn}
 
 -- a word is one number
 pub same_number : (word : Text) (m n : ℕ) → m < 2 ^ 64 → n < 2 ^ 64 → word ≡ decimal m → word ≡ decimal n → m ≡ n
@@ -33,6 +37,42 @@ row_none f id r e is = sym (first_value-rows f id) ∙ (sym e ∙ ap (option_map
 pub row_some : (f : Found) (id : Text) (r : Option (Bor Text)) (text : Bor Text) → option_map (λ s. s.now) r ≡ first_value f id → r ≡ Some text
     → first_of id (rows_of f) ≡ Some text.now
 row_some f id r text e is = sym (first_value-rows f id) ∙ (sym e ∙ ap (option_map (λ (s : Bor Text). s.now)) is)
+
+-- the words of an argument in the rows of a parse
+pub words_none : (f : Found) (id : Text) (r : Option (Bor (List (Bor Text))))
+    → option_map (λ s. map (λ v. v.now) s.now) r ≡ option_map raw_values (matched_of f id) → r ≡ None → all_of id (rows_of f) ≡ None
+words_none f id r e is = sym (raw_values-rows f id) ∙ (sym e ∙ ap (option_map (λ (s : Bor (List (Bor Text))). texts s.now)) is)
+
+pub words_some : (f : Found) (id : Text) (r : Option (Bor (List (Bor Text)))) (words : Bor (List (Bor Text)))
+    → option_map (λ s. map (λ v. v.now) s.now) r ≡ option_map raw_values (matched_of f id) → r ≡ Some words
+    → all_of id (rows_of f) ≡ Some (texts words.now)
+words_some f id r words e is = sym (raw_values-rows f id) ∙ (sym e ∙ ap (option_map (λ (s : Bor (List (Bor Text))). texts s.now)) is)
+
+-- ledgers, one for each of these words
+abbrev pub AreLedgers : List (Bor Text) → List ℕ → Type 0
+AreLedgers words dead = AllZip (IsNumberIn 0 last_ledger) (texts words) dead
+
+-- the word at i is a ledger too
+pub ledgers_more : (words : List (Bor Text)) (i : ℕ) (d : Bor Text) (dead : List ℕ) (n : ℕ) → i < length words → AreLedgers (take i words) dead
+    → (n ≤ last_ledger) × ((get_or words i d).now ≡ decimal n) → AreLedgers (take (i + 1) words) (dead ++ n ∷ [])
+ledgers_more words i d dead n inside so_far one =
+    let R : Text → ℕ → Type 0 = IsNumberIn 0 last_ledger in
+    let split : texts (take (i + 1) words) ≡ texts (take i words) ++ (get_or words i d).now ∷ [] =
+    ap texts (take_more words i d inside) ∙ map-append (λ (w : Bor Text). w.now) (take i words) (get_or words i d ∷ []) in
+    subst (λ (ws : List Text). AllZip R ws (dead ++ n ∷ [])) (sym split)
+    (all_zipped_more R (texts (take i words)) dead (get_or words i d).now n so_far (omega arith, one.0, one.1))
+
+-- words of which one is no ledger are not ledgers
+pub not_ledgers : (words : List (Bor Text)) (dead : List ℕ) (i : ℕ) (d : Bor Text) → i < length words
+    → ((n : ℕ) → n ≤ last_ledger → (get_or words i d).now ≢ decimal n) → ¬ (AreLedgers words dead)
+not_ledgers [] dead i d inside none = absurd (omega arith)
+not_ledgers (x ∷ xs) [] i d inside none = λ all. absurd all
+not_ledgers (x ∷ xs) (m ∷ ms) zero d inside none = λ all. none m all.0.1 all.0.2
+not_ledgers (x ∷ xs) (m ∷ ms) (suc i) d inside none = λ all. not_ledgers xs ms i d (omega arith) none all.1
+
+-- an argument that is not global leaves a command without global ones
+pub still_local : {x y z : Bool} → x ≡ (y || z) → y ≡ false → z ≡ false → x ≡ false
+still_local {x} {y} {z} e h k = let both : (y || z) ≡ false = rw (h, k) refl in e ∙ both
 
 program_is_simple : is_simple program ≡ true
 unfolding clap_on_literals
@@ -66,15 +106,15 @@ memory_alone error kinds = elim kinds [ inl memory ↦ memory | inr none ↦ abs
 
 pub refused_by_parse : {T : Type 0} (r : Result T Error) (words : List Text) (app : App) (told : Error) → app ≡ program
     → IsErrAnd r (λ error. error ≡ told) → (is_simple_and_free app ≡ true → HasKind (fault_of app words) told)
-    → IfErr r (λ error. (settings : Settings) → Asks words settings → kind_of error ≡ OutOfMemory)
+    → IfErr r (λ error. (settings : Settings) (dead : List ℕ) → Asks words settings dead → kind_of error ≡ OutOfMemory)
 refused_by_parse (Ok x) words app told is same kinds = tt
-refused_by_parse (Err error) words app told is same kinds = λ settings asks.
+refused_by_parse (Err error) words app told is same kinds = λ settings dead asks.
     let has : HasKind (fault_of app words) told = kinds (ap is_simple_and_free is ∙ program_is_free) in
     let none : fault_of app words ≡ [] = ap (λ (a : App). fault_of a words) is ∙ asks.faultless in
     rw same (memory_alone told (subst (λ (list : Kinds). HasKind list told) none has))
 
 -- an error for want of memory
 pub refused_for_memory : {T : Type 0} (r : Result T Error) (words : List Text) → IsErrAnd r (λ error. kind_of error ≡ OutOfMemory)
-    → IfErr r (λ error. (settings : Settings) → Asks words settings → kind_of error ≡ OutOfMemory)
+    → IfErr r (λ error. (settings : Settings) (dead : List ℕ) → Asks words settings dead → kind_of error ≡ OutOfMemory)
 refused_for_memory (Ok x) words memory = tt
-refused_for_memory (Err error) words memory = λ settings asks. memory
+refused_for_memory (Err error) words memory = λ settings dead asks. memory

@@ -1,19 +1,27 @@
--- The command line, and the settings that it asks for. How words are read as options is clap's; what the options mean is
--- said here.
+-- The command line, and the settings and dead ledgers that it asks for. How words are read as options is clap's; what the
+-- options and the words beside them mean is said here.
 use Rattle.std.specs.Prelude.{◌≡◌, ℕ, ◌≤◌, ◌^◌, true, List, [], codes, Option, Some, None}
 use Rattle.std.specs.Fmt.{decimal}
+use Rattle.std.specs.List.{AllZip}
 use Rattle.clap.specs.Faults.{fault_of}
-use Rattle.clap.specs.Walk.{Row, Rule, Text, first_of}
+use Rattle.clap.specs.Walk.{Row, Rule, Text, all_of, first_of}
 use Rattle.clap.specs.Simple.{App, new_app, new_rule, on_top, subcommand_of, with_rule, with_subcommand}
-use Rattle.bk_drive.specs.declared.settings.Settings.{Settings}
+use Rattle.clap.specs.declared.builder.action.ArgAction.TheVariants.{Append}
+use Rattle.bk_store.specs.declared.settings.Settings.{Settings}
 
 -- an option with one value, `--NAME NUMBER` or `--NAME=NUMBER`
 abbrev pub option_rule : Text → Rule
 option_rule name = record (new_rule name) { long = Some name; value_names = 1 }
 
--- the command `script`, with its options
+-- any number of words beside the options
+abbrev pub words_rule : Text → Rule
+words_rule name = record (new_rule name) { action = Some Append; value_names = 1 }
+
+-- the command `script`, with its options and the words beside them
 abbrev pub script : App
-script = with_rule (with_rule (new_app (codes "script")) (option_rule (codes "log-limit"))) (option_rule (codes "slots"))
+script = with_rule (with_rule (with_rule (with_rule (with_rule (new_app (codes "script"))
+    (option_rule (codes "log-limit"))) (option_rule (codes "cache-limit"))) (option_rule (codes "recent"))) (option_rule (codes "slots")))
+    (words_rule (codes "LEDGER"))
 
 -- the program, which is called with a command
 abbrev pub program : App
@@ -28,20 +36,31 @@ abbrev pub AsksNumber : ℕ → ℕ → ℕ → Option Text → ℕ → Type 0
 AsksNumber default least most None n = n ≡ default
 AsksNumber default least most (Some word) n = IsNumberIn least most word n
 
+-- the greatest ledger id
+abbrev pub last_ledger : ℕ
+last_ledger = 9223372036854775807
+
+-- Words ask for the ledgers that they are, one each, in their order; no word for none.
+abbrev pub AsksLedgers : Option (List Text) → List ℕ → Type 0
+AsksLedgers None dead = dead ≡ []
+AsksLedgers (Some words) dead = AllZip (IsNumberIn 0 last_ledger) words dead
+
 -- What the options of `script` ask for. The settings without an option have one value.
 pub record AsksSettings (rows : List Row) (settings : Settings) : Type 0 where
   pub log_limit : AsksNumber (2 ^ 30) 2048 (2 ^ 30) (first_of (codes "log-limit") rows) settings.log_limit
+  pub cache_limit : AsksNumber (2 ^ 24) 16 (2 ^ 30) (first_of (codes "cache-limit") rows) settings.cache_limit
+  pub recent : AsksNumber 0 0 65536 (first_of (codes "recent") rows) settings.recent
   pub slots : AsksNumber 1024 1 65536 (first_of (codes "slots") rows) settings.slots
-  pub cache_limit : settings.cache_limit ≡ 16777216
-  pub recent : settings.recent ≡ 0
   pub leases : settings.leases ≡ 1024
   pub minor : settings.minor ≡ 200
   pub major : settings.major ≡ 800
 
--- The words, of which the first is the program's name, call `script` with options that ask for these settings.
-pub record Asks (words : List Text) (settings : Settings) : Type 0 where
+-- The words, of which the first is the program's name, call `script` with options that ask for these settings, and with
+-- these ledgers, which were deleted before.
+pub record Asks (words : List Text) (settings : Settings) (dead : List ℕ) : Type 0 where
   -- nothing in them is unknown, given twice or left over, and none asks for help
   pub faultless : fault_of program words ≡ []
   pub rows : List Row
   pub called : subcommand_of program words ≡ Some (codes "script", rows)
   pub asked : AsksSettings rows settings
+  pub ledgers : AsksLedgers (all_of (codes "LEDGER") rows) dead

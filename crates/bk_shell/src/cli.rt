@@ -1,16 +1,17 @@
 //! The command line: what the program is called with, and what it tells of itself.
 
-ghost use Rattle.std.specs.Prelude.{◌≡◌, map, IfOk, IfErr, OnErr};
+ghost use Rattle.std.specs.Prelude.{◌≡◌, ℕ, List, map, IfOk, IfErr, OnErr};
 ghost use Rattle.clap.specs.Matches.{found_of};
 ghost use Rattle.clap.specs.Simple.{app_of};
 ghost use Rattle.clap.specs.Values.{kind_of};
 ghost use Rattle.clap.specs.Walk.{rows_of};
-ghost use Rattle.bk_drive.specs.Limits.{IsAllowed};
-ghost use Rattle.bk_drive.specs.declared.settings.Settings.{Settings};
+ghost use Rattle.bk_store.specs.Limits.{IsAllowed};
+ghost use Rattle.bk_store.specs.declared.settings.Settings.{Settings};
 ghost use Rattle.bk_shell.specs.CommandLine.{program, Asks, AsksSettings};
 
 mod folder;
 mod help;
+mod ledgers;
 mod number_option;
 #[cfg(test)]
 mod tests;
@@ -20,10 +21,18 @@ use clap::error::ErrorKind;
 use clap::{ArgMatches, Command, Error};
 pub(crate) use folder::{FolderCall, folder_call, is_folder_call};
 use help::{ABOUT_SCRIPT, PROGRAM_HELP, SCRIPT_HELP};
+use ledgers::{ledgers_arg, read_ledgers};
 use number_option::{BadValue, NumberOption};
 use std::alloc::{AllocError, Global};
 use std::convert::AsStr;
 use strsim::osa_distance;
+
+/// What a call of `script` asks for: the settings of the store, and the ledgers that were deleted before.
+#[derive(Debug, PartialEq, Eq, Drop)]
+pub(crate) struct ScriptCall {
+    pub settings: Settings,
+    pub dead: Vec<u64>,
+}
 
 /// The settings of a store that a command line without options asks for.
 pub(crate) const DEFAULTS: Settings = Settings {
@@ -45,6 +54,24 @@ const LOG_LIMIT: NumberOption = NumberOption {
     help: "Seals a log before a record would take it past this many bytes: 2048 to 1073741824 [default: 1073741824]",
 };
 
+/// How many payload bytes the active cache has at most.
+const CACHE_LIMIT: NumberOption = NumberOption {
+    name: "cache-limit",
+    least: 16,
+    most: 1_073_741_824,
+    default: DEFAULTS.cache_limit,
+    help: "Refuses an entry that would take the cache past this many bytes: 16 to 1073741824 [default: 16777216]",
+};
+
+/// How many entries that were flushed last are kept in memory.
+const RECENT: NumberOption = NumberOption {
+    name: "recent",
+    least: 0,
+    most: 65_536,
+    default: DEFAULTS.recent,
+    help: "Keeps this many of the entries that were flushed last in memory: 0 to 65536 [default: 0]",
+};
+
 /// How many logs are held at once.
 const SLOTS: NumberOption = NumberOption {
     name: "slots",
@@ -54,21 +81,28 @@ const SLOTS: NumberOption = NumberOption {
     help: "Holds at most this many logs at once: 1 to 65536 [default: 1024]",
 };
 
-/// The settings that a command line asks for, its first word being the program's name. An error is a wrong command
+/// The call of `script` that a command line is, its first word being the program's name. An error is a wrong command
 /// line, help that was asked for, or want of memory, as its kind says.
-pub(crate) fn settings_of<'a, S: AsStr>(alloc: Global, words: &'a [S]) -> Result<Settings, Error>
-    ensures allowed { IfOk result IsAllowed }
-    ensures asked { IfOk result (Asks (map S.text words.now)) }
-    ensures refused { IfErr result (λ error. (settings : Settings) → Asks (map S.text words.now) settings
-        → kind_of error ≡ ErrorKind.OutOfMemory) }
+pub(crate) fn script_call<'a, S: AsStr>(alloc: Global, words: &'a [S]) -> Result<ScriptCall, Error>
+    ensures allowed { IfOk result (λ call. IsAllowed call.settings) }
+    ensures asked { IfOk result (λ call. Asks (map S.text words.now) call.settings call.dead.items) }
+    ensures refused { IfErr result (λ error. (settings : Settings) (dead : List ℕ)
+        → Asks (map S.text words.now) settings dead → kind_of error ≡ ErrorKind.OutOfMemory) }
 {
     let mut command = command(alloc)?;
     let matches = command.try_get_matches_from_mut(words)?;
     let Some(script) = matches.subcommand_matches("script") else {
         return Err(command.error(ErrorKind::MissingSubcommand, "a command is asked for")?);
     };
-    match read_options(script) {
-        Ok(settings) => Ok(settings),
+    let settings = match read_options(script) {
+        Ok(settings) => settings,
+        Err(bad) => {
+            let told = format!(in alloc; "{bad}")?;
+            return Err(script_error(alloc, ErrorKind::ValueValidation, &told)?);
+        }
+    };
+    match read_ledgers(alloc, script)? {
+        Ok(dead) => Ok(ScriptCall { settings, dead }),
         Err(bad) => {
             let told = format!(in alloc; "{bad}")?;
             Err(script_error(alloc, ErrorKind::ValueValidation, &told)?)
@@ -82,9 +116,13 @@ fn read_options<'a>(script: &ArgMatches<'a>) -> Result<Settings, BadValue<'a>>
     ensures err { OnErr result ((settings : Settings) → ¬ (AsksSettings (rows_of (found_of script.now)) settings)) }
 {
     let log_limit = LOG_LIMIT.read(script)?;
+    let cache_limit = CACHE_LIMIT.read(script)?;
+    let recent = RECENT.read(script)?;
     let slots = SLOTS.read(script)?;
     Ok(Settings {
         log_limit,
+        cache_limit,
+        recent,
         slots,
         ..DEFAULTS
     })
@@ -117,7 +155,7 @@ fn unknown_word<'t>(error: &Error, text: &'t str) -> Option<&'t str> {
 
 /// The option of `script` that is this word but for one slip: a letter too many, too few, another, or two exchanged.
 fn near_option(alloc: Global, word: &str) -> Result<Option<&'static str>, AllocError> {
-    for option in [LOG_LIMIT, SLOTS] {
+    for option in [LOG_LIMIT, CACHE_LIMIT, RECENT, SLOTS] {
         if osa_distance(alloc, word.trim_start_matches('-'), option.name)? <= 1 {
             return Ok(Some(option.name));
         }
@@ -129,7 +167,9 @@ fn near_option(alloc: Global, word: &str) -> Result<Option<&'static str>, AllocE
 fn script_error(alloc: Global, kind: ErrorKind, told: &str) -> Result<Error, AllocError>
     ensures { IfOk result (λ error. kind_of error ≡ kind) }
 {
-    let mut script = Command::new(alloc, "script").override_usage("bk_shell script [OPTIONS]");
+    let mut script = Command::new(alloc, "script").override_usage(
+        "bk_shell script [OPTIONS] [LEDGER]...",
+    );
     script.error(kind, told)
 }
 
@@ -141,7 +181,10 @@ fn command<'a>(alloc: Global) -> Result<Command<'a>, AllocError>
         .about(ABOUT_SCRIPT)
         .after_help(SCRIPT_HELP)
         .arg(LOG_LIMIT.arg(alloc))?
-        .arg(SLOTS.arg(alloc))?;
+        .arg(CACHE_LIMIT.arg(alloc))?
+        .arg(RECENT.arg(alloc))?
+        .arg(SLOTS.arg(alloc))?
+        .arg(ledgers_arg(alloc))?;
     Command::new(alloc, "bk_shell")
         .about("Entry log storage of a bookie")
         .after_help(PROGRAM_HELP)

@@ -1,7 +1,7 @@
 //! What the program does with the words that it is called with, on any streams.
 
-ghost use Rattle.std.specs.Prelude.{◌≡◌, ◌≤◌, map};
-ghost use Rattle.bk_drive.specs.declared.settings.Settings.{Settings};
+ghost use Rattle.std.specs.Prelude.{◌≡◌, ◌≤◌, ℕ, List, map};
+ghost use Rattle.bk_store.specs.declared.settings.Settings.{Settings};
 ghost use Rattle.bk_script.specs.Run.{RunsScript};
 ghost use Rattle.bk_shell.specs.CommandLine.{Asks};
 ghost use Rattle.clap.specs.Values.{kind_of};
@@ -9,7 +9,7 @@ ghost use Rattle.clap.specs.Values.{kind_of};
 #[cfg(test)]
 mod tests;
 
-use crate::cli::{FolderCall, folder_call, is_folder_call, settings_of, text_of};
+use crate::cli::{FolderCall, folder_call, is_folder_call, script_call, text_of};
 use bk_dir::run_dir;
 use bk_disk::DirDisk;
 use bk_script::run_script;
@@ -63,8 +63,8 @@ pub(crate) fn tell_fault<E: Write>(fault: StartFault, errors: &mut E) {
     let _ = writeln!(errors, "{fault}");
 }
 
-/// Does what the words ask for: runs the script that the reader gives with the settings of its options, or a command on
-/// a folder, or writes the help that was asked for. Returns the program's status: 0, 1 as `run_script` and `run_dir` say, or where no memory is to be had
+/// Does what the words ask for: runs the script that the reader gives with the settings of its options and the dead
+/// ledgers beside them, or a command on a folder, or writes the help that was asked for. Returns the program's status: 0, 1 as `run_script` and `run_dir` say, or where no memory is to be had
 /// or the help can't be written, and 2 where the words are a wrong command line. The error stream gets the reason,
 /// `writer` nothing but answers and help.
 pub(crate) fn run_words<S: AsStr, R: Read, W: Write, E: Write>(
@@ -74,15 +74,15 @@ pub(crate) fn run_words<S: AsStr, R: Read, W: Write, E: Write>(
     writer: &mut W,
     errors: &mut E,
 ) -> u8
-    ensures done { (asked : Settings) → Asks (map S.text words.now) asked → result ≡ 0
-        → (settings : Settings) × Asks (map S.text words.now) settings
-        × RunsScript settings (R.remaining reader.old) (R.remaining reader.new)
+    ensures done { (asked : Settings) (named : List ℕ) → Asks (map S.text words.now) asked named → result ≡ 0
+        → (settings : Settings) × (dead : List ℕ) × Asks (map S.text words.now) settings dead
+        × RunsScript settings dead (R.remaining reader.old) (R.remaining reader.new)
         (W.contents writer.old) (W.contents writer.new) }
-    ensures right { (asked : Settings) → Asks (map S.text words.now) asked → result ≤ 1 }
+    ensures right { (asked : Settings) (named : List ℕ) → Asks (map S.text words.now) asked named → result ≤ 1 }
 {
     let alloc = rt.alloc();
-    match settings_of(alloc, words) {
-        Ok(settings) => run_script(alloc, settings, reader, writer, errors),
+    match script_call(alloc, words) {
+        Ok(call) => run_script(alloc, call.settings, &call.dead, reader, writer, errors),
         Err(error) => run_other(rt, words, &error, writer, errors),
     }
 }

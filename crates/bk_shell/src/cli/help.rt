@@ -28,12 +28,14 @@ pub(crate) const SCRIPT_HELP: &str = "\
   pad LEDGER ENTRY SIZE     accepted | held
                             adds an entry of SIZE zero bytes: up to 1048560 are
                             accepted, and 2097152 may be asked for
-  take READER LEDGER ENTRY  cached DATA | leased LOCATION | not held | reader busy
-                            reads an entry, from a cache or by a lease on its log
+  take READER LEDGER ENTRY  cached DATA | leased LOCATION | not held | deleted | reader busy
+                            reads an entry, from memory or by a lease on its log
   fetch READER              bytes DATA | no lease
                             reads the leased entry from its log; the lease stays
   release READER            released | no lease
                             gives the reader's lease back
+  delete LEDGER             dropped N
+                            deletes a ledger for good, and its N entries with it
   swap                      swapped N | nothing | running
                             begins a flush of the N cached entries
   write                     wrote LOCATION | all written | no flush
@@ -46,6 +48,10 @@ A step that is refused answers `fault TEXT`.
 
 LEDGER and ENTRY are 0 to 9223372036854775807, READER is 0 to 3. DATA is in hexadecimal, `-` where there is none. A
 LOCATION is the log's id times 2^32, and the position in it. Empty lines are passed over.
+
+A ledger behind the options was deleted before the first step. An entry of a deleted ledger is refused with `fault
+deleted`, and a second deletion with `fault already deleted`. An entry that would take the cache past --cache-limit is
+refused with `fault full USED LIMIT`, in bytes.
 
 A flush goes on in the log that is written. A record that would take that log past --log-limit goes to the next log; a
 log's first record goes in whatever its length. With as many logs as --slots says, a write that needs a new log answers

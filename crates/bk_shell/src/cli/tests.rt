@@ -1,22 +1,31 @@
-use super::{DEFAULTS, folder_call, is_folder_call, settings_of, text_of};
+use super::{DEFAULTS, folder_call, is_folder_call, script_call, text_of};
 use bk_dir::DirCommand;
 use bk_drive::Settings;
 use std::alloc::Global;
 use std::process::Abort;
+use std::test::Fail;
 
 #[test]
 fn a_wrong_command_line_has_status_2_and_help_has_0(rt: HostRuntime) {
-    let lines: [(&[&str], i32); 28] = [
+    let lines: [(&[&str], i32); 41] = [
         (&["bk_shell"], 2),
         (&["bk_shell", "frob"], 2),
         (&["bk_shell", "--slots", "5"], 2),
         (&["bk_shell", "--log-limit=2048", "script"], 2),
-        (&["bk_shell", "script", "5"], 2),
-        (&["bk_shell", "script", "--slots", "5", "1"], 2),
         (&["bk_shell", "script", "script"], 2),
+        (&["bk_shell", "script", "1", "x"], 2),
+        (&["bk_shell", "script", "05"], 2),
+        (&["bk_shell", "script", "+5"], 2),
+        (&["bk_shell", "script", "-5"], 2),
+        (&["bk_shell", "script", ""], 2),
+        (&["bk_shell", "script", "1", "9223372036854775808"], 2),
+        (&["bk_shell", "script", "18446744073709551617"], 2),
+        (&["bk_shell", "script", "--slots", "5", "--", "--slots"], 2),
         (&["bk_shell", "script", "--slot", "5"], 2),
         (&["bk_shell", "script", "-s", "5"], 2),
-        (&["bk_shell", "script", "--cache-limit", "100"], 2),
+        (&["bk_shell", "script", "--leases", "5"], 2),
+        (&["bk_shell", "script", "--minor", "100"], 2),
+        (&["bk_shell", "script", "--major=100"], 2),
         (&["bk_shell", "script", "--slots"], 2),
         (&["bk_shell", "script", "--slots="], 2),
         (&["bk_shell", "script", "--slots", ""], 2),
@@ -31,6 +40,11 @@ fn a_wrong_command_line_has_status_2_and_help_has_0(rt: HostRuntime) {
         (&["bk_shell", "script", "--slots", "05"], 2),
         (&["bk_shell", "script", "--slots", "5 "], 2),
         (&["bk_shell", "script", "--slots", "5", "--slots", "5"], 2),
+        (&["bk_shell", "script", "--cache-limit", "15"], 2),
+        (&["bk_shell", "script", "--cache-limit", "1073741825"], 2),
+        (&["bk_shell", "script", "--recent", "65537"], 2),
+        (&["bk_shell", "script", "--recent", "00"], 2),
+        (&["bk_shell", "script", "--recent", "1", "--recent", "1"], 2),
         (&["bk_shell", "script", "--log-limit", "2047"], 2),
         (&["bk_shell", "script", "--log-limit", "1073741825"], 2),
         (
@@ -43,7 +57,7 @@ fn a_wrong_command_line_has_status_2_and_help_has_0(rt: HostRuntime) {
         (&["bk_shell", "script", "--help"], 0),
     ];
     for (words, status) in lines {
-        match settings_of(rt.alloc(), words) {
+        match script_call(rt.alloc(), words) {
             Ok(_) => assert!(rt; false, "{words:?} is no call of the program"),
             Err(error) => assert_eq!(rt; error.exit_code(), status, "the status of {words:?}"),
         }
@@ -153,54 +167,100 @@ fn help_shows_each_command_on_a_folder(rt: HostRuntime) {
     }
 }
 
+/// Words behind the program's name, the settings that they ask for, and the ledgers.
+const CALLS: [(&[&str], Settings, &[u64]); 10] = [
+    (&["script"], DEFAULTS, &[]),
+    (
+        &["script", "--slots", "1"],
+        Settings {
+            slots: 1,
+            ..DEFAULTS
+        },
+        &[],
+    ),
+    (
+        &["script", "--slots=65536", "--recent=65536"],
+        Settings {
+            slots: 65_536,
+            recent: 65_536,
+            ..DEFAULTS
+        },
+        &[],
+    ),
+    (
+        &["script", "--log-limit", "2048", "--cache-limit", "16"],
+        Settings {
+            log_limit: 2048,
+            cache_limit: 16,
+            ..DEFAULTS
+        },
+        &[],
+    ),
+    (
+        &[
+            "script",
+            "--cache-limit=1073741824",
+            "--log-limit=1073741824",
+        ],
+        Settings {
+            cache_limit: 1_073_741_824,
+            ..DEFAULTS
+        },
+        &[],
+    ),
+    (
+        &[
+            "script",
+            "--recent",
+            "1",
+            "--log-limit=2049",
+            "--slots",
+            "7",
+        ],
+        Settings {
+            recent: 1,
+            log_limit: 2049,
+            slots: 7,
+            ..DEFAULTS
+        },
+        &[],
+    ),
+    (&["script", "--recent", "0", "9"], DEFAULTS, &[9]),
+    (
+        &["script", "0", "9223372036854775807", "0"],
+        DEFAULTS,
+        &[0, 9_223_372_036_854_775_807, 0],
+    ),
+    (
+        &["script", "3", "--slots", "7", "2"],
+        Settings {
+            slots: 7,
+            ..DEFAULTS
+        },
+        &[3, 2],
+    ),
+    (&["script", "--", "3", "2"], DEFAULTS, &[3, 2]),
+];
+
 #[test]
-fn options_give_the_settings(rt: HostRuntime) {
-    let lines: [(&[&str], u32, u32); 9] = [
-        (&["bk_shell", "script"], 1_073_741_824, 1024),
-        (&["bk_shell", "script", "--slots", "1"], 1_073_741_824, 1),
-        (
-            &["bk_shell", "script", "--slots=65536"],
-            1_073_741_824,
-            65_536,
-        ),
-        (&["bk_shell", "script", "--log-limit", "2048"], 2048, 1024),
-        (&["bk_shell", "script", "--log-limit=2049"], 2049, 1024),
-        (
-            &["bk_shell", "script", "--log-limit", "1073741824"],
-            1_073_741_824,
-            1024,
-        ),
-        (
-            &["bk_shell", "script", "--log-limit", "4096", "--slots", "7"],
-            4096,
-            7,
-        ),
-        (
-            &["bk_shell", "script", "--slots", "7", "--log-limit", "4096"],
-            4096,
-            7,
-        ),
-        (&["another name", "script"], 1_073_741_824, 1024),
-    ];
-    for (words, log_limit, slots) in lines {
-        match settings_of(rt.alloc(), words) {
-            Ok(settings) => assert_eq!(rt;
-                settings,
-                Settings {
-                    log_limit,
-                    slots,
-                    ..DEFAULTS
-                },
-                "the settings of {words:?}"
-            ),
-            Err(error) => assert!(rt; false, "{words:?}: {error}"),
+fn words_give_the_settings_and_the_dead_ledgers(rt: HostRuntime) -> Result<(), Fail> {
+    for (behind, settings, dead) in CALLS {
+        let mut words = vec![in rt.alloc(); "any name"]?;
+        words.extend_from_slice(behind)?;
+        match script_call(rt.alloc(), &words) {
+            Ok(call) => {
+                assert_eq!(rt; call.settings, settings, "the settings of {behind:?}");
+                assert_eq!(rt; call.dead.as_slice(), dead, "the ledgers of {behind:?}");
+            }
+            Err(error) => assert!(rt; false, "{behind:?}: {error}"),
         }
     }
+    Ok(())
 }
 
 /// What the program tells of these words, which are no call of it.
 fn told(rt: &impl Abort, alloc: Global, words: &[&str]) -> String {
-    match settings_of(alloc, words) {
+    match script_call(alloc, words) {
         Ok(_) => {
             assert!(rt; false, "{words:?} is a call of the program");
             String::new(alloc)
@@ -210,7 +270,7 @@ fn told(rt: &impl Abort, alloc: Global, words: &[&str]) -> String {
 }
 
 /// What is told of a wrong value and of an unknown word: the part that it has, and one that it has not.
-const TOLD: [(&[&str], &str, &str); 7] = [
+const TOLD: [(&[&str], &str, &str); 8] = [
     (
         &["bk_shell", "script", "--slots", "0"],
         "'0' for '--slots <NUMBER>': not a number from 1 to 65536",
@@ -218,7 +278,7 @@ const TOLD: [(&[&str], &str, &str); 7] = [
     ),
     (
         &["bk_shell", "script", "--slots", "0"],
-        "\n\nUsage: bk_shell script [OPTIONS]\n",
+        "\n\nUsage: bk_shell script [OPTIONS] [LEDGER]...\n",
         "--log-limit",
     ),
     (
@@ -232,13 +292,18 @@ const TOLD: [(&[&str], &str, &str); 7] = [
         "tip",
     ),
     (
-        &["bk_shell", "script", "--cache-limit", "100"],
-        "unexpected argument '--cache-limit' found\n\nUsage: bk_shell script [OPTIONS]\n",
+        &["bk_shell", "script", "--leases", "100"],
+        "unexpected argument '--leases' found\n\nUsage: bk_shell script [OPTIONS] [LEDGER]...\n",
         "--log-limit",
     ),
     (
-        &["bk_shell", "script", "5"],
-        "unexpected argument '5' found\n\nUsage: bk_shell script [OPTIONS]\n",
+        &["bk_shell", "script", "--cachelimit=5"],
+        "unexpected argument '--cachelimit' found; there is '--cache-limit'\n",
+        "tip",
+    ),
+    (
+        &["bk_shell", "script", "5", "x"],
+        "invalid value 'x' for '[LEDGER]...': not a number from 0 to 9223372036854775807 in plain digits\n\nUsage: bk_shell script [OPTIONS] [LEDGER]...\n",
         "tip",
     ),
     (
@@ -258,19 +323,23 @@ fn a_wrong_word_is_told_and_no_other_option_is_named(rt: HostRuntime) {
 }
 
 /// Parts of the help: each step and option, the largest payload of a pad, each way to status 1.
-const SHOWN: [&str; 18] = [
+const SHOWN: [&str; 22] = [
     "add LEDGER ENTRY [TEXT]",
     "pad LEDGER ENTRY SIZE",
     "1048560",
     "take READER LEDGER ENTRY",
     "fetch READER",
     "release READER",
+    "delete LEDGER",
     "swap ",
     "write ",
     "publish ",
     "roll ",
     "--log-limit <NUMBER>",
+    "--cache-limit <NUMBER>",
+    "--recent <NUMBER>",
     "--slots <NUMBER>",
+    "[LEDGER]...",
     "a read fails",
     "16777216 bytes",
     "1048576 reads",

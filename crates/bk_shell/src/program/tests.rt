@@ -32,9 +32,15 @@ const FLUSH: &str = "pad 1 0 480\npad 1 1 504\npad 1 2 0\nswap\nwrite\nwrite\nwr
 /// A second log after a roll.
 const ROLL: &str = "add 1 0 a\nswap\nwrite\npublish\nroll\nadd 1 1 b\nswap\nwrite\n";
 
+/// Two entries that take 100 bytes, and two more, of which one is held already; then room again.
+const CACHE: &str = "pad 1 0 44\npad 1 1 24\nadd 1 2\npad 1 0 9\nswap\nadd 1 2\n";
+
+/// Two entries that are flushed, and a take of each, of the later one first.
+const LATEST: &str = "add 1 0 a\nadd 1 1 b\nswap\nwrite\nwrite\npublish\ntake 0 1 1\ntake 0 1 0\n";
+
 #[test]
 fn options_are_used(rt: HostRuntime) {
-    let runs: [(&[&str], &str, &str); 4] = [
+    let runs: [(&[&str], &str, &str); 7] = [
         (
             &["bk_shell", "script"],
             FLUSH,
@@ -54,6 +60,21 @@ fn options_are_used(rt: HostRuntime) {
             &["bk_shell", "script", "--slots=1"],
             ROLL,
             "accepted\nswapped 1\nwrote 1028\npublished 1\nsealed 0\naccepted\nswapped 1\nfault logs full\n",
+        ),
+        (
+            &["bk_shell", "script", "--cache-limit", "100"],
+            CACHE,
+            "accepted\naccepted\nfault full 100 100\nheld\nswapped 2\naccepted\n",
+        ),
+        (
+            &["bk_shell", "script", "--recent", "1"],
+            LATEST,
+            "accepted\naccepted\nswapped 2\nwrote 1028\nwrote 1049\npublished 2\ncached 62\nleased 1028\n",
+        ),
+        (
+            &["bk_shell", "script", "9", "8", "9"],
+            "add 9 0 x\ntake 0 9 0\ndelete 9\ndelete 8\ndelete 1\n",
+            "fault deleted\ndeleted\nfault already deleted\nfault already deleted\ndropped 0\n",
         ),
     ];
     for (words, input, output) in runs {
@@ -112,8 +133,8 @@ fn a_wrong_command_line_is_told_with_status_2_and_reads_no_input(rt: HostRuntime
             "error: unrecognized subcommand 'frob'",
         ),
         (
-            &["bk_shell", "script", "5"],
-            "error: unexpected argument '5' found\n\nUsage: bk_shell script [OPTIONS]\n",
+            &["bk_shell", "script", "x"],
+            "error: invalid value 'x' for '[LEDGER]...': not a number from 0 to 9223372036854775807 in plain digits\n\nUsage: bk_shell script [OPTIONS] [LEDGER]...\n",
         ),
         (
             &["bk_shell", "script", "--slots", "0"],
