@@ -52,29 +52,6 @@ fn names_that_are_no_logs(rt: HostRuntime) -> Result<(), Fail> {
 }
 
 #[test]
-fn a_name_that_is_not_utf_8(rt: HostRuntime) -> Result<(), Fail> {
-    let rows = [
-        told(DirCommand::Logs, "fault disk\n"),
-        told(find(&rt, 1, 0), "fault disk\n"),
-        told(DirCommand::Check, "fault disk\n"),
-        done(DirCommand::Map(0), "1 25\n"),
-    ];
-    let mut disk = anew(&rt, "bk_dir_bytes")?;
-    assert_eq!(rt; os::symlink(b"0.log", b"bk_dir_bytes/\xff.log"), 0);
-    check(&rt, rt.alloc(), &mut disk, &rows, "a name of bytes");
-    assert_eq!(rt; os::unlink(b"bk_dir_bytes/\xff.log"), 0);
-    check(
-        &rt,
-        rt.alloc(),
-        &mut disk,
-        &[done(DirCommand::Check, "0 ok\n")],
-        "that name gone",
-    );
-    fs::remove_dir_all(&rt, "bk_dir_bytes")?;
-    Ok(())
-}
-
-#[test]
 fn a_log_that_can_not_be_opened(rt: HostRuntime) -> Result<(), Fail> {
     let rows = [
         told(DirCommand::Logs, "fault disk\n"),
