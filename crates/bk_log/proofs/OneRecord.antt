@@ -63,7 +63,7 @@ begins_there bytes each starts =
 -- the record in front, or one behind it
 started : (from : ℕ) (bytes : List ℕ) (at : ℕ) (payload : List ℕ) (behind : List (ℕ × List ℕ)) → IsBytes bytes → Starts bytes
     → (let size = 4 + length_field bytes in
-      In (at, payload) behind → (from + size + 4 ≤ at) × BeginsWith (drop (at - (from + size + 4)) (drop size bytes)) payload)
+    In (at, payload) behind → (from + size + 4 ≤ at) × BeginsWith (drop (at - (from + size + 4)) (drop size bytes)) payload)
     → In (at, payload) ((from + 4, take (length_field bytes) (drop 4 bytes)) ∷ behind) → (from + 4 ≤ at) × BeginsWith (drop (at - (from + 4)) bytes) payload
 started from bytes at payload behind each starts next (inl here) =
     let place : from + 4 ≡ at = ap (λ r. r.0) here in
@@ -88,7 +88,7 @@ piece_at (suc most) from bytes at payload each is =
     let place : from + 4 + length_field bytes ≡ from + size = omega arith in
     let next : In (at, payload) behind → (from + size + 4 ≤ at) × BeginsWith (drop (at - (from + size + 4)) (drop size bytes)) payload =
     λ later. subst (λ n. (n + 4 ≤ at) × BeginsWith (drop (at - (n + 4)) (drop size bytes)) payload) place
-        (piece_at most (from + 4 + length_field bytes) (drop size bytes) at payload (bytes_drop size bytes each) later) in
+    (piece_at most (from + 4 + length_field bytes) (drop size bytes) at payload (bytes_drop size bytes each) later) in
     elim (starts_with_record bytes) as (λ b. starts_with_record bytes ≡ b
     → In (at, payload) (cond b ((from + 4, take (length_field bytes) (drop 4 bytes)) ∷ behind) [])
     → (from + 4 ≤ at) × BeginsWith (drop (at - (from + 4)) bytes) payload) [
