@@ -55,3 +55,4 @@ pub mod SameMeaning
 pub mod NextEntry
 pub mod HeldWriters
 pub mod KeptReplace
+pub mod HeldIds

@@ -1,5 +1,5 @@
 -- What a store shows of the logs that it holds.
-use Rattle.std.specs.Prelude.{◌≡◌, ◌⊎◌, ℕ, Bool, true, false, if◌then◌else◌, List, [], Option, Some, None, option_map, take}
+use Rattle.std.specs.Prelude.{◌≡◌, ◌⊎◌, ℕ, ◌<◌, ◌≤◌, Bool, true, false, if◌then◌else◌, List, [], Option, Some, None, IsSome, option_map, take}
 use Rattle.std.specs.Option.{option_map_or, option_and_then}
 use Rattle.std.specs.Ordering.{nat_cmp}
 use Rattle.std.specs.FinMap as finite
@@ -120,6 +120,12 @@ pub record HasOpenView (logs : Logs) (id : ℕ) : Type 0 where
   pub held : finite.get logs id ≡ Some log
   pub opened : is_open log.state ≡ true
   pub view_is : log.view ≡ Some view
+
+-- the least id from this one on of a log that is held, none where there is no such log
+abbrev pub IsNextHeld : Logs → ℕ → Option ℕ → Type 0
+IsNextHeld logs from None = (id : ℕ) → IsSome (finite.get logs id) → id < from
+IsNextHeld logs from (Some id) = IsSome (finite.get logs id) × (from ≤ id)
+    × ((other : ℕ) → IsSome (finite.get logs other) → from ≤ other → id ≤ other)
 
 -- a log that the running flush wrote: it is Writing or Filled
 pub record IsFlushLog (logs : Logs) (id : ℕ) : Type 0 where

@@ -6,7 +6,7 @@ ghost use Rattle.bk_record.specs.Record.{IsPayload, key_of};
 ghost use Rattle.bk_record.specs.Files.{In};
 ghost use Rattle.bk_disk.specs.Disk.{IsCaused};
 ghost use Rattle.bk_log.specs.Writing.{Writing, Writes, PutTurn};
-ghost use Rattle.bk_store.specs.Logs.{Log, AllChanged, IsFlushLog, in_state, closed_log, settled_as, unfilled_as, last_view, view_of, with_view};
+ghost use Rattle.bk_store.specs.Logs.{Log, AllChanged, IsFlushLog, IsNextHeld, in_state, closed_log, settled_as, unfilled_as, last_view, view_of, with_view};
 ghost use Rattle.bk_store.specs.Putting.{put_log, IsPutAt, MayPut};
 ghost use Rattle.bk_store.specs.Doors.{writer_of};
 
@@ -60,6 +60,14 @@ impl<V: LogView> LogTable<V> {
         ensures { option_map (λ log. log.now) result ≡ map.get self.now id }
     {
         self.logs.get(&id)
+    }
+
+    /// The least id from this one on of a log that is held.
+    pub fn next_from(&self, id: u32) -> Option<u32>
+        ensures { IsNextHeld self.now id result }
+    {
+        let (next, _) = self.logs.range(id..).next()?;
+        Some(*next)
     }
 
     /// Holds one more log. The only error is want of memory, which leaves the logs as they were.
