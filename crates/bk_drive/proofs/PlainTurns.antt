@@ -13,8 +13,8 @@ use Rattle.bk_store.specs.declared.answer.TakeFault.{TakeFault}
 use Rattle.bk_store.specs.declared.answer.DeleteFault.{DeleteFault}
 use Rattle.bk_drive.specs.Plain.{PlainDesk, after_work}
 use Rattle.bk_drive.specs.Machine.{Hold, WorkTurn, ReaderTake, ReaderFetch, ReaderRelease, PlainTurn}
-use Rattle.bk_drive.specs.Machine.WorkTurn.{swapped as work_swapped, wrote as work_wrote, published as work_published, rolled as work_rolled}
-use Rattle.bk_drive.specs.Machine.PlainTurn.{swapped, wrote, published, rolled, added, deleted, taken, fetched, released}
+use Rattle.bk_drive.specs.Machine.WorkTurn.{swapped as work_swapped, wrote as work_wrote, published as work_published, rolled as work_rolled, retired as work_retired, rebuilt as work_rebuilt}
+use Rattle.bk_drive.specs.Machine.PlainTurn.{swapped, wrote, published, rolled, retired, rebuilt, added, deleted, taken, fetched, released}
 use Rattle.bk_drive.specs.Headline.{Agrees}
 use Rattle.bk_drive.specs.declared.step.Step.{Step}
 use Rattle.bk_drive.specs.declared.step.Step.TheVariants as steps
@@ -38,6 +38,8 @@ work_beside limit p (work_swapped turn) = swapped
 work_beside limit p (work_wrote turn) = wrote
 work_beside limit p (work_published turn) = published
 work_beside limit p (work_rolled turn) = rolled
+work_beside limit p (work_retired turn) = retired
+work_beside limit p (work_rebuilt turn) = rebuilt
 
 pub goes_worked : (s t : State) (readers : List (Option Hold)) (work : Work) (a : Answer) → WorkTurn s work a t
     → ((p : Plain) → plain.Agrees s p → plain.Agrees t (after_work a p)) → GoesOn s readers (steps.Work work) a t readers

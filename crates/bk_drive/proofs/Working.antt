@@ -1,11 +1,12 @@
 -- What a call of a flush leaves: the dead ledgers, the pairs that are only cached, and so an agreement with the plain map.
-use Rattle.std.proofs.Common.{◌≡◌, inl, inr, ℕ, List, Option, Some, None, Result, Ok, Err, cond, refl, sym, ap, subst, ◌∙◌, unwrap_or}
+use Rattle.std.proofs.Common.{◌≡◌, inl, inr, ℕ, List, Option, Some, None, Result, Ok, Err, cond, refl, sym, ap, subst, ◌∙◌, unwrap_or, ◌<◌, ◌≤◌, arith}
 use Rattle.std.specs.Option.{option_or}
 use Rattle.std.specs.FinMap as finite
 use Rattle.std.specs.FinSet as set
 use Rattle.bk_record.specs.Key.{EntryKey}
 use Rattle.bk_record.specs.Location.{Place}
 use Rattle.bk_record.specs.Scan.{scan_of}
+use Rattle.bk_disk.specs.Disk.{IsCaused}
 use Rattle.bk_log.specs.declared.fault.LogFault.{LogFault}
 use Rattle.bk_log.specs.declared.fault.LogFault.TheVariants as log_faults
 use Rattle.bk_store.specs.State.{State}
@@ -25,6 +26,10 @@ use Rattle.bk_flush.specs.declared.answer.RollAnswer.{RollAnswer}
 use Rattle.bk_flush.specs.declared.answer.RollAnswer.TheVariants as rolls
 use Rattle.bk_flush.specs.declared.answer.FlushFault.{FlushFault}
 use Rattle.bk_flush.specs.declared.answer.FlushFault.TheVariants as flush_faults
+use Rattle.bk_collect.specs.Collecting.{RetireTurn, RebuildTurn}
+use Rattle.bk_collect.specs.declared.answer.RetireAnswer.{RetireAnswer}
+use Rattle.bk_collect.specs.declared.answer.RetireAnswer.TheVariants as retires
+use Rattle.bk_collect.specs.declared.answer.CollectFault.{CollectFault}
 use Rattle.bk_drive.specs.Plain.{after_publish}
 
 -- ---- agreement
@@ -150,6 +155,44 @@ roll_stays s t (Ok rolls.FlushRunning) turn = stays_same s t turn.1
 roll_stays s t (Ok rolls.NothingOpen) turn = stays_same s t turn.2
 roll_stays s t (Ok (rolls.Sealed id)) turn = seals_stays turn.2
 roll_stays s t (Err fault) turn = seals_stays turn.1.1.3
+
+-- ---- collecting
+
+pub retire_stays : (s t : State) (id : ℕ) (r : RetireAnswer) → RetireTurn s id r t → Stays s t
+retire_stays s t id retires.NoLog turn = stays_same s t turn.1
+retire_stays s t id retires.InUse turn = stays_same s t turn.1
+retire_stays s t id (retires.StillNamed n) turn = stays_same s t turn.3
+retire_stays s t id (retires.Retired log) turn = elim turn.1 [
+  | inl past ↦ stays_same s t past.1
+  | inr named ↦ stays_as (record { settings = refl; dead = refl; active = refl; flush = refl }) t named.2.2
+]
+
+pub rebuild_stays : (s t : State) (r : Result ℕ CollectFault) → RebuildTurn s r t → Stays s t
+rebuild_stays s t (Ok n) turn = stays_as (record { settings = refl; dead = refl; active = refl; flush = refl }) t turn.3
+rebuild_stays s t (Err fault) turn = stays_same s t turn.1
+
+-- neither asks the device
+pub retire_failures : (s t : State) (id : ℕ) (r : RetireAnswer) → RetireTurn s id r t → t.failures ≡ s.failures
+retire_failures s t id retires.NoLog turn = ap (λ (x : State). x.failures) turn.1
+retire_failures s t id retires.InUse turn = ap (λ (x : State). x.failures) turn.1
+retire_failures s t id (retires.StillNamed n) turn = ap (λ (x : State). x.failures) turn.3
+retire_failures s t id (retires.Retired log) turn = elim turn.1 [
+  | inl past ↦ ap (λ (x : State). x.failures) past.1
+  | inr named ↦ ap (λ (x : State). x.failures) named.2.2
+]
+
+pub rebuild_failures : (s t : State) (r : Result ℕ CollectFault) → RebuildTurn s r t → t.failures ≡ s.failures
+rebuild_failures s t (Ok n) turn = ap (λ (x : State). x.failures) turn.3
+rebuild_failures s t (Err fault) turn = ap (λ (x : State). x.failures) turn.1
+
+-- where the device did not fail, no failure is told
+pub uncaused : (before now : ℕ) (Told : Type 0) → now ≡ before → ¬ Told → IsCaused before now Told
+uncaused before now Told same never = record {
+  later = omega (arith, same);
+  once = omega (arith, same);
+  failed = λ told. absurd (never told);
+  told = λ less. absurd (omega (arith, same, less));
+}
 
 -- ---- publishing
 

@@ -1,12 +1,13 @@
 -- Which answers tell of a failing device, and what a disk that cannot fail is.
-use Rattle.std.specs.Prelude.{◌≡◌, ℕ, Bool, List, IsTrue, IsErrOf}
+use Rattle.std.specs.Prelude.{◌≡◌, ℕ, List, IsErrOf}
 use Rattle.std.specs.List.{All}
 use Rattle.bk_log.specs.declared.fault.FetchFault.TheVariants as fetch_faults
 use Rattle.bk_flush.specs.declared.answer.FlushFault.TheVariants as flush_faults
+use Rattle.bk_collect.specs.declared.answer.CollectFault.TheVariants as collect_faults
 use Rattle.bk_drive.specs.declared.step.Answer.{Answer}
 use Rattle.bk_drive.specs.declared.step.Answer.TheVariants as answers
 
--- the answer is `Disk`: the device failed
+-- the answer is `Disk`: the device failed, or a view could not be read
 abbrev pub IsDiskFault : Answer → Type 0
 IsDiskFault (answers.Add r) = ⊥
 IsDiskFault (answers.Take r) = ⊥
@@ -17,6 +18,22 @@ IsDiskFault (answers.Swap r) = ⊥
 IsDiskFault (answers.Write r) = IsErrOf r flush_faults.Disk
 IsDiskFault (answers.Publish r) = IsErrOf r flush_faults.Disk
 IsDiskFault (answers.Roll r) = IsErrOf r flush_faults.Disk
+IsDiskFault (answers.Retire r) = ⊥
+IsDiskFault (answers.Rebuild r) = IsErrOf r collect_faults.Disk
+
+-- the answer is `Disk`, of a step that reads no view: the device failed
+abbrev pub IsDeviceFault : Answer → Type 0
+IsDeviceFault (answers.Add r) = ⊥
+IsDeviceFault (answers.Take r) = ⊥
+IsDeviceFault (answers.Fetch r) = ⊥
+IsDeviceFault (answers.Release r) = ⊥
+IsDeviceFault (answers.Delete r) = ⊥
+IsDeviceFault (answers.Swap r) = ⊥
+IsDeviceFault (answers.Write r) = IsErrOf r flush_faults.Disk
+IsDeviceFault (answers.Publish r) = IsErrOf r flush_faults.Disk
+IsDeviceFault (answers.Roll r) = IsErrOf r flush_faults.Disk
+IsDeviceFault (answers.Retire r) = ⊥
+IsDeviceFault (answers.Rebuild r) = ⊥
 
 -- no answer is
 abbrev pub NoneIsDiskFault : List Answer → Type 0
@@ -25,7 +42,3 @@ NoneIsDiskFault = All (λ answer. ¬ (IsDiskFault answer))
 -- the device of no disk of this type has ever failed
 abbrev pub NeverFails : {D : Type 0} → (D → ℕ) → Type 0
 NeverFails {D} failures = (disk : D) → failures disk ≡ 0
-
--- every view of this type is sound
-abbrev pub AreSound : {V : Type 0} → (V → Bool) → Type 0
-AreSound {V} sound = (view : V) → IsTrue (sound view)

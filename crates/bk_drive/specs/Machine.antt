@@ -24,6 +24,9 @@ use Rattle.bk_flush.specs.declared.answer.WriteAnswer.{WriteAnswer}
 use Rattle.bk_flush.specs.declared.answer.PublishAnswer.{PublishAnswer}
 use Rattle.bk_flush.specs.declared.answer.RollAnswer.{RollAnswer}
 use Rattle.bk_flush.specs.declared.answer.FlushFault.{FlushFault}
+use Rattle.bk_collect.specs.Collecting.{RetireTurn, RebuildTurn}
+use Rattle.bk_collect.specs.declared.answer.RetireAnswer.{RetireAnswer}
+use Rattle.bk_collect.specs.declared.answer.CollectFault.{CollectFault}
 use Rattle.bk_drive.specs.Plain.{Owed, PlainDesk, IsFree, HasAt, IsBusy, OwedTake, OwedFetch, OwedRelease, after_publish}
 use Rattle.bk_drive.specs.declared.step.TakeAnswer.{TakeAnswer}
 use Rattle.bk_drive.specs.declared.step.TakeAnswer.TheVariants as takes
@@ -103,6 +106,8 @@ pub data WorkTurn : State → Work → Answer → State → Type 0 where
   wrote : {s t : State} {r : Result WriteAnswer FlushFault} → StepTurn s r t → WorkTurn s works.WriteOne (answers.Write r) t
   published : {s t : State} {r : Result PublishAnswer FlushFault} → PublishTurn s r t → WorkTurn s works.Publish (answers.Publish r) t
   rolled : {s t : State} {r : Result RollAnswer FlushFault} → RollTurn s r t → WorkTurn s works.Roll (answers.Roll r) t
+  retired : {s t : State} {log : ℕ} {r : RetireAnswer} → RetireTurn s log r t → WorkTurn s (works.Retire log) (answers.Retire r) t
+  rebuilt : {s t : State} {r : Result ℕ CollectFault} → RebuildTurn s r t → WorkTurn s works.Rebuild (answers.Rebuild r) t
 
 -- One step of the machine, with its answer.
 pub data Turn : Desk → Step → Answer → Desk → Type 0 where
@@ -129,6 +134,8 @@ pub data PlainTurn : ℕ → PlainDesk → Step → Answer → PlainDesk → Typ
   published : {limit : ℕ} {p : PlainDesk} {r : Result PublishAnswer FlushFault}
       → PlainTurn limit p (steps.Work works.Publish) (answers.Publish r) (record p { store = after_publish r p.store })
   rolled : {limit : ℕ} {p : PlainDesk} {r : Result RollAnswer FlushFault} → PlainTurn limit p (steps.Work works.Roll) (answers.Roll r) p
+  retired : {limit : ℕ} {p : PlainDesk} {log : ℕ} {r : RetireAnswer} → PlainTurn limit p (steps.Work (works.Retire log)) (answers.Retire r) p
+  rebuilt : {limit : ℕ} {p : PlainDesk} {r : Result ℕ CollectFault} → PlainTurn limit p (steps.Work works.Rebuild) (answers.Rebuild r) p
   added : {limit : ℕ} {p : PlainDesk} {q : Plain} {payload : Vec ℕ Global} {r : Result Added AddFault} → PlainAdd limit p.store payload.items r q
       → PlainTurn limit p (steps.Add payload) (answers.Add r) (record p { store = q })
   deleted : {limit : ℕ} {p : PlainDesk} {q : Plain} {ledger : ℕ} {r : Result ℕ DeleteFault} → PlainDelete p.store ledger r q

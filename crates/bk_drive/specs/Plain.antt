@@ -97,3 +97,5 @@ after_work (answers.Swap r) p = after_swap r p
 after_work (answers.Write r) p = p
 after_work (answers.Publish r) p = after_publish r p
 after_work (answers.Roll r) p = p
+after_work (answers.Retire r) p = p
+after_work (answers.Rebuild r) p = p

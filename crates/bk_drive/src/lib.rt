@@ -7,6 +7,7 @@ mod step;
 #[cfg(test)]
 mod tests;
 
+pub use bk_collect::{CollectFault, RetireAnswer};
 pub use bk_flush::{FlushFault, PublishAnswer, RollAnswer, WriteAnswer};
 pub use bk_store::{
     AddFault, Added, DeleteFault, Lease, LogCause, OpenFault, Settings, Store, SwapAnswer,

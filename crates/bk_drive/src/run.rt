@@ -2,15 +2,17 @@
 
 ghost use Rattle.std.specs.Prelude.{◌≡◌, ◌↔◌, ◌<◌, ◌≤◌, ℕ, List, Option, IsTrue, IfOk, IfErr, IsErrOf, length};
 ghost use Rattle.bk_disk.specs.Disk.{IsCaused};
+ghost use Rattle.bk_collect.specs.Collecting.{AreSound};
 ghost use Rattle.bk_store.specs.Limits.{IsAllowed};
 ghost use Rattle.bk_store.specs.Opening.{OpenFails};
 ghost use Rattle.bk_store.specs.Plain.{Plain, Agrees as StoreAgrees};
 ghost use Rattle.bk_drive.specs.Plain.{PlainDesk, after_work};
 ghost use Rattle.bk_drive.specs.Machine.{Hold, ReaderFetch, ReaderRelease, ReaderTake, WorkTurn, Turn, PlainTurn};
 ghost use Rattle.bk_drive.specs.Headline.{Agrees, Headline};
-ghost use Rattle.bk_drive.specs.Failing.{IsDiskFault, NoneIsDiskFault, NeverFails, AreSound};
+ghost use Rattle.bk_drive.specs.Failing.{IsDiskFault, IsDeviceFault, NoneIsDiskFault, NeverFails};
 
 use crate::{Answer, FetchAnswer, Readers, Reading, ReleaseAnswer, Step, TakeAnswer, Work};
+use bk_collect::{rebuild, retire};
 use bk_disk::{LogDisk, LogView};
 use bk_flush::{publish, roll, swap, write_one};
 use bk_log::{FetchFault, fetch};
@@ -29,7 +31,8 @@ pub struct Ran<D: LogDisk> {
 /// One step of the store alone, and its answer. It changes nothing of the plain map but which pairs are only cached.
 pub fn apply<D: LogDisk>(store: &mut Store<D>, work: Work) -> Answer
     ensures honest { store.new.honest ≡ store.old.honest }
-    ensures cause { IsCaused store.old.failures store.new.failures (IsDiskFault result) }
+    ensures cause { IsCaused store.old.failures store.new.failures (IsDeviceFault result) }
+    ensures sound { AreSound D.View.sound → IsDiskFault result → IsDeviceFault result }
     ensures settings { store.new.settings ≡ store.old.settings }
     ensures turn { WorkTurn store.old work result store.new }
     ensures plain { IsTrue store.old.honest → (p : Plain) → StoreAgrees store.old p → StoreAgrees store.new (after_work result p) }
@@ -40,6 +43,8 @@ pub fn apply<D: LogDisk>(store: &mut Store<D>, work: Work) -> Answer
         Work::WriteOne => Answer::Write(write_one(store)),
         Work::Publish => Answer::Publish(publish(store)),
         Work::Roll => Answer::Roll(roll(store)),
+        Work::Retire(log) => Answer::Retire(retire(store, log)),
+        Work::Rebuild => Answer::Rebuild(rebuild(store)),
     }
 }
 

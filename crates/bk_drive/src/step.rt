@@ -1,5 +1,6 @@
 //! The steps of a script and their answers.
 
+use bk_collect::{CollectFault, RetireAnswer};
 use bk_flush::{FlushFault, PublishAnswer, RollAnswer, WriteAnswer};
 use bk_log::FetchFault;
 use bk_record::{Key, Location};
@@ -17,6 +18,10 @@ pub enum Work {
     Publish,
     /// Seals the log that is written, so that the next flush begins another.
     Roll,
+    /// Retires the log of this id where no key names it: none will again.
+    Retire(u32),
+    /// Makes the index anew from what the logs show.
+    Rebuild,
 }
 
 /// One step. Readers are numbered from 0 to 3.
@@ -88,4 +93,7 @@ pub enum Answer {
     Write(Result<WriteAnswer, FlushFault>),
     Publish(Result<PublishAnswer, FlushFault>),
     Roll(Result<RollAnswer, FlushFault>),
+    Retire(RetireAnswer),
+    /// How many keys the new index has.
+    Rebuild(Result<u64, CollectFault>),
 }

@@ -3,13 +3,15 @@
 
 use crate::{
     AddFault, Added, Answer, DeleteFault, FetchAnswer, FlushFault, OpenFault, PublishAnswer, Ran,
-    ReleaseAnswer, RollAnswer, Settings, Step, SwapAnswer, TakeAnswer, Work, WriteAnswer, drive,
+    ReleaseAnswer, RetireAnswer, RollAnswer, Settings, Step, SwapAnswer, TakeAnswer, Work,
+    WriteAnswer, drive,
 };
 use bk_disk::{LogDisk, MemDisk};
 use bk_record::Key;
 use std::alloc::{AllocError, Global};
 use std::test::Fail;
 
+mod collecting;
 mod deleting;
 mod failing;
 mod found;
@@ -132,6 +134,11 @@ fn told(answer: &Answer) -> Told {
         Answer::Roll(Ok(RollAnswer::FlushRunning)) => ("flush running", 0),
         Answer::Roll(Ok(RollAnswer::NothingOpen)) => ("nothing open", 0),
         Answer::Roll(Ok(RollAnswer::Sealed(log))) => ("sealed", u64::from(*log)),
+        Answer::Retire(RetireAnswer::NoLog) => ("no log", 0),
+        Answer::Retire(RetireAnswer::InUse) => ("in use", 0),
+        Answer::Retire(RetireAnswer::Retired(log)) => ("retired", u64::from(*log)),
+        Answer::Retire(RetireAnswer::StillNamed(keys)) => ("still named", *keys),
+        Answer::Rebuild(Ok(keys)) => ("rebuilt", *keys),
         _ => ("another fault", 0),
     }
 }

@@ -6,15 +6,15 @@ use Rattle.bk_drive.specs.declared.step.Step.{Step}
 use Rattle.bk_drive.specs.declared.step.Step.TheVariants as steps
 use Rattle.bk_drive.specs.declared.step.Work.{Work}
 use Rattle.bk_record.specs.Key.{EntryKey}
-use Rattle.bk_script.specs.Line.{IsPrintable, IsWord, IsAdd, words, followed, word_of, Spells, work, add, add_text, pad, take, fetch, release, delete}
+use Rattle.bk_script.specs.Line.{IsPrintable, IsWord, IsAdd, words, followed, IsAlone, word_of, Spells, work, add, add_text, pad, take, fetch, release, delete}
 use Rattle.bk_script.specs.declared.line.LineFault.{LineFault}
 use Rattle.bk_script.specs.declared.line.LineFault.TheVariants.{Memory}
 use Rattle.bk_script.proofs.Printable.{printable_behind}
 use Rattle.bk_script.proofs.Words.{IsWord-decimal, followed-injective, behind_number}
 use Rattle.bk_script.proofs.Parts.{IsAddText}
 
-pub spelled_work : (line : List ℕ) (call : Work) → line ≡ word_of call → Spells line (steps.Work call)
-spelled_work line call is = rw is work
+pub spelled_work : (line : List ℕ) (call : Work) → IsAlone call → line ≡ word_of call → Spells line (steps.Work call)
+spelled_work line call whole is = rw is (work whole)
 
 pub spelled_take : (reader ledger entry : ℕ) (text : List ℕ) (key : EntryKey) → reader ≤ 3 → ledger < 2 ^ 63 → entry < 2 ^ 63
     → text ≡ words (decimal reader ∷ decimal ledger ∷ decimal entry ∷ [])

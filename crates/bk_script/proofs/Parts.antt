@@ -4,7 +4,7 @@ use Rattle.std.proofs.lemmas.Bool.{false≢true}
 use Rattle.std.specs.Fmt.{decimal}
 use Rattle.bk_drive.specs.declared.step.Step.{Step}
 use Rattle.bk_drive.specs.declared.step.Work.{Work}
-use Rattle.bk_script.specs.Line.{IsWord, words, followed, word_of, Spells, work, add, add_text, pad, take, fetch, release, delete}
+use Rattle.bk_script.specs.Line.{IsWord, words, followed, IsAlone, word_of, Spells, work, add, add_text, pad, take, fetch, release, delete}
 use Rattle.bk_script.proofs.Words.{IsWord-from_test, IsWord-word_of, followed-injective}
 
 -- what stands behind `add` and a space
@@ -51,7 +51,7 @@ pub record IsLedger (text : List ℕ) : Type 0 where
 
 -- the first word of a line that spells a step, and what stands behind it
 pub data Parts : List ℕ → Option (List ℕ) → Type 0 where
-  alone : (call : Work) → Parts (word_of call) None
+  alone : (call : Work) → IsAlone call → Parts (word_of call) None
   adds : {text : List ℕ} → IsAddText text → Parts (codes "add") (Some text)
   pads : {text : List ℕ} → IsPadText text → Parts (codes "pad") (Some text)
   takes : {text : List ℕ} → IsTakeText text → Parts (codes "take") (Some text)
@@ -67,7 +67,7 @@ record HasParts (line : List ℕ) : Type 0 where
   parts : Parts name rest
 
 parted : {line : List ℕ} {step : Step} → Spells line step → HasParts line
-parted (work {call = call}) = record { name = word_of call; rest = None; word = IsWord-word_of call; whole = refl; parts = alone call }
+parted (work {call = call} is) = record { name = word_of call; rest = None; word = IsWord-word_of call; whole = refl; parts = alone call is }
 parted (add {ledger = ledger} {entry = entry} low high is) = record {
   name = codes "add";
   rest = _;
@@ -133,7 +133,7 @@ apart a b differ is = false≢true (sym differ ∙ eq-eqb _ _ (ap (λ (word : Li
 
 -- what stands behind each of the words
 adds_of : {name : List ℕ} {rest : Option (List ℕ)} → Parts name rest → (text : List ℕ) → name ≡ codes "add" → rest ≡ Some text → IsAddText text
-adds_of (alone call) text e f = cc
+adds_of (alone call is) text e f = cc
 adds_of (adds {text = t} h) text e f = let same : t ≡ text = cc in subst IsAddText same h
 adds_of (pads h) text e f = absurd (apart (codes "pad") (codes "add") refl e)
 adds_of (takes h) text e f = absurd (apart (codes "take") (codes "add") refl e)
@@ -142,7 +142,7 @@ adds_of (releases h) text e f = absurd (apart (codes "release") (codes "add") re
 adds_of (deletes h) text e f = absurd (apart (codes "delete") (codes "add") refl e)
 
 pads_of : {name : List ℕ} {rest : Option (List ℕ)} → Parts name rest → (text : List ℕ) → name ≡ codes "pad" → rest ≡ Some text → IsPadText text
-pads_of (alone call) text e f = cc
+pads_of (alone call is) text e f = cc
 pads_of (adds h) text e f = absurd (apart (codes "add") (codes "pad") refl e)
 pads_of (pads {text = t} h) text e f = let same : t ≡ text = cc in subst IsPadText same h
 pads_of (takes h) text e f = absurd (apart (codes "take") (codes "pad") refl e)
@@ -151,7 +151,7 @@ pads_of (releases h) text e f = absurd (apart (codes "release") (codes "pad") re
 pads_of (deletes h) text e f = absurd (apart (codes "delete") (codes "pad") refl e)
 
 takes_of : {name : List ℕ} {rest : Option (List ℕ)} → Parts name rest → (text : List ℕ) → name ≡ codes "take" → rest ≡ Some text → IsTakeText text
-takes_of (alone call) text e f = cc
+takes_of (alone call is) text e f = cc
 takes_of (adds h) text e f = absurd (apart (codes "add") (codes "take") refl e)
 takes_of (pads h) text e f = absurd (apart (codes "pad") (codes "take") refl e)
 takes_of (takes {text = t} h) text e f = let same : t ≡ text = cc in subst IsTakeText same h
@@ -160,7 +160,7 @@ takes_of (releases h) text e f = absurd (apart (codes "release") (codes "take") 
 takes_of (deletes h) text e f = absurd (apart (codes "delete") (codes "take") refl e)
 
 fetches_of : {name : List ℕ} {rest : Option (List ℕ)} → Parts name rest → (text : List ℕ) → name ≡ codes "fetch" → rest ≡ Some text → IsReader text
-fetches_of (alone call) text e f = cc
+fetches_of (alone call is) text e f = cc
 fetches_of (adds h) text e f = absurd (apart (codes "add") (codes "fetch") refl e)
 fetches_of (pads h) text e f = absurd (apart (codes "pad") (codes "fetch") refl e)
 fetches_of (takes h) text e f = absurd (apart (codes "take") (codes "fetch") refl e)
@@ -169,7 +169,7 @@ fetches_of (releases h) text e f = absurd (apart (codes "release") (codes "fetch
 fetches_of (deletes h) text e f = absurd (apart (codes "delete") (codes "fetch") refl e)
 
 releases_of : {name : List ℕ} {rest : Option (List ℕ)} → Parts name rest → (text : List ℕ) → name ≡ codes "release" → rest ≡ Some text → IsReader text
-releases_of (alone call) text e f = cc
+releases_of (alone call is) text e f = cc
 releases_of (adds h) text e f = absurd (apart (codes "add") (codes "release") refl e)
 releases_of (pads h) text e f = absurd (apart (codes "pad") (codes "release") refl e)
 releases_of (takes h) text e f = absurd (apart (codes "take") (codes "release") refl e)
@@ -178,7 +178,7 @@ releases_of (releases {text = t} h) text e f = let same : t ≡ text = cc in sub
 releases_of (deletes h) text e f = absurd (apart (codes "delete") (codes "release") refl e)
 
 deletes_of : {name : List ℕ} {rest : Option (List ℕ)} → Parts name rest → (text : List ℕ) → name ≡ codes "delete" → rest ≡ Some text → IsLedger text
-deletes_of (alone call) text e f = cc
+deletes_of (alone call is) text e f = cc
 deletes_of (adds h) text e f = absurd (apart (codes "add") (codes "delete") refl e)
 deletes_of (pads h) text e f = absurd (apart (codes "pad") (codes "delete") refl e)
 deletes_of (takes h) text e f = absurd (apart (codes "take") (codes "delete") refl e)
@@ -186,8 +186,8 @@ deletes_of (fetches h) text e f = absurd (apart (codes "fetch") (codes "delete")
 deletes_of (releases h) text e f = absurd (apart (codes "release") (codes "delete") refl e)
 deletes_of (deletes {text = t} h) text e f = let same : t ≡ text = cc in subst IsLedger same h
 
-alone_of : {name : List ℕ} {rest : Option (List ℕ)} → Parts name rest → rest ≡ None → (call : Work) × (name ≡ word_of call)
-alone_of (alone call) f = (call, refl)
+alone_of : {name : List ℕ} {rest : Option (List ℕ)} → Parts name rest → rest ≡ None → (call : Work) × IsAlone call × (name ≡ word_of call)
+alone_of (alone call is) f = (call, is, refl)
 alone_of (adds h) f = cc
 alone_of (pads h) f = cc
 alone_of (takes h) f = cc
@@ -201,7 +201,7 @@ IsCalled name = (name ≡ codes "add") ⊎ ((name ≡ codes "pad") ⊎ ((name �
     ⊎ ((name ≡ codes "release") ⊎ (name ≡ codes "delete")))))
 
 named_of : {name : List ℕ} {rest : Option (List ℕ)} → Parts name rest → (text : List ℕ) → rest ≡ Some text → IsCalled name
-named_of (alone call) text f = cc
+named_of (alone call is) text f = cc
 named_of (adds h) text f = inl refl
 named_of (pads h) text f = inr (inl refl)
 named_of (takes h) text f = inr (inr (inl refl))
@@ -228,7 +228,7 @@ pub delete_text_of : (text : List ℕ) (step : Step) → Spells (codes "delete" 
 delete_text_of text step h = deletes_of (parts_of (codes "delete") (Some text) (IsWord-from_test (codes "delete") refl) refl h) text refl refl
 
 -- a line without a space that spells a step is the word of a call
-pub call_of : (line : List ℕ) (step : Step) → IsWord line → Spells line step → (call : Work) × (line ≡ word_of call)
+pub call_of : (line : List ℕ) (step : Step) → IsWord line → Spells line step → (call : Work) × IsAlone call × (line ≡ word_of call)
 call_of line step word h = alone_of (parts_of line None word refl h) refl
 
 -- a line with a space begins with one of these words

@@ -15,7 +15,7 @@ use Rattle.std.proofs.lemmas.List.Sums.{AllPass-from_list_all}
 use Rattle.std.proofs.lemmas.Bool.Decides.{nat_tests}
 use Rattle.bk_drive.specs.declared.step.Step.{Step}
 use Rattle.bk_drive.specs.declared.step.Work.{Work}
-use Rattle.bk_drive.specs.declared.step.Work.TheVariants.{Swap, WriteOne, Publish, Roll}
+use Rattle.bk_drive.specs.declared.step.Work.TheVariants.{Swap, WriteOne, Publish, Roll, Retire, Rebuild}
 use Rattle.bk_script.specs.Line.{IsPrintable, word_of, words, Spells, work, add, add_text, pad, take, fetch, release, delete}
 
 pub printable_behind : (name rest : List ℕ) → All IsPrintable (name ++ 32 ∷ rest) → All IsPrintable rest
@@ -45,6 +45,8 @@ printable_word Swap = printable_test (word_of Swap) refl
 printable_word WriteOne = printable_test (word_of WriteOne) refl
 printable_word Publish = printable_test (word_of Publish) refl
 printable_word Roll = printable_test (word_of Roll) refl
+printable_word (Retire log) = printable_test (word_of (Retire log)) refl
+printable_word Rebuild = printable_test (word_of Rebuild) refl
 
 followed_by : (word rest : List ℕ) → All IsPrintable word → All IsPrintable rest → All IsPrintable (word ++ 32 ∷ rest)
 followed_by word rest h k = All-append IsPrintable word (32 ∷ rest) h (All-cons IsPrintable 32 rest (omega arith, omega arith) k)
@@ -53,7 +55,7 @@ printable_three : (a b c : ℕ) → a < 2 ^ 63 → b < 2 ^ 63 → c < 2 ^ 63 →
 printable_three a b c first second third = followed_by (decimal a) _ (printable_decimal a first) (followed_by (decimal b) _ (printable_decimal b second) (printable_decimal c third))
 
 pub printable_line : {line : List ℕ} {step : Step} → Spells line step → All IsPrintable line
-printable_line (work {call = call}) = printable_word call
+printable_line (work {call = call} is) = printable_word call
 printable_line (add {ledger = ledger} {entry = entry} low high is) =
     followed_by (codes "add") _ (printable_test (codes "add") refl) (followed_by (decimal ledger) _ (printable_decimal ledger low) (printable_decimal entry high))
 printable_line (add_text {ledger = ledger} {entry = entry} {text = text} low high some all is) =

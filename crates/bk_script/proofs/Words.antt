@@ -10,7 +10,7 @@ use Rattle.std.proofs.Math.Dec.{eqb-suc-zero}
 use Rattle.std.proofs.lemmas.List.Sums.{AllPass-from_list_all}
 use Rattle.std.proofs.lemmas.Bool.{ne_eqb, false≢true}
 use Rattle.bk_drive.specs.declared.step.Work.{Work}
-use Rattle.bk_drive.specs.declared.step.Work.TheVariants.{Swap, WriteOne, Publish, Roll}
+use Rattle.bk_drive.specs.declared.step.Work.TheVariants.{Swap, WriteOne, Publish, Roll, Retire, Rebuild}
 use Rattle.bk_script.specs.Line.{IsWord, followed, word_of}
 use Rattle.bk_script.proofs.Numbers.{own}
 
@@ -47,6 +47,8 @@ IsWord-word_of Swap = IsWord-from_test (word_of Swap) refl
 IsWord-word_of WriteOne = IsWord-from_test (word_of WriteOne) refl
 IsWord-word_of Publish = IsWord-from_test (word_of Publish) refl
 IsWord-word_of Roll = IsWord-from_test (word_of Roll) refl
+IsWord-word_of (Retire log) = IsWord-from_test (word_of (Retire log)) refl
+IsWord-word_of Rebuild = IsWord-from_test (word_of Rebuild) refl
 
 -- and numbers too are read in one way
 pub numbers-injective : (m n : ℕ) (x y : Option (List ℕ)) → m < 2 ^ 64 → n < 2 ^ 64

@@ -7,7 +7,7 @@ use Rattle.std.specs.Global.{Vec}
 use Rattle.bk_drive.specs.declared.step.Step.{Step}
 use Rattle.bk_drive.specs.declared.step.Step.TheVariants as steps
 use Rattle.bk_drive.specs.declared.step.Work.{Work}
-use Rattle.bk_drive.specs.declared.step.Work.TheVariants.{Swap, WriteOne, Publish, Roll}
+use Rattle.bk_drive.specs.declared.step.Work.TheVariants.{Swap, WriteOne, Publish, Roll, Retire, Rebuild}
 
 -- words with one space between
 abbrev pub words : List (List ℕ) → List ℕ
@@ -34,17 +34,28 @@ payload_of ledger entry bytes = to_be_bytes w64 ledger ++ to_be_bytes w64 entry 
 abbrev pub IsAdd : ℕ → ℕ → List ℕ → Step → Type 0
 IsAdd ledger entry bytes step = (payload : Vec ℕ) × (step ≡ steps.Add payload) × (payload.items ≡ payload_of ledger entry bytes)
 
--- the word that asks for a call of the store
+-- the first word of a line that asks for a call of the store
 abbrev pub word_of : Work → List ℕ
 word_of Swap = codes "swap"
 word_of WriteOne = codes "write"
 word_of Publish = codes "publish"
 word_of Roll = codes "roll"
+word_of (Retire log) = codes "retire"
+word_of Rebuild = codes "rebuild"
+
+-- that word is the whole line
+abbrev pub IsAlone : Work → Type 0
+IsAlone Swap = Unit {0}
+IsAlone WriteOne = Unit {0}
+IsAlone Publish = Unit {0}
+IsAlone Roll = Unit {0}
+IsAlone (Retire log) = ⊥
+IsAlone Rebuild = Unit {0}
 
 -- The line spells the step (this project's rule). Ids are below 2 ^ 63, readers are numbered from 0 to 3, and a pad has
 -- up to 2097152 zero bytes.
 pub data Spells : List ℕ → Step → Type 0 where
-  work : {call : Work} → Spells (word_of call) (steps.Work call)
+  work : {call : Work} → IsAlone call → Spells (word_of call) (steps.Work call)
   add : {ledger entry : ℕ} {step : Step} → ledger < 2 ^ 63 → entry < 2 ^ 63 → IsAdd ledger entry [] step
       → Spells (words (codes "add" ∷ decimal ledger ∷ decimal entry ∷ [])) step
   add_text : {ledger entry : ℕ} {text : List ℕ} {step : Step} → ledger < 2 ^ 63 → entry < 2 ^ 63

@@ -1,10 +1,12 @@
 -- The texts of answers and faults (this project's rule). Numbers are decimal, data is lower-case hexadecimal.
 use Rattle.std.specs.Prelude.{ℕ, ◌/◌, ◌%◌, List, [], ◌∷◌, ◌++◌, drop, codes, false, Result, Ok, Err}
 use Rattle.std.specs.List.{flat_map}
-use Rattle.std.specs.Fmt.{decimal, digit_glyph}
+use Rattle.std.specs.Fmt.{decimal, signed_decimal, digit_glyph}
 use Rattle.bk_record.specs.Location.{packed}
 use Rattle.bk_record.specs.declared.fault.RecordFault.{RecordFault}
 use Rattle.bk_record.specs.declared.fault.RecordFault.TheVariants as record_faults
+use Rattle.bk_head.specs.declared.fault.HeadFault.{HeadFault}
+use Rattle.bk_head.specs.declared.fault.HeadFault.TheVariants as head_faults
 use Rattle.bk_log.specs.declared.fault.FetchFault.{FetchFault}
 use Rattle.bk_log.specs.declared.fault.FetchFault.TheVariants as fetch_faults
 use Rattle.bk_store.specs.declared.answer.Added.{Added}
@@ -17,6 +19,8 @@ use Rattle.bk_store.specs.declared.answer.DeleteFault.{DeleteFault}
 use Rattle.bk_store.specs.declared.answer.DeleteFault.TheVariants as delete_faults
 use Rattle.bk_store.specs.declared.answer.SwapAnswer.{SwapAnswer}
 use Rattle.bk_store.specs.declared.answer.SwapAnswer.TheVariants as swaps
+use Rattle.bk_store.specs.declared.answer.LogCause.{LogCause}
+use Rattle.bk_store.specs.declared.answer.LogCause.TheVariants as causes
 use Rattle.bk_flush.specs.declared.answer.WriteAnswer.{WriteAnswer}
 use Rattle.bk_flush.specs.declared.answer.WriteAnswer.TheVariants as writes
 use Rattle.bk_flush.specs.declared.answer.PublishAnswer.{PublishAnswer}
@@ -25,6 +29,10 @@ use Rattle.bk_flush.specs.declared.answer.RollAnswer.{RollAnswer}
 use Rattle.bk_flush.specs.declared.answer.RollAnswer.TheVariants as rolls
 use Rattle.bk_flush.specs.declared.answer.FlushFault.{FlushFault}
 use Rattle.bk_flush.specs.declared.answer.FlushFault.TheVariants as flush_faults
+use Rattle.bk_collect.specs.declared.answer.RetireAnswer.{RetireAnswer}
+use Rattle.bk_collect.specs.declared.answer.RetireAnswer.TheVariants as retires
+use Rattle.bk_collect.specs.declared.answer.CollectFault.{CollectFault}
+use Rattle.bk_collect.specs.declared.answer.CollectFault.TheVariants as collect_faults
 use Rattle.bk_drive.specs.declared.step.TakeAnswer.{TakeAnswer}
 use Rattle.bk_drive.specs.declared.step.TakeAnswer.TheVariants as takes
 use Rattle.bk_drive.specs.declared.step.FetchAnswer.{FetchAnswer}
@@ -131,6 +139,36 @@ roll_text (Ok rolls.NothingOpen) = codes "nothing open"
 roll_text (Ok (rolls.Sealed log)) = codes "sealed " ++ decimal log
 roll_text (Err fault) = codes "fault " ++ flush_fault_text fault
 
+abbrev pub retire_text : RetireAnswer → List ℕ
+retire_text retires.NoLog = codes "no log"
+retire_text retires.InUse = codes "in use"
+retire_text (retires.Retired log) = codes "retired " ++ decimal log
+retire_text (retires.StillNamed n) = codes "still named " ++ decimal n
+
+abbrev pub head_fault_text : HeadFault → List ℕ
+head_fault_text head_faults.BadMagic = codes "bad magic"
+head_fault_text (head_faults.Version version) = codes "version " ++ decimal version
+head_fault_text head_faults.Negative = codes "negative number"
+head_fault_text (head_faults.NotAMap at) = codes "not a map " ++ decimal at
+head_fault_text (head_faults.MapLength at) = codes "map length " ++ decimal at
+head_fault_text (head_faults.Repeated ledger) = codes "repeated " ++ decimal ledger
+head_fault_text (head_faults.CountDiffers found) = codes "count differs " ++ decimal found
+head_fault_text head_faults.Memory = codes "memory"
+
+abbrev pub cause_text : LogCause → List ℕ
+cause_text (causes.Header fault) = head_fault_text fault
+cause_text (causes.BadLength at length) = codes "bad length " ++ decimal at ++ codes " " ++ signed_decimal length
+
+abbrev pub collect_fault_text : CollectFault → List ℕ
+collect_fault_text collect_faults.Disk = codes "disk"
+collect_fault_text collect_faults.Memory = codes "memory"
+collect_fault_text (collect_faults.Log id cause) = codes "log " ++ decimal id ++ codes ": " ++ cause_text cause
+collect_fault_text collect_faults.Odd = codes "odd disk"
+
+abbrev pub rebuild_text : Result ℕ CollectFault → List ℕ
+rebuild_text (Ok n) = codes "rebuilt " ++ decimal n
+rebuild_text (Err fault) = codes "fault " ++ collect_fault_text fault
+
 -- the text of an answer
 abbrev pub text_of : Answer → List ℕ
 text_of (answers.Add answer) = add_text answer
@@ -142,6 +180,8 @@ text_of (answers.Swap answer) = swap_text answer
 text_of (answers.Write answer) = write_text answer
 text_of (answers.Publish answer) = publish_text answer
 text_of (answers.Roll answer) = roll_text answer
+text_of (answers.Retire answer) = retire_text answer
+text_of (answers.Rebuild answer) = rebuild_text answer
 
 -- one line for each answer
 abbrev pub lines_of : List Answer → List ℕ

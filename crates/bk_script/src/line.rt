@@ -1,7 +1,7 @@
 //! A line of a script, and the step that it spells: words with one space between.
 
 ghost use Rattle.std.specs.Prelude.{◌≡◌, ◌≢◌, ◌∷◌, ◌++◌, All, ◌↔◌, IsTrue, IfOk, MatchOption};
-ghost use Rattle.bk_script.specs.Line.{IsPrintable, IsWord, word_of, Spells};
+ghost use Rattle.bk_script.specs.Line.{IsPrintable, IsWord, IsAlone, word_of, Spells};
 
 mod calls;
 mod payload;
@@ -41,13 +41,15 @@ pub(crate) fn read_step(alloc: Global, line: &[u8]) -> Result<Step, LineFault>
 
 /// The call of the store that a word alone asks for.
 fn work_named(name: &str) -> Option<Work>
-    ensures { MatchOption result ((work : _) → name.now ≢ word_of work) (λ work. name.now ≡ word_of work) }
+    ensures { MatchOption result ((work : _) → IsAlone work → name.now ≢ word_of work)
+        (λ work. IsAlone work × (name.now ≡ word_of work)) }
 {
     match name {
         "swap" => Some(Work::Swap),
         "write" => Some(Work::WriteOne),
         "publish" => Some(Work::Publish),
         "roll" => Some(Work::Roll),
+        "rebuild" => Some(Work::Rebuild),
         _ => None,
     }
 }

@@ -1,18 +1,18 @@
-//! The texts of answers and faults: one line for each step.
+//! The texts of answers: one line for each step.
 
 ghost use Rattle.std.specs.Prelude.{◌≡◌, ◌<◌, false, [], ◌∷◌, Some, drop};
 ghost use Rattle.std.specs.Fmt.{WritesOnOk, digit_glyph};
-ghost use Rattle.bk_script.specs.Text.{add_fault_text, add_text, data_text, delete_fault_text, delete_text};
-ghost use Rattle.bk_script.specs.Text.{digit_pair, fetch_fault_text, fetch_text};
-ghost use Rattle.bk_script.specs.Text.{flush_fault_text, publish_text, record_fault_text, release_text};
-ghost use Rattle.bk_script.specs.Text.{roll_text, swap_text, take_text, text_of, write_text};
+ghost use Rattle.bk_script.specs.Text.{add_text, data_text, delete_text, digit_pair, fetch_text, publish_text};
+ghost use Rattle.bk_script.specs.Text.{rebuild_text, release_text, retire_text, roll_text, swap_text, take_text};
+ghost use Rattle.bk_script.specs.Text.{text_of, write_text};
+
+mod faults;
 
 use bk_drive::{
-    AddFault, Added, Answer, DeleteFault, FetchAnswer, FlushFault, PublishAnswer, ReleaseAnswer,
-    RollAnswer, SwapAnswer, TakeAnswer, TakeFault, WriteAnswer,
+    AddFault, Added, Answer, CollectFault, DeleteFault, FetchAnswer, FlushFault, PublishAnswer,
+    ReleaseAnswer, RetireAnswer, RollAnswer, SwapAnswer, TakeAnswer, TakeFault, WriteAnswer,
 };
 use bk_log::FetchFault;
-use bk_record::RecordFault;
 use std::fmt;
 use std::fmt::{Display, Formatter};
 
@@ -34,6 +34,8 @@ impl Display for Text<'_, Answer> {
             Answer::Write(answer) => write!(f, "{}", Text(answer)),
             Answer::Publish(answer) => write!(f, "{}", Text(answer)),
             Answer::Roll(answer) => write!(f, "{}", Text(answer)),
+            Answer::Retire(answer) => write!(f, "{}", Text(answer)),
+            Answer::Rebuild(answer) => write!(f, "{}", Text(answer)),
         }
     }
 }
@@ -46,32 +48,6 @@ impl Display for Text<'_, Result<Added, AddFault>> {
             Ok(Added::Accepted) => write!(f, "accepted"),
             Ok(Added::Held) => write!(f, "held"),
             Err(fault) => write!(f, "fault {}", Text(fault)),
-        }
-    }
-}
-
-impl Display for Text<'_, AddFault> {
-    ghost output = { λ text. Some (add_fault_text text.0.now) };
-
-    fn fmt<W: fmt::Write>(&self, f: &mut Formatter<W>) -> fmt::Result {
-        match self.0 {
-            AddFault::Bad(fault) => write!(f, "{}", Text(fault)),
-            AddFault::Deleted => write!(f, "deleted"),
-            AddFault::Full { used, limit } => write!(f, "full {used} {limit}"),
-            AddFault::Memory => write!(f, "memory"),
-        }
-    }
-}
-
-impl Display for Text<'_, RecordFault> {
-    ghost output = { λ text. Some (record_fault_text text.0.now) };
-
-    fn fmt<W: fmt::Write>(&self, f: &mut Formatter<W>) -> fmt::Result {
-        match self.0 {
-            RecordFault::Short(length) => write!(f, "short {length}"),
-            RecordFault::Negative => write!(f, "negative number"),
-            RecordFault::TooLong(length) => write!(f, "too long {length}"),
-            RecordFault::Memory => write!(f, "memory"),
         }
     }
 }
@@ -111,19 +87,6 @@ impl Display for Text<'_, Result<FetchAnswer, FetchFault>> {
     }
 }
 
-impl Display for Text<'_, FetchFault> {
-    ghost output = { λ text. Some (fetch_fault_text text.0.now) };
-
-    fn fmt<W: fmt::Write>(&self, f: &mut Formatter<W>) -> fmt::Result {
-        match self.0 {
-            FetchFault::Disk => write!(f, "disk"),
-            FetchFault::NotThere => write!(f, "not there"),
-            FetchFault::Memory => write!(f, "memory"),
-            FetchFault::Odd => write!(f, "odd disk"),
-        }
-    }
-}
-
 impl Display for Text<'_, ReleaseAnswer> {
     ghost output = { λ text. Some (release_text text.0.now) };
 
@@ -143,17 +106,6 @@ impl Display for Text<'_, Result<u64, DeleteFault>> {
         match self.0 {
             Ok(count) => write!(f, "dropped {count}"),
             Err(fault) => write!(f, "fault {}", Text(fault)),
-        }
-    }
-}
-
-impl Display for Text<'_, DeleteFault> {
-    ghost output = { λ text. Some (delete_fault_text text.0.now) };
-
-    fn fmt<W: fmt::Write>(&self, f: &mut Formatter<W>) -> fmt::Result {
-        match self.0 {
-            DeleteFault::AlreadyDeleted => write!(f, "already deleted"),
-            DeleteFault::Memory => write!(f, "memory"),
         }
     }
 }
@@ -209,16 +161,26 @@ impl Display for Text<'_, Result<RollAnswer, FlushFault>> {
     }
 }
 
-impl Display for Text<'_, FlushFault> {
-    ghost output = { λ text. Some (flush_fault_text text.0.now) };
+impl Display for Text<'_, RetireAnswer> {
+    ghost output = { λ text. Some (retire_text text.0.now) };
 
     fn fmt<W: fmt::Write>(&self, f: &mut Formatter<W>) -> fmt::Result {
         match self.0 {
-            FlushFault::Disk => write!(f, "disk"),
-            FlushFault::Memory { done } => write!(f, "memory after {done}"),
-            FlushFault::LogsFull => write!(f, "logs full"),
-            FlushFault::NoMoreIds => write!(f, "no more ids"),
-            FlushFault::Odd => write!(f, "odd disk"),
+            RetireAnswer::NoLog => write!(f, "no log"),
+            RetireAnswer::InUse => write!(f, "in use"),
+            RetireAnswer::Retired(log) => write!(f, "retired {log}"),
+            RetireAnswer::StillNamed(count) => write!(f, "still named {count}"),
+        }
+    }
+}
+
+impl Display for Text<'_, Result<u64, CollectFault>> {
+    ghost output = { λ text. Some (rebuild_text text.0.now) };
+
+    fn fmt<W: fmt::Write>(&self, f: &mut Formatter<W>) -> fmt::Result {
+        match self.0 {
+            Ok(count) => write!(f, "rebuilt {count}"),
+            Err(fault) => write!(f, "fault {}", Text(fault)),
         }
     }
 }

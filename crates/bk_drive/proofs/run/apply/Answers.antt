@@ -1,5 +1,5 @@
-use Rattle.bk_drive.specs.Machine.WorkTurn.{swapped, wrote, published, rolled}
-use Rattle.bk_drive.proofs.Working.{step_stays, roll_stays, publish_settings, agrees_still, publish_agrees}
+use Rattle.bk_drive.specs.Machine.WorkTurn.{swapped, wrote, published, rolled, retired, rebuilt}
+use Rattle.bk_drive.proofs.Working.{step_stays, roll_stays, retire_stays, rebuild_stays, retire_failures, rebuild_failures, uncaused, publish_settings, agrees_still, publish_agrees}
 use Rattle.bk_drive.proofs.Runs.{swapped_plain, swap_settings}
 use Rattle.bk_drive.proofs.run.apply.Goals as goal
 
@@ -15,6 +15,12 @@ returns-in-Publish-clause-turn g c = rw c.in-Publish.is (published c.publish.ens
 pub returns-in-Roll-clause-turn : goal.returns-in-Roll-clause-turn
 returns-in-Roll-clause-turn g c = rw c.in-Roll.is (rolled c.roll.ensures.turn)
 
+pub returns-in-Retire-clause-turn : goal.returns-in-Retire-clause-turn
+returns-in-Retire-clause-turn g c = rw c.in-Retire.is (retired c.retire.ensures.turn)
+
+pub returns-in-Rebuild-clause-turn : goal.returns-in-Rebuild-clause-turn
+returns-in-Rebuild-clause-turn g c = rw c.in-Rebuild.is (rebuilt c.rebuild.ensures.turn)
+
 pub returns-in-Swap-clause-settings : goal.returns-in-Swap-clause-settings
 returns-in-Swap-clause-settings g c = swap_settings _ _ _ c.swap.ensures
 
@@ -27,6 +33,18 @@ returns-in-Publish-clause-settings g c = publish_settings _ _ _ c.publish.ensure
 pub returns-in-Roll-clause-settings : goal.returns-in-Roll-clause-settings
 returns-in-Roll-clause-settings g c = (roll_stays _ _ _ c.roll.ensures.turn).settings
 
+pub returns-in-Retire-clause-settings : goal.returns-in-Retire-clause-settings
+returns-in-Retire-clause-settings g c = (retire_stays _ _ _ _ c.retire.ensures.turn).settings
+
+pub returns-in-Rebuild-clause-settings : goal.returns-in-Rebuild-clause-settings
+returns-in-Rebuild-clause-settings g c = (rebuild_stays _ _ _ c.rebuild.ensures.turn).settings
+
+pub returns-in-Retire-clause-cause : goal.returns-in-Retire-clause-cause
+returns-in-Retire-clause-cause g c = uncaused _ _ _ (retire_failures _ _ _ _ c.retire.ensures.turn) (λ never. never)
+
+pub returns-in-Rebuild-clause-cause : goal.returns-in-Rebuild-clause-cause
+returns-in-Rebuild-clause-cause g c = uncaused _ _ _ (rebuild_failures _ _ _ c.rebuild.ensures.turn) (λ never. never)
+
 pub returns-in-Swap-clause-plain : goal.returns-in-Swap-clause-plain
 returns-in-Swap-clause-plain g c = λ honest p agrees. swapped_plain _ _ p c.promise.ensures honest agrees _ c.swap.ensures
 
@@ -38,3 +56,9 @@ returns-in-Publish-clause-plain g c = λ honest p agrees. publish_agrees _ _ p a
 
 pub returns-in-Roll-clause-plain : goal.returns-in-Roll-clause-plain
 returns-in-Roll-clause-plain g c = λ honest p agrees. agrees_still _ _ p agrees (c.roll.ensures.meaning honest) (roll_stays _ _ _ c.roll.ensures.turn)
+
+pub returns-in-Retire-clause-plain : goal.returns-in-Retire-clause-plain
+returns-in-Retire-clause-plain g c = λ honest p agrees. agrees_still _ _ p agrees (c.retire.ensures.meaning honest) (retire_stays _ _ _ _ c.retire.ensures.turn)
+
+pub returns-in-Rebuild-clause-plain : goal.returns-in-Rebuild-clause-plain
+returns-in-Rebuild-clause-plain g c = λ honest p agrees. agrees_still _ _ p agrees (c.rebuild.ensures.meaning honest) (rebuild_stays _ _ _ c.rebuild.ensures.turn)

@@ -1,5 +1,5 @@
 use Rattle.std.proofs.Common.{◌≡◌, ◌≤◌, IsTrue, length, take, vec_len, vec_capacity}
-use Rattle.bk_drive.specs.Failing.{AreSound}
+use Rattle.bk_collect.specs.Collecting.{AreSound}
 use Rattle.bk_drive.proofs.Driving.{IsDriven, AreCounted}
 use Rattle.bk_drive.proofs.run.drive.Given as goal
 
