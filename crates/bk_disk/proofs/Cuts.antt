@@ -1,5 +1,5 @@
 -- Bytes cut into blocks of one size.
-use Rattle.std.proofs.Common.{◌≡◌, ℕ, zero, suc, ◌+◌, ◌*◌, ◌/◌, ◌%◌, ◌<◌, ◌≤◌, ◌^◌, List, [], ◌∷◌, ◌++◌, map, length, take, drop, get_or, set, ◌-◌, refl, sym}
+use Rattle.std.proofs.Common.{◌≡◌, ℕ, zero, suc, ◌+◌, ◌*◌, ◌/◌, ◌%◌, ◌<◌, ◌≤◌, ◌^◌, List, [], ◌∷◌, ◌++◌, map, length, take, drop, get_or, set, refl, sym}
 use Rattle.std.proofs.Common.{◌∙◌, ap, arith, append_assoc, length-append}
 use Rattle.std.specs.List.{All, AllZip, concat}
 use Rattle.std.proofs.lemmas.List.Elements.{All-head, All-tail, All-cons, All-push, All-append}
@@ -105,15 +105,14 @@ take-add n m bytes long =
     ∙ take-append-add (take n bytes) (drop n bytes) m)
 
 -- one more piece of a read, as far as a block has it
-pub take_next : (now got part : List ℕ) (from next n : ℕ) → from ≤ next → next + n ≤ length now → got ≡ take (next - from) (drop from now)
-    → BeginsWith (drop next now) part → n ≤ length part → got ++ take n part ≡ take (next + n - from) (drop from now)
-take_next now got part from next n order room so_far begins fits =
+pub take_next : (now got part : List ℕ) (from done n : ℕ) → from + done + n ≤ length now → got ≡ take done (drop from now)
+    → BeginsWith (drop (from + done) now) part → n ≤ length part → got ++ take n part ≡ take (done + n) (drop from now)
+take_next now got part from done n room so_far begins fits =
     let behind = begins.0 in
-    let there : take n part ≡ take n (drop (next - from) (drop from now)) =
-    sym (take-append-le n part behind fits) ∙ ap (take n) (sym begins.1) ∙ ap (λ k. take n (drop k now)) (omega arith)
-    ∙ ap (take n) (sym (drop-drop (next - from) from now)) in
-    ap (λ x. x ++ take n part) so_far ∙ ap (λ x. take (next - from) (drop from now) ++ x) there
-    ∙ take-add (next - from) n (drop from now) (omega (arith, length-drop from now)) ∙ ap (λ k. take k (drop from now)) (omega arith)
+    let there : take n part ≡ take n (drop done (drop from now)) =
+    sym (take-append-le n part behind fits) ∙ ap (take n) (sym begins.1) ∙ ap (take n) (sym (drop-drop done from now)) in
+    ap (λ x. x ++ take n part) so_far ∙ ap (λ x. take done (drop from now) ++ x) there
+    ∙ take-add done n (drop from now) (omega (arith, length-drop from now))
 
 -- a block that is full is pushed
 pub each_push : {B : Type 0} (bytes : B → List ℕ) (size : ℕ) (full : List B) (b : B) → Each size (map bytes full) → length (bytes b) ≡ size

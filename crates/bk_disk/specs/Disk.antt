@@ -154,3 +154,13 @@ ReadsView bytes file at n (Err Memory) = IsInView file at n
 ReadsView bytes file at n (Err Exists) = ⊥
 ReadsView bytes file at n (Err NoLog) = ⊥
 ReadsView bytes file at n (Err TooLong) = ⊥
+
+-- a read of such a view into a buffer of so many bytes, which takes no memory; a failing device leaves any bytes there
+abbrev pub ReadsInto : {T : Type 0} → List ℕ → ℕ → ℕ → Result T DiskFault → List ℕ → Type 0
+ReadsInto file at n (Ok _) out = IsInView file at n × (out ≡ take n (drop at file))
+ReadsInto file at n (Err PastEnd) out = ¬ (IsInView file at n)
+ReadsInto file at n (Err Disk) out = Unit {0}
+ReadsInto file at n (Err Memory) out = ⊥
+ReadsInto file at n (Err Exists) out = ⊥
+ReadsInto file at n (Err NoLog) out = ⊥
+ReadsInto file at n (Err TooLong) out = ⊥

@@ -75,16 +75,26 @@ impl Blocks {
         requires within { to ≤ length self.now }
         ensures { IfOk result (λ bytes. bytes.items ≡ take (to - from) (drop from self.now)) }
     {
-        let mut bytes = Vec::with_capacity(alloc, to - from)?;
-        let mut next = from;
-        while next < to {
+        let mut bytes = vec![in alloc; 0u8; to - from]?;
+        self.read_into(from, &mut bytes);
+        Ok(bytes)
+    }
+
+    /// Writes the bytes from position `from` on over those of `out`, as many as it has.
+    pub(crate) fn read_into(&self, from: usize, out: &mut [u8])
+        requires fits { from + length out.old < 2 ^ 64 }
+        requires within { from + length out.old ≤ length self.now }
+        ensures { out.new ≡ take (length out.old) (drop from self.now) }
+    {
+        let mut done = 0;
+        while done < out.len() {
+            let next = from + done;
             let within = next % BLOCK;
             let block = self.block_of(next);
-            let size = (block.len() - within).min(to - next);
-            bytes.extend_from_slice(&block[within..within + size])?;
-            next += size;
+            let size = (block.len() - within).min(out.len() - done);
+            out[done..done + size].copy_from_slice(&block[within..within + size]);
+            done += size;
         }
-        Ok(bytes)
     }
 
     // The block in which a position lies.

@@ -29,11 +29,13 @@ impl LogView for DirView {
         self.end
     }
 
-    fn read_at(&self, alloc: Global, at: u64, n: u64) -> Result<Vec<u8>, DiskFault> {
-        if at < HEADER || self.end < at || self.end - at < n {
+    fn read_into(&self, at: u64, out: &mut [u8]) -> Result<(), DiskFault> {
+        if at < HEADER || self.end < at || self.end - at < out.len() as u64 {
             return Err(DiskFault::PastEnd);
         }
-        read_range(&self.file, alloc, at, n)
+        self.file
+            .read_exact_at(out, at)
+            .map_err(|_| DiskFault::Disk)
     }
 }
 

@@ -4,10 +4,10 @@
 //! the files is promised under honesty alone; on any disk each call returns, honesty stays, the count of failures
 //! doesn't fall, and `Disk` is answered only where it rose. An honest disk may fail.
 
-ghost use Rattle.std.specs.Prelude.{◌≡◌, ℕ, ◌<◌, ◌^◌, Bool, false, List, IsTrue, IsErrOf};
+ghost use Rattle.std.specs.Prelude.{◌≡◌, ℕ, ◌<◌, ◌^◌, Bool, false, List, length, IsTrue, IsErrOf};
 ghost use Rattle.std.specs.List.{All};
 ghost use Rattle.bk_record.specs.Files.{Files};
-ghost use Rattle.bk_disk.specs.Disk.{AreLogFiles, HasCause, Lists, Measures, Creates, Appends, Patches, Syncs, Reads, Views, Removes, ReadsView, view_end};
+ghost use Rattle.bk_disk.specs.Disk.{AreLogFiles, HasCause, Lists, Measures, Creates, Appends, Patches, Syncs, Reads, Views, Removes, ReadsView, ReadsInto, view_end};
 
 use crate::DiskFault;
 use bk_record::HEADER_LENGTH;
@@ -33,11 +33,26 @@ pub trait LogView: Send + Sync + Drop {
     fn end(&self) -> u64
         ensures { IsTrue (honest self.now) → result ≡ view_end (bytes self.now) };
 
+    /// Writes the bytes from position `at` on over those of `out`, as many as it has. It takes no memory. Faults: `PastEnd`
+    /// where they don't lie from 1024 to `end`, `Disk` where the view isn't sound, which leaves any bytes in `out`.
+    fn read_into(&self, at: u64, out: &mut [u8]) -> Result<(), DiskFault>
+        ensures cause { IsErrOf result DiskFault.Disk → sound self.now ≡ false }
+        ensures turn { IsTrue (honest self.now) → ReadsInto (bytes self.now) at (length out.old) result out.new };
+
     /// `n` bytes from position `at` on. Faults: `PastEnd` where they don't lie from 1024 to `end`, `Disk` where the
     /// view isn't sound, `Memory`.
     fn read_at(&self, alloc: Global, at: u64, n: u64) -> Result<Vec<u8>, DiskFault>
         ensures cause { IsErrOf result DiskFault.Disk → sound self.now ≡ false }
-        ensures turn { IsTrue (honest self.now) → ReadsView (λ v. v.items) (bytes self.now) at n result };
+        ensures turn { IsTrue (honest self.now) → ReadsView (λ v. v.items) (bytes self.now) at n result }
+    {
+        let end = self.end();
+        if at < HEADER || end < at || end - at < n {
+            return Err(DiskFault::PastEnd);
+        }
+        let mut bytes = vec![in alloc; 0u8; n as usize].map_err(|_| DiskFault::Memory)?;
+        self.read_into(at, &mut bytes)?;
+        Ok(bytes)
+    }
 }
 
 /// A folder of entry logs, each a file of bytes named by the log's id. Every fault but a failing append's or patch's

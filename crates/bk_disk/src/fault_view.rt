@@ -1,7 +1,7 @@
 //! A view whose every read may answer `Disk`.
 
-ghost use Rattle.std.specs.Prelude.{◌≡◌, false, ◌&&◌, not, IsTrue, IsErrOf};
-ghost use Rattle.bk_disk.specs.Disk.{ReadsView};
+ghost use Rattle.std.specs.Prelude.{◌≡◌, false, ◌&&◌, not, length, IsTrue, IsErrOf};
+ghost use Rattle.bk_disk.specs.Disk.{ReadsView, ReadsInto};
 
 use crate::{DiskFault, LogView};
 use std::alloc::Global;
@@ -42,6 +42,17 @@ impl<V: LogView> LogView for FaultView<V> {
 
     fn end(&self) -> u64 {
         self.inner.end()
+    }
+
+    fn read_into(&self, at: u64, out: &mut [u8]) -> Result<(), DiskFault>
+        ensures cause { IsErrOf result DiskFault.Disk → (self.now.sound && not self.now.broken) ≡ false }
+        ensures turn { IsTrue self.now.honest → ReadsInto self.now.bytes at (length out.old) result out.new }
+        ensures broken { IsTrue self.now.broken → IsErrOf result DiskFault.Disk }
+    {
+        if self.broken {
+            return Err(DiskFault::Disk);
+        }
+        self.inner.read_into(at, out)
     }
 
     fn read_at(&self, alloc: Global, at: u64, n: u64) -> Result<Vec<u8>, DiskFault>

@@ -50,19 +50,14 @@ impl LogView for MemView {
         self.bytes.len().max(HEADER)
     }
 
-    fn read_at(&self, alloc: Global, at: u64, n: u64) -> Result<Vec<u8>, DiskFault> {
+    fn read_into(&self, at: u64, out: &mut [u8]) -> Result<(), DiskFault> {
         let end = self.end();
-        let Some(to) = at.checked_add(n) else {
-            return Err(DiskFault::PastEnd);
-        };
-        if at < HEADER || end < to {
+        if at < HEADER || end < at || end - at < out.len() as u64 {
             return Err(DiskFault::PastEnd);
         }
-        if n == 0 {
-            return Ok(Vec::new(alloc));
+        if !out.is_empty() {
+            self.bytes.read_into(at as usize, out);
         }
-        self.bytes
-            .read(alloc, at as usize, to as usize)
-            .map_err(|_| DiskFault::Memory)
+        Ok(())
     }
 }

@@ -114,6 +114,7 @@ fn check_view(rt: &impl Abort, alloc: Global, disk: &mut FaultDisk<MemDisk>, bro
         (None, DiskFault::PastEnd)
     };
     assert_eq!(rt; view.read_at(alloc, 1024, 0).err(), read);
+    assert_eq!(rt; view.read_into(1024, &mut []).err(), read);
     assert_eq!(rt; view.read_at(alloc, 0, 0).err(), Some(past));
 }
 

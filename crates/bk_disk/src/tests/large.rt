@@ -47,8 +47,9 @@ fn a_log_of_twenty_million_bytes(rt: HostRuntime) {
     ];
     check(&rt, alloc, &mut disk, &calls);
     assert_eq!(rt; early.end(), 20_000_020);
-    let read = early.read_at(alloc, 19_000_018, 2).expect(&rt, "a read");
-    assert_eq!(rt; read.as_slice(), [18, 19].as_slice());
+    let mut read = [0u8; 2];
+    assert_eq!(rt; early.read_into(19_000_018, &mut read), Ok(()));
+    assert_eq!(rt; read, [18, 19]);
 }
 
 // Makes a log of an id up to two thousand million, with two bytes.
