@@ -167,8 +167,10 @@ fn fetch_by<V: LogView>(
         return Ok(FetchAnswer::NoLease);
     };
     reading.lease.view.bounds();
-    let payload = fetch(&*reading.lease.view, alloc, reading.location, reading.key)?;
-    Ok(FetchAnswer::Bytes(payload))
+    match fetch(&*reading.lease.view, alloc, reading.location, reading.key) {
+        Ok(payload) => Ok(FetchAnswer::Bytes(payload)),
+        Err(fault) => Err(fault),
+    }
 }
 
 /// A release by a reader, which then holds no lease.

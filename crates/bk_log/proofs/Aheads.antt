@@ -1,9 +1,14 @@
 -- Reading ahead: the bytes at hand after a step, and the head of what is left.
-use Rattle.std.proofs.Common.{◌≡◌, ℕ, ◌+◌, ◌-◌, ◌≤◌, min, Bool, List, length, take, drop, IsTrue, sym, ap, ◌∙◌, arith, length-drop}
+use Rattle.std.proofs.Common.{◌≡◌, ℕ, ◌+◌, ◌-◌, ◌≤◌, min, Bool, List, length, take, drop, IsTrue, Option, sym, ap, ◌∙◌, subst, arith, length-drop}
 use Rattle.std.proofs.Math.Decide.{dec_le}
 use Rattle.std.proofs.lemmas.List.{drop-drop, drop-take, take-take, length-take-le, drop_all, take_all, length-take}
 use Rattle.bk_disk.specs.Disk.{IsInView}
-use Rattle.bk_log.specs.Ahead.{Ahead, ShowsAhead}
+use Rattle.bk_record.specs.Key.{EntryKey}
+use Rattle.bk_log.specs.declared.fault.ScanFault.{ScanFault}
+use Rattle.bk_log.specs.declared.fault.ScanFault.TheVariants.{Memory}
+use Rattle.bk_log.specs.declared.front.Front.TheVariants.{Record}
+use Rattle.bk_log.specs.Fronts.{IsFront}
+use Rattle.bk_log.specs.Ahead.{Ahead, ShowsAhead, AheadFails}
 
 -- a step within the bytes at hand
 skipped_within : (bytes read : List ℕ) (at offset size : ℕ) → size ≤ length read - offset → drop offset read ≡ take (length read - offset) (drop at bytes)
@@ -39,28 +44,38 @@ shows_skip honest bytes read at offset size step taken shows same least = record
 pub length-left : (bytes : List ℕ) (at left : ℕ) → IsInView bytes at left → left ≡ length (take left (drop at bytes))
 length-left bytes at left view = sym (length-take-le left (drop at bytes) (omega (arith, view.0, view.1, length-drop at bytes)))
 
--- the first bytes at hand are the first of those that are left
-pub head_shown : (bytes read head : List ℕ) (at offset wanted left : ℕ) → drop offset read ≡ take (length read - offset) (drop at bytes)
-    → wanted ≡ min left 20 → wanted ≤ length read - offset → head ≡ take (offset + wanted - offset) (drop offset read)
+-- the first twenty of the bytes that are left, or all where there are fewer
+pub head_left : (bytes head : List ℕ) (at wanted left : ℕ) → wanted ≡ min left 20 → head ≡ take wanted (drop at bytes)
     → head ≡ take 20 (take left (drop at bytes))
-head_shown bytes read head at offset wanted left shown least enough cut =
-    let count : offset + wanted - offset ≡ wanted = omega arith in
-    cut ∙ ap (λ n. take n (drop offset read)) count ∙ ap (take wanted) shown ∙ take-take wanted (length read - offset) (drop at bytes) enough
-    ∙ sym (elim (dec_le 20 left) as (λ _. take 20 (take left (drop at bytes)) ≡ take wanted (drop at bytes)) [
+head_left bytes head at wanted left least cut =
+    cut ∙ sym (elim (dec_le 20 left) as (λ _. take 20 (take left (drop at bytes)) ≡ take wanted (drop at bytes)) [
       | yes more ↦ let twenty : 20 ≡ wanted = omega arith in take-take 20 left (drop at bytes) more ∙ ap (λ n. take n (drop at bytes)) twenty
       | no fewer ↦ let all : left ≡ wanted = omega arith in
           take_all 20 (take left (drop at bytes)) (omega (arith, length-take left (drop at bytes))) ∙ ap (λ n. take n (drop at bytes)) all
     ])
 
--- the same of a window that was filled
-pub window_head : (w filled old : Ahead) (read bytes head : List ℕ) (offset wanted left : ℕ) → w ≡ filled → filled ≡ record old { ready = filled.ready }
-    → ShowsAhead w.honest w.bytes w.at offset read → IsTrue old.honest → wanted ≡ min left 20 → wanted ≤ filled.ready → w.ready ≡ length read - offset
-    → bytes ≡ read → head ≡ take (offset + wanted - offset) (drop offset bytes) → head ≡ take 20 (take left (drop old.at old.bytes))
-window_head w filled old read bytes head offset wanted left is kept shows honest least enough ready same cut =
-    let at : w.at ≡ old.at = ap (λ a. a.at) (is ∙ kept) in
-    let file : w.bytes ≡ old.bytes = ap (λ a. a.bytes) (is ∙ kept) in
-    let known = shows.shown (ap (λ a. a.honest) (is ∙ kept) ∙ honest) in
+-- the first bytes at hand are the first of those that are left
+pub window_head : (w old : Ahead) (read bytes head : List ℕ) (offset wanted left : ℕ) → w ≡ old → ShowsAhead w.honest w.bytes w.at offset read
+    → IsTrue old.honest → wanted ≡ min left 20 → wanted ≤ length read - offset → bytes ≡ read → head ≡ take (offset + wanted - offset) (drop offset bytes)
+    → head ≡ take 20 (take left (drop old.at old.bytes))
+window_head w old read bytes head offset wanted left is shows honest least enough same cut =
+    let count : offset + wanted - offset ≡ wanted = omega arith in
+    let known = shows.shown (ap (λ a. a.honest) is ∙ honest) in
     let here : drop offset read ≡ take (length read - offset) (drop old.at old.bytes) =
-    known ∙ ap (λ n. take (length read - offset) (drop n w.bytes)) at ∙ ap (λ b. take (length read - offset) (drop old.at b)) file in
-    head_shown old.bytes read head old.at offset wanted left here least (omega (arith, ap (λ a. a.ready) is))
-    (cut ∙ ap (λ b. take (offset + wanted - offset) (drop offset b)) same)
+    known ∙ ap (λ (a : Ahead). take (length read - offset) (drop a.at a.bytes)) is in
+    head_left old.bytes head old.at wanted left least
+    (cut ∙ ap (λ b. take (offset + wanted - offset) (drop offset b)) same ∙ ap (λ n. take n (drop offset read)) count ∙ ap (take wanted) here
+    ∙ take-take wanted (length read - offset) (drop old.at old.bytes) enough)
+
+-- the same of bytes that were read alone, over so many of twenty
+pub head_read : (w old : Ahead) (over head : List ℕ) (wanted left : ℕ) → length over ≡ 20 → w ≡ old → wanted ≡ min left 20
+    → head ≡ take (length (take wanted over)) (drop w.at w.bytes) → head ≡ take 20 (take left (drop old.at old.bytes))
+head_read w old over head wanted left size is least cut =
+    let count : length (take wanted over) ≡ wanted = length-take-le wanted over (omega arith) in
+    head_left old.bytes head old.at wanted left least
+    (cut ∙ ap (λ n. take n (drop w.at w.bytes)) count ∙ ap (λ (a : Ahead). take wanted (drop a.at a.bytes)) is)
+
+-- a record stands there, and no buffer for it was to be had
+pub no_room : (room size : ℕ) (here : List ℕ) (key : Option EntryKey) (fault : ScanFault) → (fault ≡ Memory) × (room ≡ 0) → IsFront here (Record size key)
+    → AheadFails room here fault
+no_room room size here key fault (memory, none) stands = subst (AheadFails room here) (sym memory) (none, (stands.0, stands.1.0))

@@ -1,16 +1,17 @@
 -- A record at a place: what a view shows of it, and when there is none.
-use Rattle.std.proofs.Common.{◌≡◌, ℕ, ◌+◌, ◌-◌, ◌<◌, ◌≤◌, ◌^◌, List, length, take, drop, Some, refl, sym, ap, ◌∙◌, subst, arith, length-append, length-drop}
-use Rattle.std.proofs.lemmas.List.{drop-drop, take_at, take-take}
+use Rattle.std.proofs.Common.{◌≡◌, ℕ, ◌+◌, ◌-◌, ◌<◌, ◌≤◌, ◌^◌, List, length, take, drop, Some, Err, refl, sym, ap, ◌∙◌, subst, arith, length-append, length-drop}
+use Rattle.std.proofs.lemmas.List.{drop-drop, drop-take, take_at, take-take, length-take-le}
 use Rattle.std.specs.Int.{w32, to_be_bytes}
 use Rattle.bk_record.specs.Key.{EntryKey}
 use Rattle.bk_record.specs.Record.{record_of, key_of, length_field}
 use Rattle.bk_record.proofs.Records.{length-record_of, length_field-take, length_field-record_of, drop_field}
 use Rattle.bk_record.specs.Piece.{BeginsWith}
 use Rattle.bk_record.proofs.Pieces.{begins_with_field}
+use Rattle.bk_log.proofs.Begins.{key_of-take}
 use Rattle.bk_disk.specs.Disk.{IsInView}
 use Rattle.bk_log.specs.declared.reading.ReadFault.{ReadFault}
 use Rattle.bk_log.specs.declared.reading.ReadFault.TheVariants.{Disk, PastEnd, Memory, Odd}
-use Rattle.bk_log.specs.Reads.{ReadFails}
+use Rattle.bk_log.specs.Reads.{ReadFails, Fills}
 use Rattle.bk_log.specs.Places.{HasRecordAt, HasEntryAt, FetchFails, missed}
 
 -- how many bytes of the file a record takes
@@ -25,9 +26,6 @@ record_fits file payload at here =
       length-append (record_of payload) here.begins.behind,
       length-record_of payload,
     )
-
-pub field_in_view : (file payload : List ℕ) (at : ℕ) → HasRecordAt file at payload → IsInView file (at - 4) 4
-field_in_view file payload at here = (omega (arith, here.behind_header), omega (arith, here.behind_header, record_fits file payload at here))
 
 pub payload_in_view : (file payload : List ℕ) (at : ℕ) → HasRecordAt file at payload → IsInView file at (length payload)
 payload_in_view file payload at here = (omega (arith, here.behind_header), omega (arith, record_fits file payload at here))
@@ -62,60 +60,109 @@ record_here file payload field at n least is written low high view same =
       begins = subst (BeginsWith front) stands (begins_with_field front n number low high (omega (arith, view.1, length-drop (at - 4) file)));
     }
 
--- what a fetch has read: the field that stands before a place, as bytes, and the number in it
-pub record FieldRead (file : List ℕ) (at from n : ℕ) : Type 0 where
+-- what a fetch has read: the head of a record that may stand before a place, and the number in its length field
+pub record HeadRead (file : List ℕ) (at from n : ℕ) (head : List ℕ) : Type 0 where
   pub place : from ≡ at
-  pub field : List ℕ
-  pub shown : field ≡ take 4 (drop (from - 4) file)
-  pub number : n ≡ length_field field
-  pub written : to_be_bytes w32 n ≡ take 4 field
+  pub view : IsInView file (from - 4) 20
+  pub shown : head ≡ take 20 (drop (from - 4) file)
+  pub number : n ≡ length_field head
+  pub written : to_be_bytes w32 n ≡ take 4 head
+
+-- the field that stands there
+field_read : (file head : List ℕ) (at from n : ℕ) → HeadRead file at from n head → take 4 head ≡ take 4 (drop (at - 4) file)
+field_read file head at from n read =
+    ap (take 4) (read.shown ∙ ap (λ a. take 20 (drop (a - 4) file)) read.place) ∙ take-take 4 20 (drop (at - 4) file) (omega arith)
+
+-- the head is all there
+pub length_head : (file head : List ℕ) (at from n : ℕ) → HeadRead file at from n head → length head ≡ 20
+length_head file head at from n read =
+    ap length read.shown ∙ length-take-le 20 (drop (from - 4) file) (omega (arith, read.view.0, read.view.1, length-drop (from - 4) file))
 
 -- the number is the length of any record there
-pub long_as : (file payload : List ℕ) (at from n : ℕ) → FieldRead file at from n → HasRecordAt file at payload → n ≡ length payload
-long_as file payload at from n read here =
-    read.number ∙ field_of file payload read.field at here (read.shown ∙ ap (λ a. take 4 (drop (a - 4) file)) read.place)
+long_as : (file payload head : List ℕ) (at from n : ℕ) → HeadRead file at from n head → HasRecordAt file at payload → n ≡ length payload
+long_as file payload head at from n read here =
+    let size = length_head file head at from n read in
+    read.number ∙ sym (length_field-take 4 head (omega arith) (omega (arith, size)))
+    ∙ field_of file payload (take 4 head) at here (field_read file head at from n read)
 
--- a read that a record of the key would need, and that is refused
-pub fetch_refused : (file : List ℕ) (at from n : ℕ) (key : EntryKey) (fault : ReadFault)
-    → ReadFails file from n fault → ((payload : List ℕ) → HasEntryAt file at key payload → IsInView file from n)
-    → (IsInView file from n → IsInView file (at - 4) 4)
-    → FetchFails file at key (missed fault)
-fetch_refused file at from n key Disk shows needs field = tt
-fetch_refused file at from n key PastEnd shows needs field = λ payload here. shows (needs payload here)
-fetch_refused file at from n key Memory shows needs field = field shows
-fetch_refused file at from n key Odd shows needs field = shows
+-- the ids behind the field are the first bytes at the place
+ids_read : (file head : List ℕ) (at from n : ℕ) → 4 ≤ at → HeadRead file at from n head
+    → take 16 (drop 4 head) ≡ take 16 (drop at file)
+ids_read file head at from n least read =
+    ap (λ x. take 16 (drop 4 x)) (read.shown ∙ ap (λ a. take 20 (drop (a - 4) file)) read.place) ∙ ap (take 16) (drop-take 4 16 (drop (at - 4) file))
+    ∙ take-take 16 16 (drop 4 (drop (at - 4) file)) (omega arith) ∙ ap (take 16) (drop-field file at least)
 
--- the field of a record lies in the view
-pub needs_field : (file : List ℕ) (at from : ℕ) (key : EntryKey) → from ≡ at → (payload : List ℕ) → HasEntryAt file at key payload → IsInView file (from - 4) 4
-needs_field file at from key place payload here = subst (λ a. IsInView file (a - 4) 4) (sym place) (field_in_view file payload at here.here)
+-- the head of a record lies in the view
+pub needs_head : (file : List ℕ) (at from : ℕ) (key : EntryKey) → from ≡ at → (payload : List ℕ) → HasEntryAt file at key payload → IsInView file (from - 4) 20
+needs_head file at from key place payload here = (
+  omega (arith, place, here.here.behind_header),
+  omega (arith, place, here.here.behind_header, here.here.begins.legal.0, record_fits file payload at here.here),
+)
 
 -- and its payload, which is as long as the field says
-pub needs_payload : (file : List ℕ) (at from n : ℕ) (key : EntryKey) → FieldRead file at from n → (payload : List ℕ) → HasEntryAt file at key payload
+needs_payload : (file head : List ℕ) (at from n : ℕ) (key : EntryKey) → HeadRead file at from n head → (payload : List ℕ) → HasEntryAt file at key payload
     → IsInView file from n
-needs_payload file at from n key read payload here =
+needs_payload file head at from n key read payload here =
     subst (λ a. IsInView file a n) (sym read.place)
-    (subst (λ m. IsInView file at m) (sym (long_as file payload at from n read here.here)) (payload_in_view file payload at here.here))
+    (subst (λ m. IsInView file at m) (sym (long_as file payload head at from n read here.here)) (payload_in_view file payload at here.here))
+
+-- the head could not be read
+pub head_refused : (file : List ℕ) (at from : ℕ) (key : EntryKey) (fault : ReadFault) (out : List ℕ) → from ≡ at
+    → Fills {T = Unit {0}} file (from - 4) 20 (Err fault) out → FetchFails file at key (missed fault)
+head_refused file at from key Disk out place fills = tt
+head_refused file at from key PastEnd out place fills = λ payload here. fills (needs_head file at from key place payload here)
+head_refused file at from key Memory out place fills = absurd fills
+head_refused file at from key Odd out place fills = absurd fills
 
 -- a length that no record has
-pub fetch_bad_length : (file : List ℕ) (at from n : ℕ) (key : EntryKey) → FieldRead file at from n → ¬ ((16 ≤ n) × (n < 2 ^ 31))
+pub fetch_bad_length : (file head : List ℕ) (at from n : ℕ) (key : EntryKey) → HeadRead file at from n head → ¬ ((16 ≤ n) × (n < 2 ^ 31))
     → (payload : List ℕ) → ¬ (HasEntryAt file at key payload)
-fetch_bad_length file at from n key read bad payload here =
-    let long = long_as file payload at from n read here.here in
+fetch_bad_length file head at from n key read bad payload here =
+    let long = long_as file payload head at from n read here.here in
     bad (omega (arith, here.here.begins.legal.0), omega (arith, here.here.begins.legal.1))
 
--- a payload of another key
-pub fetch_other_key : (file payload : List ℕ) (at from n : ℕ) (key : EntryKey) → FieldRead file at from n → payload ≡ take n (drop from file)
-    → ¬ (key_of payload ≡ Some key) → (other : List ℕ) → ¬ (HasEntryAt file at key other)
-fetch_other_key file payload at from n key read same differs other here =
-    let long = long_as file other at from n read here.here in
-    differs (ap key_of (same ∙ ap (λ a. take n (drop a file)) read.place ∙ ap (λ m. take m (drop at file)) long ∙ payload_of file other at here.here)
-    ∙ here.keyed)
+-- ids of another key
+pub fetch_other_key : (file head : List ℕ) (at from n : ℕ) (key : EntryKey) → HeadRead file at from n head → ¬ (key_of (take 16 (drop 4 head)) ≡ Some key)
+    → (payload : List ℕ) → ¬ (HasEntryAt file at key payload)
+fetch_other_key file head at from n key read differs payload here =
+    let least : 4 ≤ at = omega (arith, here.here.behind_header) in
+    let long : 16 ≤ length payload = here.here.begins.legal.0 in
+    let first : take 16 (drop at file) ≡ take 16 payload =
+    sym (take-take 16 (length payload) (drop at file) long) ∙ ap (take 16) (payload_of file payload at here.here) in
+    differs (ap key_of (ids_read file head at from n least read ∙ first) ∙ key_of-take payload long ∙ here.keyed)
+
+-- the record of the key stands there, where it ends in the view
+pub entry_here : (file head : List ℕ) (at from n : ℕ) (key : EntryKey) → 1028 ≤ at → HeadRead file at from n head → (16 ≤ n) × (n < 2 ^ 31)
+    → key_of (take 16 (drop 4 head)) ≡ Some key → IsInView file from n → HasEntryAt file at key (take n (drop from file))
+entry_here file head at from n key least read legal keyed view =
+    let payload = take n (drop from file) in
+    let size : length payload ≡ n = length-take-le n (drop from file) (omega (arith, view.0, view.1, length-drop from file)) in
+    let first : take 16 (drop at file) ≡ take 16 payload =
+    ap (λ a. take 16 (drop a file)) (sym read.place) ∙ sym (take-take 16 n (drop from file) legal.0) in
+    let ids : key_of (take 16 (drop 4 head)) ≡ key_of payload =
+    ap key_of (ids_read file head at from n (omega arith) read ∙ first) ∙ key_of-take payload (omega (arith, size, legal.0)) in
+    let field : take 4 head ≡ take 4 (drop (from - 4) file) =
+    field_read file head at from n read ∙ ap (λ a. take 4 (drop (a - 4) file)) (sym read.place) in
+    let number : to_be_bytes w32 n ≡ take 4 (take 4 head) = read.written ∙ sym (take-take 4 4 head (omega arith)) in
+    record {
+      here = subst (λ a. HasRecordAt file a payload) read.place
+          (record_here file payload (take 4 head) from n (omega (arith, read.place)) field number legal.0 legal.1 view refl);
+      keyed = sym ids ∙ keyed;
+    }
+
+-- the payload could not be read
+pub payload_refused : (file head : List ℕ) (at from n : ℕ) (key : EntryKey) (fault : ReadFault) → 1028 ≤ at → HeadRead file at from n head
+    → (16 ≤ n) × (n < 2 ^ 31) → key_of (take 16 (drop 4 head)) ≡ Some key → ReadFails file from n fault → FetchFails file at key (missed fault)
+payload_refused file head at from n key Disk least read legal keyed fails = tt
+payload_refused file head at from n key PastEnd least read legal keyed fails =
+    λ payload here. fails (needs_payload file head at from n key read payload here)
+payload_refused file head at from n key Memory least read legal keyed fails =
+    (take n (drop from file), entry_here file head at from n key least read legal keyed fails)
+payload_refused file head at from n key Odd least read legal keyed fails = absurd fails
 
 -- the payload that was asked for
-pub fetch_found : (file payload : List ℕ) (at from n : ℕ) (key : EntryKey) → 1028 ≤ at → FieldRead file at from n → (16 ≤ n) × (n < 2 ^ 31)
-    → IsInView file from n × (payload ≡ take n (drop from file)) → key_of payload ≡ Some key → HasEntryAt file at key payload
-fetch_found file payload at from n key least read legal shown keyed = record {
-  here = subst (λ (a : ℕ). HasRecordAt file a payload) read.place
-      (record_here file payload read.field from n (omega (arith, read.place)) read.shown read.written legal.0 legal.1 shown.0 shown.1);
-  keyed = keyed;
-}
+pub fetch_found : (file head payload : List ℕ) (at from n : ℕ) (key : EntryKey) → 1028 ≤ at → HeadRead file at from n head
+    → (16 ≤ n) × (n < 2 ^ 31) → key_of (take 16 (drop 4 head)) ≡ Some key → IsInView file from n × (payload ≡ take n (drop from file))
+    → HasEntryAt file at key payload
+fetch_found file head payload at from n key least read legal keyed shown =
+    subst (HasEntryAt file at key) (sym shown.1) (entry_here file head at from n key least read legal keyed shown.0)

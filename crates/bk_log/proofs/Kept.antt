@@ -44,9 +44,9 @@ left_in_view window from end given foreign torn ended fault kept honest =
     (omega (arith, kept.headed, kept.placed.begun), omega (arith, kept.in_view honest, kept.placed.within))
 
 -- a window that looked, and moved on
-pub skipped_window : (window looked moved : Ahead) (size : ℕ) → looked ≡ record window { ready = looked.ready }
+pub skipped_window : (window looked moved : Ahead) (size : ℕ) → looked ≡ record window { ready = looked.ready; room = looked.room }
     → moved ≡ record looked { at = looked.at + size; ready = looked.ready - size }
-    → moved ≡ record window { at = window.at + size; ready = looked.ready - size }
+    → moved ≡ record window { at = window.at + size; ready = looked.ready - size; room = looked.room }
 skipped_window window looked moved size kept step = step ∙ ap (λ (w : Ahead). record w { at = w.at + size; ready = looked.ready - size }) kept
 
 -- a scan that goes on has neither ended nor met a fault
@@ -60,12 +60,13 @@ going_on window s from end given foreign torn ended fault is going =
 
 -- a scan that begins
 pub kept_new : (bytes : List ℕ) (honest sound : Bool) (window : Ahead) (from end : ℕ)
-    → window ≡ record { at = from; bytes = bytes; honest = honest; sound = sound; ready = 0 } → header_length ≤ from → from ≤ end → end < 2 ^ 64
+    → window ≡ record { at = from; bytes = bytes; honest = honest; sound = sound; ready = 0; room = 0 } → header_length ≤ from → from ≤ end → end < 2 ^ 64
     → (IsTrue honest → end ≤ view_end bytes) → IsKept window from end 0 0 0 false None
 kept_new bytes honest sound window from end is headed ordered fits within =
     subst (λ (w : Ahead). IsKept w from end 0 0 0 false None) (sym is) (record {
       placed = record { begun = omega arith; within = ordered; room = omega arith; end_fits = fits };
       told = λ e. absurd (no_fault None Disk refl e);
+      fresh = λ goes calm none. (refl, (refl, refl));
       headed = headed;
       in_view = within;
       scanned = λ h. record {
@@ -91,11 +92,12 @@ foreign_some : (payload : List ℕ) (key : EntryKey) → Some key ≡ key_of pay
 foreign_some payload key is = ap (λ o. not (is_some o)) (sym is)
 
 -- a record was passed: an entry, or a foreign one
-kept_record : (window : Ahead) (from end given foreign torn size ready : ℕ) (ended other : Bool) (fault : Option ScanFault)
-    → IsKept window from end given foreign torn ended fault → ended ≡ false → fault ≡ None → 20 ≤ size → size ≤ end - window.at
+kept_record : (window : Ahead) (from end given foreign torn size ready room : ℕ) (ended other : Bool) (fault : Option ScanFault)
+    → IsKept window from end given foreign torn ended fault → 0 < room → ended ≡ false → fault ≡ None → 20 ≤ size → size ≤ end - window.at
     → (IsTrue window.honest → (payload : List ℕ) × (BeginsWith (here window end) payload × ((size ≡ 4 + length payload) × (is_foreign payload ≡ other))))
-    → IsKept (record window { at = window.at + size; ready = ready }) from end (given + cond (not other) 1 0) (foreign + cond other 1 0) torn ended fault
-kept_record window from end given foreign torn size ready ended other fault kept going calm least within front = record {
+    → IsKept (record window { at = window.at + size; ready = ready; room = room }) from end (given + cond (not other) 1 0) (foreign + cond other 1 0) torn
+    ended fault
+kept_record window from end given foreign torn size ready room ended other fault kept made going calm least within front = record {
   placed = record {
     begun = omega (arith, kept.placed.begun);
     within = omega (arith, kept.placed.within);
@@ -106,6 +108,7 @@ kept_record window from end given foreign torn size ready ended other fault kept
     end_fits = kept.placed.end_fits;
   };
   told = kept.told;
+  fresh = λ goes still none. absurd (omega (arith, made, none));
   headed = kept.headed;
   in_view = kept.in_view;
   scanned = λ h.
@@ -122,24 +125,24 @@ kept_record window from end given foreign torn size ready ended other fault kept
 }
 
 -- the two kinds of records, as the front tells them
-pub kept_foreign : (window : Ahead) (from end given foreign torn size ready : ℕ) (ended : Bool) (fault : Option ScanFault)
-    → IsKept window from end given foreign torn ended fault → ended ≡ false → fault ≡ None → 20 ≤ size → size ≤ end - window.at
+pub kept_foreign : (window : Ahead) (from end given foreign torn size ready room : ℕ) (ended : Bool) (fault : Option ScanFault)
+    → IsKept window from end given foreign torn ended fault → 0 < room → ended ≡ false → fault ≡ None → 20 ≤ size → size ≤ end - window.at
     → (IsTrue window.honest → IsFront (here window end) (Record size None))
-    → IsKept (record window { at = window.at + size; ready = ready }) from end given (foreign + 1) torn ended fault
-kept_foreign window from end given foreign torn size ready ended fault kept going calm least within front =
+    → IsKept (record window { at = window.at + size; ready = ready; room = room }) from end given (foreign + 1) torn ended fault
+kept_foreign window from end given foreign torn size ready room ended fault kept made going calm least within front =
     let none : given + 0 ≡ given = omega arith in
-    subst (λ n. IsKept (record window { at = window.at + size; ready = ready }) from end n (foreign + 1) torn ended fault) none
-    (kept_record window from end given foreign torn size ready ended true fault kept going calm least within
+    subst (λ n. IsKept (record window { at = window.at + size; ready = ready; room = room }) from end n (foreign + 1) torn ended fault) none
+    (kept_record window from end given foreign torn size ready room ended true fault kept made going calm least within
     (λ h. let (payload, (begins, (sized, is))) = front h in (payload, (begins, (sized, foreign_none payload is)))))
 
-pub kept_entry : (window : Ahead) (from end given foreign torn size ready : ℕ) (ended : Bool) (fault : Option ScanFault) (key : EntryKey)
-    → IsKept window from end given foreign torn ended fault → ended ≡ false → fault ≡ None → 20 ≤ size → size ≤ end - window.at
+pub kept_entry : (window : Ahead) (from end given foreign torn size ready room : ℕ) (ended : Bool) (fault : Option ScanFault) (key : EntryKey)
+    → IsKept window from end given foreign torn ended fault → 0 < room → ended ≡ false → fault ≡ None → 20 ≤ size → size ≤ end - window.at
     → (IsTrue window.honest → IsFront (here window end) (Record size (Some key)))
-    → IsKept (record window { at = window.at + size; ready = ready }) from end (given + 1) foreign torn ended fault
-kept_entry window from end given foreign torn size ready ended fault key kept going calm least within front =
+    → IsKept (record window { at = window.at + size; ready = ready; room = room }) from end (given + 1) foreign torn ended fault
+kept_entry window from end given foreign torn size ready room ended fault key kept made going calm least within front =
     let none : foreign + 0 ≡ foreign = omega arith in
-    subst (λ n. IsKept (record window { at = window.at + size; ready = ready }) from end (given + 1) n torn ended fault) none
-    (kept_record window from end given foreign torn size ready ended false fault kept going calm least within
+    subst (λ n. IsKept (record window { at = window.at + size; ready = ready; room = room }) from end (given + 1) n torn ended fault) none
+    (kept_record window from end given foreign torn size ready room ended false fault kept made going calm least within
     (λ h. let (payload, (begins, (sized, is))) = front h in (payload, (begins, (sized, foreign_some payload key is)))))
 
 -- a record that begins in the part begins in the log
@@ -179,12 +182,13 @@ given_next window from end given foreign torn size ended fault key kept h within
     }
 
 -- the end was reached
-pub kept_rest : (window : Ahead) (from end given foreign torn ready : ℕ) (ended : Bool) (fault : Option ScanFault)
+pub kept_rest : (window : Ahead) (from end given foreign torn ready room : ℕ) (ended : Bool) (fault : Option ScanFault)
     → IsKept window from end given foreign torn ended fault → fault ≡ None → (IsTrue window.honest → IsFront (here window end) Rest)
-    → IsKept (record window { ready = ready }) from end given foreign (end - window.at) true fault
-kept_rest window from end given foreign torn ready ended fault kept calm front = record {
+    → IsKept (record window { ready = ready; room = room }) from end given foreign (end - window.at) true fault
+kept_rest window from end given foreign torn ready room ended fault kept calm front = record {
   placed = kept.placed;
   told = kept.told;
+  fresh = λ goes. absurd (false≢true (sym goes));
   headed = kept.headed;
   in_view = kept.in_view;
   scanned = λ h.
@@ -212,12 +216,14 @@ back_again left value is fits =
     ap (λ v. cast_signed w32 (cast_unsigned w32 v)) is ∙ ap (cast_signed w32) (of_z-to_z w32 (from_be_bytes w32 left) fits) ∙ sym is
 
 -- a bad length was met
-pub kept_bad : (window : Ahead) (from end given foreign torn ready : ℕ) (value : ℤ) (ended : Bool) (fault : Option ScanFault)
+pub kept_bad : (window : Ahead) (from end given foreign torn ready room : ℕ) (value : ℤ) (ended : Bool) (fault : Option ScanFault)
     → IsKept window from end given foreign torn ended fault → ended ≡ false → (IsTrue window.honest → IsFront (here window end) (Bad value))
-    → IsKept (record window { ready = ready }) from end given foreign torn ended (Some (BadLength window.at (cast_signed w32 (cast_unsigned w32 value))))
-kept_bad window from end given foreign torn ready value ended fault kept going front = record {
+    → IsKept (record window { ready = ready; room = room }) from end given foreign torn ended
+    (Some (BadLength window.at (cast_signed w32 (cast_unsigned w32 value))))
+kept_bad window from end given foreign torn ready room value ended fault kept going front = record {
   placed = kept.placed;
   told = λ e. absurd (bad_is_not_disk window.at _ e);
+  fresh = λ goes calm. absurd (no_fault _ _ calm refl);
   headed = kept.headed;
   in_view = kept.in_view;
   scanned = λ h.
@@ -239,27 +245,36 @@ kept_bad window from end given foreign torn ready value ended fault kept going f
       };
 }
 
-fails_here : (s : Scan) (fault : ScanFault) → AheadFails s.left fault → ScanFails s fault
-fails_here s (BadLength at value) never = absurd never
-fails_here s Disk fine = tt
-fails_here s Memory some = some
-fails_here s Odd never = absurd never
+-- a first record that stands at the position is the part's
+first_here : (window : Ahead) (from end : ℕ) → window.at ≡ from → (payload : List ℕ) → BeginsWith (here window end) payload
+    → BeginsWith (part window.bytes from end) payload
+first_here window from end place payload begins = subst (λ n. BeginsWith (take (end - n) (drop n window.bytes)) payload) place begins
 
--- the view could not be read
-pub kept_fault : (window : Ahead) (from end given foreign torn ready : ℕ) (ended : Bool) (fault : Option ScanFault) (met : ScanFault)
-    → IsKept window from end given foreign torn ended fault → ended ≡ false → (met ≡ Disk → window.sound ≡ false)
-    → (IsTrue window.honest → AheadFails (end - window.at) met)
-    → IsKept (record window { ready = ready }) from end given foreign torn ended (Some met)
-kept_fault window from end given foreign torn ready ended fault met kept going cause fails = record {
+fails_here : (window : Ahead) (from end given foreign torn : ℕ) (ended : Bool) (still : Option ScanFault) (fault : ScanFault)
+    → (window.room ≡ 0 → (window.at ≡ from) × ((given ≡ 0) × (foreign ≡ 0))) → AheadFails window.room (here window end) fault
+    → ScanFails (scan_of window from end given foreign torn ended still) fault
+fails_here window from end given foreign torn ended still (BadLength at value) fresh never = absurd never
+fails_here window from end given foreign torn ended still Disk fresh fine = tt
+fails_here window from end given foreign torn ended still Memory fresh (none, (payload, begins)) =
+    let (place, (first, alone)) = fresh none in (first, (alone, (payload, first_here window from end place payload begins)))
+fails_here window from end given foreign torn ended still Odd fresh never = absurd never
+
+-- the view could not be read, or no buffer was to be had
+pub kept_fault : (window : Ahead) (from end given foreign torn ready room : ℕ) (ended : Bool) (fault : Option ScanFault) (met : ScanFault)
+    → IsKept window from end given foreign torn ended fault → ended ≡ false → fault ≡ None → (met ≡ Disk → window.sound ≡ false)
+    → (IsTrue window.honest → AheadFails window.room (here window end) met)
+    → IsKept (record window { ready = ready; room = room }) from end given foreign torn ended (Some met)
+kept_fault window from end given foreign torn ready room ended fault met kept going calm cause fails = record {
   placed = kept.placed;
   told = λ e. cause (same_some _ _ e);
+  fresh = λ goes quiet. absurd (no_fault _ _ quiet refl);
   headed = kept.headed;
   in_view = kept.in_view;
   scanned = λ h. record {
     passed = (kept.scanned h).passed;
     finished = λ e. absurd (false≢true (sym going ∙ e));
     stopped = λ f e. subst (ScanFails (scan_of window from end given foreign torn ended (Some met))) (same_some _ _ e)
-        (fails_here (scan_of window from end given foreign torn ended (Some met)) met (fails h));
+        (fails_here window from end given foreign torn ended (Some met) met (kept.fresh going calm) (fails h));
   };
 }
 

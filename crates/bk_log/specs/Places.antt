@@ -6,7 +6,6 @@ use Rattle.bk_record.specs.Body.{Body}
 use Rattle.bk_record.specs.Piece.{BeginsWith}
 use Rattle.bk_record.specs.Files.{header_length, records_of, In}
 use Rattle.bk_record.specs.Spelling.{IsBytes}
-use Rattle.bk_disk.specs.Disk.{IsInView}
 use Rattle.bk_log.specs.declared.reading.ReadFault.{ReadFault}
 use Rattle.bk_log.specs.declared.reading.ReadFault.TheVariants as reads
 use Rattle.bk_log.specs.declared.fault.FetchFault.{FetchFault}
@@ -24,11 +23,11 @@ pub record HasEntryAt (file : List ℕ) (at : ℕ) (key : EntryKey) (payload : L
   pub keyed : key_of payload ≡ Some key
 
 -- a refused fetch, of an honest view of a log with these bytes: `NotThere` only where no whole record of the key has its
--- payload at the position, `Memory` only where a length field lies in the view before it
+-- payload at the position, `Memory` only where one has
 abbrev pub FetchFails : List ℕ → ℕ → EntryKey → FetchFault → Type 0
 FetchFails file at key Disk = Unit {0}
 FetchFails file at key NotThere = (payload : List ℕ) → ¬ (HasEntryAt file at key payload)
-FetchFails file at key Memory = IsInView file (at - 4) 4
+FetchFails file at key Memory = (payload : List ℕ) × HasEntryAt file at key payload
 FetchFails file at key Odd = ⊥
 
 -- `fetch`: the payload of the record of the key that stands there

@@ -16,3 +16,11 @@ ReadFails file at n Odd = ⊥
 abbrev pub Shows : {T : Type 0} → (T → List ℕ) → List ℕ → ℕ → ℕ → Result T ReadFault → Type 0
 Shows bytes file at n (Ok found) = IsInView file at n × (bytes found ≡ take n (drop at file))
 Shows bytes file at n (Err fault) = ReadFails file at n fault
+
+-- a read into a buffer of so many bytes, which takes no memory
+abbrev pub Fills : {T : Type 0} → List ℕ → ℕ → ℕ → Result T ReadFault → List ℕ → Type 0
+Fills file at n (Ok _) out = IsInView file at n × (out ≡ take n (drop at file))
+Fills file at n (Err Disk) out = Unit {0}
+Fills file at n (Err PastEnd) out = ¬ (IsInView file at n)
+Fills file at n (Err Memory) out = ⊥
+Fills file at n (Err Odd) out = ⊥

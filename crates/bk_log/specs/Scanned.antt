@@ -26,13 +26,14 @@ scan_of window from end given foreign torn ended fault = record {
 -- a scan that begins
 abbrev pub new_scan : List ℕ → Bool → Bool → ℕ → ℕ → Scan
 new_scan bytes honest sound from end =
-    scan_of (record { at = from; bytes = bytes; honest = honest; sound = sound; ready = 0 }) from end 0 0 0 false None
+    scan_of (record { at = from; bytes = bytes; honest = honest; sound = sound; ready = 0; room = 0 }) from end 0 0 0 false None
 
--- The position is in the part; `Disk` was told of a view that isn't sound. Of an honest view: the part lies in it, and the scan
--- is that of its bytes.
+-- The position is in the part; `Disk` was told of a view that isn't sound; a scan that goes on has passed nothing while it
+-- has no buffer. Of an honest view: the part lies in it, and the scan is that of its bytes.
 pub record IsKept (window : Ahead) (from end given foreign torn : ℕ) (ended : Bool) (fault : Option ScanFault) : Type 0 where
   pub placed : IsPlaced from end window.at given foreign
   pub told : fault ≡ Some Disk → window.sound ≡ false
+  pub fresh : ended ≡ false → fault ≡ None → window.room ≡ 0 → (window.at ≡ from) × ((given ≡ 0) × (foreign ≡ 0))
   pub headed : header_length ≤ from
   pub in_view : IsTrue window.honest → end ≤ view_end window.bytes
   pub scanned : IsTrue window.honest

@@ -2,6 +2,7 @@
 use Rattle.std.specs.Prelude.{◌≡◌, ℕ, ◌+◌, ◌≤◌, Bool, true, false, ◌&&◌, not, IsTrue, List, length, Option, Some, None, is_none, ◌*◌, ◌<◌, ◌^◌, Result, Ok, Err}
 use Rattle.std.specs.Prelude.{slice_get}
 use Rattle.bk_record.specs.Body.{Body, IsBadAt}
+use Rattle.bk_record.specs.Piece.{BeginsWith}
 use Rattle.bk_log.specs.declared.fault.ScanFault.{ScanFault}
 use Rattle.bk_log.specs.declared.fault.ScanFault.TheVariants.{BadLength, Disk, Memory, Odd}
 use Rattle.bk_log.specs.declared.found.Found.{Found}
@@ -50,11 +51,11 @@ pub record IsFinished (s : Scan) : Type 0 where
   pub torn : s.torn ≡ length (all_leftover (part_of s))
 
 -- the fault of a scan of an honest view: a bad length exactly where the part has one, behind all its entries; want of
--- memory only where bytes are left
+-- memory only at the part's first record, which is whole
 abbrev pub ScanFails : Scan → ScanFault → Type 0
 ScanFails s (BadLength at value) = (s.given ≡ length (entries_in s.from (part_of s))) × IsBadAt s.from (part_of s) at value
 ScanFails s Disk = Unit {0}
-ScanFails s Memory = 0 < s.left
+ScanFails s Memory = (s.given ≡ 0) × ((s.foreign ≡ 0) × ((payload : List ℕ) × BeginsWith (part_of s) payload))
 ScanFails s Odd = ⊥
 
 -- `next`, on an honest view

@@ -1,4 +1,4 @@
-//! One entry, by its place: the record that stands there is read alone, and its key compared.
+//! One entry, by its place: the head of the record that stands there is read and its key compared, then the payload alone.
 
 ghost use Rattle.std.specs.Prelude.{◌≡◌, ◌≤◌, ◌↔◌, false, IsTrue, IsErrOf, length};
 ghost use Rattle.bk_record.specs.Record.{key_of as payload_key};
@@ -6,9 +6,9 @@ ghost use Rattle.bk_log.specs.Places.{Fetches, missed};
 
 use crate::FetchFault;
 use crate::length::{is_payload_length, length_in};
-use crate::reading::{ReadFault, read};
+use crate::reading::{ReadFault, read, read_into};
 use bk_disk::LogView;
-use bk_record::{Key, LENGTH_FIELD, Location, key_of};
+use bk_record::{Key, LENGTH_FIELD, Location, RECORD_HEAD, key_of};
 use std::alloc::Global;
 
 /// The length of a record's length field in bytes.
@@ -18,7 +18,7 @@ const FIELD: u64 = LENGTH_FIELD as u64;
 /// among its bytes. The location's log is not looked at: it is the caller's to bring the log's view.
 ///
 /// Faults: `NotThere` exactly where no whole record of the key has its payload there, `Disk` where the view isn't
-/// sound, `Memory`, `Odd`.
+/// sound, `Memory` only where such a record stands there, `Odd`.
 pub fn fetch<V: LogView>(
     view: &V,
     alloc: Global,
@@ -30,21 +30,18 @@ pub fn fetch<V: LogView>(
         → Fetches (λ v. v.items) (V.bytes view.now) location.at key result }
 {
     let at = u64::from(location.at());
-    let length = match read(view, alloc, at - FIELD, FIELD) {
-        Ok(field) => length_in(&field),
-        Err(fault) => return Err(fetch_fault(fault)),
-    };
-    if !is_payload_length(length) {
+    let mut head = [0u8; RECORD_HEAD];
+    if let Err(fault) = read_into(view, at - FIELD, &mut head) {
+        return Err(fetch_fault(fault));
+    }
+    let length = length_in(&head);
+    if !is_payload_length(length) || !is_of_key(&head[LENGTH_FIELD..], key) {
         return Err(FetchFault::NotThere);
     }
-    let payload = match read(view, alloc, at, u64::from(length)) {
-        Ok(payload) => payload,
-        Err(fault) => return Err(fetch_fault(fault)),
-    };
-    if !is_of_key(&payload, key) {
-        return Err(FetchFault::NotThere);
+    match read(view, alloc, at, u64::from(length)) {
+        Ok(payload) => Ok(payload),
+        Err(fault) => Err(fetch_fault(fault)),
     }
-    Ok(payload)
 }
 
 /// Whether the payload has this key.

@@ -1,7 +1,7 @@
 //! Bytes of a view: as many as were asked for, or why not.
 
 ghost use Rattle.std.specs.Prelude.{◌≡◌, false, IsTrue, IsErrOf, IfOk, length};
-ghost use Rattle.bk_log.specs.Reads.{Shows};
+ghost use Rattle.bk_log.specs.Reads.{Shows, Fills};
 
 use bk_disk::{DiskFault, LogView};
 use std::alloc::Global;
@@ -37,5 +37,18 @@ pub(crate) fn read<V: LogView>(
         Err(DiskFault::PastEnd) => Err(ReadFault::PastEnd),
         Err(DiskFault::Memory) => Err(ReadFault::Memory),
         Err(DiskFault::Exists | DiskFault::NoLog | DiskFault::TooLong) => Err(ReadFault::Odd),
+    }
+}
+
+/// The bytes of a view from a position on, written over those of `out`.
+pub(crate) fn read_into<V: LogView>(view: &V, at: u64, out: &mut [u8]) -> Result<(), ReadFault>
+    ensures cause { IsErrOf result ReadFault.Disk → V.sound view.now ≡ false }
+    ensures turn { IsTrue (V.honest view.now) → Fills (V.bytes view.now) at (length out.old) result out.new }
+{
+    match view.read_into(at, out) {
+        Ok(()) => Ok(()),
+        Err(DiskFault::Disk) => Err(ReadFault::Disk),
+        Err(DiskFault::PastEnd) => Err(ReadFault::PastEnd),
+        Err(_) => Err(ReadFault::Odd),
     }
 }

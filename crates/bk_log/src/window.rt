@@ -1,21 +1,22 @@
 //! Reading ahead in a view: bytes are read in windows, and looked at record by record.
 
-ghost use Rattle.std.specs.Prelude.{◌≡◌, ◌+◌, ◌-◌, ◌≤◌, ◌<◌, ◌^◌, false, IsTrue, IsErrOf, IfOk, IfErr, OnOk, take, drop};
-ghost use Rattle.bk_log.specs.Ahead.{stopped};
+ghost use Rattle.std.specs.Prelude.{◌≡◌, ◌+◌, ◌-◌, ◌≤◌, ◌<◌, ◌^◌, false, IsTrue, IsErrOf, IfOk, IfErr, OnOk, length, take, drop};
 ghost use Rattle.bk_disk.specs.Disk.{IsInView};
+ghost use Rattle.bk_log.specs.Ahead.{HasRoomFor, ReadsLeft};
 ghost use Rattle.bk_log.specs.Fronts.{FitsIn};
 
 use crate::ScanFault;
 use crate::front::{Front, HEAD, front_of};
-use crate::reading::{ReadFault, read};
-use bk_disk::LogView;
+use bk_disk::{DiskFault, LogView};
+use bk_record::RECORD_HEAD;
 use std::alloc::Global;
 use std::marker::Model;
 
 /// How many bytes are read at once, where so many are left.
 const WINDOW: u64 = 65_536;
 
-/// A position in a view that moves on. The bytes behind `offset` in `read` are those of the view from the position on.
+/// A position in a view that moves on. The bytes behind `offset` in `read` are those of the view from the position on;
+/// `read` is made once, where the first record is met, and is no longer than what was left then.
 #[derive(Drop)]
 pub(crate) struct Window<'a, V: LogView> {
     view: &'a V,
@@ -39,17 +40,25 @@ impl<'a, V: LogView> Model for Window<'a, V> {
       honest = V.honest w.view.now;
       sound = V.sound w.view.now;
       ready = length w.read.items - w.offset;
+      room = length w.read.items;
     } };
 
     ghost invariant = { λ w. ShowsAhead (V.honest w.view.now) (V.bytes w.view.now) w.at w.offset w.read.items };
 }
 
 impl<'a, V: LogView> Window<'a, V> {
-    ghost use Rattle.bk_log.specs.Ahead.{AheadFails, ShowsFront};
+    ghost use Rattle.bk_log.specs.Ahead.{ShowsFront};
 
     /// At a position of a view, with nothing read yet.
     pub(crate) fn new(view: &'a V, alloc: Global, at: u64) -> Window<'a, V>
-        ensures { result ≡ record { at = at; bytes = V.bytes view.now; honest = V.honest view.now; sound = V.sound view.now; ready = 0 } }
+        ensures { result ≡ record {
+          at = at;
+          bytes = V.bytes view.now;
+          honest = V.honest view.now;
+          sound = V.sound view.now;
+          ready = 0;
+          room = 0;
+        } }
     {
         Window {
             view,
@@ -67,42 +76,74 @@ impl<'a, V: LogView> Window<'a, V> {
         self.at
     }
 
-    /// What stands at the position, where `left` bytes are left from there on.
+    /// What stands at the position, where `left` bytes are left from there on. Where its head isn't at hand it is read
+    /// alone, and a window only for a record. Faults: `Disk` where the view isn't sound, `Memory` at the first record, `Odd`.
     pub(crate) fn front(&mut self, left: u64) -> Result<Front, ScanFault>
         requires { IsTrue self.old.honest → IsInView self.old.bytes self.old.at left }
-        ensures same { self.new ≡ record self.old { ready = self.new.ready } }
+        ensures same { self.new ≡ record self.old { ready = self.new.ready; room = self.new.room } }
         ensures cause { IsErrOf result ScanFault.Disk → self.old.sound ≡ false }
         ensures fits { IfOk result (FitsIn left) }
-        ensures turn { IsTrue self.old.honest → ShowsFront left (take left (drop self.old.at self.old.bytes)) result }
+        ensures room { IfOk result (HasRoomFor self.new.room) }
+        ensures turn { IsTrue self.old.honest
+            → ShowsFront self.old.room (take left (drop self.old.at self.old.bytes)) result }
     {
-        let wanted = left.min(HEAD);
-        self.fill(wanted, left)?;
-        let head = &self.read[self.offset..self.offset + wanted as usize];
-        Ok(front_of(head, left))
+        let wanted = left.min(HEAD) as usize;
+        if wanted <= self.read.len() - self.offset {
+            let head = &self.read[self.offset..self.offset + wanted];
+            return Ok(front_of(head, left));
+        }
+        let mut bytes = [0u8; RECORD_HEAD];
+        let head = &mut bytes[..wanted];
+        read_left(self.view, self.at, head)?;
+        let front = front_of(head, left);
+        if let Front::Record { size, .. } = front {
+            if let Err(fault) = self.make(left) {
+                return Err(fault);
+            }
+            if u64::from(size) < WINDOW {
+                self.fill(left)?;
+            }
+        }
+        Ok(front)
     }
 
-    /// Sees to it that so many bytes are at hand: reads a window of those that are left where there are fewer.
-    fn fill(&mut self, wanted: u64, left: u64) -> Result<(), ScanFault>
-        requires most { wanted ≤ WINDOW }
-        requires within { wanted ≤ left }
-        requires view { IsTrue self.old.honest → IsInView self.old.bytes self.old.at left }
-        ensures same { self.new ≡ record self.old { ready = self.new.ready } }
-        ensures cause { IsErrOf result ScanFault.Disk → self.old.sound ≡ false }
-        ensures ready { OnOk result (wanted ≤ self.new.ready) }
-        ensures turn { IsTrue self.old.honest → IfErr result (AheadFails left) }
+    /// Makes the buffer of the windows, where there is none yet.
+    fn make(&mut self, left: u64) -> Result<(), ScanFault>
+        requires { 0 < left }
+        ensures same { self.new ≡ record self.old { room = self.new.room } }
+        ensures ok { OnOk result (0 < self.new.room) }
+        ensures err { IfErr result (λ fault. (fault ≡ ScanFault.Memory) × (self.old.room ≡ 0)) }
     {
-        let ready = (self.read.len() - self.offset) as u64;
-        if wanted <= ready {
+        if !self.read.is_empty() {
             return Ok(());
         }
-        match read(self.view, self.alloc, self.at, left.min(WINDOW)) {
-            Ok(bytes) => {
-                self.read = bytes;
-                self.offset = 0;
+        let size = left.min(WINDOW) as usize;
+        match vec![in self.alloc; 0u8; size] {
+            Ok(read) => {
+                self.read = read;
+                self.offset = size;
                 Ok(())
             }
-            Err(fault) => Err(scan_fault(fault)),
+            Err(_) => Err(ScanFault::Memory),
         }
+    }
+
+    /// Reads a window of the bytes that are left.
+    fn fill(&mut self, left: u64) -> Result<(), ScanFault>
+        requires some { 0 < left }
+        requires made { 0 < self.old.room }
+        requires view { IsTrue self.old.honest → IsInView self.old.bytes self.old.at left }
+        ensures same { self.new ≡ record self.old { ready = self.new.ready; room = self.new.room } }
+        ensures cause { IsErrOf result ScanFault.Disk → self.old.sound ≡ false }
+        ensures room { 0 < self.new.room }
+        ensures turn { IsTrue self.old.honest → IfErr result (λ fault. fault ≡ ScanFault.Disk) }
+    {
+        let size = left.min(self.read.len() as u64) as usize;
+        self.read.truncate(size);
+        self.offset = size;
+        read_left(self.view, self.at, &mut self.read)?;
+        self.offset = 0;
+        Ok(())
     }
 
     /// Moves on by so many bytes.
@@ -115,13 +156,15 @@ impl<'a, V: LogView> Window<'a, V> {
     }
 }
 
-/// Where bytes that are left don't lie in the view, the view is odd.
-fn scan_fault(fault: ReadFault) -> ScanFault
-    ensures { result ≡ stopped fault }
+/// Reads bytes that are left into `out`. Where they don't lie in the view, the view is odd.
+fn read_left<V: LogView>(view: &V, at: u64, out: &mut [u8]) -> Result<(), ScanFault>
+    requires { IsTrue (V.honest view.now) → IsInView (V.bytes view.now) at (length out.old) }
+    ensures cause { IsErrOf result ScanFault.Disk → V.sound view.now ≡ false }
+    ensures turn { IsTrue (V.honest view.now) → ReadsLeft (V.bytes view.now) at (length out.old) result out.new }
 {
-    match fault {
-        ReadFault::Disk => ScanFault::Disk,
-        ReadFault::Memory => ScanFault::Memory,
-        ReadFault::PastEnd | ReadFault::Odd => ScanFault::Odd,
+    match view.read_into(at, out) {
+        Ok(()) => Ok(()),
+        Err(DiskFault::Disk) => Err(ScanFault::Disk),
+        Err(_) => Err(ScanFault::Odd),
     }
 }

@@ -2,7 +2,7 @@ use Rattle.std.proofs.Common.{sym, ◌∙◌, ap, subst, Some, true, ◌+◌, �
 use Rattle.std.specs.Int.{w32, cast_signed, cast_unsigned}
 use Rattle.bk_log.specs.declared.fault.ScanFault.TheVariants.{BadLength}
 use Rattle.bk_log.specs.declared.front.Front.TheVariants.{Record}
-use Rattle.bk_log.specs.Ahead.{Ahead}
+use Rattle.bk_log.specs.Ahead.{Ahead, HasRoomFor}
 use Rattle.bk_log.specs.Scanning.{Scan, IsGiven}
 use Rattle.bk_log.specs.Scanned.{scan_of, IsKept}
 use Rattle.bk_log.proofs.Kept.{going_on, skipped_window, kept_foreign, kept_entry, kept_rest, kept_bad, given_next, front_here, fits_here}
@@ -14,9 +14,10 @@ invariant_of-self g c =
     let going = going_on s.window _ _ _ _ _ _ _ _ c.self.view_is c.requires in
     let shown = c.in-Ok-Record.field-0-is ∙ ap (Record c.in-Ok-Record.size) c.in_default.is in
     let fits = fits_here s.window s.end _ _ _ c.at-at.ensures shown c.in-Ok-Record.ensures.fits in
+    let made = subst (HasRoomFor c.front.new.self.room) c.in-Ok-Record.field-0-is c.in-Ok-Record.ensures.room in
     subst (λ (w : Ahead). IsKept w s.from s.end s.given (s.foreign + 1) s.torn s.ended s.fault)
     (sym (skipped_window s.window _ _ _ c.front.ensures.same c.skip.ensures))
-    (kept_foreign s.window _ _ _ _ _ _ _ _ _ c.self.invariant going.0 going.1 fits.0 fits.1
+    (kept_foreign s.window _ _ _ _ _ _ _ _ _ _ c.self.invariant made going.0 going.1 fits.0 fits.1
     (front_here s.window s.end _ _ _ c.at-at.ensures shown c.in-Ok-Record.ensures.turn))
 
 pub invariant_of-self-in-Ok-Record : goal.invariant_of-self-in-Ok-Record
@@ -25,9 +26,10 @@ invariant_of-self-in-Ok-Record g c =
     let going = going_on s.window _ _ _ _ _ _ _ _ c.self.view_is c.requires in
     let shown = c.in-Ok-Record.field-0-is ∙ ap (Record c.in-Ok-Record.size) c.in-Some.is in
     let fits = fits_here s.window s.end _ _ _ c.at-at.ensures shown c.in-Ok-Record.ensures.fits in
+    let made = subst (HasRoomFor c.front.new.self.room) c.in-Ok-Record.field-0-is c.in-Ok-Record.ensures.room in
     subst (λ (w : Ahead). IsKept w s.from s.end (s.given + 1) s.foreign s.torn s.ended s.fault)
     (sym (skipped_window s.window _ _ _ c.front.ensures.same c.skip.ensures))
-    (kept_entry s.window _ _ _ _ _ _ _ _ _ _ c.self.invariant going.0 going.1 fits.0 fits.1
+    (kept_entry s.window _ _ _ _ _ _ _ _ _ _ _ c.self.invariant made going.0 going.1 fits.0 fits.1
     (front_here s.window s.end _ _ _ c.at-at.ensures shown c.in-Ok-Record.ensures.turn))
 
 pub returns-in-Some-clause-turn : goal.returns-in-Some-clause-turn
@@ -47,8 +49,8 @@ invariant_of-self-in-Ok-Rest g c =
     let s = c.self.inside in
     let going = going_on s.window _ _ _ _ _ _ _ _ c.self.view_is c.requires in
     subst (λ (w : Ahead). IsKept w s.from s.end s.given s.foreign (s.end - c.at-at.result) true s.fault) (sym c.front.ensures.same)
-    (subst (λ n. IsKept (record s.window { ready = c.front.new.self.ready }) s.from s.end s.given s.foreign (s.end - n) true s.fault) (sym c.at-at.ensures)
-    (kept_rest s.window _ _ _ _ _ _ _ _ c.self.invariant going.1 (front_here s.window s.end _ _ _ c.at-at.ensures c.in-Ok-Rest.field-0-is
+    (subst (λ n. IsKept (record s.window { ready = c.front.new.self.ready; room = c.front.new.self.room }) s.from s.end s.given s.foreign (s.end - n) true s.fault) (sym c.at-at.ensures)
+    (kept_rest s.window _ _ _ _ _ _ _ _ _ c.self.invariant going.1 (front_here s.window s.end _ _ _ c.at-at.ensures c.in-Ok-Rest.field-0-is
     c.in-Ok-Rest.ensures.turn)))
 
 pub invariant_of-self-in-Ok-Bad : goal.invariant_of-self-in-Ok-Bad
@@ -57,7 +59,7 @@ invariant_of-self-in-Ok-Bad g c =
     let going = going_on s.window _ _ _ _ _ _ _ _ c.self.view_is c.requires in
     subst (λ (w : Ahead). IsKept w s.from s.end s.given s.foreign s.torn s.ended (Some
     (BadLength c.at-at.result (cast_signed w32 (cast_unsigned w32 c.in-Ok-Bad.length))))) (sym c.front.ensures.same)
-    (subst (λ n. IsKept (record s.window { ready = c.front.new.self.ready }) s.from s.end s.given s.foreign s.torn s.ended
+    (subst (λ n. IsKept (record s.window { ready = c.front.new.self.ready; room = c.front.new.self.room }) s.from s.end s.given s.foreign s.torn s.ended
     (Some (BadLength n (cast_signed w32 (cast_unsigned w32 c.in-Ok-Bad.length))))) (sym c.at-at.ensures)
-    (kept_bad s.window _ _ _ _ _ _ _ _ _ c.self.invariant going.0 (front_here s.window s.end _ _ _ c.at-at.ensures c.in-Ok-Bad.field-0-is
+    (kept_bad s.window _ _ _ _ _ _ _ _ _ _ c.self.invariant going.0 (front_here s.window s.end _ _ _ c.at-at.ensures c.in-Ok-Bad.field-0-is
     c.in-Ok-Bad.ensures.turn)))
