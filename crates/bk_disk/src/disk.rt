@@ -33,8 +33,9 @@ pub trait LogView: Send + Sync + Drop {
     fn end(&self) -> u64
         ensures { IsTrue (honest self.now) → result ≡ view_end (bytes self.now) };
 
-    /// Writes the bytes from position `at` on over those of `out`, as many as it has. It takes no memory. Faults: `PastEnd`
-    /// where they don't lie from 1024 to `end`, `Disk` where the view isn't sound, which leaves any bytes in `out`.
+    /// Writes the bytes from position `at` on over those of `out`, as many as it has. It takes no memory. Faults:
+    /// `PastEnd` where they don't lie from 1024 to `end`, `Disk` where the view isn't sound, which leaves any bytes in
+    /// `out`.
     fn read_into(&self, at: u64, out: &mut [u8]) -> Result<(), DiskFault>
         ensures cause { IsErrOf result DiskFault.Disk → sound self.now ≡ false }
         ensures turn { IsTrue (honest self.now) → ReadsInto (bytes self.now) at (length out.old) result out.new };

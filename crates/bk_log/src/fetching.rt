@@ -1,4 +1,4 @@
-//! One entry, by its place: the head of the record that stands there is read and its key compared, then the payload alone.
+//! One entry, by its place: the head of the record that stands there is read and its key compared, then its payload.
 
 ghost use Rattle.std.specs.Prelude.{◌≡◌, ◌≤◌, ◌↔◌, false, IsTrue, IsErrOf, length};
 ghost use Rattle.bk_record.specs.Record.{key_of as payload_key};

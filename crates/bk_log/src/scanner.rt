@@ -70,7 +70,8 @@ impl<'a, V: LogView> Scanner<'a, V> {
     /// bytes than a record needs, and is counted as torn (this project's rules).
     ///
     /// Faults: `BadLength` where a length below 16, as a signed number, stands behind the last entry, `Disk` where the
-    /// view isn't sound, `Memory` only at the part's first record, `Odd`. After a fault every further call answers it again.
+    /// view isn't sound, `Memory` only at the part's first record, `Odd`. After a fault every further call answers it
+    /// again.
     pub fn next(&mut self) -> Result<Option<Found>, ScanFault>
         ensures moves { NextMoves self.old result self.new }
         ensures again { ¬ (IsTrue (is_going self.old)) → self.new ≡ self.old }

@@ -77,7 +77,8 @@ impl<'a, V: LogView> Window<'a, V> {
     }
 
     /// What stands at the position, where `left` bytes are left from there on. Where its head isn't at hand it is read
-    /// alone, and a window only for a record. Faults: `Disk` where the view isn't sound, `Memory` at the first record, `Odd`.
+    /// alone, and a window only for a record. Faults: `Disk` where the view isn't sound, `Memory` at the first record,
+    /// `Odd`.
     pub(crate) fn front(&mut self, left: u64) -> Result<Front, ScanFault>
         requires { IsTrue self.old.honest → IsInView self.old.bytes self.old.at left }
         ensures same { self.new ≡ record self.old { ready = self.new.ready; room = self.new.room } }

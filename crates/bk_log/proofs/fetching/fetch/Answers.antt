@@ -4,7 +4,8 @@ use Rattle.std.proofs.lemmas.Bool.{false≢true}
 use Rattle.bk_log.specs.Places.{FetchFails}
 use Rattle.bk_log.proofs.Fetches.{HeadRead, head_refused, payload_refused, fetch_bad_length, fetch_other_key, fetch_found}
 use Rattle.bk_log.proofs.fetching.fetch.Goals as goal
-use Rattle.bk_log.proofs.fetching.fetch.Goals.{then-not-is_payload_length-via-then-not-is_payload_length, then-not-is_payload_length-via-else-not-is_payload_length+then-not-is_of_key}
+use Rattle.bk_log.proofs.fetching.fetch.Goals.{then-not-is_payload_length-via-then-not-is_payload_length}
+use Rattle.bk_log.proofs.fetching.fetch.Goals.{then-not-is_payload_length-via-else-not-is_payload_length+then-not-is_of_key}
 
 pub returns-in-Err-clause-turn : goal.returns-in-Err-clause-turn
 returns-in-Err-clause-turn g c = λ h.
@@ -24,7 +25,8 @@ returns-then-not-is_payload_length-clause-turn g c = λ h.
     } in
     elim c.then-not-is_payload_length.branch [
       | then-not-is_payload_length-via-then-not-is_payload_length w ↦
-          fetch_bad_length _ c.read_into.new.out _ _ c.length_in-length.result _ read (λ legal. absurd (false≢true (w.if-not-is_payload_length.ensures.1 legal)))
+          fetch_bad_length _ c.read_into.new.out _ _ c.length_in-length.result _ read
+          (λ legal. absurd (false≢true (w.if-not-is_payload_length.ensures.1 legal)))
       | then-not-is_payload_length-via-else-not-is_payload_length+then-not-is_of_key w ↦
           fetch_other_key _ c.read_into.new.out _ _ c.length_in-length.result _ read (λ keyed. absurd (false≢true (w.if-not-is_of_key.ensures.1 keyed)))
     ]

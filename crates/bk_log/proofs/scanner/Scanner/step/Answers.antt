@@ -49,7 +49,8 @@ invariant_of-self-in-Ok-Rest g c =
     let s = c.self.inside in
     let going = going_on s.window _ _ _ _ _ _ _ _ c.self.view_is c.requires in
     subst (λ (w : Ahead). IsKept w s.from s.end s.given s.foreign (s.end - c.at-at.result) true s.fault) (sym c.front.ensures.same)
-    (subst (λ n. IsKept (record s.window { ready = c.front.new.self.ready; room = c.front.new.self.room }) s.from s.end s.given s.foreign (s.end - n) true s.fault) (sym c.at-at.ensures)
+    (subst (λ n. IsKept (record s.window { ready = c.front.new.self.ready; room = c.front.new.self.room }) s.from s.end s.given s.foreign (s.end - n) true
+    s.fault) (sym c.at-at.ensures)
     (kept_rest s.window _ _ _ _ _ _ _ _ _ c.self.invariant going.1 (front_here s.window s.end _ _ _ c.at-at.ensures c.in-Ok-Rest.field-0-is
     c.in-Ok-Rest.ensures.turn)))
 

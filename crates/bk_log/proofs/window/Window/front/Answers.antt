@@ -3,7 +3,8 @@ use Rattle.bk_log.specs.Ahead.{Ahead}
 use Rattle.bk_log.specs.Fronts.{IsFront}
 use Rattle.bk_log.proofs.Aheads.{length-left, window_head, head_read, no_room}
 use Rattle.bk_log.proofs.window.Window.front.Goals as goal
-use Rattle.bk_log.proofs.window.Window.front.Goals.{in-Record+in_default-make+then-from-lt-WINDOW+in_ok-fill, in-Record+in_default-make+else-from-lt-WINDOW, in_default}
+use Rattle.bk_log.proofs.window.Window.front.Goals.{in-Record+in_default-make+then-from-lt-WINDOW+in_ok-fill}
+use Rattle.bk_log.proofs.window.Window.front.Goals.{in-Record+in_default-make+else-from-lt-WINDOW, in_default}
 
 pub returns-then-wanted-len-clause-turn : goal.returns-then-wanted-len-clause-turn
 returns-then-wanted-len-clause-turn g c = λ h.
