@@ -6,6 +6,8 @@ mod answer;
 mod rebuilding;
 mod retiring;
 mod scanning;
+#[cfg(test)]
+mod tests;
 
 pub use answer::{CollectFault, RetireAnswer};
 pub use rebuilding::rebuild;
