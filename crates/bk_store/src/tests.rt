@@ -1,6 +1,7 @@
 //! Worked examples, with bytes written by hand.
 
-use crate::{AddFault, DeleteFault, OpenFault, Settings, Store, TakeFault, Taken};
+use crate::{AddFault, Added, DeleteFault, OpenFault, Settings, Store, TakeFault, Taken};
+use bk_accounts::Accounts;
 use bk_disk::{DiskFault, FaultDisk, LogDisk, MemDisk};
 use bk_record::Key;
 use std::alloc::Global;
@@ -77,48 +78,50 @@ fn opened(alloc: Global, dead: &[u64]) -> Result<Store<MemDisk>, OpenFault> {
     }
 }
 
-/// Where a store has the entry 0 of a ledger: `None` where it has none, or the ledger is dead.
-fn place_of(store: &Store<MemDisk>, ledger: u64) -> Result<Option<u64>, TakeFault> {
+/// The place of a ledger's entry 0: 0 where the store has none, or the ledger is dead.
+fn place_of(store: &Store<MemDisk>, ledger: u64) -> Result<u64, TakeFault> {
     match Key::new(ledger, 0) {
         Some(key) => match &store.take(key)? {
-            Taken::Leased(_, location) => Ok(Some(location.value())),
-            _ => Ok(None),
+            Taken::Leased(_, location) => Ok(location.value()),
+            _ => Ok(0),
         },
-        None => Ok(None),
+        None => Ok(0),
     }
 }
 
-/// The first of these ledgers whose entry 0 is in another place than is said here.
-fn other_place(store: &Store<MemDisk>, places: &[(u64, Option<u64>)]) -> Option<u64> {
+/// Whether the entries 0 of these ledgers are at these places.
+fn are_placed(store: &Store<MemDisk>, places: &[(u64, u64)]) -> bool {
     for (ledger, place) in places {
-        if place_of(store, *ledger) != Ok(*place) {
-            return Some(*ledger);
+        match place_of(store, *ledger) {
+            Ok(found) if found == *place => {}
+            _ => return false,
         }
     }
-    None
+    true
 }
 
 /// What a log has: the bytes of its records, how many of them remain, and how many keys name it.
 type Account = (u32, u32, u64);
 
-fn account_of(store: &Store<MemDisk>, log: u32) -> Option<Account> {
-    let accounts = &store.fields.accounts;
+/// Whether these logs have these accounts.
+fn are_accounts(store: &Store<MemDisk>, expected: &[(u32, Account)]) -> bool {
+    for (log, (total, remaining, named)) in expected {
+        if !is_account(&store.fields.accounts, *log, *total, *remaining, *named) {
+            return false;
+        }
+    }
+    true
+}
+
+fn is_account(accounts: &Accounts, log: u32, total: u32, remaining: u32, named: u64) -> bool {
     match (
         accounts.total(log),
         accounts.remaining(log),
         accounts.named(log),
     ) {
-        (Ok(total), Ok(remaining), Ok(named)) => Some((total, remaining, named)),
-        _ => None,
-    }
-}
-
-/// The first of these logs that has another account than is said here.
-fn other_account(store: &Store<MemDisk>, accounts: &[(u32, Account)]) -> Option<u32> {
-    for (log, account) in accounts {
-        if account_of(store, *log) != Some(*account) {
-            return Some(*log);
+        (Ok(of_all), Ok(of_live), Ok(keys)) => {
+            of_all == total && of_live == remaining && keys == named
         }
+        _ => false,
     }
-    None
 }
