@@ -11,7 +11,7 @@ use bk_record::{Key, Location};
 use std::alloc::AllocError;
 
 impl<D: LogDisk> Fields<D> {
-    /// Sends a key of the flush to its place, and remembers its entry.
+    /// Sends a key of the flush to its place, and remembers its entry where entries are.
     pub fn name(&mut self, key: Key, place: Location) -> Result<(), AllocError>
         requires keeps { Keeps self.old }
         requires may { MayName self.old.state key place }
@@ -19,6 +19,11 @@ impl<D: LogDisk> Fields<D> {
         ensures beside { NamesBeside self.old key place result self.new }
     {
         self.send(key, place)?;
+        if self.settings.recent == 0 {
+            // No key is in both write caches: what the caches say of themselves.
+            let _ = self.caches.limit();
+            return Ok(());
+        }
         if let Some(payload) = self.caches.get(&key) {
             if let Ok(payload) = payload.clone() {
                 self.caches.remember(key, payload);
