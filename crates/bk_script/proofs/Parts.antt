@@ -4,7 +4,7 @@ use Rattle.std.proofs.lemmas.Bool.{false≢true}
 use Rattle.std.specs.Fmt.{decimal}
 use Rattle.bk_drive.specs.declared.step.Step.{Step}
 use Rattle.bk_drive.specs.declared.step.Work.{Work}
-use Rattle.bk_script.specs.Line.{IsWord, words, followed, IsAlone, word_of, Spells, work, add, add_text, pad, take, fetch, release, delete}
+use Rattle.bk_script.specs.Line.{IsWord, words, followed, IsAlone, word_of, Spells, work, add, add_text, pad, take, fetch, release, delete, retire}
 use Rattle.bk_script.proofs.Words.{IsWord-from_test, IsWord-word_of, followed-injective}
 
 -- what stands behind `add` and a space
@@ -49,6 +49,12 @@ pub record IsLedger (text : List ℕ) : Type 0 where
   pub fits : ledger < 2 ^ 63
   pub is : text ≡ decimal ledger
 
+-- a log: what stands behind `retire` and a space
+pub record IsLog (text : List ℕ) : Type 0 where
+  pub log : ℕ
+  pub fits : log < 2 ^ 31
+  pub is : text ≡ decimal log
+
 -- the first word of a line that spells a step, and what stands behind it
 pub data Parts : List ℕ → Option (List ℕ) → Type 0 where
   alone : (call : Work) → IsAlone call → Parts (word_of call) None
@@ -58,6 +64,7 @@ pub data Parts : List ℕ → Option (List ℕ) → Type 0 where
   fetches : {text : List ℕ} → IsReader text → Parts (codes "fetch") (Some text)
   releases : {text : List ℕ} → IsReader text → Parts (codes "release") (Some text)
   deletes : {text : List ℕ} → IsLedger text → Parts (codes "delete") (Some text)
+  retires : {text : List ℕ} → IsLog text → Parts (codes "retire") (Some text)
 
 record HasParts (line : List ℕ) : Type 0 where
   name : List ℕ
@@ -117,6 +124,13 @@ parted (delete {ledger = ledger} low) = record {
   whole = refl;
   parts = deletes (record { ledger = ledger; fits = low; is = refl });
 }
+parted (retire {log = log} low) = record {
+  name = codes "retire";
+  rest = _;
+  word = IsWord-from_test (codes "retire") refl;
+  whole = refl;
+  parts = retires (record { log = log; fits = low; is = refl });
+}
 
 parts_of : {line : List ℕ} {step : Step} (name : List ℕ) (rest : Option (List ℕ)) → IsWord name → line ≡ followed name rest
     → Spells line step → Parts name rest
@@ -131,6 +145,10 @@ parts_of name rest word whole spells =
 apart : (a b : List ℕ) → eqb (slice_index a 0) (slice_index b 0) ≡ false → a ≡ b → ⊥
 apart a b differ is = false≢true (sym differ ∙ eq-eqb _ _ (ap (λ (word : List ℕ). slice_index word 0) is))
 
+-- words whose third letters differ
+apart_third : (a b : List ℕ) → eqb (slice_index a 2) (slice_index b 2) ≡ false → a ≡ b → ⊥
+apart_third a b differ is = false≢true (sym differ ∙ eq-eqb _ _ (ap (λ (word : List ℕ). slice_index word 2) is))
+
 -- what stands behind each of the words
 adds_of : {name : List ℕ} {rest : Option (List ℕ)} → Parts name rest → (text : List ℕ) → name ≡ codes "add" → rest ≡ Some text → IsAddText text
 adds_of (alone call is) text e f = cc
@@ -140,6 +158,7 @@ adds_of (takes h) text e f = absurd (apart (codes "take") (codes "add") refl e)
 adds_of (fetches h) text e f = absurd (apart (codes "fetch") (codes "add") refl e)
 adds_of (releases h) text e f = absurd (apart (codes "release") (codes "add") refl e)
 adds_of (deletes h) text e f = absurd (apart (codes "delete") (codes "add") refl e)
+adds_of (retires h) text e f = absurd (apart (codes "retire") (codes "add") refl e)
 
 pads_of : {name : List ℕ} {rest : Option (List ℕ)} → Parts name rest → (text : List ℕ) → name ≡ codes "pad" → rest ≡ Some text → IsPadText text
 pads_of (alone call is) text e f = cc
@@ -149,6 +168,7 @@ pads_of (takes h) text e f = absurd (apart (codes "take") (codes "pad") refl e)
 pads_of (fetches h) text e f = absurd (apart (codes "fetch") (codes "pad") refl e)
 pads_of (releases h) text e f = absurd (apart (codes "release") (codes "pad") refl e)
 pads_of (deletes h) text e f = absurd (apart (codes "delete") (codes "pad") refl e)
+pads_of (retires h) text e f = absurd (apart (codes "retire") (codes "pad") refl e)
 
 takes_of : {name : List ℕ} {rest : Option (List ℕ)} → Parts name rest → (text : List ℕ) → name ≡ codes "take" → rest ≡ Some text → IsTakeText text
 takes_of (alone call is) text e f = cc
@@ -158,6 +178,7 @@ takes_of (takes {text = t} h) text e f = let same : t ≡ text = cc in subst IsT
 takes_of (fetches h) text e f = absurd (apart (codes "fetch") (codes "take") refl e)
 takes_of (releases h) text e f = absurd (apart (codes "release") (codes "take") refl e)
 takes_of (deletes h) text e f = absurd (apart (codes "delete") (codes "take") refl e)
+takes_of (retires h) text e f = absurd (apart (codes "retire") (codes "take") refl e)
 
 fetches_of : {name : List ℕ} {rest : Option (List ℕ)} → Parts name rest → (text : List ℕ) → name ≡ codes "fetch" → rest ≡ Some text → IsReader text
 fetches_of (alone call is) text e f = cc
@@ -167,6 +188,7 @@ fetches_of (takes h) text e f = absurd (apart (codes "take") (codes "fetch") ref
 fetches_of (fetches {text = t} h) text e f = let same : t ≡ text = cc in subst IsReader same h
 fetches_of (releases h) text e f = absurd (apart (codes "release") (codes "fetch") refl e)
 fetches_of (deletes h) text e f = absurd (apart (codes "delete") (codes "fetch") refl e)
+fetches_of (retires h) text e f = absurd (apart (codes "retire") (codes "fetch") refl e)
 
 releases_of : {name : List ℕ} {rest : Option (List ℕ)} → Parts name rest → (text : List ℕ) → name ≡ codes "release" → rest ≡ Some text → IsReader text
 releases_of (alone call is) text e f = cc
@@ -176,6 +198,7 @@ releases_of (takes h) text e f = absurd (apart (codes "take") (codes "release") 
 releases_of (fetches h) text e f = absurd (apart (codes "fetch") (codes "release") refl e)
 releases_of (releases {text = t} h) text e f = let same : t ≡ text = cc in subst IsReader same h
 releases_of (deletes h) text e f = absurd (apart (codes "delete") (codes "release") refl e)
+releases_of (retires h) text e f = absurd (apart_third (codes "retire") (codes "release") refl e)
 
 deletes_of : {name : List ℕ} {rest : Option (List ℕ)} → Parts name rest → (text : List ℕ) → name ≡ codes "delete" → rest ≡ Some text → IsLedger text
 deletes_of (alone call is) text e f = cc
@@ -185,6 +208,17 @@ deletes_of (takes h) text e f = absurd (apart (codes "take") (codes "delete") re
 deletes_of (fetches h) text e f = absurd (apart (codes "fetch") (codes "delete") refl e)
 deletes_of (releases h) text e f = absurd (apart (codes "release") (codes "delete") refl e)
 deletes_of (deletes {text = t} h) text e f = let same : t ≡ text = cc in subst IsLedger same h
+deletes_of (retires h) text e f = absurd (apart (codes "retire") (codes "delete") refl e)
+
+retires_of : {name : List ℕ} {rest : Option (List ℕ)} → Parts name rest → (text : List ℕ) → name ≡ codes "retire" → rest ≡ Some text → IsLog text
+retires_of (alone call is) text e f = cc
+retires_of (adds h) text e f = absurd (apart (codes "add") (codes "retire") refl e)
+retires_of (pads h) text e f = absurd (apart (codes "pad") (codes "retire") refl e)
+retires_of (takes h) text e f = absurd (apart (codes "take") (codes "retire") refl e)
+retires_of (fetches h) text e f = absurd (apart (codes "fetch") (codes "retire") refl e)
+retires_of (releases h) text e f = absurd (apart_third (codes "release") (codes "retire") refl e)
+retires_of (deletes h) text e f = absurd (apart (codes "delete") (codes "retire") refl e)
+retires_of (retires {text = t} h) text e f = let same : t ≡ text = cc in subst IsLog same h
 
 alone_of : {name : List ℕ} {rest : Option (List ℕ)} → Parts name rest → rest ≡ None → (call : Work) × IsAlone call × (name ≡ word_of call)
 alone_of (alone call is) f = (call, is, refl)
@@ -194,11 +228,12 @@ alone_of (takes h) f = cc
 alone_of (fetches h) f = cc
 alone_of (releases h) f = cc
 alone_of (deletes h) f = cc
+alone_of (retires h) f = cc
 
 -- the words that go on
 abbrev pub IsCalled : List ℕ → Type 0
 IsCalled name = (name ≡ codes "add") ⊎ ((name ≡ codes "pad") ⊎ ((name ≡ codes "take") ⊎ ((name ≡ codes "fetch")
-    ⊎ ((name ≡ codes "release") ⊎ (name ≡ codes "delete")))))
+    ⊎ ((name ≡ codes "release") ⊎ ((name ≡ codes "delete") ⊎ (name ≡ codes "retire"))))))
 
 named_of : {name : List ℕ} {rest : Option (List ℕ)} → Parts name rest → (text : List ℕ) → rest ≡ Some text → IsCalled name
 named_of (alone call is) text f = cc
@@ -207,7 +242,8 @@ named_of (pads h) text f = inr (inl refl)
 named_of (takes h) text f = inr (inr (inl refl))
 named_of (fetches h) text f = inr (inr (inr (inl refl)))
 named_of (releases h) text f = inr (inr (inr (inr (inl refl))))
-named_of (deletes h) text f = inr (inr (inr (inr (inr refl))))
+named_of (deletes h) text f = inr (inr (inr (inr (inr (inl refl)))))
+named_of (retires h) text f = inr (inr (inr (inr (inr (inr refl)))))
 
 pub add_text_of : (text : List ℕ) (step : Step) → Spells (codes "add" ++ 32 ∷ text) step → IsAddText text
 add_text_of text step h = adds_of (parts_of (codes "add") (Some text) (IsWord-from_test (codes "add") refl) refl h) text refl refl
@@ -226,6 +262,9 @@ release_text_of text step h = releases_of (parts_of (codes "release") (Some text
 
 pub delete_text_of : (text : List ℕ) (step : Step) → Spells (codes "delete" ++ 32 ∷ text) step → IsLedger text
 delete_text_of text step h = deletes_of (parts_of (codes "delete") (Some text) (IsWord-from_test (codes "delete") refl) refl h) text refl refl
+
+pub retire_text_of : (text : List ℕ) (step : Step) → Spells (codes "retire" ++ 32 ∷ text) step → IsLog text
+retire_text_of text step h = retires_of (parts_of (codes "retire") (Some text) (IsWord-from_test (codes "retire") refl) refl h) text refl refl
 
 -- a line without a space that spells a step is the word of a call
 pub call_of : (line : List ℕ) (step : Step) → IsWord line → Spells line step → (call : Work) × IsAlone call × (line ≡ word_of call)

@@ -16,7 +16,7 @@ use Rattle.std.proofs.lemmas.Bool.Decides.{nat_tests}
 use Rattle.bk_drive.specs.declared.step.Step.{Step}
 use Rattle.bk_drive.specs.declared.step.Work.{Work}
 use Rattle.bk_drive.specs.declared.step.Work.TheVariants.{Swap, WriteOne, Publish, Roll, Retire, Rebuild}
-use Rattle.bk_script.specs.Line.{IsPrintable, word_of, words, Spells, work, add, add_text, pad, take, fetch, release, delete}
+use Rattle.bk_script.specs.Line.{IsPrintable, word_of, words, Spells, work, add, add_text, pad, take, fetch, release, delete, retire}
 
 pub printable_behind : (name rest : List ℕ) → All IsPrintable (name ++ 32 ∷ rest) → All IsPrintable rest
 printable_behind [] rest h = All-tail IsPrintable 32 rest h
@@ -70,3 +70,5 @@ printable_line (release {reader = reader} few) =
     followed_by (codes "release") _ (printable_test (codes "release") refl) (printable_decimal reader (omega arith))
 printable_line (delete {ledger = ledger} low) =
     followed_by (codes "delete") _ (printable_test (codes "delete") refl) (printable_decimal ledger low)
+printable_line (retire {log = log} low) =
+    followed_by (codes "retire") _ (printable_test (codes "retire") refl) (printable_decimal log (omega (arith, low)))

@@ -52,8 +52,8 @@ IsAlone Roll = Unit {0}
 IsAlone (Retire log) = ⊥
 IsAlone Rebuild = Unit {0}
 
--- The line spells the step (this project's rule). Ids are below 2 ^ 63, readers are numbered from 0 to 3, and a pad has
--- up to 2097152 zero bytes.
+-- The line spells the step (this project's rule). Ids are below 2 ^ 63, those of logs below 2 ^ 31, readers are numbered
+-- from 0 to 3, and a pad has up to 2097152 zero bytes.
 pub data Spells : List ℕ → Step → Type 0 where
   work : {call : Work} → IsAlone call → Spells (word_of call) (steps.Work call)
   add : {ledger entry : ℕ} {step : Step} → ledger < 2 ^ 63 → entry < 2 ^ 63 → IsAdd ledger entry [] step
@@ -70,3 +70,4 @@ pub data Spells : List ℕ → Step → Type 0 where
   fetch : {reader : ℕ} → reader ≤ 3 → Spells (words (codes "fetch" ∷ decimal reader ∷ [])) (steps.Fetch reader)
   release : {reader : ℕ} → reader ≤ 3 → Spells (words (codes "release" ∷ decimal reader ∷ [])) (steps.Release reader)
   delete : {ledger : ℕ} → ledger < 2 ^ 63 → Spells (words (codes "delete" ∷ decimal ledger ∷ [])) (steps.Delete ledger)
+  retire : {log : ℕ} → log < 2 ^ 31 → Spells (words (codes "retire" ∷ decimal log ∷ [])) (steps.Work (Retire log))

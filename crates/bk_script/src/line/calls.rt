@@ -7,12 +7,15 @@ use crate::line::LineFault;
 use crate::line::payload::{add, pad};
 use crate::line::words::{split_number, split_word, three_numbers};
 use crate::number;
-use bk_drive::Step;
+use bk_drive::{Step, Work};
 use bk_record::Key;
 use std::alloc::Global;
 
 /// The greatest ledger or entry id (this project's rule).
 const MAX_ID: u64 = i64::MAX as u64;
+
+/// The greatest id of a log (this project's rule).
+const MAX_LOG: u64 = i32::MAX as u64;
 
 /// The greatest number of a reader.
 const MAX_READER: u64 = 3;
@@ -95,6 +98,17 @@ pub(crate) fn read_delete(text: &str) -> Result<Step, LineFault>
 {
     match number(text, MAX_ID) {
         Some(ledger) => Ok(Step::Delete(ledger)),
+        None => Err(LineFault::Bad),
+    }
+}
+
+/// The retirement of what follows `retire` and a space.
+pub(crate) fn read_retire(text: &str) -> Result<Step, LineFault>
+    ensures ok { IfOk result (Spells (codes "retire" ++ 32 ∷ text.now)) }
+    ensures err { OnErr result ((step : _) → ¬ (Spells (codes "retire" ++ 32 ∷ text.now) step)) }
+{
+    match number(text, MAX_LOG) {
+        Some(log) => Ok(Step::Work(Work::Retire(log as u32))),
         None => Err(LineFault::Bad),
     }
 }

@@ -20,8 +20,8 @@ const SCRIPTS: [(&str, &str); 13] = [
     ),
     ("pad 1 0 2097152", "fault too long 2097168\n"),
     (
-        "fetch 3\nrelease 3\nroll",
-        "no lease\nno lease\nnothing open\n",
+        "fetch 3\nrelease 3\nroll\nretire 2147483647\nrebuild",
+        "no lease\nno lease\nnothing open\nno log\nrebuilt 0\n",
     ),
     (
         "add 9223372036854775807 9223372036854775807 x\ntake 3 9223372036854775807 9223372036854775807",
@@ -38,7 +38,7 @@ fn lines_are_read_to_the_letter(rt: HostRuntime) {
 }
 
 /// Lines that spell no step.
-const NO_STEPS: [&str; 70] = [
+const NO_STEPS: [&str; 78] = [
     "add 1 0 ",
     "add 1",
     "add",
@@ -94,6 +94,14 @@ const NO_STEPS: [&str; 70] = [
     "delete 1 0",
     "delete  1",
     "delete 9223372036854775808",
+    "retire",
+    "retire ",
+    "retire 00",
+    "retire 0 0",
+    "retire 2147483648",
+    "retire 4294967296",
+    "rebuild ",
+    "rebuild 1",
     "roll ",
     "roll 0",
     "Roll",

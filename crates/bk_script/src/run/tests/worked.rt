@@ -208,11 +208,37 @@ const NEXT_LOG: Worked = &[
     ("write", "wrote 1028"),
     ("write", "wrote 1528"),
     ("write", "wrote 4294968324"),
+    ("retire 0", "in use"),
+    ("retire 1", "in use"),
+    ("retire 2", "no log"),
     ("publish", "published 3"),
+    ("retire 0", "still named 2"),
     ("take 0 1 1", "leased 1528"),
     ("take 1 1 2", "leased 4294968324"),
     ("roll", "sealed 1"),
     ("roll", "nothing open"),
+];
+
+/// A key is read from where it was published, also by an index that was made anew. What is written and not published is read
+/// from the flush.
+const REBUILT: Worked = &[
+    ("add 1 0 a", "accepted"),
+    ("add 1 1 b", "accepted"),
+    ("swap", "swapped 2"),
+    ("write", "wrote 1028"),
+    ("rebuild", "rebuilt 0"),
+    ("take 0 1 0", "cached 61"),
+    ("write", "wrote 1049"),
+    ("publish", "published 2"),
+    ("rebuild", "rebuilt 2"),
+    ("take 0 1 1", "leased 1049"),
+    ("roll", "sealed 0"),
+    ("retire 0", "still named 2"),
+    ("delete 1", "dropped 2"),
+    ("retire 0", "retired 0"),
+    ("retire 0", "retired 0"),
+    ("rebuild", "rebuilt 0"),
+    ("fetch 0", "bytes 62"),
 ];
 
 /// A log may be as long as the log limit and no longer. The first record takes its log to 1524 bytes, the second to 2048;
@@ -277,7 +303,7 @@ const ONE_RECENT: Settings = Settings {
 };
 
 /// Scripts, with the settings of their stores and the ledgers that were deleted before.
-const SCRIPTS: [(Settings, &[u64], Worked); 17] = [
+const SCRIPTS: [(Settings, &[u64], Worked); 18] = [
     (DEFAULTS, &[], READ),
     (DEFAULTS, &[], HELD),
     (DEFAULTS, &[], FLUSHING),
@@ -288,6 +314,7 @@ const SCRIPTS: [(Settings, &[u64], Worked); 17] = [
     (DEFAULTS, &[], DELETED_UNDER_A_LEASE),
     (DEFAULTS, &[], DELETED_EVERYWHERE),
     (DEFAULTS, &[], NO_FLUSH),
+    (DEFAULTS, &[], REBUILT),
     (ONE_SLOT, &[], NO_SECOND_LOG),
     (SHORT_LOGS, &[], NEXT_LOG),
     (SHORT_LOGS, &[], FULL_LOG),
