@@ -31,11 +31,12 @@ pub enum LogState {
     Closed,
 }
 
-/// A log that is held. `acknowledged` is how many bytes of its file are: all of a file that was found, and else the
-/// header and the records whose write was answered.
+/// A log that is held, in a slot of the store's table. `acknowledged` is how many bytes of its file are: all of a file that
+/// was found, and else the header and the records whose write was answered.
 #[derive(Drop)]
 pub(crate) struct HeldLog<V: LogView> {
     pub state: LogState,
+    pub slot: usize,
     pub view: Option<Arc<V>>,
     pub acknowledged: u64,
     pub writer: Option<LogWriter>,
@@ -49,16 +50,17 @@ impl<V: LogView> Model for HeldLog<V> {
 
     ghost coded = { log_code };
 
-    ghost view = { λ log. seen_log V.bytes V.honest V.sound log.state log.view log.acknowledged log.writer };
+    ghost view = { λ log. seen_log V.bytes V.honest V.sound log.state log.slot log.view log.acknowledged log.writer };
 }
 
 impl<V: LogView> HeldLog<V> {
-    /// A log whose file is to be made.
-    pub fn unmade() -> HeldLog<V>
-        ensures { result ≡ unmade_log }
+    /// A log whose file is to be made, and which is to stand in this slot.
+    pub fn unmade(slot: usize) -> HeldLog<V>
+        ensures { result ≡ unmade_log slot }
     {
         HeldLog {
             state: LogState::Readable,
+            slot,
             view: None,
             acknowledged: HEADER_LENGTH as u64,
             writer: None,

@@ -1,18 +1,22 @@
 //! The logs that a store holds, found by their ids.
 
-ghost use Rattle.std.specs.Prelude.{◌≡◌, ◌⊎◌, ℕ, Some, IsSome, IsTrue, IsErrOf, OnOk, OnErr, option_map};
+ghost use Rattle.std.specs.Prelude.{◌≡◌, ◌⊎◌, ℕ, ◌<◌, ◌^◌, Some, IsSome, IsTrue, IsErrOf, IfSome, IfNone, OnOk, OnErr, option_map};
 ghost use Rattle.std.specs.FinMap as map;
 ghost use Rattle.bk_record.specs.Record.{IsPayload, key_of};
 ghost use Rattle.bk_record.specs.Files.{In};
 ghost use Rattle.bk_disk.specs.Disk.{IsCaused};
 ghost use Rattle.bk_log.specs.Writing.{Writing, Writes, PutTurn};
-ghost use Rattle.bk_store.specs.Logs.{Log, AllChanged, IsFlushLog, in_state, closed_log, settled_as, unfilled_as, last_view, view_of, with_view};
+ghost use Rattle.bk_store.specs.Logs.{Log, AllChanged, IsFlushLog, IsNextHeld, in_state, closed_log, settled_as, unfilled_as, last_view, view_of, with_view};
 ghost use Rattle.bk_store.specs.Putting.{put_log, IsPutAt, MayPut};
 ghost use Rattle.bk_store.specs.Doors.{writer_of};
+ghost use Rattle.bk_store.specs.Seated.{AreSeated};
+ghost use Rattle.bk_store.specs.Leasing.{AreUnleased, AreShut, IsLowestLeased};
+ghost use Rattle.bk_lease.specs.Values.{SlotTable};
 
 use crate::LogState;
 use crate::log::HeldLog;
 use bk_disk::{LogDisk, LogView};
+use bk_lease::{Keeper, Leased};
 use bk_log::{LogFault, LogWriter};
 use bk_record::Location;
 use std::alloc::{AllocError, Global};
@@ -60,6 +64,14 @@ impl<V: LogView> LogTable<V> {
         ensures { option_map (λ log. log.now) result ≡ map.get self.now id }
     {
         self.logs.get(&id)
+    }
+
+    /// The least id from this one on of a log that is held.
+    pub fn next_from(&self, id: u32) -> Option<u32>
+        ensures { IsNextHeld self.now id result }
+    {
+        let (next, _) = self.logs.range(id..).next()?;
+        Some(*next)
     }
 
     /// Holds one more log. The only error is want of memory, which leaves the logs as they were.
@@ -150,6 +162,47 @@ impl<V: LogView> LogTable<V> {
             → IsTrue (D.honest disk.old) → PutTurn (D.files disk.old) w payload.now result (D.files disk.new) }
     {
         self.logs.get_mut(&id).unwrap().put(disk, alloc, payload)
+    }
+
+    /// Closes the slots of all logs that are not closed, by rising ids. At the first of which a lease is out all are opened
+    /// again, and it is answered with the number of its leases.
+    pub fn close_all(&self, keeper: &mut Keeper) -> Option<(u32, u64)>
+        requires seated { AreSeated keeper.old self.now }
+        requires ids { (id : ℕ) → IsSome (map.get self.now id) → id < 2 ^ 31 }
+        ensures none { IfNone result (AreUnleased keeper.old self.now (2 ^ 31)) }
+        ensures some { IfSome result (λ found. IsLowestLeased keeper.old self.now found.0 found.1) }
+        ensures same { IfSome result (λ _. keeper.new ≡ keeper.old) }
+    {
+        let mut from = 0;
+        while let Some(id) = self.next_from(from) {
+            let log = self.get(id).unwrap();
+            if log.state != LogState::Closed {
+                if let Err(Leased { count }) = keeper.close(log.slot) {
+                    self.open_below(keeper, id);
+                    return Some((id, count));
+                }
+            }
+            from = id + 1;
+        }
+        None
+    }
+
+    /// Opens the slots of the logs below this one that are not closed.
+    fn open_below(&self, keeper: &mut Keeper, end: u32)
+        requires { (old : SlotTable) × AreSeated old self.now × AreShut self.now old keeper.old 0 end }
+        ensures { (old : SlotTable) → AreSeated old self.now → AreShut self.now old keeper.old 0 end → keeper.new ≡ old }
+    {
+        let mut from = 0;
+        while let Some(id) = self.next_from(from) {
+            if id >= end {
+                return;
+            }
+            let log = self.get(id).unwrap();
+            if log.state != LogState::Closed {
+                keeper.open(log.slot, id);
+            }
+            from = id + 1;
+        }
     }
 
     /// The flush starts again, which wrote these logs and no other.

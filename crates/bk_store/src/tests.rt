@@ -1,12 +1,13 @@
 //! Worked examples, with bytes written by hand.
 
-use crate::{AddFault, DeleteFault, OpenFault, Settings, Store, Taken};
+use crate::{AddFault, DeleteFault, OpenFault, Settings, Store, TakeFault, Taken};
 use bk_disk::{FaultDisk, LogDisk, MemDisk};
 use bk_record::Key;
 use std::alloc::{AllocError, Global};
 use std::test::Fail;
 
 mod deleting;
+mod leasing;
 mod opening;
 
 /// Settings that nothing in a test comes near, and no recent entries.
@@ -72,7 +73,7 @@ fn three_logs(alloc: Global) -> Result<MemDisk, Fail> {
 }
 
 /// Where a store has the entry 0 of a ledger: `None` where it has none, or the ledger is dead.
-fn place_of<D: LogDisk>(store: &Store<D>, ledger: u64) -> Result<Option<u64>, Fail> {
+fn place_of<D: LogDisk>(store: &mut Store<D>, ledger: u64) -> Result<Option<u64>, Fail> {
     let key = Key::new(ledger, 0).ok_or("no key")?;
     match store.take(key)? {
         Taken::Leased(_, location) => Ok(Some(location.value())),

@@ -45,9 +45,9 @@ fn other_ledgers_keep_their_accounts(rt: HostRuntime) -> Result<(), Fail> {
 
 #[test]
 fn other_ledgers_keep_their_places(rt: HostRuntime) -> Result<(), Fail> {
-    let store = deleted(rt.alloc())?;
+    let mut store = deleted(rt.alloc())?;
     for (ledger, place) in [(1, None), (2, Some(1049)), (3, Some((1 << 32) + 1028))] {
-        assert_eq!(rt; place_of(&store, ledger)?, place);
+        assert_eq!(rt; place_of(&mut store, ledger)?, place);
     }
     Ok(())
 }

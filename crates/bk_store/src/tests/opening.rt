@@ -5,7 +5,7 @@ use super::*;
 #[test]
 fn last_records_of_live_ledgers_are_found(rt: HostRuntime) -> Result<(), Fail> {
     let disk = three_logs(rt.alloc())?;
-    let store = Store::open(rt.alloc(), disk, SETTINGS, &[4, 9, 1 << 63])?;
+    let mut store = Store::open(rt.alloc(), disk, SETTINGS, &[4, 9, 1 << 63])?;
     let places = [
         (1, Some((2 << 32) + 1028)),
         (2, Some(1049)),
@@ -14,7 +14,7 @@ fn last_records_of_live_ledgers_are_found(rt: HostRuntime) -> Result<(), Fail> {
         (5, None),
     ];
     for (ledger, place) in places {
-        assert_eq!(rt; place_of(&store, ledger)?, place);
+        assert_eq!(rt; place_of(&mut store, ledger)?, place);
     }
     Ok(())
 }
