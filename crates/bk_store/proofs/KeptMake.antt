@@ -90,7 +90,7 @@ module _ (p : Parts) (keeps : Keeps p) where
           allowed = fits.allowed;
           limit = fits.limit;
           ids = fits.ids;
-          slots = fits.slots;
+          seated = fits.seated;
           held = fits.held;
           sent = fits.sent;
           placed = fits.placed;
@@ -122,7 +122,7 @@ module _ (p : Parts) (keeps : Keeps p) where
           allowed = fits.allowed;
           limit = fits.limit;
           ids = omega (arith, room);
-          slots = fits.slots;
+          seated = fits.seated;
           held = λ id log is. held_later id log (fits.held id log is);
           sent = fits.sent;
           placed = record { idle = fits.placed.idle; flushing = fits.placed.flushing; logs = fits.placed.logs; front = fits.placed.front };

@@ -34,6 +34,7 @@ pub mod OpenedFinds
 pub mod LogMaps
 pub mod FlushLogs
 pub mod OneLog
+pub mod Seats
 pub mod Acknowledged
 pub mod KeptOne
 pub mod KeptShow
