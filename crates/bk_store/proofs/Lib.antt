@@ -35,6 +35,8 @@ pub mod LogMaps
 pub mod FlushLogs
 pub mod OneLog
 pub mod Seats
+pub mod Leased
+pub mod Seating
 pub mod Acknowledged
 pub mod KeptOne
 pub mod KeptShow

@@ -9,7 +9,7 @@ use Rattle.bk_lease.specs.Leases.{state_at, log_of, log_at, IsOpen}
 use Rattle.bk_lease.specs.Slots.{IsFree, taken_of, taken_count}
 use Rattle.bk_lease.specs.Values.{SlotTable, with_state}
 use Rattle.bk_lease.proofs.Slots.{inside_slots, taken_count-le, taken_count-set, taken_count-free, state_at-set_here, state_at-set_else, other_slot}
-use Rattle.bk_store.specs.Logs.{Log, Logs, closed_log, is_open}
+use Rattle.bk_store.specs.Logs.{Log, Logs, closed_log, is_open, is_written}
 use Rattle.bk_store.specs.Seated.{AreSeated, IsSeated, slot_state}
 use Rattle.bk_store.specs.declared.log.LogState.{LogState}
 use Rattle.bk_store.specs.declared.log.LogState.TheVariants.{Writing, Filled, Copying, Readable, Retired, Closed}
@@ -55,6 +55,14 @@ slot_state-opened id Copying opened = refl
 slot_state-opened id Readable opened = refl
 slot_state-opened id Retired opened = refl
 slot_state-opened id Closed opened = absurd (cc)
+
+pub slot_state-written : (id : ℕ) (state : LogState) → is_written state ≡ true → slot_state id state ≡ slots.Open id
+slot_state-written id Writing written = refl
+slot_state-written id Filled written = absurd (cc)
+slot_state-written id Copying written = refl
+slot_state-written id Readable written = absurd (cc)
+slot_state-written id Retired written = absurd (cc)
+slot_state-written id Closed written = absurd (cc)
 
 -- two states that are not closed
 pub slot_state-same : (id : ℕ) (new old : LogState) → is_open new ≡ true → is_open old ≡ true → slot_state id new ≡ slot_state id old
