@@ -1,5 +1,6 @@
 -- The lines of a ledgers map: those that are written and those that are still to be written are all.
-use Rattle.std.proofs.Common.{◌≡◌, ℕ, List, [], ◌∷◌, ◌++◌, length, Option, Some, IfSome, option_map, Result, Ok, Err, OnOk, BTreeMap, nat_cmp, sym, ap, ◌∙◌, subst, append_assoc}
+use Rattle.std.proofs.Common.{◌≡◌, ℕ, List, [], ◌∷◌, ◌++◌, length, Option, Some, IfSome, option_map, Result, Ok, Err, OnOk, BTreeMap, nat_cmp}
+use Rattle.std.proofs.Common.{sym, ap, ◌∙◌, subst, append_assoc}
 use Rattle.std.specs.Prelude.{flat_map}
 use Rattle.std.specs.Io.KnownBytes.{Appends}
 use Rattle.std.specs.BTreeMap.{IsOrdered}
@@ -32,13 +33,16 @@ pub wrote_more : (rest behind all : List (ℕ × ℕ)) (ledger : ℕ × ℕ) (be
 wrote_more rest behind all ledger before mid now is w line = record {
   text = w.text ++ ledger_line ledger;
   appended = appends_then before mid now w.text (ledger_line ledger) w.appended line;
-  whole = append_assoc w.text (ledger_line ledger) (flat_map ledger_line behind) ∙ ap (λ (x : List (ℕ × ℕ)). w.text ++ flat_map ledger_line x) (sym is) ∙ w.whole;
+  whole = append_assoc w.text (ledger_line ledger) (flat_map ledger_line behind)
+      ∙ ap (λ (x : List (ℕ × ℕ)). w.text ++ flat_map ledger_line x) (sym is)
+      ∙ w.whole;
 }
 
 pub wrote_all : (rest all : List (ℕ × ℕ)) (before now : Option (List ℕ)) → rest ≡ [] → WroteSome rest all before now
     → Appends before now (flat_map ledger_line all)
 wrote_all rest all before now is w =
-    subst (λ (x : List ℕ). Appends before now x) (sym (append-nil w.text) ∙ ap (λ (x : List (ℕ × ℕ)). w.text ++ flat_map ledger_line x) (sym is) ∙ w.whole) w.appended
+    let none_left = ap (λ (x : List (ℕ × ℕ)). w.text ++ flat_map ledger_line x) (sym is) in
+    subst (λ (x : List ℕ). Appends before now x) (sym (append-nil w.text) ∙ none_left ∙ w.whole) w.appended
 
 -- ---- a map's lines as what is shown of a log
 

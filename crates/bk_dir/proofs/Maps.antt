@@ -34,7 +34,8 @@ pairs_more file from done some piece before m n more inside is a b =
     ∙ ap (λ (x : List ℕ). take (16 * done) (drop from file) ++ take (16 * some) x) (drop-drop (16 * done) from file)
     ∙ ap (λ (x : List ℕ). take (16 * done) (drop from file) ++ x) (sym is) in
     let sum : 16 * done + 16 * some ≡ 16 * (done + some) = omega arith in
-    subst (λ (x : List ℕ). Adds before x n) (sym whole ∙ ap (λ k. take k (drop from file)) sum) (adds_then before (take (16 * done) (drop from file)) piece m n a b)
+    subst (λ (x : List ℕ). Adds before x n) (sym whole ∙ ap (λ k. take k (drop from file)) sum)
+    (adds_then before (take (16 * done) (drop from file)) piece m n a b)
 
 -- the first bytes of a batch are shown
 pub head_shown : (file head : List ℕ) (offset at left : ℕ) → offset + at + left ≡ view_end file → 0 < left → 1024 ≤ offset

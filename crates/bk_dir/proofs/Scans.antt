@@ -1,5 +1,6 @@
 -- The lines of a scan: one for each entry that was given, and the counts at the end.
-use Rattle.std.proofs.Common.{◌≡◌, ℕ, ◌+◌, ◌-◌, ◌*◌, ◌≤◌, true, false, cond, ◌&&◌, Bool, IsTrue, List, [], ◌∷◌, ◌++◌, length, take, drop, nat_lt, Option, Some, None, Ok, slice_get, refl, sym, ap, ap₂, ◌∙◌, subst, arith, length-drop}
+use Rattle.std.proofs.Common.{◌≡◌, ℕ, ◌+◌, ◌-◌, ◌*◌, ◌≤◌, true, false, cond, ◌&&◌, Bool, IsTrue, List, [], ◌∷◌, ◌++◌, length, take, drop, nat_lt, Option}
+use Rattle.std.proofs.Common.{Some, None, Ok, slice_get, refl, sym, ap, ap₂, ◌∙◌, subst, arith, length-drop}
 use Rattle.std.specs.Prelude.{flat_map, ◌^◌}
 use Rattle.std.specs.Io.KnownBytes.{Appends}
 use Rattle.std.proofs.lemmas.List.{take_more, take_all, flat_map_more}
@@ -33,7 +34,8 @@ pub shown_none : (first : Scan) (before : Option (List ℕ)) → first.given ≡
 shown_none first before none = record {
   moved = ap (λ n. record first { given = n }) none;
   room = omega arith;
-  written = λ honest. subst (λ l. Appends before before (flat_map entry_line l)) (sym (taken_none (entries_in first.from (part_of first)))) (appends_none before);
+  written = λ honest.
+      subst (λ l. Appends before before (flat_map entry_line l)) (sym (taken_none (entries_in first.from (part_of first)))) (appends_none before);
 }
 
 -- the key of a payload has the ids that stand in it
@@ -101,7 +103,8 @@ shown_all first now next entries file before mid after shown moves finished coun
       flat_map entry_line (take entries (entries_in first.from (part_of first))) ++ counts_line entries next.foreign next.torn,
       record {
         spelled = subst (λ (r : List (ℕ × List ℕ)). Body header_length (drop header_length file) r (rest_of file)) (all_pieces-file file)
-            (subst (λ (r : List ℕ). Body header_length (drop header_length file) (all_pieces header_length (drop header_length file)) r) (all_leftover-file file)
+            (subst (λ (r : List ℕ). Body header_length (drop header_length file) (all_pieces header_length (drop header_length file)) r)
+            (all_leftover-file file)
             (subst (λ (b : List ℕ). Body header_length b (all_pieces header_length b) (all_leftover b)) part_is
             (subst (λ n. Body n (part_of first) (all_pieces n (part_of first)) (all_leftover (part_of first))) from_is done.spelled)));
         lines = ap₂ (λ (a b : List ℕ). a ++ b) (ap (flat_map entry_line) lines)

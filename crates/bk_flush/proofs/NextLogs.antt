@@ -1,103 +1,59 @@
--- The logs that have a place of the flush, by rising ids.
-use Rattle.std.proofs.Common.{◌≡◌, ◌≢◌, ◌⊎◌, inl, inr, ℕ, zero, suc, ◌+◌, ◌<◌, ◌≤◌, ◌^◌, Bool, true, false, cond, IsTrue, List, [], ◌∷◌, length, Option, Some, None, IfSome, slice_get, refl, sym, ap, subst, ◌∙◌, arith}
+-- The logs that have a place of the flush rise along the list of its places.
+use Rattle.std.proofs.Common.{◌≡◌, ℕ, zero, suc, ◌+◌, ◌<◌, ◌≤◌, Bool, true, false, cond, IsTrue, Less, List, [], ◌∷◌, length, Option, Some, None, slice_get, refl, sym, ap, subst, ◌∙◌, arith}
 use Rattle.std.proofs.Math.Decide.{dec_le}
+use Rattle.std.proofs.lemmas.Map.Keys.{sorted_head, sorted_tail}
+use Rattle.std.specs.declared.cmp.Ordering.{Ordering}
 use Rattle.std.specs.Ordering.{eq_by_cmp}
+use Rattle.std.specs.List.{AllByRecursion}
+use Rattle.std.specs.List.Sorted.{IsStrictlySortedBy}
+use Rattle.std.specs.Map.{keys_of}
 use Rattle.std.specs.FinMap as finite
 use Rattle.std.specs.FinMap.{find, is_sorted}
 use Rattle.bk_record.specs.Key.{EntryKey, key_cmp}
 use Rattle.bk_record.specs.Location.{Place}
 use Rattle.bk_record.proofs.Keys.{key_cmp_total}
-use Rattle.bk_record.proofs.SortedPairs.{is_true, Some-same, find_at}
-use Rattle.bk_store.specs.Entries.{Places}
-use Rattle.bk_store.specs.Logs.{Logs, IsFlushLog}
+use Rattle.bk_record.proofs.SortedPairs.{is_true, keys_rise, Some-same, find_at}
 use Rattle.bk_store.specs.State.{State}
+use Rattle.bk_store.specs.Plain.{IsKept}
 use Rattle.bk_flush.specs.Flushing.{HasPlace}
-use Rattle.bk_flush.specs.Showing.{IsNextLog}
 
--- a pair at a number of a list, of which so many are looked at
-pub record IsAmong (es : List (EntryKey × Place)) (n id : ℕ) : Type 0 where
-  pub number : ℕ
-  pub entry : EntryKey × Place
-  pub within : number < n
-  pub at : slice_get es number ≡ Some entry
-  pub log : entry.1.log ≡ id
+-- the least id from this one on of a log that has a place, none where there is no such log
+abbrev pub IsNextLog : State → ℕ → Option ℕ → Type 0
+IsNextLog s from None = (id : ℕ) → HasPlace s id → id < from
+IsNextLog s from (Some id) = HasPlace s id × (from ≤ id) × ((other : ℕ) → HasPlace s other → from ≤ other → id ≤ other)
 
--- of the first pairs of a list, the least log from this one on
-abbrev pub IsLeastOf : List (EntryKey × Place) → ℕ → ℕ → Option ℕ → Type 0
-IsLeastOf es n from None = (i : ℕ) (e : EntryKey × Place) → i < n → slice_get es i ≡ Some e → e.1.log < from
-IsLeastOf es n from (Some id) = IsAmong es n id × (from ≤ id)
-    × ((i : ℕ) (e : EntryKey × Place) → i < n → slice_get es i ≡ Some e → from ≤ e.1.log → id ≤ e.1.log)
+-- the logs of the first so many places are below this id
+abbrev pub ArePast : List (EntryKey × Place) → ℕ → ℕ → Type 0
+ArePast es n from = (i : ℕ) (e : EntryKey × Place) → i < n → slice_get es i ≡ Some e → e.1.log < from
 
--- a log that the flush wrote, of an id that one may have
-abbrev pub AreFlushed : Logs → Option ℕ → Type 0
-AreFlushed logs least = IfSome least (λ id. IsFlushLog logs id × (id < 2 ^ 31))
+pub none_past : (es : List (EntryKey × Place)) (from : ℕ) → ArePast es 0 from
+none_past es from i e within at = absurd (omega (arith, within))
 
-pub least_first : (es : List (EntryKey × Place)) (from : ℕ) → IsLeastOf es 0 from None
-least_first es from i e within at = absurd (omega (arith, within))
+-- one place more is passed, whose log is below the id by now
+pub one_past : (es : List (EntryKey × Place)) (n from now : ℕ) (e : EntryKey × Place) → ArePast es n from → slice_get es n ≡ Some e → e.1.log < now → from ≤ now
+    → ArePast es (n + 1) now
+one_past es n from now e past at below later i other within here = elim (dec_le n i) [
+  | no less ↦ let before = past i other (omega (arith, less)) here in omega (arith, before, later)
+  | yes above ↦
+      let same : n ≡ i = omega (arith, above, within) in
+      subst (λ (x : EntryKey × Place). x.1.log < now) (Some-same (sym at ∙ ap (slice_get es) same ∙ here)) below
+]
 
-module _ (es : List (EntryKey × Place)) (n from : ℕ) (entry : EntryKey × Place) (at : slice_get es n ≡ Some entry) where
-  -- a pair that is looked at is this one, or an earlier one
-  earlier : (i : ℕ) (e : EntryKey × Place) → i < n + 1 → slice_get es i ≡ Some e → (i < n) ⊎ (entry ≡ e)
-  earlier i e within here = elim (dec_le n i) [
-    | no below ↦ inl (omega (arith, below))
-    | yes above ↦
-        let same : n ≡ i = omega (arith, above, within) in
-        inr (Some-same (sym at ∙ ap (slice_get es) same ∙ here))
-  ]
+-- ---- keys that rise
 
-  pub least_passed : (least : Option ℕ) → entry.1.log < from → IsLeastOf es n from least → IsLeastOf es (n + 1) from least
-  least_passed None below is = λ i e within here. elim (earlier i e within here) [
-    | inl before ↦ is i e before here
-    | inr same ↦ subst (λ (x : EntryKey × Place). x.1.log < from) same below
-  ]
-  least_passed (Some id) below is = (
-    (let old = is.0 in
-        let less = old.within in
-        record { number = old.number; entry = old.entry; within = omega (arith, less); at = old.at; log = old.log }),
-    is.1,
-    (λ i e within here above. elim (earlier i e within here) [
-      | inl before ↦ is.2 i e before here above
-      | inr same ↦ let low = subst (λ (x : EntryKey × Place). x.1.log < from) same below in absurd (omega (arith, low, above))
-    ]),
-  )
+each_key : {K X : Type 0} (P : K → Type 0) (es : List (K × X)) (i : ℕ) (e : K × X) → AllByRecursion P (keys_of es) → slice_get es i ≡ Some e → P e.0
+each_key P [] i e all at = cc
+each_key P (x ∷ es) zero e all at = subst (λ p. P p.0) (Some-same at) all.0
+each_key P (x ∷ es) (suc i) e all at = each_key P es i e all.1 at
 
-  this_one : (id : ℕ) → id ≡ entry.1.log → IsAmong es (n + 1) id
-  this_one id same = record { number = n; entry = entry; within = omega arith; at = at; log = sym same }
-
-  pub least_taken : (least : Option ℕ) (id : ℕ) → from ≤ entry.1.log → IsLeastOf es n from least → id ≤ entry.1.log → IfSome least (λ l. id ≤ l)
-      → (id ≡ entry.1.log) ⊎ (least ≡ Some id) → IsLeastOf es (n + 1) from (Some id)
-  least_taken None id above is most below (inr old) = cc
-  least_taken None id above is most below (inl same) = (
-    this_one id same,
-    omega (arith, same, above),
-    (λ i e within here high. elim (earlier i e within here) [
-      | inl before ↦ let low = is i e before here in absurd (omega (arith, low, high))
-      | inr this ↦ subst (λ (x : EntryKey × Place). id ≤ x.1.log) this most
-    ]),
-  )
-  least_taken (Some was) id above is most below one = (
-    (elim one [
-      | inl same ↦ this_one id same
-      | inr old ↦
-          let same : was ≡ id = Some-same old in
-          let among = is.0 in
-          let less = among.within in
-          record { number = among.number; entry = among.entry; within = omega (arith, less); at = among.at; log = among.log ∙ same }
-    ]),
-    (elim one [
-      | inl same ↦ omega (arith, same, above)
-      | inr old ↦ let same : was ≡ id = Some-same old in subst (λ x. from ≤ x) same is.1
-    ]),
-    (λ i e within here high. elim (earlier i e within here) [
-      | inl before ↦ let least = is.2 i e before here high in omega (arith, least, below)
-      | inr this ↦ subst (λ (x : EntryKey × Place). id ≤ x.1.log) this most
-    ]),
-  )
-
-pub flushed_taken : (logs : Logs) (least : Option ℕ) (log id : ℕ) → AreFlushed logs least → IsFlushLog logs log → log < 2 ^ 31
-    → (id ≡ log) ⊎ (least ≡ Some id) → AreFlushed logs (Some id)
-flushed_taken logs least log id old flushed bound (inl same) = subst (λ x. IsFlushLog logs x × (x < 2 ^ 31)) (sym same) (flushed, bound)
-flushed_taken logs least log id old flushed bound (inr was) = subst (λ o. AreFlushed logs o) was old
+later_key : {K X : Type 0} (R : K → K → Ordering) (es : List (K × X)) (i j : ℕ) (e other : K × X) → IsStrictlySortedBy R (keys_of es) → i < j
+    → slice_get es i ≡ Some e → slice_get es j ≡ Some other → R e.0 other.0 ≡ Less
+later_key R [] i j e other rises less at there = cc
+later_key R (x ∷ es) i zero e other rises less at there = absurd (omega (arith, less))
+later_key R (x ∷ es) zero (suc j) e other rises less at there =
+    subst (λ p. R p.0 other.0 ≡ Less) (Some-same at) (each_key (λ y. R x.0 y ≡ Less) es j other (sorted_head R x.0 (keys_of es) rises) there)
+later_key R (x ∷ es) (suc i) (suc j) e other rises less at there =
+    later_key R es i j e other (sorted_tail R x.0 (keys_of es) rises) (omega (arith, less)) at there
 
 -- ---- the places of a flush
 
@@ -132,29 +88,49 @@ module _ (s : State) where
   place_at n key place at = finite.get-entries s.places key ∙ find_at key_cmp_total (finite.entries s.places) n key place places_sorted at
 
   -- and a place stands in the list
-  among : (id : ℕ) → HasPlace s id → IsAmong (finite.entries s.places) (finite.len s.places) id
+  among : (id : ℕ) → HasPlace s id
+      → (i : ℕ) × (e : EntryKey × Place) × (i < finite.len s.places) × (slice_get (finite.entries s.places) i ≡ Some e) × (e.1.log ≡ id)
   among id has =
       let there = found_at has.0 (finite.entries s.places) has.1.0 (sym (finite.get-entries s.places has.0) ∙ has.1.1) in
       let within = within_list (finite.entries s.places) there.0 (there.1, has.1.0) there.2 in
       let long = finite.len-entries s.places in
-      record { number = there.0; entry = (there.1, has.1.0); within = omega (arith, within, long); at = there.2; log = has.1.2 }
+      (there.0, (there.1, has.1.0), omega (arith, within, long), there.2, has.1.2)
 
-  has_place : (n id : ℕ) → IsAmong (finite.entries s.places) n id → HasPlace s id
-  has_place n id is = (is.entry.0, (is.entry.1, place_at is.number is.entry.0 is.entry.1 is.at, is.log))
+  -- of two places the later one's log is not below the earlier one's
+  rising : IsKept s → (i j : ℕ) (e other : EntryKey × Place) → i < j → slice_get (finite.entries s.places) i ≡ Some e
+      → slice_get (finite.entries s.places) j ≡ Some other → e.1.log ≤ other.1.log
+  rising kept i j e other less at there =
+      kept.keeps.fits.placed.rising e.0 other.0 e.1 other.1 (ap (λ (x : State). finite.get x.places e.0) kept.seen ∙ place_at i e.0 e.1 at)
+      (ap (λ (x : State). finite.get x.places other.0) kept.seen ∙ place_at j other.0 other.1 there)
+      (later_key key_cmp (finite.entries s.places) i j e other (keys_rise key_cmp (finite.entries s.places) places_sorted) less at there)
 
-  -- the least log of all pairs is the next one
-  pub next_log : (from : ℕ) (least : Option ℕ) → IsLeastOf (finite.entries s.places) (finite.len s.places) from least → IsNextLog s from least
-  next_log from None is = λ id has.
-      let there = among id has in
-      let log = there.log in
-      let below = is there.number there.entry there.within there.at in
-      omega (arith, below, log)
-  next_log from (Some id) is = (
-    has_place _ id is.0,
-    is.1,
-    (λ other has above.
+  -- where a place is the first whose log is not below an id, its log is the next one from there on
+  pub next_placed : IsKept s → (n from : ℕ) (e : EntryKey × Place) → ArePast (finite.entries s.places) n from
+      → slice_get (finite.entries s.places) n ≡ Some e → from ≤ e.1.log → IsNextLog s from (Some e.1.log)
+  next_placed kept n from e past at above = (
+    (e.0, (e.1, place_at n e.0 e.1 at, refl)),
+    above,
+    (λ other has high.
         let there = among other has in
-        let log = there.log in
-        let least = is.2 there.number there.entry there.within there.at (omega (arith, log, above)) in
-        omega (arith, least, log)),
+        let log = there.4 in
+        elim (dec_le n there.0) [
+          | no less ↦ let low = past there.0 there.1 (omega (arith, less)) there.3 in absurd (omega (arith, low, log, high))
+          | yes later ↦ elim (dec_le there.0 n) [
+            | no behind ↦ let least = rising kept n there.0 e there.1 (omega (arith, behind)) at there.3 in omega (arith, least, log)
+            | yes before ↦
+                let same : n ≡ there.0 = omega (arith, later, before) in
+                let one = Some-same (sym at ∙ ap (slice_get (finite.entries s.places)) same ∙ there.3) in
+                let here : e.1.log ≡ there.1.1.log = ap (λ (x : EntryKey × Place). x.1.log) one in
+                omega (arith, here, log)
+          ]
+        ]),
   )
+
+  -- where all places are passed, no log is left
+  pub none_left : (n from : ℕ) → finite.len s.places ≤ n → ArePast (finite.entries s.places) n from → IsNextLog s from None
+  none_left n from all past id has =
+      let there = among id has in
+      let within = there.2 in
+      let log = there.4 in
+      let below = past there.0 there.1 (omega (arith, within, all)) there.3 in
+      omega (arith, below, log)

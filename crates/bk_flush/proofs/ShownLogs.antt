@@ -1,24 +1,23 @@
 -- The logs of a flush are shown one by one, by rising ids.
-use Rattle.std.proofs.Common.{◌≡◌, ◌≢◌, ◌⊎◌, inl, inr, ℕ, ◌+◌, ◌<◌, ◌≤◌, ◌^◌, true, IsTrue, Option, Some, None, Result, Ok, Err, refl, sym, ap, subst, ◌∙◌, arith}
+use Rattle.std.proofs.Common.{◌≡◌, ◌≢◌, ◌⊎◌, inl, inr, ℕ, ◌+◌, ◌<◌, true, IsTrue, Some, None, Ok, Err, slice_get, refl, sym, ap, subst, ◌∙◌, arith}
 use Rattle.std.proofs.Math.Decide.{dec_le}
 use Rattle.std.specs.FinMap as finite
 use Rattle.bk_record.specs.Key.{EntryKey}
 use Rattle.bk_record.specs.Location.{Place}
 use Rattle.bk_log.specs.declared.fault.LogFault.{LogFault}
 use Rattle.bk_log.specs.declared.fault.LogFault.TheVariants as log_faults
+use Rattle.bk_store.specs.Entries.{Places}
 use Rattle.bk_store.specs.Logs.{Log, Logs, IsFlushLog, is_open, with_view}
 use Rattle.bk_store.specs.State.{State}
-use Rattle.bk_store.specs.Kept.{IsPlaced}
 use Rattle.bk_store.specs.Plain.{IsKept}
 use Rattle.bk_store.specs.Meaning.{MeansTheSame}
-use Rattle.bk_store.specs.Doors.{IsOpenLog, ShowTurn, ShowsAll, failed_in}
-use Rattle.bk_store.specs.declared.log.LogState.TheVariants.{Writing, Filled}
-use Rattle.bk_store.proofs.Cases.{same_or_apart}
+use Rattle.bk_store.specs.Doors.{IsOpenLog, ShowTurn}
 use Rattle.bk_store.proofs.LogMaps.{log-inserted, log-insert_else}
 use Rattle.bk_flush.specs.Flushing.{HasPlace, IsShown, ShowsThose, ShowsPlaced, StopsShowing, told}
 use Rattle.bk_flush.specs.Meaning.{Stays}
-use Rattle.bk_flush.specs.Showing.{AllShown, IsNextLog, ShowsLogs}
+use Rattle.bk_flush.specs.Showing.{AllShown, ShowsLogs}
 use Rattle.bk_flush.specs.declared.answer.FlushFault.{FlushFault}
+use Rattle.bk_flush.proofs.NextLogs.{IsNextLog}
 
 -- the logs below this id are shown
 pub record IsShowing (s : State) (from : ℕ) (t : State) : Type 0 where
@@ -54,27 +53,25 @@ open_log s id is = let log = flush_log_open s.logs id is in record { log = log.0
 
 -- what a store in which so much is shown says of the places
 module _ (s t : State) (from : ℕ) (is : IsShowing s from t) where
-  same_places : t.places ≡ s.places
+  pub same_places : t.places ≡ s.places
   same_places = ap (λ (x : State). x.places) is.shown.left
 
-  has_before : (id : ℕ) → HasPlace t id → HasPlace s id
-  has_before id has = (has.0, (has.1.0, ap (λ m. finite.get m has.0) (sym same_places) ∙ has.1.1, has.1.2))
+  -- a pair of the list is that of the start
+  pub same_entry : (n : ℕ) (e : EntryKey × Place) → slice_get (finite.entries t.places) n ≡ Some e → slice_get (finite.entries s.places) n ≡ Some e
+  same_entry n e at = ap (λ (m : Places). slice_get (finite.entries m) n) (sym same_places) ∙ at
 
-  has_now : (id : ℕ) → HasPlace s id → HasPlace t id
-  has_now id has = (has.0, (has.1.0, ap (λ m. finite.get m has.0) same_places ∙ has.1.1, has.1.2))
-
-  module _ (log : ℕ) (next : IsNextLog t from (Some log)) where
+  module _ (log : ℕ) (next : IsNextLog s from (Some log)) where
     -- those before the next log are shown
     before_next : (id : ℕ) → HasPlace s id → id < log → id < from
     before_next id has below = elim (dec_le from id) [
       | no less ↦ omega (arith, less)
-      | yes above ↦ let least = next.2 id (has_now id has) above in absurd (omega (arith, least, below))
+      | yes above ↦ let least = next.2 id has above in absurd (omega (arith, least, below))
     ]
 
     from_next : (id : ℕ) → HasPlace s id → id < log + 1 → (id < from) ⊎ (id ≡ log)
     from_next id has below = elim (dec_le from id) [
       | no less ↦ inl (omega (arith, less))
-      | yes above ↦ let least = next.2 id (has_now id has) above in inr (omega (arith, least, below))
+      | yes above ↦ let least = next.2 id has above in inr (omega (arith, least, below))
     ]
 
     pub one_more : (u : State) → ShowTurn t log (Ok tt) u → (IsTrue t.honest → MeansTheSame t u) → IsShowing s (log + 1) u
@@ -111,7 +108,7 @@ module _ (s t : State) (from : ℕ) (is : IsShowing s from t) where
               })
             ];
             others = λ id none.
-                let apart : id ≢ log = (λ same. none (subst (HasPlace s) (sym same) (has_before log next.0), omega (arith, same))) in
+                let apart : id ≢ log = (λ same. none (subst (HasPlace s) (sym same) next.0, omega (arith, same))) in
                 ap (λ (x : State). finite.get x.logs id) left
                 ∙ log-insert_else t.logs log (with_view view held) id apart
                 ∙ is.shown.others id (λ both. let below = both.1 in none (both.0, omega (arith, below, above)));
@@ -131,7 +128,7 @@ module _ (s t : State) (from : ℕ) (is : IsShowing s from t) where
         → StopsShowing s more u
     stops u more files left = record {
       refused = log;
-      has = has_before log next.0;
+      has = next.0;
       before = record {
         shown = λ id those.
             let one = is.shown.shown id (those.0, before_next id those.0 those.1) in
@@ -182,11 +179,11 @@ module _ (s t : State) (from : ℕ) (is : IsShowing s from t) where
         same_honest log_faults.Failed never = absurd never
 
   -- no log is left to be shown
-  module _ (over : IsNextLog t from None) where
+  module _ (over : IsNextLog s from None) where
     pub all_shown : ShowsPlaced s t
     all_shown = record {
       all = record {
-        shown = λ id has. is.shown.shown id (has, over id (has_now id has));
+        shown = λ id has. is.shown.shown id (has, over id has);
         others = λ id none. is.shown.others id (λ both. none both.0);
         files = is.shown.files;
         left = is.shown.left;

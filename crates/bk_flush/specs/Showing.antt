@@ -1,18 +1,13 @@
--- The logs of a flush by rising ids.
-use Rattle.std.specs.Prelude.{◌≡◌, ℕ, ◌<◌, ◌≤◌, false, Option, Some, None, Result, Ok, Err}
+-- The logs of a flush are shown, and its entries named.
+use Rattle.std.specs.Prelude.{◌≡◌, ◌<◌, false, Some, Result, Ok, Err}
 use Rattle.std.specs.FinMap as finite
 use Rattle.bk_record.specs.Key.{EntryKey}
 use Rattle.bk_record.specs.Location.{Place}
 use Rattle.bk_store.specs.State.{State}
 use Rattle.bk_store.specs.Doors.{ShowsAll}
-use Rattle.bk_flush.specs.Flushing.{HasPlace, NamesFirst, ShowsPlaced, StopsShowing}
+use Rattle.bk_flush.specs.Flushing.{NamesFirst, ShowsPlaced, StopsShowing}
 use Rattle.bk_flush.specs.declared.answer.FlushFault.{FlushFault}
 use Rattle.bk_flush.specs.declared.answer.FlushFault.TheVariants as flush_faults
-
--- the least id from this one on of a log that has a place, none where there is no such log
-abbrev pub IsNextLog : State → ℕ → Option ℕ → Type 0
-IsNextLog s from None = (id : ℕ) → HasPlace s id → id < from
-IsNextLog s from (Some id) = HasPlace s id × (from ≤ id) × ((other : ℕ) → HasPlace s other → from ≤ other → id ≤ other)
 
 -- Each log that has a place is shown; a refusal leaves those of lower ids shown.
 abbrev pub ShowsLogs : State → Result (Unit {0}) FlushFault → State → Type 0

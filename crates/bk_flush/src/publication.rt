@@ -4,12 +4,11 @@
 //! in the order of the keys. A refusal leaves the flush running, with all its entries in their cache, so a later
 //! publish does the rest.
 
-ghost use Rattle.std.specs.Prelude.{◌≡◌, ◌⊎◌, ◌<◌, ◌≤◌, ◌^◌, IsTrue, Some, IfSome, OnOk};
-ghost use Rattle.bk_store.specs.Logs.{IsFlushLog};
+ghost use Rattle.std.specs.Prelude.{◌≡◌, IsTrue, OnOk};
 ghost use Rattle.bk_store.specs.Meaning.{MeansTheSame};
 ghost use Rattle.bk_flush.specs.Flushing.{IsCaused, PublishTurn};
 ghost use Rattle.bk_flush.specs.Meaning.{Stays};
-ghost use Rattle.bk_flush.specs.Showing.{AllShown, IsNextLog, NamesEntries, ShowsLogs};
+ghost use Rattle.bk_flush.specs.Showing.{AllShown, NamesEntries, ShowsLogs};
 
 use crate::faults::fault_of_log;
 use crate::{FlushFault, PublishAnswer};
@@ -42,7 +41,8 @@ pub fn publish<D: LogDisk>(store: &mut Store<D>) -> Result<PublishAnswer, FlushF
     Ok(PublishAnswer::Published(entries))
 }
 
-/// Shows each log that has a place of the flush, once, by rising ids.
+/// Shows each log that has a place of the flush, once, by rising ids: the logs rise with the keys, so one is shown when its
+/// first place comes.
 fn show_logs<D: LogDisk>(store: &mut Store<D>) -> Result<(), FlushFault>
     ensures turn { ShowsLogs store.old result store.new }
     ensures shown { OnOk result (AllShown store.new) }
@@ -50,44 +50,20 @@ fn show_logs<D: LogDisk>(store: &mut Store<D>) -> Result<(), FlushFault>
 {
     store.promise();
     let mut from = 0;
-    while let Some(log) = next_log(store, from) {
+    for number in 0..store.placed_len() {
+        let Some((_, place)) = store.placed(number) else {
+            unreachable!();
+        };
+        let log = place.log();
+        if log < from {
+            continue;
+        }
         if let Err(fault) = store.show(log) {
             return Err(fault_of_log(fault));
         }
         from = log + 1;
     }
     Ok(())
-}
-
-/// The least id from this one on of a log that has a place of the flush.
-fn next_log<D: LogDisk>(store: &Store<D>, from: u32) -> Option<u32>
-    ensures value { IsNextLog store.now from result }
-    ensures flushed { IfSome result (λ log. IsFlushLog store.now.logs log) }
-    ensures bound { IfSome result (λ log. log < 2 ^ 31) }
-{
-    let mut least = None;
-    for number in 0..store.placed_len() {
-        let Some((_, place)) = store.placed(number) else {
-            unreachable!();
-        };
-        let log = place.log();
-        if log >= from {
-            least = Some(lesser(least, log));
-        }
-    }
-    least
-}
-
-/// The lesser of an id and the least one so far.
-fn lesser(least: Option<u32>, log: u32) -> u32
-    ensures most { result ≤ log }
-    ensures below { IfSome least (λ id. result ≤ id) }
-    ensures one { (result ≡ log) ⊎ (least ≡ Some result) }
-{
-    match least {
-        Some(least) if least < log => least,
-        _ => log,
-    }
 }
 
 /// Names each entry of the flush, in the order of their keys. The only fault is `Memory`.

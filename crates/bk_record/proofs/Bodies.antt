@@ -1,12 +1,14 @@
 -- Bodies: the relation and the computed list agree, and bodies are put together.
-use Rattle.std.proofs.Common.{◌≡◌, ℕ, zero, suc, ◌+◌, ◌<◌, ◌≤◌, cond, List, [], ◌∷◌, ◌++◌, length, take, drop, Bool, true, false, refl, sym, ap, ◌∙◌, subst, arith, length-append, append_assoc}
+use Rattle.std.proofs.Common.{◌≡◌, ℕ, zero, suc, ◌+◌, ◌<◌, ◌≤◌, cond, List, [], ◌∷◌, ◌++◌, length, take, drop, Bool, true, false}
+use Rattle.std.proofs.Common.{refl, sym, ap, ◌∙◌, subst, arith, length-append, append_assoc}
 use Rattle.std.proofs.Math.Decide.{dec_le}
 use Rattle.std.proofs.lemmas.List.{take_at, append-nil, length-take}
 use Rattle.bk_record.specs.Record.{record_of, IsPayload, length_field}
 use Rattle.bk_record.specs.Body.{starts_with_record, IsTorn, Body, pieces, leftover}
 use Rattle.bk_record.specs.Body.IsTorn.{short, cut}
 use Rattle.bk_record.specs.Body.Body.{done, more, torn}
-use Rattle.bk_record.proofs.Records.{length-record_of, length_field-record_of, starts-record_of, starts-torn, starts-nil, length_field-take, drop_field, drop_record}
+use Rattle.bk_record.proofs.Records.{length-record_of, length_field-record_of, starts-record_of, starts-torn}
+use Rattle.bk_record.proofs.Records.{starts-nil, length_field-take, drop_field, drop_record}
 
 pub pieces-stop : (most from : ℕ) (bytes : List ℕ) → starts_with_record bytes ≡ false → pieces most from bytes ≡ []
 pieces-stop zero from bytes is = refl

@@ -1,5 +1,6 @@
 -- The entries of a log as a list: as its file grows or its header is written over, and as they stand among files.
-use Rattle.std.proofs.Common.{◌≡◌, inl, inr, ℕ, zero, suc, ◌+◌, ◌≤◌, cond, Option, Some, None, is_some, List, [], ◌∷◌, ◌++◌, length, take, drop, true, false, not, refl, sym, ap, ◌∙◌, subst, arith, length-drop}
+use Rattle.std.proofs.Common.{◌≡◌, inl, inr, ℕ, zero, suc, ◌+◌, ◌≤◌, cond, Option, Some, None, is_some, List, [], ◌∷◌, ◌++◌, length, take, drop, true, false}
+use Rattle.std.proofs.Common.{not, refl, sym, ap, ◌∙◌, subst, arith, length-drop}
 use Rattle.std.specs.List.{filter}
 use Rattle.std.proofs.lemmas.List.{append-nil}
 use Rattle.std.proofs.lemmas.List.Elements.{filter-append}

@@ -1,5 +1,6 @@
 -- Which piece stands at a position, told from what the bytes there say: `left` as the code cut them, `here` as they stand.
-use Rattle.std.proofs.Common.{◌≡◌, ◌⊎◌, inl, inr, ℕ, suc, ◌+◌, ◌-◌, ◌<◌, ◌≤◌, ◌^◌, ℤ, pos, negsuc, ◌<ℤ◌, cond, List, ◌++◌, length, take, drop, get_or, Fits, w8, Bool, true, false, Some, None, IsSome, IsNone, nat_lt, Ok, Err, refl, sym, ap, ◌∙◌, subst, arith, length-drop}
+use Rattle.std.proofs.Common.{◌≡◌, ◌⊎◌, inl, inr, ℕ, suc, ◌+◌, ◌-◌, ◌<◌, ◌≤◌, ◌^◌, ℤ, pos, negsuc, ◌<ℤ◌, cond, List, ◌++◌, length, take, drop, get_or, Fits}
+use Rattle.std.proofs.Common.{w8, Bool, true, false, Some, None, IsSome, IsNone, nat_lt, Ok, Err, refl, sym, ap, ◌∙◌, subst, arith, length-drop}
 use Rattle.std.proofs.lemmas.List.{length-take, take_rest}
 use Rattle.std.proofs.lemmas.Int.{ints, of_z-to_z, to_z_pos}
 use Rattle.std.proofs.lemmas.Bool.{ltb-true, le-ltb}

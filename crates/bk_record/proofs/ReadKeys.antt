@@ -1,5 +1,6 @@
 -- What is known of a payload whose key was read, and of one that may be added.
-use Rattle.std.proofs.Common.{◌≡◌, ◌≢◌, ℕ, ◌≤◌, ◌^◌, List, length, Bool, true, false, cond, ◌&&◌, Option, Some, None, Result, Ok, Err, IsSome, IsOk, nat_lt, refl, sym, ap, ◌∙◌, arith}
+use Rattle.std.proofs.Common.{◌≡◌, ◌≢◌, ℕ, ◌≤◌, ◌^◌, List, length, Bool, true, false, cond, ◌&&◌, Option, Some, None, Result, Ok, Err, IsSome, IsOk, nat_lt}
+use Rattle.std.proofs.Common.{refl, sym, ap, ◌∙◌, arith}
 use Rattle.std.proofs.lemmas.Bool.{false≢true, le-ltb, ltb-false}
 use Rattle.std.specs.Option.{ok_or}
 use Rattle.bk_record.specs.Key.{EntryKey}

@@ -12,7 +12,8 @@ use Rattle.bk_record.specs.Files.{Files, records_of, placed, all_records, HasRec
 use Rattle.bk_record.specs.Scan.{scan_of, keyed}
 use Rattle.bk_record.proofs.Growth.{records_of-short}
 use Rattle.bk_record.proofs.Keys.{key_cmp_total, key_cmp_antisymmetric}
-use Rattle.bk_record.proofs.Entries.{find-In, find-none, get-In, In-get, In-reverse, reverse-In, In-flat_map, flat_map-In, In-map, map-In, In-filter_map, filter_map-In}
+use Rattle.bk_record.proofs.Entries.{find-In, find-none, get-In, In-get, In-reverse, reverse-In}
+use Rattle.bk_record.proofs.Entries.{In-flat_map, flat_map-In, In-map, map-In, In-filter_map, filter_map-In}
 
 -- a record of a file is one of all records, and these are the files'
 pub record-all : (fs : Files) (place : Place) (payload : List ℕ) → HasRecord fs place payload → In (place, payload) (all_records fs)

@@ -5,7 +5,8 @@ use Rattle.std.specs.declared.cmp.Ordering.TheVariants.{Equal}
 use Rattle.std.specs.Bool.{IsTrue}
 use Rattle.std.specs.Cmp.{IsTotalOrder}
 use Rattle.std.specs.List.{filter}
-use Rattle.std.specs.FinMap.{FinMap, find, put, is_sorted, from_sorted, entries-from_sorted, get-from_sorted, len-entries, empty_of_len, same_entries_map, entries_sorted, same_map, entries-insert, get-retain_keys}
+use Rattle.std.specs.FinMap.{FinMap, find, put, is_sorted, from_sorted, entries-from_sorted, get-from_sorted}
+use Rattle.std.specs.FinMap.{len-entries, empty_of_len, same_entries_map, entries_sorted, same_map, entries-insert, get-retain_keys}
 use Rattle.std.specs.FinMap as map
 use Rattle.std.specs.FinMap.Entries.{find-where_key, is_sorted-where_key}
 use Rattle.std.proofs.lemmas.Map.Lookups.{CmpEqualImpliesEq}

@@ -8,7 +8,8 @@ use Rattle.bk_record.specs.Files.{Files, file_of, header_length, records_of, In,
 use Rattle.bk_record.specs.Entry.{HasEntry}
 use Rattle.bk_record.specs.Longer.{AreLonger}
 use Rattle.bk_record.proofs.Places.{one_record}
-use Rattle.bk_record.proofs.StandingRecords.{record-longer, more-record, same-record, short-record, next_place, new-record, grown-record, part-record, record-remove, remove-record, record-insert_else}
+use Rattle.bk_record.proofs.StandingRecords.{record-longer, more-record, same-record, short-record, next_place, new-record}
+use Rattle.bk_record.proofs.StandingRecords.{grown-record, part-record, record-remove, remove-record, record-insert_else}
 
 -- at a place stands one entry
 pub one_entry : (files : Files) (place : Place) (key other : EntryKey) (a b : List ℕ) → HasEntry files place key a → HasEntry files place other b

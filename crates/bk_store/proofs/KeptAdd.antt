@@ -86,7 +86,14 @@ module _ (p : Parts) (payload : List ℕ) (key : EntryKey) (reads : read_added p
           seated = fits.seated;
           held = fits.held;
           sent = fits.sent;
-          placed = record { idle = fits.placed.idle; flushing = fits.placed.flushing; logs = fits.placed.logs; front = fits.placed.front };
+          placed = record {
+            idle = fits.placed.idle;
+            flushing = fits.placed.flushing;
+            logs = fits.placed.logs;
+            front = fits.placed.front;
+            rising = fits.placed.rising;
+            newest = fits.placed.newest;
+          };
           writing = fits.writing;
           filled = fits.filled;
           named = fits.named;

@@ -98,6 +98,9 @@ module _ (s : State) (ledger : ℕ) where
         let old = left_cases s.places ledger key place is in
         let was = left_some (caches.flush_of s.caches) ledger earlier (subst (λ m. IsSome (finite.get m earlier)) (flush_left s.caches ledger) there) in
         ap is_some (left_same s.places ledger earlier was.0) ∙ placed.front key earlier place old.1 before was.1;
+    rising = λ key later place other is there.
+        placed.rising key later place other (left_cases s.places ledger key place is).1 (left_cases s.places ledger later other there).1;
+    newest = λ id log held now key place is. placed.newest id log held now key place (left_cases s.places ledger key place is).1;
   }
     where
       none_left : (o : Option Payloads) → option_map (λ m. without_ledger m ledger) o ≡ None → o ≡ None

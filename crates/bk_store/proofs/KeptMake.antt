@@ -130,7 +130,14 @@ module _ (p : Parts) (keeps : Keeps p) where
           seated = fits.seated;
           held = λ id log is. held_later id log (fits.held id log is);
           sent = fits.sent;
-          placed = record { idle = fits.placed.idle; flushing = fits.placed.flushing; logs = fits.placed.logs; front = fits.placed.front };
+          placed = record {
+            idle = fits.placed.idle;
+            flushing = fits.placed.flushing;
+            logs = fits.placed.logs;
+            front = fits.placed.front;
+            rising = fits.placed.rising;
+            newest = fits.placed.newest;
+          };
           writing = fits.writing;
           filled = λ id log is flushed. goes id (fits.filled id log is flushed);
           named = fits.named;
@@ -215,6 +222,13 @@ module _ (p : Parts) (keeps : Keeps p) where
                 let of = fits.placed.logs key place is in
                 record { log = of.log; held = still_there place.log of.log of.held; flushed = of.flushed };
             front = fits.placed.front;
+            rising = fits.placed.rising;
+            newest = each_new (λ id l. l.state ≡ Writing → (key : EntryKey) (place : Place) → finite.get p.state.places key ≡ Some place → place.log ≤ id)
+                (λ _ key place is.
+                let of = fits.placed.logs key place is in
+                let below = (fits.held place.log of.log of.held).below in
+                omega (arith, below))
+                fits.placed.newest;
           };
           writing = writes;
           filled = each_new (λ id l. (l.state ≡ Writing) ⊎ (l.state ≡ Filled) → In id filled) listed (λ id l is flushed. goes id (fits.filled id l is flushed));

@@ -125,7 +125,14 @@ module _ (p : Parts) (keeps : Keeps p) (key : EntryKey) (place : Place) (may : M
               (record { log = shown.log; view = shown.view; held = shown.held; opened = shown.opened; view_is = shown.view_is })
           | inr old ↦ fits.sent k pl old.1
         ];
-        placed = record { idle = fits.placed.idle; flushing = fits.placed.flushing; logs = fits.placed.logs; front = fits.placed.front };
+        placed = record {
+          idle = fits.placed.idle;
+          flushing = fits.placed.flushing;
+          logs = fits.placed.logs;
+          front = fits.placed.front;
+          rising = fits.placed.rising;
+          newest = fits.placed.newest;
+        };
         writing = fits.writing;
         filled = fits.filled;
         named = names_move p.state.index key place p.accounts (finite.get p.state.logs) fits.named (finite.get p.state.index key) refl;

@@ -44,19 +44,28 @@ module _ (p : Parts) (id : ℕ) (log new : Log) (held : finite.get p.state.logs 
       → ((key : EntryKey) (place : Place) → finite.get p.state.index key ≡ Some place → HasOpenView (finite.insert p.state.logs id new) place.log)
       → ((key : EntryKey) (place : Place) → finite.get p.state.places key ≡ Some place → IsFlushLog (finite.insert p.state.logs id new) place.log)
       → ((q : ℕ) → (writing ≡ Some q) ↔ IsWritingIn (finite.insert p.state.logs id new) q)
-      → (IsFlushed new → In id p.filled)
+      → (IsFlushed new → In id p.filled) → (new.state ≡ Writing → log.state ≡ Writing)
       → ((q : ℕ) → named_in accounts q ≡ named_in p.accounts q)
       → total_at accounts id + header_length ≤ new.acknowledged
       → ((q : ℕ) → q ≢ id → total_at accounts q ≡ total_at p.accounts q)
       → Fits (with_one_in keeper p id new files failures accounts writing)
-  fits_in keeper seated fits new_held sent flushed writes listed named total others = record {
+  fits_in keeper seated fits new_held sent flushed writes listed written named total others = record {
     allowed = fits.allowed;
     limit = fits.limit;
     ids = fits.ids;
     seated = seated;
     held = each_log p.state.logs id log new held (λ q l. IsHeld p.state.next q l) new_held (λ q l _ is. fits.held q l is);
     sent = sent;
-    placed = record { idle = fits.placed.idle; flushing = fits.placed.flushing; logs = flushed; front = fits.placed.front };
+    placed = record {
+      idle = fits.placed.idle;
+      flushing = fits.placed.flushing;
+      logs = flushed;
+      front = fits.placed.front;
+      rising = fits.placed.rising;
+      newest = each_log p.state.logs id log new held
+          (λ q l. l.state ≡ Writing → (key : EntryKey) (place : Place) → finite.get p.state.places key ≡ Some place → place.log ≤ q)
+          (λ now. fits.placed.newest id log held (written now)) (λ q l _ is. fits.placed.newest q l is);
+    };
     writing = writes;
     filled = each_log p.state.logs id log new held (λ q l. IsFlushed l → In q p.filled) listed (λ q l _ is. fits.filled q l is);
     named = λ q. named q ∙ fits.named q ∙ names_stay p.state.logs id log new held (log_count p.state.index) q;
@@ -69,7 +78,7 @@ module _ (p : Parts) (id : ℕ) (log new : Log) (held : finite.get p.state.logs 
       → ((key : EntryKey) (place : Place) → finite.get p.state.index key ≡ Some place → HasOpenView (finite.insert p.state.logs id new) place.log)
       → ((key : EntryKey) (place : Place) → finite.get p.state.places key ≡ Some place → IsFlushLog (finite.insert p.state.logs id new) place.log)
       → ((q : ℕ) → (writing ≡ Some q) ↔ IsWritingIn (finite.insert p.state.logs id new) q)
-      → (IsFlushed new → In id p.filled)
+      → (IsFlushed new → In id p.filled) → (new.state ≡ Writing → log.state ≡ Writing)
       → ((q : ℕ) → named_in accounts q ≡ named_in p.accounts q)
       → total_at accounts id + header_length ≤ new.acknowledged
       → ((q : ℕ) → q ≢ id → total_at accounts q ≡ total_at p.accounts q)
@@ -148,7 +157,14 @@ keeps_failures p files failures keeps same =
         seated = fits.seated;
         held = fits.held;
         sent = fits.sent;
-        placed = record { idle = fits.placed.idle; flushing = fits.placed.flushing; logs = fits.placed.logs; front = fits.placed.front };
+        placed = record {
+          idle = fits.placed.idle;
+          flushing = fits.placed.flushing;
+          logs = fits.placed.logs;
+          front = fits.placed.front;
+          rising = fits.placed.rising;
+          newest = fits.placed.newest;
+        };
         writing = fits.writing;
         filled = fits.filled;
         named = fits.named;

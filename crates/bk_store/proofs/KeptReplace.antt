@@ -130,7 +130,14 @@ module _ (p : Parts) (keeps : Keeps p) (index : Places) (may : MayReplace p.stat
         seated = fits.seated;
         held = fits.held;
         sent = may.sent;
-        placed = record { idle = fits.placed.idle; flushing = fits.placed.flushing; logs = fits.placed.logs; front = fits.placed.front };
+        placed = record {
+          idle = fits.placed.idle;
+          flushing = fits.placed.flushing;
+          logs = fits.placed.logs;
+          front = fits.placed.front;
+          rising = fits.placed.rising;
+          newest = fits.placed.newest;
+        };
         writing = fits.writing;
         filled = fits.filled;
         named = λ id. names_now id (log_count p.state.index id) (finite.get p.state.logs id) (fits.named id);

@@ -110,6 +110,8 @@ module _ (p : Parts) (keeps : Keeps p) (rule : LogState → Log → Log) (mild :
           flushing = λ key place is. absurd (no_place key place is);
           logs = λ key place is. absurd (no_place key place is);
           front = λ key earlier place is. absurd (no_place key place is);
+          rising = λ key later place other is. absurd (no_place key place is);
+          newest = λ id log held now key place is. absurd (no_place key place is);
         };
         writing = writes;
         filled = listed;

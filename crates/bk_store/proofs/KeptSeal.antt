@@ -71,7 +71,8 @@ module _ (p : Parts) (keeps : Keeps p) (id : ℕ) (state : LogState) (log : Log)
       fits_one p id log new held files failures p.accounts (unless_log p.writing id) fits refl (slot_state-same id state log.state opened was_open)
       (held_closed p.state.next id state log closed (fits.held id log held))
       (λ key place is. views_stay p.state.logs id log new held (λ v _ view_is. (opened, (v, view_is))) place.log (fits.sent key place is))
-      flushed (writing_closed p.state.logs id new p.writing unwritten fits.writing) listed (λ q. refl) (fits.total id log held) (λ q _. refl)
+      flushed (writing_closed p.state.logs id new p.writing unwritten fits.writing) listed (λ now. absurd (unwritten now)) (λ q. refl)
+      (fits.total id log held) (λ q _. refl)
 
 module _ (p : Parts) (keeps : Keeps p) (id : ℕ) (log : Log) (held : finite.get p.state.logs id ≡ Some log) where
   -- the flush's log is Filled, and its places stay in it

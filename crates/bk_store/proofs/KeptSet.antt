@@ -53,7 +53,7 @@ module _ (p : Parts) (keeps : Keeps p) (id : ℕ) (state : LogState) (log : Log)
             (held_closed p.state.next id state log closed (fits.held id log held)) sent
             (λ key place is. flush_logs_stay p.state.logs id log new held (λ f. absurd (other f)) place.log (fits.placed.logs key place is))
             (writing_same p.state.logs id log new held (λ wrong. absurd (other (inl wrong))) (λ wrong. absurd (unflushed (inl wrong))) p.writing fits.writing)
-            (λ wrong. absurd (unflushed wrong)) (λ q. refl) (fits.total id log held) (λ q _. refl);
+            (λ wrong. absurd (unflushed wrong)) (λ wrong. absurd (unflushed (inl wrong))) (λ q. refl) (fits.total id log held) (λ q _. refl);
         promises = λ honest.
             let promise = keeps.promises honest in
             let old = promise.backed id log held in

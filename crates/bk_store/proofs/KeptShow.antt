@@ -50,7 +50,7 @@ module _ (p : Parts) (keeps : Keeps p) (id : ℕ) (log : Log) (held : finite.get
             (λ key place is. views_stay p.state.logs id log shown held (λ v open_log _. (open_log, (view, refl))) place.log (fits.sent key place is))
             (λ key place is. flush_logs_stay p.state.logs id log shown held (λ f. f) place.log (fits.placed.logs key place is))
             (writing_same p.state.logs id log shown held (λ w. w) (λ w. w) p.writing fits.writing)
-            (fits.filled id log held) (λ q. refl) (fits.total id log held) (λ q _. refl);
+            (fits.filled id log held) (λ w. w) (λ q. refl) (fits.total id log held) (λ q _. refl);
         promises = λ honest. let s = seen honest in promised (keeps.promises honest) s.0 s.1;
       }
 

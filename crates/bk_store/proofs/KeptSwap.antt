@@ -60,6 +60,8 @@ module _ (p : Parts) (keeps : Keeps p) (idle : p.state.caches.flush ≡ None) wh
             flushing = λ key place is. absurd (none_placed p.state.places key place no_places is);
             logs = λ key place is. absurd (none_placed p.state.places key place no_places is);
             front = λ key earlier place is. absurd (none_placed p.state.places key place no_places is);
+            rising = λ key later place other is. absurd (none_placed p.state.places key place no_places is);
+            newest = λ id log held now key place is. absurd (none_placed p.state.places key place no_places is);
           };
           writing = fits.writing;
           filled = fits.filled;

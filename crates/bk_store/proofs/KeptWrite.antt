@@ -35,7 +35,7 @@ use Rattle.bk_store.specs.State.{State, Parts}
 use Rattle.bk_store.specs.Meaning.{written_at}
 use Rattle.bk_store.specs.Kept.{Keeps, Fits, Promises, IsHeld, IsWrittenBy, IsBacked, entry_measure, acknowledged_entries}
 use Rattle.bk_store.specs.Putting.{next_place, grown_log}
-use Rattle.bk_store.specs.Doors.{IsNext, MayWrite, WriteTurn, PutTurn, noted}
+use Rattle.bk_store.specs.Doors.{IsIn, IsNext, MayWrite, WriteTurn, PutTurn, noted}
 use Rattle.bk_store.specs.Beside.{WritesBeside, IsReadied, unless_log}
 use Rattle.bk_store.specs.declared.log.LogState.TheVariants.{Writing, Filled}
 use Rattle.bk_store.proofs.Cases.{some_or_none, same_or_apart}
@@ -89,7 +89,14 @@ keeps_ready p log ledger keeps =
         seated = fits.seated;
         held = fits.held;
         sent = fits.sent;
-        placed = record { idle = fits.placed.idle; flushing = fits.placed.flushing; logs = fits.placed.logs; front = fits.placed.front };
+        placed = record {
+          idle = fits.placed.idle;
+          flushing = fits.placed.flushing;
+          logs = fits.placed.logs;
+          front = fits.placed.front;
+          rising = fits.placed.rising;
+          newest = fits.placed.newest;
+        };
         writing = fits.writing;
         filled = fits.filled;
         named = λ q. named_in-after_ready p.accounts log ledger q ∙ fits.named q;
@@ -112,16 +119,21 @@ keeps_ready p log ledger keeps =
 -- ---- a place is noted
 
 pub keeps_noted : (p : Parts) (key : EntryKey) (payload : List ℕ) (place : Place) → Keeps p → finite.get (caches.flush_of p.state.caches) key ≡ Some payload
-    → IsFlushLog p.state.logs place.log
+    → IsIn p.state place.log Writing → finite.get p.state.places key ≡ None
     → ((earlier : EntryKey) → key_cmp earlier key ≡ Less → IsSome (finite.get (caches.flush_of p.state.caches) earlier) → IsSome (finite.get p.state.places earlier))
     → (IsTrue p.state.honest → HasEntry (file_of p.state.files) place key payload)
     → Keeps (with_state p (noted p.state key place))
-keeps_noted p key payload place keeps flushing in_log first stands =
+keeps_noted p key payload place keeps flushing in_log unplaced first stands =
     let fits = keeps.fits in
     let still : (q : EntryKey) → IsSome (finite.get p.state.places q) → IsSome (finite.get (finite.insert p.state.places key place) q) =
     λ q there. elim (same_key q key) [
       | inl here ↦ ap is_some (inserted_here p.state.places key place q here)
       | inr apart ↦ ap is_some (get-insert_other p.state.places key place q apart) ∙ there
+    ] in
+    let not_above : (k : EntryKey) (pl : Place) → finite.get (finite.insert p.state.places key place) k ≡ Some pl → pl.log ≤ place.log =
+    λ k pl is. elim (inserted_cases p.state.places key place k pl is) [
+      | inl here ↦ subst (λ (x : Place). x.log ≤ place.log) here.1 (omega arith)
+      | inr old ↦ fits.placed.newest place.log in_log.log in_log.held in_log.state_is k pl old.1
     ] in
     record {
       fits = record {
@@ -141,13 +153,26 @@ keeps_noted p key payload place keeps flushing in_log first stands =
             | inr old ↦ fits.placed.flushing k pl old.1
           ];
           logs = λ k pl is. elim (inserted_cases p.state.places key place k pl is) [
-            | inl here ↦ subst (λ (x : Place). IsFlushLog p.state.logs x.log) here.1 in_log
+            | inl here ↦ subst (λ (x : Place). IsFlushLog p.state.logs x.log) here.1
+                (record { log = in_log.log; held = in_log.held; flushed = inl in_log.state_is })
             | inr old ↦ fits.placed.logs k pl old.1
           ];
           front = λ k earlier pl is less there. elim (inserted_cases p.state.places key place k pl is) [
             | inl here ↦ still earlier (first earlier (ap (λ (x : EntryKey). key_cmp earlier x) (sym here.0) ∙ less) there)
             | inr old ↦ still earlier (fits.placed.front k earlier pl old.1 less there)
           ];
+          rising = λ k later pl other is there less. elim (inserted_cases p.state.places key place later other there) [
+            | inl last ↦ subst (λ (x : Place). pl.log ≤ x.log) last.1 (not_above k pl is)
+            | inr was ↦ elim (inserted_cases p.state.places key place k pl is) [
+              | inr old ↦ fits.placed.rising k later pl other old.1 was.1 less
+              | inl here ↦
+                  let had = fits.placed.front later key other was.1 (ap (λ (x : EntryKey). key_cmp x later) (sym here.0) ∙ less) (ap is_some flushing) in
+                  absurd (let both : true ≡ false = sym had ∙ ap is_some unplaced in cc)
+            ]
+          ];
+          newest = λ id log held now k pl is.
+              let one : Some id ≡ Some place.log = sym ((fits.writing id).1 (log, held, now)) ∙ (fits.writing place.log).1 (in_log.log, in_log.held, in_log.state_is) in
+              subst (λ n. pl.log ≤ n) (sym (same_Some id place.log one)) (not_above k pl is);
         };
         writing = fits.writing;
         filled = fits.filled;
@@ -228,7 +253,7 @@ module _ (p : Parts) (keeps : Keeps p) (id : ℕ) (log : Log) (held : finite.get
       fits_one p id log new held files p.state.failures counted_book p.writing fits refl refl new_held
       (λ k place is. views_stay p.state.logs id log new held (λ v o view_is. (o, (v, view_is))) place.log (fits.sent k place is))
       (λ k place is. flush_logs_stay p.state.logs id log new held (λ f. f) place.log (fits.placed.logs k place is))
-      (writing_same p.state.logs id log new held (λ s. s) (λ s. s) p.writing fits.writing) (fits.filled id log held)
+      (writing_same p.state.logs id log new held (λ s. s) (λ s. s) p.writing fits.writing) (fits.filled id log held) (λ s. s)
       (λ q. named_in-after_count ready id key.ledger size q ∙ named_in-after_ready p.accounts id key.ledger q)
       (let most = counted_total size (eqb id id) (total_in ready id) in
       let now = ap (λ o. unwrap_or o 0) (total_in-after_count ready id key.ledger size id) in
@@ -334,8 +359,8 @@ written_kept p id key payload keeps may flushing sound log w held writer files g
     } in
     keeps_noted (with_one p id (grown_log log w payload) files p.state.failures
     (after_count (after_ready p.accounts id key.ledger) id key.ledger (4 + length payload)) p.writing) key payload (next_place w) mid flushing
-    (record { log = grown_log log w payload; held = log-inserted p.state.logs id (grown_log log w payload) w.log own; flushed = inl was })
-    may.next.first
+    (record { log = grown_log log w payload; held = log-inserted p.state.logs id (grown_log log w payload) w.log own; state_is = was })
+    may.next.unplaced may.next.first
     (λ honest.
     let promise = keeps.promises honest in
     put_stands p keeps id log held w writer key payload read files promise (mapped promise) (grew honest))

@@ -10,6 +10,7 @@ pub mod LedgerLeaves
 pub mod ShownMoves
 pub mod Rebuilding
 pub mod Opening
+pub mod Reopening
 pub mod EntryLists
 pub mod Walks
 pub mod HeldWalks
@@ -58,3 +59,4 @@ pub mod SameMeaning
 pub mod NextEntry
 pub mod HeldWriters
 pub mod KeptReplace
+pub mod HeldIds

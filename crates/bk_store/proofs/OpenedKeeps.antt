@@ -200,6 +200,8 @@ module _ (settings : Settings) (honest : Bool) (files : Files) (failures : ℕ) 
       flushing = λ key place is. absurd (none_placed finite.empty key place refl is);
       logs = λ key place is. absurd (none_placed finite.empty key place refl is);
       front = λ key earlier place is. absurd (none_placed finite.empty key place refl is);
+      rising = λ key later place other is. absurd (none_placed finite.empty key place refl is);
+      newest = λ id log held now key place is. absurd (none_placed finite.empty key place refl is);
     };
     writing = λ id. (λ wrong. cc, λ w. let r = read_of id w.0 w.1 in let readable = ap (λ (l : Log). l.state) r.1.1 in let writes = w.2 in cc);
     filled = λ id log is fills. let r = read_of id log is in let readable = ap (λ (l : Log). l.state) r.1.1 in elim fills [ inl wrong ↦ cc | inr wrong ↦ cc ];

@@ -38,13 +38,18 @@ pub record IsHeld (next id : ℕ) (log : Log) : Type 0 where
   pub written : is_written log.state ≡ true → IsSome log.writer
   pub by : (w : writers.Writing) → log.writer ≡ Some w → IsWrittenBy id log w
 
--- the places of a flush are of its entries, in logs that it wrote; an entry before one with a place has one too
+-- The places of a flush are of its entries, in logs that it wrote; an entry before one with a place has one too. Their logs
+-- rise with the keys, and none is above the log that flushes write.
 pub record IsPlaced (s : State) : Type 0 where
   pub idle : s.caches.flush ≡ None → s.places ≡ finite.empty
   pub flushing : (key : EntryKey) (place : Place) → finite.get s.places key ≡ Some place → IsSome (finite.get (caches.flush_of s.caches) key)
   pub logs : (key : EntryKey) (place : Place) → finite.get s.places key ≡ Some place → IsFlushLog s.logs place.log
   pub front : (key earlier : EntryKey) (place : Place) → finite.get s.places key ≡ Some place → key_cmp earlier key ≡ Less
       → IsSome (finite.get (caches.flush_of s.caches) earlier) → IsSome (finite.get s.places earlier)
+  pub rising : (key later : EntryKey) (place other : Place) → finite.get s.places key ≡ Some place → finite.get s.places later ≡ Some other
+      → key_cmp key later ≡ Less → place.log ≤ other.log
+  pub newest : (id : ℕ) (log : Log) → finite.get s.logs id ≡ Some log → log.state ≡ Writing
+      → (key : EntryKey) (place : Place) → finite.get s.places key ≡ Some place → place.log ≤ id
 
 -- What is kept beside any disk.
 pub record Fits (p : Parts) : Type 0 where

@@ -1,6 +1,6 @@
 //! Laws of the definitions that contracts cite, stated once for all stores; the functions do nothing.
 
-ghost use Rattle.std.specs.Prelude.{◌≡◌, ◌≢◌, ℕ, List, None, Result, ◌||◌, is_some, if◌then◌else◌, IsTrue};
+ghost use Rattle.std.specs.Prelude.{◌≡◌, ◌≢◌, ℕ, List, None, Result, ◌||◌, is_some, if◌then◌else◌, IsTrue, true};
 ghost use Rattle.std.specs.FinMap as finite;
 ghost use Rattle.std.specs.FinSet as set;
 ghost use Rattle.std.specs.Option.{option_or};
@@ -12,7 +12,10 @@ ghost use Rattle.bk_store.specs.Entries.{Bytes, Places, IsIndexOf};
 ghost use Rattle.bk_store.specs.Carried.{Cached, Carries};
 ghost use Rattle.bk_store.specs.Shown.{Shows};
 ghost use Rattle.bk_store.specs.State.{State};
-ghost use Rattle.bk_store.specs.Turns.{AddTurn, TakeTurn, SwapTurn, DeleteTurn};
+ghost use Rattle.bk_store.specs.Turns.{AddTurn, TakeTurn, SwapTurn, DeleteTurn, ledgers_of};
+ghost use Rattle.bk_store.specs.Meaning.{MeansTheSame, written_at};
+ghost use Rattle.bk_store.specs.Opening.{IsOpened};
+ghost use Rattle.bk_store.specs.declared.settings.Settings.{Settings};
 ghost use Rattle.bk_store.specs.Plain.{Plain, PlainAdd, PlainTake, PlainDelete, after_swap, Agrees, IsKept};
 ghost use Rattle.bk_store.specs.declared.answer.Added.{Added};
 ghost use Rattle.bk_store.specs.declared.answer.AddFault.{AddFault};
@@ -100,4 +103,11 @@ pub fn swap_is_plain()
 pub fn delete_is_plain()
     ensures { (s t : State) (p : Plain) (ledger : ℕ) (answer : Result ℕ DeleteFault) → IsKept s → IsTrue s.honest → Agrees s p
         → DeleteTurn s ledger answer t → (q : Plain) × PlainDelete p ledger answer q × Agrees t q }
+{}
+
+/// A store that is opened on the files of another one, with the same dead ledgers, means at every key what that one means,
+/// where no write cache of that one has an entry.
+pub fn reopened_means_the_same()
+    ensures { (s t : State) (settings : Settings) (dead : List ℕ) → s.dead ≡ ledgers_of dead → ((key : EntryKey) → written_at s key ≡ None)
+        → IsOpened true s.files settings dead t → MeansTheSame s t }
 {}

@@ -32,7 +32,7 @@ pub use answer::{
 pub use laws::{
     add_is_plain, carried_is_held, carried_is_meaning, carried_is_one_map, delete_is_plain,
     deleted_ledger_leaves, files_have_an_index, index_is_one, opened_index_carries,
-    rebuilt_index_carries, swap_is_plain, take_is_plain,
+    rebuilt_index_carries, reopened_means_the_same, swap_is_plain, take_is_plain,
 };
 pub use leasing::StillLeased;
 pub use log::LogState;

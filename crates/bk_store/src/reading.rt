@@ -1,6 +1,6 @@
 //! What is to be seen of a store, for the crates above.
 
-ghost use Rattle.std.specs.Prelude.{◌≡◌, ◌≤◌, ◌↔◌, Ok, IsSome, IsTrue, IfSome, length, option_map, slice_get};
+ghost use Rattle.std.specs.Prelude.{◌≡◌, ◌<◌, ◌≤◌, ◌↔◌, ◌^◌, Ok, IsSome, IsTrue, IfSome, length, option_map, slice_get};
 ghost use Rattle.std.specs.FinMap as map;
 ghost use Rattle.bk_record.specs.Files.{header_length};
 ghost use Rattle.bk_record.specs.Keyed.{log_count};
@@ -8,13 +8,15 @@ ghost use Rattle.bk_record.specs.Record.{max_added, read_added};
 ghost use Rattle.bk_cache.specs.Caches.{flush_of};
 ghost use Rattle.bk_store.specs.Doors.{IsNextEntry, IsWritingLog, MayMakeTurn, writer_of};
 ghost use Rattle.bk_store.specs.Limits.{IsAllowed};
-ghost use Rattle.bk_store.specs.Logs.{IsFlushLog, last_view, view_of};
+ghost use Rattle.bk_store.specs.Logs.{IsFlushLog, IsNextHeld, last_view, view_of};
+ghost use Rattle.bk_store.specs.Turns.{is_dead};
 
 use crate::{MakeFault, Settings, Store};
 use bk_disk::LogDisk;
 use bk_index::Index;
 use bk_log::LogWriter;
 use bk_record::{Key, Location};
+use std::alloc::Global;
 use std::sync::Arc;
 
 impl<D: LogDisk> Store<D> {
@@ -24,6 +26,26 @@ impl<D: LogDisk> Store<D> {
         ensures allowed { IsAllowed result }
     {
         self.fields.settings
+    }
+
+    /// Where new collections of the store's caller take their memory.
+    pub fn alloc(&self) -> Global {
+        self.fields.alloc
+    }
+
+    /// Whether a ledger was deleted.
+    pub fn is_dead(&self, ledger: u64) -> bool
+        ensures { result ≡ is_dead self.now ledger }
+    {
+        self.fields.dead.contains(ledger)
+    }
+
+    /// The least id from this one on of a log that is held, `None` where there is none: a walk over all logs by rising ids.
+    pub fn log_from(&self, id: u32) -> Option<u32>
+        ensures value { IsNextHeld self.now.logs id result }
+        ensures bound { IfSome result (λ log. log < 2 ^ 31) }
+    {
+        self.fields.logs.next_from(id)
     }
 
     /// The last view of a log, `None` where no such log is held or it has none.

@@ -99,3 +99,15 @@ fn a_refused_publish_is_ended_by_the_next(rt: HostRuntime) -> Result<(), Fail> {
     }
     Ok(())
 }
+
+/// Nothing is asked for a log again at its second place: the fifth call of a publish of two logs never comes.
+#[test]
+fn a_publish_asks_twice_for_each_log(rt: HostRuntime) -> Result<(), Fail> {
+    let disk = FaultDisk::new(MemDisk::new(rt.alloc()), 15, 0);
+    let mut store = Store::open(rt.alloc(), disk, SETTINGS, &[])?;
+    for call in WRITTEN {
+        told(rt.alloc(), &mut store, call)?;
+    }
+    assert_eq!(rt; told_of_publish(publish(&mut store)), ("published", 3));
+    Ok(())
+}

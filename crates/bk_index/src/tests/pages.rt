@@ -2,38 +2,48 @@
 
 use super::{key, place};
 use crate::Index;
+use std::alloc::AllocError;
 use std::process::Abort;
 use std::test::Fail;
 
 // The pages are of these lengths, in this order, and there is none behind them.
-fn has_pages(rt: &impl Abort, index: &Index, lens: &[usize]) {
-    assert_eq!(rt; index.pages(), lens.len());
-    assert_eq!(rt; index.as_pages().len(), lens.len());
-    for (number, len) in lens.iter().enumerate() {
-        assert_eq!(rt; index.page_len(number), Some(*len));
-        assert_eq!(rt; index.as_pages().page_len(number), Some(*len));
+fn has_pages(index: &Index, lens: &[usize]) -> bool {
+    let pages = index.as_pages();
+    if index.pages() != lens.len() || pages.len() != lens.len() {
+        return false;
     }
-    assert_eq!(rt; index.page_len(lens.len()), None);
+    for (number, len) in lens.iter().enumerate() {
+        let found = (index.page_len(number), pages.page_len(number));
+        if found != (Some(*len), Some(*len)) {
+            return false;
+        }
+    }
+    index.page_len(lens.len()).is_none()
+}
+
+// Inserts 256 entries of ledger 1.
+fn fill_page(index: &mut Index) -> Result<(), AllocError> {
+    for entry in 0..256 {
+        index.insert(key(1, entry), place(0, 1028))?;
+    }
+    Ok(())
 }
 
 #[test]
 fn full_pages_are_split_and_empty_ones_go(rt: HostRuntime) -> Result<(), Fail> {
     let mut index = Index::new(rt.alloc());
-    let there = place(0, 1028)?;
-    has_pages(&rt, &index, &[]);
-    for entry in 0..256 {
-        index.insert(key(1, entry)?, there)?;
-    }
-    has_pages(&rt, &index, &[256]);
-    index.insert(key(1, 256)?, there)?;
-    has_pages(&rt, &index, &[128, 129]);
-    index.insert(key(0, 5)?, there)?;
-    has_pages(&rt, &index, &[129, 129]);
+    assert!(rt; has_pages(&index, &[]));
+    fill_page(&mut index)?;
+    assert!(rt; has_pages(&index, &[256]));
+    index.insert(key(1, 256), place(0, 1028))?;
+    assert!(rt; has_pages(&index, &[128, 129]));
+    index.insert(key(0, 5), place(0, 1028))?;
+    assert!(rt; has_pages(&index, &[129, 129]));
     assert_eq!(rt; index.drop_ledger(1), 257);
-    has_pages(&rt, &index, &[1]);
+    assert!(rt; has_pages(&index, &[1]));
     assert_eq!(rt; index.drop_ledger(0), 1);
-    has_pages(&rt, &index, &[]);
-    assert_eq!(rt; index.get(&key(1, 0)?), None);
+    assert!(rt; has_pages(&index, &[]));
+    assert_eq!(rt; index.get(&key(1, 0)), None);
     Ok(())
 }
 
@@ -44,14 +54,11 @@ const LEDGERS: u64 = 9;
 
 const ENTRIES: u64 = 1000;
 
-fn fill(index: &mut Index) -> Result<(), Fail> {
+fn fill(index: &mut Index) -> Result<(), AllocError> {
     for entry in 0..ENTRIES {
         for ledger in 0..LEDGERS {
-            let log = (ledger % 3) as u32;
-            index.insert(
-                key(LAST_ID - ledger, LAST_ID - entry)?,
-                place(log, u32::MAX)?,
-            )?;
+            let to = place((ledger % 3) as u32, u32::MAX);
+            index.insert(key(LAST_ID - ledger, LAST_ID - entry), to)?;
         }
     }
     Ok(())
@@ -65,24 +72,29 @@ fn entries_in_pages(index: &Index) -> usize {
     entries
 }
 
+// Pages that are emptied in the middle, then at both ends.
+const DROPPED: [u64; 4] = [LAST_ID - 4, LAST_ID - 3, LAST_ID - 8, LAST_ID];
+
+// Whether each of those ledgers had all its entries.
+fn drops_all(index: &mut Index) -> bool {
+    for ledger in &DROPPED {
+        if index.drop_ledger(*ledger) != ENTRIES {
+            return false;
+        }
+    }
+    true
+}
+
 #[test]
 fn thousands_of_keys_are_held_and_dropped(rt: HostRuntime) -> Result<(), Fail> {
     let mut index = Index::new(rt.alloc());
     fill(&mut index)?;
-    assert_eq!(rt; index.len(), 9000);
-    assert_eq!(rt; entries_in_pages(&index), 9000);
-    assert_eq!(rt; index.count_in(1), 3000);
-    // Pages that are emptied in the middle, then at both ends.
-    assert_eq!(rt; index.drop_ledger(LAST_ID - 4), ENTRIES);
-    assert_eq!(rt; index.drop_ledger(LAST_ID - 3), ENTRIES);
-    assert_eq!(rt; index.drop_ledger(LAST_ID - 8), ENTRIES);
-    assert_eq!(rt; index.drop_ledger(LAST_ID), ENTRIES);
-    assert_eq!(rt; index.len(), 5000);
-    assert_eq!(rt; entries_in_pages(&index), 5000);
-    assert_eq!(rt;
-        index.get(&key(LAST_ID - 1, LAST_ID - 999)?),
-        Some(place(1, u32::MAX)?)
-    );
-    assert_eq!(rt; index.get(&key(LAST_ID - 3, LAST_ID)?), None);
+    let counts = (index.len(), entries_in_pages(&index), index.count_in(1));
+    assert_eq!(rt; counts, (9000, 9000, 3000));
+    assert!(rt; drops_all(&mut index));
+    assert_eq!(rt; (index.len(), entries_in_pages(&index)), (5000, 5000));
+    let held = index.get(&key(LAST_ID - 1, LAST_ID - 999));
+    assert_eq!(rt; held, Some(place(1, u32::MAX)));
+    assert_eq!(rt; index.get(&key(LAST_ID - 3, LAST_ID)), None);
     Ok(())
 }

@@ -24,12 +24,12 @@ impl Numbers {
         (self.0 >> 33) as u32 % bound.max(1)
     }
 
-    fn key(&mut self) -> Result<Key, &'static str> {
+    fn key(&mut self) -> Key {
         // Few ledgers of many entries, so that a ledger spans pages.
         key(u64::from(self.below(4)), u64::from(self.below(400)))
     }
 
-    fn place(&mut self) -> Result<Location, &'static str> {
+    fn place(&mut self) -> Location {
         place(self.below(3), 1028 + self.below(4))
     }
 }
@@ -129,16 +129,16 @@ fn mixed_call(
     numbers: &mut Numbers,
     index: &mut Index,
     plain: &mut Plain,
-) -> Result<(), Fail> {
-    let key = numbers.key()?;
-    let to = numbers.place()?;
+) -> Result<(), AllocError> {
+    let key = numbers.key();
+    let to = numbers.place();
     match numbers.below(400) {
         0 => {
             let ledger = u64::from(numbers.below(5));
             assert_eq!(rt; index.drop_ledger(ledger), plain.drop_ledger(ledger));
         }
         1..=80 => {
-            let from = numbers.place()?;
+            let from = numbers.place();
             let moves = plain.get(&key) == Some(from);
             assert_eq!(rt; index.replace_if(&key, from, to), moves);
             if moves {

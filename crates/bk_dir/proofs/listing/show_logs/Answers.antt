@@ -11,10 +11,14 @@ loop-log-init g c = (c.list_logs.ensures.reads, λ honest. ([], none, appends_no
 
 pub loop-log-preserved : goal.loop-log-preserved
 loop-log-preserved g c =
-    let first = c.loop-log.invariant in (
+    let first = c.loop-log.invariant in
+    let logs = c.as_slice-log-items.result.now in
+    let log = get_or logs c.loop-log.log-index 0 in
+    let before = g.W.Write.contents c.loop-log.writer in
+    let after = g.W.Write.contents c.show_log.new.writer in (
       read_then _ _ _ _ _ _ first.0 c.show_log.ensures.reads,
       λ honest.
-          line_more (IsLogLine (g.D.LogDisk.files c.args.disk.now)) c.as_slice-log-items.result.now c.loop-log.log-index _ _ _ c.loop-log-test.true (first.1 honest)
-          (subst (λ (fs : Files). Writes (IsLogLine fs (get_or c.as_slice-log-items.result.now c.loop-log.log-index 0)) (g.W.Write.contents c.loop-log.writer) (g.W.Write.contents c.show_log.new.writer))
-          (first.0.1 honest) (c.in_ok-show_log.ensures.ok (honest_still _ _ _ _ first.0 honest))),
+          line_more (IsLogLine (g.D.LogDisk.files c.args.disk.now)) logs c.loop-log.log-index _ _ _ c.loop-log-test.true (first.1 honest)
+          (subst (λ (fs : Files). Writes (IsLogLine fs log) before after) (first.0.1 honest)
+          (c.in_ok-show_log.ensures.ok (honest_still _ _ _ _ first.0 honest))),
     )

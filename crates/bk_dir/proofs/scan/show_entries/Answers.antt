@@ -22,11 +22,14 @@ returns g c = λ honest.
     let next = c.next.new.self in
     let file = g.V.LogView.bytes c.args.view.now in
     let end_is : c.max-end.result ≡ view_end file = omega (arith, c.max-end.ensures, c.end.ensures honest) in
-    shown_all c.new-scanner.result now next c.loop-scanner.entries file _ _ _ c.loop-scanner.invariant
+    let entries = c.loop-scanner.entries in
+    let before = g.W.Write.contents c.loop-scanner.writer in
+    let after = g.W.Write.contents c.write_counts.new.writer in
+    shown_all c.new-scanner.result now next entries file _ _ _ c.loop-scanner.invariant
     (subst (λ (o : Option Found). NextMoves now (Ok o) next) c.in_default.is c.in_ok-found.ensures.moves)
     (λ h. subst (λ (o : Option Found). NextTurn now (Ok o) next) c.in_default.is (c.in_ok-found.ensures.turn h))
-    (subst (λ n. Appends (g.W.Write.contents c.loop-scanner.writer) (g.W.Write.contents c.write_counts.new.writer) (counts_line c.loop-scanner.entries n next.torn)) c.foreign.ensures
-    (subst (λ n. Appends (g.W.Write.contents c.loop-scanner.writer) (g.W.Write.contents c.write_counts.new.writer) (counts_line c.loop-scanner.entries c.foreign.result n)) c.torn.ensures
+    (subst (λ n. Appends before after (counts_line entries n next.torn)) c.foreign.ensures
+    (subst (λ n. Appends before after (counts_line entries c.foreign.result n)) c.torn.ensures
     c.in_ok-write_counts.ensures))
     (subst (λ (b : Bool). IsTrue b) (sym (ap (λ (s : Scan). s.honest) c.new-scanner.ensures)) honest)
     (ap (λ (s : Scan). s.from) c.new-scanner.ensures)

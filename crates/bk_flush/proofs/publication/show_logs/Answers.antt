@@ -1,23 +1,55 @@
-use Rattle.std.proofs.Common.{arith}
-use Rattle.bk_flush.proofs.ShownLogs.{one_more, not_shown, all_shown, shows_whole}
+use Rattle.std.proofs.Common.{◌+◌, Some, sym, ap, subst, arith}
+use Rattle.std.specs.FinMap as finite
+use Rattle.bk_flush.proofs.NextLogs.{IsNextLog, past_end, one_past, next_placed, none_left}
+use Rattle.bk_flush.proofs.ShownLogs.{one_more, not_shown, all_shown, shows_whole, same_places, same_entry}
 use Rattle.bk_flush.proofs.publication.show_logs.Goals as goal
+
+pub unreachable-requires : goal.unreachable-requires
+unreachable-requires g c =
+    let past = past_end (finite.entries c.loop-number.store.places) c.loop-number.number (sym c.in_default.ensures.value) in
+    let long = finite.len-entries c.loop-number.store.places in
+    let same = ap finite.len (same_places c.args.store.now c.loop-number.store c.loop-number.from c.loop-number.invariant.0) in
+    let within = c.loop-number-test.true in
+    let end = c.placed_len-number-end.ensures in
+    absurd (omega (arith, past, long, same, within, end))
 
 pub returns-in-Err-clause-turn : goal.returns-in-Err-clause-turn
 returns-in-Err-clause-turn g c =
-    not_shown c.args.store.now c.loop-log.store c.loop-log.from c.loop-log.invariant.0 c.in-Some.log c.in-Some.ensures.value c.in-Err.fault c.fault_of_log.result
-    c.show.new.self c.in-Err.ensures.turn c.fault_of_log.ensures
+    let s = c.args.store.now in
+    let is = c.loop-number.invariant.0 in
+    let at = same_entry s c.loop-number.store c.loop-number.from is c.loop-number.number _ (sym c.in-Some.ensures.value) in
+    let above = c.if-log-from.false in
+    let log = c.log-log.ensures.value in
+    let next = next_placed s c.promise.ensures c.loop-number.number c.loop-number.from _ c.loop-number.invariant.1 at (omega (arith, above, log)) in
+    not_shown s c.loop-number.store c.loop-number.from is c.log-log.result (subst (λ n. IsNextLog s c.loop-number.from (Some n)) (sym log) next)
+    c.in-Err.fault c.fault_of_log.result c.show.new.self c.in-Err.ensures.turn c.fault_of_log.ensures
 
-pub loop-log-preserved : goal.loop-log-preserved
-loop-log-preserved g c =
-    let bound = c.in-Some.ensures.bound in (
-      one_more c.args.store.now c.loop-log.store c.loop-log.from c.loop-log.invariant.0 c.in-Some.log c.in-Some.ensures.value c.show.new.self
-          c.in_default-show.ensures.turn c.in_default-show.ensures.meaning,
-      omega (arith, bound),
+pub loop-number-preserved : goal.loop-number-preserved
+loop-number-preserved g c =
+    let s = c.args.store.now in
+    let is = c.loop-number.invariant.0 in
+    let at = same_entry s c.loop-number.store c.loop-number.from is c.loop-number.number _ (sym c.in-Some.ensures.value) in
+    let above = c.if-log-from.false in
+    let log = c.log-log.ensures.value in
+    let next = next_placed s c.promise.ensures c.loop-number.number c.loop-number.from _ c.loop-number.invariant.1 at (omega (arith, above, log)) in (
+      one_more s c.loop-number.store c.loop-number.from is c.log-log.result (subst (λ n. IsNextLog s c.loop-number.from (Some n)) (sym log) next)
+          c.show.new.self c.in_default-show.ensures.turn c.in_default-show.ensures.meaning,
+      one_past (finite.entries s.places) c.loop-number.number c.loop-number.from (c.log-log.result + 1) _ c.loop-number.invariant.1 at
+          (omega (arith, log)) (omega (arith, above)),
     )
 
 pub returns-clause-turn : goal.returns-clause-turn
-returns-clause-turn g c = all_shown c.args.store.now c.loop-log.store c.loop-log.from c.loop-log.invariant.0 c.in_default.ensures.value
+returns-clause-turn g c =
+    let s = c.args.store.now in
+    let past = c.loop-number-test.false in
+    let end = c.placed_len-number-end.ensures in
+    all_shown s c.loop-number.store c.loop-number.from c.loop-number.invariant.0
+    (none_left s c.loop-number.number c.loop-number.from (omega (arith, past, end)) c.loop-number.invariant.1)
 
 pub returns-clause-shown : goal.returns-clause-shown
 returns-clause-shown g c =
-    shows_whole c.args.store.now c.loop-log.store c.loop-log.from c.loop-log.invariant.0 c.in_default.ensures.value c.promise.ensures
+    let s = c.args.store.now in
+    let past = c.loop-number-test.false in
+    let end = c.placed_len-number-end.ensures in
+    shows_whole s c.loop-number.store c.loop-number.from c.loop-number.invariant.0
+    (none_left s c.loop-number.number c.loop-number.from (omega (arith, past, end)) c.loop-number.invariant.1) c.promise.ensures

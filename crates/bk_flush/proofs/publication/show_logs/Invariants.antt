@@ -1,9 +1,7 @@
-use Rattle.std.proofs.Common.{◌-◌, ◌≤◌, ◌^◌}
+use Rattle.std.specs.FinMap as finite
+use Rattle.bk_flush.proofs.NextLogs.{ArePast}
 use Rattle.bk_flush.proofs.ShownLogs.{IsShowing}
 use Rattle.bk_flush.proofs.publication.show_logs.Given as goal
 
-abbrev pub invariant-loop-log : goal.invariant-loop-log
-invariant-loop-log g l = IsShowing l.initial.store l.from l.store × (l.from ≤ 2 ^ 31)
-
-abbrev pub decreases-loop-log : goal.decreases-loop-log
-decreases-loop-log g l = 2 ^ 31 - l.from
+abbrev pub invariant-loop-number : goal.invariant-loop-number
+invariant-loop-number g l = IsShowing l.initial.store l.from l.store × ArePast (finite.entries l.initial.store.places) l.number l.from

@@ -4,7 +4,9 @@ use Rattle.std.proofs.Common.{List, ℕ, eqb}
 use Rattle.std.specs.List.{starts_with}
 use Rattle.bk_head.proofs.BatchHeads.{length_told, no_room, no_end, no_ids, batch_begins}
 use Rattle.bk_head.proofs.reading.batch_size.Goals as goal
-use Rattle.bk_head.proofs.reading.batch_size.Goals.{then-size-lt-IDS_LENGTH-via-then-size-lt-IDS_LENGTH, then-size-lt-IDS_LENGTH-via-else-size-lt-IDS_LENGTH+then-size-gt-MAX_PAYLOAD, then-size-lt-IDS_LENGTH-via-else-size-lt-IDS_LENGTH+else-size-gt-MAX_PAYLOAD+then-left-size}
+use Rattle.bk_head.proofs.reading.batch_size.Goals.{then-size-lt-IDS_LENGTH-via-then-size-lt-IDS_LENGTH}
+use Rattle.bk_head.proofs.reading.batch_size.Goals.{then-size-lt-IDS_LENGTH-via-else-size-lt-IDS_LENGTH+then-size-gt-MAX_PAYLOAD}
+use Rattle.bk_head.proofs.reading.batch_size.Goals.{then-size-lt-IDS_LENGTH-via-else-size-lt-IDS_LENGTH+else-size-gt-MAX_PAYLOAD+then-left-size}
 
 pub returns-then-left-clause-size : goal.returns-then-left-clause-size
 returns-then-left-clause-size c = λ bytes shown payload s _. no_room bytes _ payload _ shown c.if-left.true s

@@ -5,7 +5,10 @@ use Rattle.bk_head.proofs.BatchHeads.{other_length, right_length}
 use Rattle.bk_head.proofs.reading.pairs_in_batch.Goals as goal
 
 pub returns-in_default-clause-err : goal.returns-in_default-clause-err
-returns-in_default-clause-err c = λ bytes shown before. (refl, ((λ e. omega (arith, ap length e, shown.0, c.requires.some)), c.in_default.ensures.size bytes shown))
+returns-in_default-clause-err c = λ bytes shown before. (
+  refl,
+  ((λ e. omega (arith, ap length e, shown.0, c.requires.some)), c.in_default.ensures.size bytes shown),
+)
 
 pub returns-then-size-count-clause-err : goal.returns-then-size-count-clause-err
 returns-then-size-count-clause-err c = λ bytes shown before. (

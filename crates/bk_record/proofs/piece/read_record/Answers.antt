@@ -3,7 +3,8 @@ use Rattle.std.proofs.lemmas.List.{take_rest}
 use Rattle.std.proofs.lemmas.Bool.Decides.{nat_tests}
 use Rattle.bk_record.proofs.Pieces.{short_here, cut_here, bad_here, begins_at, some_key, none_key}
 use Rattle.bk_record.proofs.piece.read_record.Goals as goal
-use Rattle.bk_record.proofs.piece.read_record.Goals.{then-size-lt-IDS_LENGTH-via-then-size-lt-IDS_LENGTH, then-size-lt-IDS_LENGTH-via-else-size-lt-IDS_LENGTH+then-size-gt-MAX_PAYLOAD}
+use Rattle.bk_record.proofs.piece.read_record.Goals.{then-size-lt-IDS_LENGTH-via-then-size-lt-IDS_LENGTH}
+use Rattle.bk_record.proofs.piece.read_record.Goals.{then-size-lt-IDS_LENGTH-via-else-size-lt-IDS_LENGTH+then-size-gt-MAX_PAYLOAD}
 
 pub returns-then-left-lt-LENGTH_FIELD : goal.returns-then-left-lt-LENGTH_FIELD
 returns-then-left-lt-LENGTH_FIELD c =

@@ -1,0 +1,60 @@
+-- The calls of a collection, each a turn of the store: a log is retired, the index is rebuilt of what the logs show.
+use Rattle.std.specs.Prelude.{◌≡◌, ◌⊎◌, ℕ, ◌≤◌, Bool, false, if◌then◌else◌, IsTrue, Option, Some, None, Result, Ok, Err}
+use Rattle.std.specs.Option.{option_and_then}
+use Rattle.std.specs.FinMap as finite
+use Rattle.bk_record.specs.Keyed.{log_count}
+use Rattle.bk_store.specs.Entries.{Places}
+use Rattle.bk_store.specs.Logs.{View, Logs, is_open}
+use Rattle.bk_store.specs.State.{State}
+use Rattle.bk_store.specs.Doors.{IsIn, MayReplace, Replaces, SetTurn}
+use Rattle.bk_store.specs.declared.log.LogState.TheVariants.{Writing, Filled, Copying, Readable, Retired, Closed}
+use Rattle.bk_collect.specs.declared.answer.RetireAnswer.{RetireAnswer}
+use Rattle.bk_collect.specs.declared.answer.RetireAnswer.TheVariants as retires
+use Rattle.bk_collect.specs.declared.answer.CollectFault.{CollectFault}
+use Rattle.bk_collect.specs.declared.answer.CollectFault.TheVariants as faults
+
+-- ---- retiring
+
+-- a flush or a compaction writes the log, or will show it
+abbrev pub IsInUse : State → ℕ → Type 0
+IsInUse s id = IsIn s id Writing ⊎ (IsIn s id Filled ⊎ IsIn s id Copying)
+
+-- keys may no longer be sent to the log
+abbrev pub IsPast : State → ℕ → Type 0
+IsPast s id = IsIn s id Retired ⊎ IsIn s id Closed
+
+-- A log that no key names is Retired from then on. One that is so already, or closed, stays as it is, and so does one that
+-- is in use or still named: at least one key is sent to it.
+abbrev pub RetireTurn : State → ℕ → RetireAnswer → State → Type 0
+RetireTurn s id retires.NoLog t = (finite.get s.logs id ≡ None) × (t ≡ s)
+RetireTurn s id retires.InUse t = IsInUse s id × (t ≡ s)
+RetireTurn s id (retires.StillNamed n) t = IsIn s id Readable × (n ≡ log_count s.index id) × (1 ≤ n) × (t ≡ s)
+RetireTurn s id (retires.Retired log) t = (log ≡ id)
+    × ((IsPast s id × (t ≡ s)) ⊎ (IsIn s id Readable × (log_count s.index id ≡ 0) × SetTurn s id Retired t))
+
+-- ---- rebuilding
+
+-- the last view of a log, where keys may be sent to the log
+abbrev pub open_view : Logs → ℕ → Option View
+open_view logs id = option_and_then (λ log. if is_open log.state then log.view else None) (finite.get logs id)
+
+-- every view of this type can be read
+abbrev pub AreSound : {V : Type 0} → (V → Bool) → Type 0
+AreSound {V} sound = (view : V) → IsTrue (sound view)
+
+-- the last view of a log that keys may be sent to can't be read
+abbrev pub HasUnsoundView : State → Type 0
+HasUnsoundView s = (id : ℕ) × ((view : View) × (open_view s.logs id ≡ Some view) × (view.is_sound ≡ false))
+
+-- why the index could not be rebuilt
+abbrev pub RebuildFails : State → CollectFault → Type 0
+RebuildFails s faults.Disk = HasUnsoundView s
+RebuildFails s faults.Memory = Unit {0}
+RebuildFails s (faults.Log id cause) = s.honest ≡ false
+RebuildFails s faults.Odd = s.honest ≡ false
+
+-- The store has a new index, with so many keys: that of all entries that are published in logs which keys may be sent to,
+-- without the dead ledgers. A refusal leaves it as it was.
+abbrev pub RebuildTurn : State → Result ℕ CollectFault → State → Type 0
+RebuildTurn s (Ok n) t = (index : Places) × MayReplace s index × (n ≡ finite.len index) × Replaces s index t
+RebuildTurn s (Err fault) t = RebuildFails s fault × (t ≡ s)

@@ -1,0 +1,34 @@
+//! What the calls of a collection answer: an enum for each call, and why a call is refused.
+
+use bk_store::LogCause;
+use thiserror::Error;
+
+/// What became of a retirement.
+#[derive(Clone, Copy, Debug, PartialEq, Eq)]
+pub enum RetireAnswer {
+    /// No such log is held.
+    NoLog,
+    /// A flush or a compaction writes the log, or will show it.
+    InUse,
+    /// The log of this id is retired: no key names it, and none will again. Its file stays.
+    Retired(u32),
+    /// So many keys, at least one, are still sent to the log.
+    StillNamed(u64),
+}
+
+/// Why a call of a collection was refused. The store is as it was.
+#[derive(Clone, Copy, Debug, PartialEq, Eq, Error)]
+pub enum CollectFault {
+    /// A view could not be read: its device failed.
+    #[error("disk")]
+    Disk,
+    /// No memory was to be had.
+    #[error("memory")]
+    Memory,
+    /// What the log of this id shows can't be read to its end. It never comes from an honest disk.
+    #[error("log {id}: {cause}")]
+    Log { id: u32, cause: LogCause },
+    /// The disk answered what an honest disk cannot.
+    #[error("odd disk")]
+    Odd,
+}
