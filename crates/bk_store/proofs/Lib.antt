@@ -38,6 +38,8 @@ pub mod OneLog
 pub mod Seats
 pub mod Leased
 pub mod Seating
+pub mod Shutting
+pub mod KeptTake
 pub mod Acknowledged
 pub mod KeptOne
 pub mod KeptShow

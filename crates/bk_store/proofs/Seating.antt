@@ -1,5 +1,5 @@
 -- Logs that are found are seated one behind the other.
-use Rattle.std.proofs.Common.{◌≡◌, ◌≢◌, ℕ, ◌+◌, ◌<◌, ◌≤◌, ◌^◌, Some, None, length, replicate, set, refl, sym, ap, subst, ◌∙◌, arith, lt_of_not-le}
+use Rattle.std.proofs.Common.{◌≡◌, inl, inr, ℕ, ◌+◌, ◌<◌, ◌≤◌, ◌^◌, Some, None, length, replicate, set, refl, sym, ap, subst, ◌∙◌, arith, lt_of_not-le}
 use Rattle.std.proofs.lemmas.List.{length-set, length-replicate, get_or-replicate}
 use Rattle.std.proofs.Math.ListN.{get_or-eq_default}
 use Rattle.std.specs.Ordering.{nat_cmp}

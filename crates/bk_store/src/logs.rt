@@ -189,7 +189,8 @@ impl<V: LogView> LogTable<V> {
 
     /// Opens the slots of the logs below this one that are not closed.
     fn open_below(&self, keeper: &mut Keeper, end: u32)
-        requires { (old : SlotTable) × AreSeated old self.now × AreShut self.now old keeper.old 0 end }
+        requires shut { (old : SlotTable) × AreSeated old self.now × AreShut self.now old keeper.old 0 end }
+        requires ids { (id : ℕ) → IsSome (map.get self.now id) → id < 2 ^ 31 }
         ensures { (old : SlotTable) → AreSeated old self.now → AreShut self.now old keeper.old 0 end → keeper.new ≡ old }
     {
         let mut from = 0;

@@ -1,4 +1,4 @@
-use Rattle.std.proofs.Common.{◌≡◌, false, is_err, IsTrue, IfErr, Err, sym, ap, subst, ◌∙◌, arith}
+use Rattle.std.proofs.Common.{◌≡◌, get_or, false, is_err, IsTrue, IfErr, Err, sym, ap, subst, ◌∙◌, arith}
 use Rattle.std.proofs.lemmas.Result.{err_from_is_err_and}
 use Rattle.bk_store.specs.Opening.{FirstFails}
 use Rattle.bk_store.specs.declared.answer.OpenFault.TheVariants as open_faults
@@ -41,14 +41,15 @@ loop-id-preserved g c =
     let passed = c.if-is_err.false in
     let made : is_err c.hold.result ≡ false = cc in
     let held = when_ok c.hold.result made c.hold.ensures.ok in
-    let one = c.in_ok-log.ensures.ok in (
+    let one = c.in_ok-log.ensures.ok in
+    let id = get_or c.args.ids.now c.loop-id.id-index 0 in (
       finding_on c.loop-id.invariant.0 0 c.loop-id.slot c.in_ok-log.log _ _ _ _ _ c.loop-id-test.true (omega (arith, c.if-id-next.false))
           (omega (arith, c.if-id-gt-LAST.false))
           c.in_ok-log.ensures.honest c.in_ok-log.ensures.failures c.in_ok-log.ensures.files one held,
-      seat_on c.loop-id.invariant.1 _ c.in_ok-log.log c.open.new.self c.hold.new.self
+      seat_on c.loop-id.invariant.1 id c.in_ok-log.log c.open.new.self c.hold.new.self
           (let at = c.loop-id.invariant.2 in let same = c.loop-id.invariant.1.same.slots in let room = c.requires.room in
           let within = c.loop-id-test.true in omega (arith, at, same, room, within))
           (omega (arith, c.if-id-next.false)) (ap (λ l. l.slot) one.log_is ∙ one.seat)
-          (ap (λ l. slot_state _ l.state) one.log_is) c.open.ensures held,
+          (ap (λ l. slot_state id l.state) one.log_is) c.open.ensures held,
       (let at = c.loop-id.invariant.2 in omega (arith, at)),
     )
