@@ -1,6 +1,7 @@
 -- The slots of the logs are closed one after another, by rising ids, and opened again.
 use Rattle.std.proofs.Common.{◌≡◌, ◌≢◌, ◌⊎◌, inl, inr, ℕ, ◌+◌, ◌<◌, ◌≤◌, ◌^◌, Option, Some, None, IsSome, is_some, length, set, refl, sym, ap, subst, ◌∙◌, arith, lt_of_not-le}
 use Rattle.std.proofs.lemmas.List.{length-set, ext_get_or}
+use Rattle.std.specs.Option.{option_and_then}
 use Rattle.std.specs.FinMap as finite
 use mathlib.Core.Logic.{dite}
 use native.Mathlib.Decide.{dec_le}
@@ -15,8 +16,9 @@ use Rattle.bk_lease.proofs.Views.{held_on-set}
 use Rattle.bk_lease.proofs.Slots.{state_at-set_here, state_at-set_else, with_closed-opened}
 use Rattle.bk_store.specs.Logs.{Log, Logs, IsNextHeld}
 use Rattle.bk_store.specs.Seated.{AreSeated, slot_state}
-use Rattle.bk_store.specs.Leasing.{IsMet, IsLent, IsLeased, IsLowestLeased, AreUnleased, AreShut}
-use Rattle.bk_store.specs.declared.log.LogState.TheVariants.{Closed}
+use Rattle.bk_store.specs.Leasing.{IsLowestLeased, AreUnleased, AreShut, slot_lent, lent_slot}
+use Rattle.bk_store.specs.declared.log.LogState.{LogState}
+use Rattle.bk_store.specs.declared.log.LogState.TheVariants.{Writing, Filled, Copying, Readable, Retired, Closed}
 use Rattle.bk_store.proofs.Cases.{same_or_apart}
 use Rattle.bk_store.proofs.Seats.{slots_apart, stands_inside, stands_open, slot_state-open}
 
@@ -197,6 +199,42 @@ module _ (logs : Logs) (old : SlotTable) (seats : AreSeated old logs) {now : Slo
     ];
   }
 
+-- ---- which logs have an open slot
+
+slot_cases : (state : LogState) (at : ℕ) (o : Option ℕ) → slot_lent state at ≡ o → (state ≡ Closed → o ≡ None) × (o ≡ None → state ≡ Closed)
+    × ((slot : ℕ) → o ≡ Some slot → at ≡ slot)
+slot_cases Writing at o is = (λ wrong. absurd (cc), λ none. absurd (let both = is ∙ none in cc), λ slot some. let both = is ∙ some in cc)
+slot_cases Filled at o is = (λ wrong. absurd (cc), λ none. absurd (let both = is ∙ none in cc), λ slot some. let both = is ∙ some in cc)
+slot_cases Copying at o is = (λ wrong. absurd (cc), λ none. absurd (let both = is ∙ none in cc), λ slot some. let both = is ∙ some in cc)
+slot_cases Readable at o is = (λ wrong. absurd (cc), λ none. absurd (let both = is ∙ none in cc), λ slot some. let both = is ∙ some in cc)
+slot_cases Retired at o is = (λ wrong. absurd (cc), λ none. absurd (let both = is ∙ none in cc), λ slot some. let both = is ∙ some in cc)
+slot_cases Closed at o is = (λ _. sym is, λ _. refl, λ slot some. absurd (let both = is ∙ some in cc))
+
+-- a log is held, with its slot, and is not closed
+record IsOpenIn (logs : Logs) (id slot : ℕ) : Type 0 where
+  log : Log
+  held : finite.get logs id ≡ Some log
+  at : log.slot ≡ slot
+  lent : ¬ (log.state ≡ Closed)
+
+open_in : (logs : Logs) (id slot : ℕ) → lent_slot logs id ≡ Some slot → IsOpenIn logs id slot
+open_in logs id slot is = elim (finite.get logs id) as (λ o. finite.get logs id ≡ o → option_and_then (λ log. slot_lent log.state log.slot) o ≡ Some slot
+    → IsOpenIn logs id slot) [
+      | None ↦ λ held wrong. absurd (cc)
+      | Some log ↦ λ held there.
+          let told = slot_cases log.state log.slot (Some slot) there in
+          record { log = log; held = held; at = told.2 slot refl; lent = λ closed. let wrong = told.0 closed in cc }
+    ] refl is
+
+closed_in : (logs : Logs) (id : ℕ) → IsSome (finite.get logs id) → lent_slot logs id ≡ None
+    → (log : Log) × (finite.get logs id ≡ Some log) × (log.state ≡ Closed)
+closed_in logs id some is = elim (finite.get logs id) as (λ o. finite.get logs id ≡ o → IsSome o
+    → option_and_then (λ log. slot_lent log.state log.slot) o ≡ None
+    → (log : Log) × (finite.get logs id ≡ Some log) × (log.state ≡ Closed)) [
+      | None ↦ λ held wrong _. absurd (cc)
+      | Some log ↦ λ held _ none. (log, held, (slot_cases log.state log.slot None none).1 refl)
+    ] refl some is
+
 -- ---- all slots, one after another
 
 -- so far the slots of the logs below this id were closed: no lease of theirs was out, and what may be met now might be before
@@ -213,52 +251,67 @@ module _ (logs : Logs) (old : SlotTable) (seats : AreSeated old logs) where
     unleased = λ id less. absurd (omega (arith, less));
   }
 
-  module _ {now : SlotTable} {from : ℕ} (so_far : IsShutting logs old now from) (id : ℕ) (next : IsNextHeld logs from (Some id))
-      (log : Log) (held : finite.get logs id ≡ Some log) where
-    pub close_next_open : ¬ (log.state ≡ Closed) → IsOpen now.slots log.slot
-    close_next_open lent = next_open logs old seats so_far.shut id log held next.1 next.2 lent
+  module _ {now : SlotTable} {from : ℕ} (so_far : IsShutting logs old now from) (id : ℕ) (next : IsNextHeld logs from (Some id)) where
+    module _ (slot : ℕ) (there : lent_slot logs id ≡ Some slot) where
+      abbrev this : IsOpenIn logs id slot
+      this = open_in logs id slot there
 
-    -- no lease of this log was out, and it is closed
-    pub shutting_on : (keeper : SlotTable) → ¬ (log.state ≡ Closed) → id < 2 ^ 31 → keeper ≡ with_closed now log.slot → MayMeet now log.slot 0
-        → IsShutting logs old keeper (id + 1)
-    shutting_on keeper lent fits closed met = subst (λ k. IsShutting logs old k (id + 1)) (sym closed) (record {
-      shut = shut_next logs old seats so_far.shut id log held next.1 next.2 lent;
-      meets = λ slot count may. so_far.meets slot count (meets_next logs old seats so_far.shut id log held next.1 next.2 lent fits slot count may);
-      unleased = λ q less there. elim (same_or_apart q id) [
-        | inl here ↦ record { log = log; held = ap (finite.get logs) here ∙ held; met = so_far.meets log.slot 0 met }
-        | inr apart ↦ so_far.unleased q
-            (before logs old seats so_far.shut id log held next.1 next.2 q there.log there.held (omega (arith, less, apart))) there
-      ];
-    })
+      pub close_open : IsOpen now.slots slot
+      close_open = subst (λ n. IsOpen now.slots n) this.at (next_open logs old seats so_far.shut id this.log this.held next.1 next.2 this.lent)
+
+      -- no lease of this log was out, and it is closed
+      pub shutting_on : (keeper : SlotTable) → id < 2147483648 → keeper ≡ with_closed now slot → MayMeet now slot 0 → IsShutting logs old keeper (id + 1)
+      shutting_on keeper fits closed met =
+          subst (λ k. IsShutting logs old k (id + 1)) (sym (closed ∙ ap (with_closed now) (sym this.at))) (record {
+            shut = shut_next logs old seats so_far.shut id this.log this.held next.1 next.2 this.lent;
+            meets = λ n count may. so_far.meets n count
+                (meets_next logs old seats so_far.shut id this.log this.held next.1 next.2 this.lent fits n count may);
+            unleased = λ q less other. elim (same_or_apart q id) [
+              | inl here ↦ record {
+                log = this.log;
+                held = ap (finite.get logs) here ∙ this.held;
+                met = so_far.meets this.log.slot 0 (subst (λ n. MayMeet now n 0) (sym this.at) met);
+              }
+              | inr apart ↦ so_far.unleased q
+                  (before logs old seats so_far.shut id this.log this.held next.1 next.2 q other.log other.held (omega (arith, less, apart))) other
+            ];
+          })
+
+      -- some leases of this log are out
+      module _ (keeper : SlotTable) (count : ℕ) (same : keeper ≡ now) where
+        pub refused_here : AreShut logs old keeper 0 id
+        refused_here = subst (λ k. AreShut logs old k 0 id) (sym same) (shut_here logs old seats so_far.shut id this.log this.held next.1 next.2)
+
+        pub refused_lowest : (0 < count) × (count ≤ now.most) → MayMeet now slot count → IsLowestLeased old logs id count
+        refused_lowest some met = record {
+          lent = record { log = this.log; held = this.held; open_is = this.lent };
+          leased = record {
+            some = some.0;
+            most = let bound = same_most logs old seats so_far.shut in let most = some.1 in omega (arith, most, bound);
+            met = record {
+              log = this.log;
+              held = this.held;
+              met = so_far.meets this.log.slot count (subst (λ n. MayMeet now n count) (sym this.at) met);
+            };
+          };
+          lowest = λ q less other. so_far.unleased q
+              (before logs old seats so_far.shut id this.log this.held next.1 next.2 q other.log other.held less) other;
+        }
 
     -- it is closed already
-    pub shutting_past : log.state ≡ Closed → IsShutting logs old now (id + 1)
-    shutting_past closed = record {
-      shut = shut_skipped logs old seats so_far.shut id log held next.1 next.2 closed;
-      meets = so_far.meets;
-      unleased = λ q less there. elim (same_or_apart q id) [
-        | inl here ↦ absurd (there.open_is
-            (ap (λ (l : Log). l.state) (sym (one_log logs old seats id log there.log held (ap (finite.get logs) (sym here) ∙ there.held))) ∙ closed))
-        | inr apart ↦ so_far.unleased q
-            (before logs old seats so_far.shut id log held next.1 next.2 q there.log there.held (omega (arith, less, apart))) there
-      ];
-    }
-
-    -- some leases of this log are out
-    pub shutting_refused : (keeper : SlotTable) (count : ℕ) → keeper ≡ now → ¬ (log.state ≡ Closed) → 0 < count → count ≤ now.most → MayMeet now log.slot count
-        → AreShut logs old keeper 0 id × IsLowestLeased old logs id count
-    shutting_refused keeper count same lent some most met = (
-      subst (λ k. AreShut logs old k 0 id) (sym same) (shut_here logs old seats so_far.shut id log held next.1 next.2),
-      record {
-        lent = record { log = log; held = held; open_is = lent };
-        leased = record {
-          some = some;
-          most = let bound = same_most logs old seats so_far.shut in omega (arith, most, bound);
-          met = record { log = log; held = held; met = so_far.meets log.slot count met };
-        };
-        lowest = λ q less there. so_far.unleased q (before logs old seats so_far.shut id log held next.1 next.2 q there.log there.held less) there;
-      },
-    )
+    pub shutting_past : lent_slot logs id ≡ None → IsShutting logs old now (id + 1)
+    shutting_past none =
+        let this = closed_in logs id next.0 none in
+        record {
+          shut = shut_skipped logs old seats so_far.shut id this.0 this.1 next.1 next.2 this.2;
+          meets = so_far.meets;
+          unleased = λ q less other. elim (same_or_apart q id) [
+            | inl here ↦ absurd (other.open_is
+                (ap (λ (l : Log). l.state) (sym (one_log logs old seats id this.0 other.log this.1 (ap (finite.get logs) (sym here) ∙ other.held))) ∙ this.2))
+            | inr apart ↦ so_far.unleased q
+                (before logs old seats so_far.shut id this.0 this.1 next.1 next.2 q other.log other.held (omega (arith, less, apart))) other
+          ];
+        }
 
   -- all logs were closed
   pub shutting_all : {now : SlotTable} {from : ℕ} → IsShutting logs old now from → IsNextHeld logs from None → (end : ℕ) → AreUnleased old logs end
@@ -280,14 +333,28 @@ module _ {logs : Logs} {begun now : SlotTable} {from end : ℕ} (so_far : IsReop
       all_kept logs old seats (so_far old seats shut) (λ id log held above below.
       let far = is.2 id (ap is_some held) above in let last = past next refl in omega (arith, far, last, below))
 
-  module _ (id : ℕ) (next : IsNextHeld logs from (Some id)) (log : Log) (held : finite.get logs id ≡ Some log) (below : id < end) where
-    pub reopening_on : (keeper : SlotTable) → ¬ (log.state ≡ Closed) → keeper ≡ with_state now log.slot (slots.Open id) → IsReopening logs begun keeper (id + 1) end
-    reopening_on keeper lent is old seats shut = reopened logs old seats (so_far old seats shut) id log held next.1 below next.2 keeper lent is
+  module _ (id : ℕ) (next : IsNextHeld logs from (Some id)) (below : id < end) where
+    pub reopening_on : (slot : ℕ) (keeper : SlotTable) → lent_slot logs id ≡ Some slot → keeper ≡ with_state now slot (slots.Open id)
+        → IsReopening logs begun keeper (id + 1) end
+    reopening_on slot keeper there is old seats shut =
+        let this = open_in logs id slot there in
+        reopened logs old seats (so_far old seats shut) id this.log this.held next.1 below next.2 keeper this.lent
+        (is ∙ ap (λ n. with_state now n (slots.Open id)) (sym this.at))
 
-    pub reopening_past : log.state ≡ Closed → IsReopening logs begun now (id + 1) end
-    reopening_past closed old seats shut = stays_closed logs old seats (so_far old seats shut) id log held next.1 below next.2 closed
+    pub reopening_past : lent_slot logs id ≡ None → IsReopening logs begun now (id + 1) end
+    reopening_past none old seats shut =
+        let this = closed_in logs id next.0 none in
+        stays_closed logs old seats (so_far old seats shut) id this.0 this.1 next.1 below next.2 this.2
 
-    pub reopen_may : (old : SlotTable) → AreSeated old logs → AreShut logs old begun 0 end → MayOpen (state_at now.slots log.slot) × (log.slot < length now.slots)
-    reopen_may old seats shut =
-        let at = so_far old seats shut in
-        (may_reopen logs old seats at id log held next.1 below next.2, reopen_inside logs old seats at id log held next.1 below next.2)
+    module _ (slot : ℕ) (there : lent_slot logs id ≡ Some slot) (was : (x : SlotTable) × AreSeated x logs × AreShut logs x begun 0 end) where
+      pub reopen_may : MayOpen (state_at now.slots slot)
+      reopen_may =
+          let this = open_in logs id slot there in
+          subst (λ n. MayOpen (state_at now.slots n)) this.at
+          (may_reopen logs was.0 was.1 (so_far was.0 was.1 was.2) id this.log this.held next.1 below next.2)
+
+      pub reopen_within : slot < length now.slots
+      reopen_within =
+          let this = open_in logs id slot there in
+          subst (λ n. n < length now.slots) this.at
+          (reopen_inside logs was.0 was.1 (so_far was.0 was.1 was.2) id this.log this.held next.1 below next.2)

@@ -1,6 +1,7 @@
 -- Leases of the logs that a store holds, and the turn that closes a log to them. Other threads give leases back at any time:
 -- so how many are out is said as it was met at one step, which is what the lease rule allows beside the store's table.
-use Rattle.std.specs.Prelude.{◌≡◌, ℕ, ◌+◌, ◌<◌, ◌≤◌, ◌^◌, length, true, Some, Result, Ok, Err}
+use Rattle.std.specs.Prelude.{◌≡◌, ℕ, ◌<◌, ◌≤◌, length, true, Option, Some, None, Result, Ok, Err}
+use Rattle.std.specs.Option.{option_and_then}
 use Rattle.std.specs.FinMap as finite
 use Rattle.bk_lease.specs.declared.slot.Slot.TheVariants as slots
 use Rattle.bk_lease.specs.declared.answers.Leased.{Leased}
@@ -8,7 +9,8 @@ use Rattle.bk_lease.specs.Leases.{state_at}
 use Rattle.bk_lease.specs.Values.{SlotTable, Ticket, MayMeet, held_ticket, with_state}
 use Rattle.bk_store.specs.Logs.{View, Log, Logs, closed_log, is_open}
 use Rattle.bk_store.specs.State.{State}
-use Rattle.bk_store.specs.declared.log.LogState.TheVariants.{Closed}
+use Rattle.bk_store.specs.declared.log.LogState.{LogState}
+use Rattle.bk_store.specs.declared.log.LogState.TheVariants.{Writing, Filled, Copying, Readable, Retired, Closed}
 
 -- ---- how many leases of a log are out
 
@@ -55,6 +57,19 @@ pub record IsLent (logs : Logs) (id : ℕ) : Type 0 where
   pub log : Log
   pub held : finite.get logs id ≡ Some log
   pub open_is : ¬ (log.state ≡ Closed)
+
+-- the slot of a log in this state, none where it is closed to leases
+abbrev pub slot_lent : LogState → ℕ → Option ℕ
+slot_lent Writing slot = Some slot
+slot_lent Filled slot = Some slot
+slot_lent Copying slot = Some slot
+slot_lent Readable slot = Some slot
+slot_lent Retired slot = Some slot
+slot_lent Closed slot = None
+
+-- the slot of the log of this id, none where no such log is held or it is closed to leases
+abbrev pub lent_slot : Logs → ℕ → Option ℕ
+lent_slot logs id = option_and_then (λ log. slot_lent log.state log.slot) (finite.get logs id)
 
 -- no lease is out of the logs below this id
 abbrev pub AreUnleased : SlotTable → Logs → ℕ → Type 0

@@ -6,6 +6,7 @@ ghost use Rattle.bk_disk.specs.Disk.{IsCaused};
 ghost use Rattle.bk_log.specs.Writing.{Writing, Writes, PutTurn};
 ghost use Rattle.bk_store.specs.Logs.{in_state, closed_log, halted_log, settled_as, unfilled_as, unmade_log, with_view, view_of};
 ghost use Rattle.bk_store.specs.Putting.{put_log, IsPutAt, MayPut};
+ghost use Rattle.bk_store.specs.Leasing.{slot_lent};
 
 use bk_disk::{LogDisk, LogView};
 use bk_log::{LogFault, LogWriter};
@@ -64,6 +65,20 @@ impl<V: LogView> HeldLog<V> {
             view: None,
             acknowledged: HEADER_LENGTH as u64,
             writer: None,
+        }
+    }
+
+    /// The log's slot, `None` where the log is closed to leases.
+    pub fn lent_slot(&self) -> Option<usize>
+        ensures { result ≡ slot_lent self.now.state self.now.slot }
+    {
+        match self.state {
+            LogState::Closed => None,
+            LogState::Writing
+            | LogState::Filled
+            | LogState::Copying
+            | LogState::Readable
+            | LogState::Retired => Some(self.slot),
         }
     }
 

@@ -10,7 +10,7 @@ ghost use Rattle.bk_store.specs.Logs.{Log, AllChanged, IsFlushLog, IsNextHeld, i
 ghost use Rattle.bk_store.specs.Putting.{put_log, IsPutAt, MayPut};
 ghost use Rattle.bk_store.specs.Doors.{writer_of};
 ghost use Rattle.bk_store.specs.Seated.{AreSeated};
-ghost use Rattle.bk_store.specs.Leasing.{AreUnleased, AreShut, IsLowestLeased};
+ghost use Rattle.bk_store.specs.Leasing.{AreUnleased, AreShut, IsLowestLeased, lent_slot};
 ghost use Rattle.bk_lease.specs.Values.{SlotTable};
 
 use crate::LogState;
@@ -164,6 +164,13 @@ impl<V: LogView> LogTable<V> {
         self.logs.get_mut(&id).unwrap().put(disk, alloc, payload)
     }
 
+    /// The slot of a log that is not closed to leases, `None` where no such log is held.
+    fn lent_slot(&self, id: u32) -> Option<usize>
+        ensures { result ≡ lent_slot self.now id }
+    {
+        self.get(id)?.lent_slot()
+    }
+
     /// Closes the slots of all logs that are not closed, by rising ids. At the first of which a lease is out all are opened
     /// again, and it is answered with the number of its leases.
     pub fn close_all(&self, keeper: &mut Keeper) -> Option<(u32, u64)>
@@ -175,9 +182,8 @@ impl<V: LogView> LogTable<V> {
     {
         let mut from = 0;
         while let Some(id) = self.next_from(from) {
-            let log = self.get(id).unwrap();
-            if log.state != LogState::Closed {
-                if let Err(Leased { count }) = keeper.close(log.slot) {
+            if let Some(slot) = self.lent_slot(id) {
+                if let Err(Leased { count }) = keeper.close(slot) {
                     self.open_below(keeper, id);
                     return Some((id, count));
                 }
@@ -198,9 +204,8 @@ impl<V: LogView> LogTable<V> {
             if id >= end {
                 return;
             }
-            let log = self.get(id).unwrap();
-            if log.state != LogState::Closed {
-                keeper.open(log.slot, id);
+            if let Some(slot) = self.lent_slot(id) {
+                keeper.open(slot, id);
             }
             from = id + 1;
         }

@@ -1,11 +1,11 @@
-use Rattle.std.proofs.Common.{◌≡◌, get_or, false, is_err, IsTrue, IfErr, Err, sym, ap, subst, ◌∙◌, arith}
+use Rattle.std.proofs.Common.{◌≡◌, get_or, false, is_err, IsTrue, IfErr, Err, refl, sym, ap, subst, ◌∙◌, arith}
 use Rattle.std.proofs.lemmas.Result.{err_from_is_err_and}
 use Rattle.bk_store.specs.Opening.{FirstFails}
 use Rattle.bk_store.specs.declared.answer.OpenFault.TheVariants as open_faults
 use Rattle.bk_store.proofs.OpenedSums.{when_ok}
-use Rattle.bk_store.proofs.OpenedFinds.{finding_closed, finding_on, finding_refused, finding_past, finding_least}
+use Rattle.bk_store.proofs.OpenedFinds.{none_taken, finding_closed, finding_on, finding_refused, finding_past, finding_least}
 use Rattle.bk_store.specs.Seated.{slot_state}
-use Rattle.bk_store.proofs.Seating.{may_seat, seat_on}
+use Rattle.bk_store.proofs.Seating.{none_seated, may_seat, seat_on}
 use Rattle.bk_store.proofs.open.logs.find_all.Goals as goal
 use Rattle.bk_store.proofs.open.logs.find_all.Goals.{then-id-next-via-then-id-next, then-id-next-via-else-id-next+then-id-gt-LAST}
 
@@ -17,6 +17,13 @@ returns-then-id-next-clause-err g c = λ honest.
       | then-id-next-via-then-id-next w ↦ absurd (omega (arith, past, w.if-id-next.true))
       | then-id-next-via-else-id-next+then-id-gt-LAST w ↦ absurd (omega (arith, least, w.if-id-gt-LAST.true))
     ]
+
+pub loop-id-init : goal.loop-id-init
+loop-id-init g c = (
+  record { stays = refl; unfailed = refl; same = λ _. refl; taken = none_taken _ _ c.args.tally.now c.args.logs.now },
+  none_seated c.args.keeper.now c.args.logs.now c.requires.free c.requires.none,
+  refl,
+)
 
 pub find-requires-clause-closed : goal.find-requires-clause-closed
 find-requires-clause-closed g c κs within = finding_closed c.loop-id.invariant.0 _ c.requires.first (omega (arith, c.if-id-next.false))
