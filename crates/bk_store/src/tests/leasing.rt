@@ -1,12 +1,15 @@
 //! Leases of a store's logs.
 
 use super::*;
-use bk_lease::Lease;
 use bk_disk::MemView;
+use bk_lease::Lease;
 
 /// A store of at most two leases of one log, on the log 0 with entries of ledgers 1 and 2, and the log 1 with one of ledger 3.
 fn leased(alloc: Global) -> Result<Store<MemDisk>, Fail> {
-    let settings = Settings { leases: 2, ..SETTINGS };
+    let settings = Settings {
+        leases: 2,
+        ..SETTINGS
+    };
     Ok(Store::open(alloc, three_logs(alloc)?, settings, &[])?)
 }
 
