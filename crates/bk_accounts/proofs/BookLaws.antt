@@ -1,12 +1,11 @@
 -- The totals and the names of all logs after each call, told of the book alone.
-use Rattle.std.proofs.Common.{◌≡◌, ℕ, ◌+◌, ◌-◌, Bool, true, false, cond, ◌==◌, if◌then◌else◌, Some, None, Option, refl, ap, ◌∙◌}
+use Rattle.std.proofs.Common.{◌≡◌, ℕ, ◌+◌, ◌-◌, Bool, true, false, cond, ◌==◌, Some, None, Option, refl, ap, ◌∙◌, if◌then◌else◌}
 use Rattle.std.specs.Option.{option_map}
-use Rattle.std.specs.Cmp.{nat_cmp_total}
+use Rattle.std.specs.Cmp.{nat_cmp_total, unsigned_tied}
 use Rattle.std.specs.FinMap.{get, get-insert, get-remove}
 use Rattle.bk_accounts.specs.Account.{Account, fresh, with_room, with_size, with_dead_size, with_name, without_name, without_ledger}
 use Rattle.bk_accounts.specs.Book.{Book, total_in, named_in, changed, after_open, after_ready, after_count, after_count_dead, after_name, after_unname}
 use Rattle.bk_accounts.specs.Book.{after_forget, after_drop}
-use Rattle.bk_accounts.proofs.Maps.{tied_is}
 use Rattle.bk_accounts.proofs.Books.{get-changed, get-after_forget}
 
 -- a number of an account, after a change that makes another of it
@@ -84,7 +83,7 @@ named_in-after_forget book ledger q = number-forget (λ a. a.named) ledger (λ _
 number-opened : (number : Account → ℕ) (book : Book) (log q : ℕ)
     → option_map number (get (after_open book log) q) ≡ (if q == log then Some (number fresh) else option_map number (get book q))
 number-opened number book log q =
-    ap (option_map number) (get-insert nat_cmp_total book log fresh q ∙ ap (λ b. cond b (Some fresh) (get book q)) (tied_is q log)) ∙ inside (q == log)
+    ap (option_map number) (get-insert nat_cmp_total book log fresh q ∙ ap (λ b. cond b (Some fresh) (get book q)) (unsigned_tied q log)) ∙ inside (q == log)
   where
     inside : (b : Bool) → option_map number (cond b (Some fresh) (get book q)) ≡ (if b then Some (number fresh) else option_map number (get book q))
     inside true = refl
@@ -93,7 +92,7 @@ number-opened number book log q =
 number-dropped : (number : Account → ℕ) (book : Book) (log q : ℕ)
     → option_map number (get (after_drop book log) q) ≡ (if q == log then None else option_map number (get book q))
 number-dropped number book log q =
-    ap (option_map number) (get-remove nat_cmp_total book log q ∙ ap (λ b. cond b None (get book q)) (tied_is q log)) ∙ inside (q == log)
+    ap (option_map number) (get-remove nat_cmp_total book log q ∙ ap (λ b. cond b None (get book q)) (unsigned_tied q log)) ∙ inside (q == log)
   where
     inside : (b : Bool) → option_map number (cond b None (get book q)) ≡ (if b then None else option_map number (get book q))
     inside true = refl

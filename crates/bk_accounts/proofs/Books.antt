@@ -1,16 +1,17 @@
 -- The entries of the map of open logs, and the book that they are seen as, after each change.
-use Rattle.std.proofs.Common.{◌≡◌, ◌≢◌, ◌↔◌, ℕ, Bool, true, false, cond, ◌==◌, ◌||◌, if◌then◌else◌, eq-eqb, eqb-true, List, map, Some, None, Ok, Err, Option}
+use Rattle.std.proofs.Common.{◌≡◌, ◌≢◌, ◌↔◌, ℕ, Bool, true, false, cond, ◌==◌, ◌||◌, eq-eqb, eqb-true, List, map, Some, None, Ok, Err, Option, if◌then◌else◌}
 use Rattle.std.proofs.Common.{IsSome, IsNone, IsErrAnd, OnErr, IfSome, nat_cmp, Bor, MutBor, BTreeMap, Result, IfOk, IfErr, refl, sym, ap, ◌∙◌, subst}
 use Rattle.std.specs.BTreeMap.{WritesThrough, is_at}
 use Rattle.std.specs.Map.{lookup}
 use Rattle.std.specs.Option.{is_some, option_map, option_map_or, option_copied, option_copied_mut, ok_or}
 use Rattle.std.specs.FinMap.{get, insert, from_entries, entries, get-insert}
-use Rattle.std.specs.Cmp.{nat_cmp_total}
+use Rattle.std.specs.Cmp.{nat_cmp_total, unsigned_tied}
+use Rattle.std.proofs.Math.Bool.{or-true}
 use Rattle.bk_accounts.specs.Account.{Account, has_room, with_room, without_ledger}
 use Rattle.bk_accounts.specs.Book.{Book, IsOpen, IsReady, changed, after_ready, after_forget}
 use Rattle.bk_accounts.specs.declared.fault.AccountFault.{AccountFault}
 use Rattle.bk_accounts.specs.declared.fault.AccountFault.TheVariants.{Memory, NoLog}
-use Rattle.bk_accounts.proofs.Maps.{tied_is, get-entries, get-found, get-mapped, get-lookup, same_by_get, written, insert_same}
+use Rattle.bk_accounts.proofs.Maps.{get-entries, get-found, get-mapped, get-lookup, same_by_get, written, insert_same}
 use Rattle.bk_accounts.proofs.Rooms.{room-with_room}
 
 -- what the entries lend is the account of the log
@@ -124,7 +125,7 @@ get-changed book other log change =
             | false ↦ λ _. sym (map_same (get book log))
           ] refl
       | Some account ↦ λ found.
-          get-insert nat_cmp_total book other (change account) log ∙ ap (λ b. cond b (Some (change account)) (get book log)) (tied_is log other)
+          get-insert nat_cmp_total book other (change account) log ∙ ap (λ b. cond b (Some (change account)) (get book log)) (unsigned_tied log other)
           ∙ elim (log == other)
           as (λ b. (log == other) ≡ b
           → cond b (Some (change account)) (get book log) ≡ option_map (λ account. if b then change account else account) (get book log)) [
@@ -139,8 +140,4 @@ ready_made book log ledger account found =
     ap (λ o. option_map_or (λ a. has_room a ledger) o false)
     (get-changed book log log (with_room ledger) ∙ ap (option_map (λ a. if log == log then with_room ledger a else a)) found)
     ∙ ap (λ b. has_room (if b then with_room ledger account else account) ledger) (eq-eqb log log refl)
-    ∙ room-with_room account ledger ledger ∙ ap (λ b. has_room account ledger || b) (eq-eqb ledger ledger refl) ∙ top (has_room account ledger)
-  where
-    top : (b : Bool) → (b || true) ≡ true
-    top true = refl
-    top false = refl
+    ∙ room-with_room account ledger ledger ∙ ap (λ b. has_room account ledger || b) (eq-eqb ledger ledger refl) ∙ or-true (has_room account ledger)

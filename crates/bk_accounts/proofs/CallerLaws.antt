@@ -1,8 +1,8 @@
 -- What a caller keeps that knows the entries of each log: the sums of the accounts through each call.
-use Rattle.std.proofs.Common.{◌≡◌, ℕ, ◌+◌, ◌-◌, ◌^◌, ◌<◌, Bool, true, false, cond, ◌||◌, ◌==◌, if◌then◌else◌, List, [], ◌∷◌, ◌++◌, Some, None, Option, IsSome}
+use Rattle.std.proofs.Common.{◌≡◌, ℕ, ◌+◌, ◌-◌, ◌^◌, ◌<◌, Bool, true, false, cond, ◌||◌, ◌==◌, List, [], ◌∷◌, ◌++◌, Some, None, Option, IsSome, if◌then◌else◌}
 use Rattle.std.proofs.Common.{IsNone, IfSome, unwrap_or, nat_cmp, refl, sym, ap, subst, ◌∙◌, arith, eqb-true, eq-eqb}
 use Rattle.std.specs.Option.{option_map}
-use Rattle.std.specs.Cmp.{nat_cmp_total, eq_by_cmp_equiv}
+use Rattle.std.specs.Cmp.{nat_cmp_total, eq_by_cmp_equiv, unsigned_tied}
 use Rattle.std.specs.FinSet.{FinSet, contains, insert, contains-insert}
 use Rattle.std.specs.FinMap as finmap
 use Rattle.std.specs.FinMap.{get, remove, get-empty, get-insert, get-remove}
@@ -11,7 +11,6 @@ use Rattle.bk_accounts.specs.Book.{Book, IsOpen, IsNotOpen, total_in, named_in, 
 use Rattle.bk_accounts.specs.Book.{after_count_dead, after_name, after_unname, after_forget, after_drop}
 use Rattle.bk_accounts.specs.Choice.{IsChoice, NoneBelow}
 use Rattle.bk_accounts.specs.Sums.{Measure, AreSums, all_bytes, live_bytes}
-use Rattle.bk_accounts.proofs.Maps.{tied_is}
 use Rattle.bk_accounts.proofs.Books.{map_same, get-changed, get-after_forget}
 use Rattle.bk_accounts.proofs.EntrySums.{Matches, HasSums, sums_of_match, match_of_sums, match_fresh, match_room, match_count, match_dead, match_named}
 use Rattle.bk_accounts.proofs.EntrySums.{match_forget}
@@ -20,7 +19,7 @@ use Rattle.bk_accounts.proofs.EntrySums.{match_forget}
 pub contains-insert_dead : (dead : FinSet nat_cmp) (ledger l : ℕ) → contains (insert dead ledger) l ≡ (contains dead l || ledger == l)
 contains-insert_dead dead ledger l =
     contains-insert nat_cmp_total dead ledger l
-    ∙ ap (λ b. b || contains dead l) ((eq_by_cmp_equiv nat_cmp_total).symm l ledger ∙ tied_is ledger l) ∙ swapped (ledger == l) (contains dead l)
+    ∙ ap (λ b. b || contains dead l) ((eq_by_cmp_equiv nat_cmp_total).symm l ledger ∙ unsigned_tied ledger l) ∙ swapped (ledger == l) (contains dead l)
   where
     swapped : (a b : Bool) → (a || b) ≡ (b || a)
     swapped true true = refl
@@ -94,7 +93,7 @@ module _ {E : Type 0} (measure : Measure E) where
         → ((q : ℕ) → later q ≡ (if q == log then Some [] else entries q)) → AreSums measure is_dead later names (after_open book log)
     sums_open log later none is = all is_dead later names (after_open book log) (λ q.
         subst (Matches measure is_dead (later q) (names q))
-        (sym (get-insert nat_cmp_total book log fresh q ∙ ap (λ b. cond b (Some fresh) (get book q)) (tied_is q log)))
+        (sym (get-insert nat_cmp_total book log fresh q ∙ ap (λ b. cond b (Some fresh) (get book q)) (unsigned_tied q log)))
         (subst (λ o. Matches measure is_dead o (names q) (cond (q == log) (Some fresh) (get book q))) (sym (is q))
         (elim (q == log) as (λ b. (q == log) ≡ b → Matches measure is_dead (if b then Some [] else entries q) (names q) (cond b (Some fresh) (get book q))) [
           | true ↦ λ same. match_fresh measure is_dead (names q) (ap names (eqb-true q log same) ∙ none)
@@ -105,7 +104,7 @@ module _ {E : Type 0} (measure : Measure E) where
     pub sums_drop : (log : ℕ) (later : ℕ → Option (List E)) → ((q : ℕ) → later q ≡ (if q == log then None else entries q))
         → AreSums measure is_dead later names (after_drop book log)
     sums_drop log later is = all is_dead later names (after_drop book log) (λ q.
-        subst (Matches measure is_dead (later q) (names q)) (sym (get-remove nat_cmp_total book log q ∙ ap (λ b. cond b None (get book q)) (tied_is q log)))
+        subst (Matches measure is_dead (later q) (names q)) (sym (get-remove nat_cmp_total book log q ∙ ap (λ b. cond b None (get book q)) (unsigned_tied q log)))
         (subst (λ o. Matches measure is_dead o (names q) (cond (q == log) None (get book q))) (sym (is q))
         (elim (q == log) as (λ b. Matches measure is_dead (if b then None else entries q) (names q) (cond b None (get book q))) [
           | true ↦ tt

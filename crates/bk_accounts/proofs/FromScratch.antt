@@ -1,11 +1,12 @@
 -- After every run of calls each open log's account tells what counting from scratch gives.
-use Rattle.std.proofs.Common.{◌≡◌, ℕ, ◌+◌, ◌<◌, Bool, true, false, not, ◌&&◌, ◌||◌, ◌==◌, if◌then◌else◌, List, [], ◌∷◌, ◌++◌, map, Some, None, Option, nat_cmp}
+use Rattle.std.proofs.Common.{◌≡◌, ℕ, ◌+◌, ◌<◌, Bool, true, false, not, ◌&&◌, ◌||◌, ◌==◌, List, [], ◌∷◌, ◌++◌, map, Some, None, Option, nat_cmp, if◌then◌else◌}
 use Rattle.std.proofs.Common.{refl, sym, ap, ◌∙◌, subst, subst₂, append-nil, eqb-true, arith}
 use Rattle.std.specs.Bool.{⊤}
 use Rattle.std.specs.List.{count_by}
 use Rattle.std.specs.Option.{is_some, option_map, option_map_or}
 use Rattle.std.specs.FinMap.{get, get-empty}
 use Rattle.std.proofs.lemmas.List.Sums.{sum_by_push}
+use Rattle.std.proofs.Math.Bool.{or-false}
 use Rattle.bk_accounts.specs.Account.{Account, fresh, has_room, with_room, with_size, with_dead_size, with_name, without_name, without_ledger, remaining_size}
 use Rattle.bk_accounts.specs.Book.{Book}
 use Rattle.bk_accounts.specs.Rows.{Row, Tallies, total_of, remaining_of}
@@ -57,12 +58,8 @@ unforgotten : (call : AccountCall) (rows : List Row) → ((ledger : ℕ) → is_
 unforgotten call [] none = refl
 unforgotten call (row ∷ rows) none =
     ap (λ b. record { ledger = row.ledger; size = row.size; forgotten = row.forgotten || b } ∷ map (row_after call) rows) (none row.ledger)
-    ∙ ap (λ b. record { ledger = row.ledger; size = row.size; forgotten = b } ∷ map (row_after call) rows) (bottom row.forgotten)
+    ∙ ap (λ b. record { ledger = row.ledger; size = row.size; forgotten = b } ∷ map (row_after call) rows) (or-false row.forgotten)
     ∙ ap (λ rest. row ∷ rest) (unforgotten call rows none)
-  where
-    bottom : (b : Bool) → (b || false) ≡ b
-    bottom true = refl
-    bottom false = refl
 
 kept_room : (r f s : Bool) → f ≡ false → s ≡ false → r ≡ ((r && not f) || s)
 kept_room true f s h k = ap (λ b. not b || s) (sym h)

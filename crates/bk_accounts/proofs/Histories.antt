@@ -1,7 +1,8 @@
 -- What counting from scratch gives after one call more.
-use Rattle.std.proofs.Common.{◌≡◌, ℕ, Bool, true, false, not, ◌&&◌, ◌||◌, ◌==◌, if◌then◌else◌, List, [], ◌∷◌, ◌++◌, map, Some, None, Option, refl, ap, ◌∙◌}
+use Rattle.std.proofs.Common.{◌≡◌, ℕ, Bool, true, false, not, ◌&&◌, ◌||◌, ◌==◌, List, [], ◌∷◌, ◌++◌, map, Some, None, Option, refl, ap, ◌∙◌, if◌then◌else◌}
 use Rattle.std.specs.List.{list_any}
 use Rattle.std.specs.Option.{option_map, option_or}
+use Rattle.std.proofs.Math.Bool.{or-false, or-true}
 use Rattle.bk_accounts.specs.Rows.{Row}
 use Rattle.bk_accounts.specs.History.{AccountCall, opens, readies, counts, counts_dead, names, unnames, forgets, drops, is_open_of, is_drop_of, is_forget_of}
 use Rattle.bk_accounts.specs.History.{since_open, rows_of, is_readied}
@@ -34,13 +35,9 @@ since-dropped log (first ∷ calls) call other dropping =
     ap (λ o. option_or o (if is_open_of log first && not (list_any (is_drop_of log) (calls ++ call ∷ [])) then Some (calls ++ call ∷ []) else None))
     (since-dropped log calls call other dropping)
     ∙ ap (λ b. if is_open_of log first && not b then Some (calls ++ call ∷ []) else None)
-    (any_more (is_drop_of log) calls call ∙ ap (λ b. list_any (is_drop_of log) calls || b) dropping ∙ top (list_any (is_drop_of log) calls))
+    (any_more (is_drop_of log) calls call ∙ ap (λ b. list_any (is_drop_of log) calls || b) dropping ∙ or-true (list_any (is_drop_of log) calls))
     ∙ never (is_open_of log first) (calls ++ call ∷ [])
   where
-    top : (b : Bool) → (b || true) ≡ true
-    top true = refl
-    top false = refl
-
     never : (b : Bool) (later : List AccountCall) → (if b && false then Some later else None) ≡ None
     never true later = refl
     never false later = refl
@@ -54,13 +51,9 @@ since_more log (first ∷ calls) call other kept =
     (since_more log calls call other kept)
     ∙ ap (λ b. option_or (option_map (λ later. later ++ call ∷ []) (since_open log calls))
     (if is_open_of log first && not b then Some (calls ++ call ∷ []) else None))
-    (any_more (is_drop_of log) calls call ∙ ap (λ b. list_any (is_drop_of log) calls || b) kept ∙ bottom (list_any (is_drop_of log) calls))
+    (any_more (is_drop_of log) calls call ∙ ap (λ b. list_any (is_drop_of log) calls || b) kept ∙ or-false (list_any (is_drop_of log) calls))
     ∙ moved (since_open log calls) (is_open_of log first && not (list_any (is_drop_of log) calls))
   where
-    bottom : (b : Bool) → (b || false) ≡ b
-    bottom true = refl
-    bottom false = refl
-
     moved : (o : Option (List AccountCall)) (b : Bool)
         → option_or (option_map (λ later. later ++ call ∷ []) o) (if b then Some (calls ++ call ∷ []) else None)
         ≡ option_map (λ later. later ++ call ∷ []) (option_or o (if b then Some calls else None))

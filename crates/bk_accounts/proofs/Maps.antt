@@ -1,7 +1,7 @@
 -- Finite maps made of a `BTreeMap`'s entries, at keys that are numbers.
-use Rattle.std.proofs.Common.{◌≡◌, ℕ, true, false, cond, ◌==◌, is_eq, Ordering, Less, Equal, Greater, List, [], ◌∷◌, map, Some, None, Option, IsSome, nat_cmp}
-use Rattle.std.proofs.Common.{eq-eqb, eqb-true, MutBor, refl, sym, ap, ◌∙◌}
-use Rattle.std.specs.Cmp.{nat_cmp_total, tied_itself, eq_by_cmp_equiv}
+use Rattle.std.proofs.Common.{◌≡◌, ℕ, true, false, cond, List, [], ◌∷◌, map, Some, None, Option, IsSome, nat_cmp}
+use Rattle.std.proofs.Common.{MutBor, refl, sym, ap, ◌∙◌}
+use Rattle.std.specs.Cmp.{nat_cmp_total, eq_by_cmp_equiv}
 use Rattle.std.specs.Ordering.{eq_by_cmp}
 use Rattle.std.specs.BTreeMap.{BTreeMap, WritesThrough, is_at}
 use Rattle.std.specs.Map.{lookup}
@@ -9,15 +9,7 @@ use Rattle.std.specs.Option.{is_some, option_map, option_copied_mut}
 use Rattle.std.specs.FinMap as finmap
 use Rattle.std.specs.FinMap.{FinMap, find, get, insert, remove, from_entries, get-insert, get-remove, get-from_entries, same_map, nat_cmp-IsAntisymmetric}
 use Rattle.std.proofs.lemmas.Map.Made.{lookup-map_values}
-
-tied : (r : Ordering) → is_eq r ≡ true → r ≡ Equal
-tied Less h = cc
-tied Equal h = refl
-tied Greater h = cc
-
--- numbers that the order ties are equal
-pub same_key : (q k : ℕ) → eq_by_cmp nat_cmp q k ≡ true → q ≡ k
-same_key q k h = nat_cmp-IsAntisymmetric q k (tied (nat_cmp q k) h)
+use Rattle.std.proofs.lemmas.Map.Views.{tells_apart}
 
 find-lookup : {X : Type 0} (es : List (ℕ × X)) (q : ℕ) → find nat_cmp q es ≡ lookup (is_at (nat_cmp q)) es
 find-lookup [] q = refl
@@ -77,7 +69,7 @@ get-absent es k absent = get-entries es k ∙ none_is _ absent
 pub insert_same : {X : Type 0} (m : FinMap nat_cmp X) (k : ℕ) (v : X) → get m k ≡ Some v → insert m k v ≡ m
 insert_same m k v found = same_by_get _ _ (λ q. get-insert nat_cmp_total m k v q
     ∙ elim (eq_by_cmp nat_cmp q k) as (λ b. eq_by_cmp nat_cmp q k ≡ b → cond b (Some v) (get m q) ≡ get m q) [
-      | true ↦ λ h. sym (ap (get m) (same_key q k h) ∙ found)
+      | true ↦ λ h. sym (ap (get m) (tells_apart nat_cmp-IsAntisymmetric q k h) ∙ found)
       | false ↦ λ _. refl
     ] refl)
 
@@ -89,14 +81,3 @@ get-mapped f es q = get-entries (map (λ e. (e.0, f e.1)) es) q ∙ lookup-map_v
 -- what the map has is what a query of its entries finds
 pub get-lookup : {X : Type 0} (m : FinMap nat_cmp X) (q : ℕ) → get m q ≡ lookup (is_at (nat_cmp q)) (finmap.entries m)
 get-lookup m q = finmap.get-entries m q ∙ find-lookup (finmap.entries m) q
-
--- two numbers are tied by the order where they are equal by the test
-pub tied_is : (q k : ℕ) → eq_by_cmp nat_cmp q k ≡ (q == k)
-tied_is q k =
-    elim (eq_by_cmp nat_cmp q k) as (λ b. eq_by_cmp nat_cmp q k ≡ b → b ≡ (q == k)) [
-      | true ↦ λ h. sym (eq-eqb q k (same_key q k h))
-      | false ↦ λ h. elim (q == k) as (λ b. (q == k) ≡ b → false ≡ b) [
-        | true ↦ λ same. sym h ∙ ap (λ n. eq_by_cmp nat_cmp q n) (sym (eqb-true q k same)) ∙ ap is_eq (tied_itself nat_cmp_total q)
-        | false ↦ λ _. refl
-      ] refl
-    ] refl

@@ -1,14 +1,14 @@
 -- The rooms for ledgers' sums in an account, after each change.
 use Rattle.std.proofs.Common.{◌≡◌, ℕ, Bool, true, false, cond, not, ◌&&◌, ◌||◌, ◌==◌, Some, None, Option, nat_cmp, refl, sym, ap, ◌∙◌, eqb-true}
 use Rattle.std.specs.Option.{is_some}
-use Rattle.std.specs.Cmp.{nat_cmp_total, eq_by_cmp_equiv}
+use Rattle.std.specs.Cmp.{nat_cmp_total, eq_by_cmp_equiv, unsigned_tied}
 use Rattle.std.specs.FinMap.{FinMap, get, insert, get-insert, get-remove}
+use Rattle.std.proofs.Math.Bool.{or-false}
 use Rattle.bk_accounts.specs.Account.{Account, has_room, with_room, with_size, without_ledger}
-use Rattle.bk_accounts.proofs.Maps.{tied_is}
 
 -- an inserted key is there
 room-insert : (m : FinMap nat_cmp ℕ) (k v q : ℕ) → is_some (get (insert m k v) q) ≡ (is_some (get m q) || q == k)
-room-insert m k v q = ap is_some (get-insert nat_cmp_total m k v q) ∙ ap (λ b. is_some (cond b (Some v) (get m q))) (tied_is q k) ∙ bits (get m q) (q == k)
+room-insert m k v q = ap is_some (get-insert nat_cmp_total m k v q) ∙ ap (λ b. is_some (cond b (Some v) (get m q))) (unsigned_tied q k) ∙ bits (get m q) (q == k)
   where
     bits : (o : Option ℕ) (b : Bool) → is_some (cond b (Some v) o) ≡ (is_some o || b)
     bits (Some w) true = refl
@@ -21,12 +21,8 @@ there_again : (m : FinMap nat_cmp ℕ) (k q : ℕ) → is_some (get m k) ≡ tru
 there_again m k q there =
     elim (q == k) as (λ b. (q == k) ≡ b → (is_some (get m q) || b) ≡ is_some (get m q)) [
       | true ↦ λ same. let here : is_some (get m q) ≡ true = ap (λ n. is_some (get m n)) (eqb-true q k same) ∙ there in ap (λ b. b || true) here ∙ sym here
-      | false ↦ λ _. bits (is_some (get m q))
+      | false ↦ λ _. or-false (is_some (get m q))
     ] refl
-  where
-    bits : (b : Bool) → (b || false) ≡ b
-    bits true = refl
-    bits false = refl
 
 pub room-with_room : (account : Account) (ledger other : ℕ) → has_room (with_room ledger account) other ≡ (has_room account other || other == ledger)
 room-with_room account ledger other =
@@ -45,7 +41,7 @@ pub room-without_ledger : (account : Account) (ledger other : ℕ)
     → has_room (without_ledger ledger account) other ≡ (has_room account other && not (ledger == other))
 room-without_ledger account ledger other =
     ap is_some (get-remove nat_cmp_total account.live ledger other)
-    ∙ ap (λ b. is_some (cond b None (get account.live other))) ((eq_by_cmp_equiv nat_cmp_total).symm other ledger ∙ tied_is ledger other)
+    ∙ ap (λ b. is_some (cond b None (get account.live other))) ((eq_by_cmp_equiv nat_cmp_total).symm other ledger ∙ unsigned_tied ledger other)
     ∙ bits (get account.live other) (ledger == other)
   where
     bits : (o : Option ℕ) (b : Bool) → is_some (cond b None o) ≡ (is_some o && not b)

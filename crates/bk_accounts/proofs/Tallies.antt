@@ -1,21 +1,20 @@
 -- An account keeps the sums of its rows: with room, with a row more, with a ledger forgotten.
-use Rattle.std.proofs.Common.{◌≡◌, ℕ, ◌+◌, Bool, true, false, cond, not, ◌&&◌, ◌||◌, ◌==◌, if◌then◌else◌, List, [], ◌∷◌, ◌++◌, map, Some, None, nat_cmp}
+use Rattle.std.proofs.Common.{◌≡◌, ℕ, ◌+◌, Bool, true, false, cond, not, ◌&&◌, ◌||◌, ◌==◌, List, [], ◌∷◌, ◌++◌, map, Some, None, nat_cmp, if◌then◌else◌}
 use Rattle.std.proofs.Common.{unwrap_or, refl, sym, ap, ◌∙◌, eqb-true, arith}
 use Rattle.std.specs.Option.{is_some}
-use Rattle.std.specs.Cmp.{nat_cmp_total}
+use Rattle.std.specs.Cmp.{nat_cmp_total, unsigned_tied}
 use Rattle.std.specs.FinMap.{FinMap, get, insert, remove, get-empty, get-insert, get-remove}
 use Rattle.std.proofs.lemmas.List.Sums.{sum_by-cons, sum_by_push}
 use Rattle.std.proofs.lemmas.Bool.Decides.{nat_tests}
 use Rattle.bk_accounts.specs.Account.{Account, fresh, ledger_size, with_room, with_size, with_dead_size, without_ledger}
 use Rattle.bk_accounts.specs.Rows.{Row, Tallies, total_of, remaining_of, remaining_of_ledger, forget_row}
 use Rattle.bk_accounts.proofs.ValueSums.{sum-empty, sum-insert, sum-remove}
-use Rattle.bk_accounts.proofs.Maps.{tied_is}
 
 -- a size that was inserted is that of its ledger
 pub size-insert : (m : FinMap nat_cmp ℕ) (k v q : ℕ) → unwrap_or (get (insert m k v) q) 0 ≡ (if q == k then v else unwrap_or (get m q) 0)
 size-insert m k v q =
     ap (λ o. unwrap_or o 0) (get-insert nat_cmp_total m k v q)
-    ∙ ap (λ b. unwrap_or (cond b (Some v) (get m q)) 0) (tied_is q k) ∙ either (q == k)
+    ∙ ap (λ b. unwrap_or (cond b (Some v) (get m q)) 0) (unsigned_tied q k) ∙ either (q == k)
   where
     either : (b : Bool) → unwrap_or (cond b (Some v) (get m q)) 0 ≡ (if b then v else unwrap_or (get m q) 0)
     either true = refl
@@ -25,7 +24,7 @@ size-insert m k v q =
 pub size-remove : (m : FinMap nat_cmp ℕ) (k q : ℕ) → unwrap_or (get (remove m k) q) 0 ≡ (if q == k then 0 else unwrap_or (get m q) 0)
 size-remove m k q =
     ap (λ o. unwrap_or o 0) (get-remove nat_cmp_total m k q)
-    ∙ ap (λ b. unwrap_or (cond b None (get m q)) 0) (tied_is q k) ∙ either (q == k)
+    ∙ ap (λ b. unwrap_or (cond b None (get m q)) 0) (unsigned_tied q k) ∙ either (q == k)
   where
     either : (b : Bool) → unwrap_or (cond b None (get m q)) 0 ≡ (if b then 0 else unwrap_or (get m q) 0)
     either true = refl

@@ -5,10 +5,11 @@ use Rattle.std.specs.List.{sum}
 use Rattle.std.specs.Ordering.{eq_by_cmp}
 use Rattle.std.specs.Cmp.{nat_cmp_total, tied_itself}
 use Rattle.std.specs.FinMap.{FinMap, find, put, is_sorted, get, insert, remove, entries, entries_sorted, values, empty, get-entries, get-insert, get-remove}
-use Rattle.std.specs.FinMap.{entries-insert, len-entries, len-empty}
+use Rattle.std.specs.FinMap.{entries-insert, len-entries, len-empty, nat_cmp-IsAntisymmetric}
 use Rattle.std.specs.FinMap.Entries.{by_order, below_all}
 use Rattle.std.proofs.lemmas.List.Sums.{sum_by-cons}
-use Rattle.bk_accounts.proofs.Maps.{same_by_get, same_key}
+use Rattle.std.proofs.lemmas.Map.Views.{tells_apart}
+use Rattle.bk_accounts.proofs.Maps.{same_by_get}
 
 abbrev values_in : List (ℕ × ℕ) → List ℕ
 values_in es = map (λ e. e.1) es
@@ -70,7 +71,7 @@ sum-insert m k v =
 kept_absent : (m : FinMap nat_cmp ℕ) (k q : ℕ) → get m k ≡ None → get (remove m k) q ≡ get m q
 kept_absent m k q none = get-remove nat_cmp_total m k q
     ∙ elim (eq_by_cmp nat_cmp q k) as (λ b. eq_by_cmp nat_cmp q k ≡ b → cond b None (get m q) ≡ get m q) [
-      | true ↦ λ h. sym (ap (get m) (same_key q k h) ∙ none)
+      | true ↦ λ h. sym (ap (get m) (tells_apart nat_cmp-IsAntisymmetric q k h) ∙ none)
       | false ↦ λ _. refl
     ] refl
 
@@ -78,7 +79,7 @@ put_back : (m : FinMap nat_cmp ℕ) (k v q : ℕ) → get m k ≡ Some v → get
 put_back m k v q found = get-insert nat_cmp_total (remove m k) k v q
     ∙ ap (cond (eq_by_cmp nat_cmp q k) (Some v)) (get-remove nat_cmp_total m k q)
     ∙ elim (eq_by_cmp nat_cmp q k) as (λ b. eq_by_cmp nat_cmp q k ≡ b → cond b (Some v) (cond b None (get m q)) ≡ get m q) [
-      | true ↦ λ h. sym (ap (get m) (same_key q k h) ∙ found)
+      | true ↦ λ h. sym (ap (get m) (tells_apart nat_cmp-IsAntisymmetric q k h) ∙ found)
       | false ↦ λ _. refl
     ] refl
 

@@ -9,17 +9,14 @@ use Rattle.bk_record.specs.Scan.{Payloads}
 use Rattle.bk_record.proofs.Keys.{key_cmp_total}
 use Rattle.bk_record.proofs.SortedMaps.{get-sorted, insert-sorted}
 use Rattle.bk_cache.specs.Kept.{IsKept}
-use Rattle.bk_cache.specs.Caches.{used_of, AllKeyed}
+use Rattle.bk_cache.specs.Caches.{used_of}
 use Rattle.bk_cache.proofs.Seen.{seen, put-seen, insert_entry-put}
-use Rattle.bk_cache.proofs.KeptPairs.{used_of-kept, keyed_kept, kept_put}
+use Rattle.bk_cache.proofs.KeptPairs.{used_of-kept, kept_put}
 
 module _ {X : Type 0} (f : X → List ℕ) (es : List (EntryKey × X)) (used : ℕ) (kept : IsKept (seen f es) used) (m : Payloads)
     (view : from_sorted (seen f es) ≡ m) where
   pub used_seen : used_of m ≡ used
   used_seen = ap used_of (sym view) ∙ used_of-kept _ _ kept
-
-  pub keyed_seen : AllKeyed m
-  keyed_seen = subst AllKeyed view (keyed_kept _ _ kept)
 
   -- a payload comes under its own key, which is new
   module _ (key : EntryKey) (payload : X) (new : List (EntryKey × X)) (is : new ≡ insert_entry key_cmp es key payload) where

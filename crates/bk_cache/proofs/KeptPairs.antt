@@ -1,5 +1,5 @@
 -- Pairs that a write cache keeps, and the map that they make.
-use Rattle.std.proofs.Common.{◌≡◌, ℕ, ◌+◌, Bool, true, false, cond, List, [], length, Option, Some, None, option_map, unwrap_or, Ok, refl, sym, ap, subst, ◌∙◌}
+use Rattle.std.proofs.Common.{◌≡◌, ℕ, ◌+◌, Bool, true, false, cond, List, length, Option, Some, None, option_map, unwrap_or, Ok, refl, sym, ap, subst, ◌∙◌}
 use Rattle.std.proofs.Common.{arith}
 use Rattle.std.specs.Ordering.{eq_by_cmp}
 use Rattle.std.specs.List.{filter, sum_by}
@@ -17,9 +17,6 @@ use Rattle.bk_cache.specs.Recents.{Entry}
 use Rattle.bk_cache.proofs.Seen.{insert_entry-put}
 use Rattle.bk_cache.specs.Kept.{IsKept}
 use Rattle.bk_cache.specs.Caches.{used_of, AllKeyed}
-
-pub kept_nil : IsKept [] 0
-kept_nil = record { sorted = refl; keyed = λ key payload is. cc; counted = refl }
 
 module _ (pairs : List Entry) (used : ℕ) (kept : IsKept pairs used) where
   pub used_of-kept : used_of (from_sorted pairs) ≡ used

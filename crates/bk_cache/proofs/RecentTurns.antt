@@ -1,9 +1,8 @@
 -- Entries that have their turn one after another, the first in front: one that is kept goes behind all, another goes.
-use Rattle.std.proofs.Common.{◌≡◌, ℕ, ◌+◌, ◌<◌, ◌≤◌, Bool, true, false, cond, List, [], ◌∷◌, ◌++◌, length, take, drop, get_or, Some, slice_get, sym, ap, ◌∙◌}
+use Rattle.std.proofs.Common.{◌≡◌, ℕ, ◌+◌, ◌<◌, Bool, true, false, cond, List, [], ◌∷◌, ◌++◌, length, take, drop, get_or, Some, slice_get, sym, ap, ◌∙◌}
 use Rattle.std.proofs.Common.{append_assoc, append-nil, add-one, drop-cons}
 use Rattle.std.specs.List.{filter}
-use Rattle.std.proofs.Math.ListN.{drop_of_length-le}
-use Rattle.std.proofs.lemmas.List.{take_more, take_all}
+use Rattle.std.proofs.lemmas.List.{take_more}
 use Rattle.std.proofs.lemmas.List.Elements.{filter-append}
 use Rattle.lru.specs.LruCache.{LruCache, lru_cache, demoted}
 use Rattle.bk_record.proofs.SortedPairs.{Some-same}
@@ -18,12 +17,6 @@ module _ {K X : Type 0} (keep : K → Bool) (all : List (K × X)) where
   -- the entries when the first i of them have had their turn
   abbrev pub after_turns : ℕ → List (K × X)
   after_turns i = drop i all ++ kept (take i all)
-
-  pub after_turns-zero : after_turns 0 ≡ all
-  after_turns-zero = append-nil all
-
-  pub after_turns-all : (i : ℕ) → length all ≤ i → after_turns i ≡ kept all
-  after_turns-all i past = rw (drop_of_length-le all past, take_all i all past)
 
   module _ (i : ℕ) (in_range : i < length all) (e : K × X) (first : slice_get (after_turns i) 0 ≡ Some e) where
     split : after_turns i ≡ get_or all i e ∷ (drop (i + 1) all ++ kept (take i all))

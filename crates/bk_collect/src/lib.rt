@@ -1,9 +1,12 @@
-//! What becomes of logs that are not needed: a log that no key names is retired. All of it is made of the store's public
-//! calls.
+//! What becomes of logs that are not needed, and of an index that is to be made anew: a log that no key names is retired,
+//! and the index is rebuilt of all that the logs show. All of it is made of the store's public calls.
 #![tactic(auto)]
 
 mod answer;
+mod rebuilding;
 mod retiring;
+mod scanning;
 
 pub use answer::{CollectFault, RetireAnswer};
+pub use rebuilding::rebuild;
 pub use retiring::retire;

@@ -16,7 +16,7 @@ use Rattle.bk_dir.specs.declared.header.Head.TheVariants.{Whole}
 use Rattle.bk_dir.specs.Heads.{IsHead}
 use Rattle.bk_dir.specs.Maps.{ledger_line, IsMapIn}
 use Rattle.bk_dir.specs.Reading.{OfFile}
-use Rattle.bk_dir.specs.Shown.{MapText, Writes}
+use Rattle.bk_dir.specs.Shown.{MapText, WritesText}
 use Rattle.bk_dir.proofs.Lines.{appends_none, appends_then}
 
 -- some of the lines of these ledgers were written, and the rest's are to be written
@@ -49,7 +49,7 @@ wrote_all rest all before now is w =
 -- the lines of the program's map are those of the map that stands in the log
 pub map_shown : (file : List ℕ) (header : Header) (map : Option (BTreeMap ℕ ℕ)) (found : BTreeMap ℕ ℕ) (before now : Option (List ℕ)) → map ≡ Some found
     → IfSome map (IsOrdered nat_cmp) → IsMapIn file header (option_map map_of map) → Appends before now (flat_map ledger_line found.entries)
-    → Writes (MapText file (Whole header)) before now
+    → WritesText (MapText file (Whole header)) before now
 map_shown file header map found before now is ordered stands appended =
     let sorted : IsOrdered nat_cmp found = subst (λ (o : Option (BTreeMap ℕ ℕ)). IfSome o (IsOrdered nat_cmp)) is ordered in (
       flat_map ledger_line found.entries,
@@ -64,8 +64,8 @@ map_shown file header map found before now is ordered stands appended =
 -- what is shown of a view of a log, whose header was read before, is shown of the log
 pub map_told : (old mid : Files) (log long : ℕ) (head : Head) (header : Header) (bytes : List ℕ) (before now : Option (List ℕ))
     → OfFile old log (λ file. (long ≡ length file) × IsHead file head) → head ≡ Whole header → mid ≡ old → IsFile mid log bytes
-    → {T E : Type 0} (r : Result T E) → OnOk r (Writes (MapText bytes (Whole header)) before now)
-    → OnOk r (Writes (λ text. OfFile old log (λ file. (h : Head) × IsHead file h × MapText file h text)) before now)
+    → {T E : Type 0} (r : Result T E) → OnOk r (WritesText (MapText bytes (Whole header)) before now)
+    → OnOk r (WritesText (λ text. OfFile old log (λ file. (h : Head) × IsHead file h × MapText file h text)) before now)
 map_told old mid log long head header bytes before now found is same viewed (Err e) w = tt
 map_told old mid log long head header bytes before now found is same viewed (Ok x) w =
     let here : found.0 ≡ bytes = cc in (

@@ -2,7 +2,7 @@
 use Rattle.std.proofs.Common.{◌≡◌, ℕ, ◌+◌, ◌<◌, List, [], ◌∷◌, ◌++◌, length, take, get_or, Option, Some, None, sym, ap, ◌∙◌, subst, append_assoc}
 use Rattle.std.proofs.lemmas.List.{append-nil, take_more}
 use Rattle.std.specs.Io.KnownBytes.{Appends}
-use Rattle.bk_dir.specs.Shown.{Writes, AreLines}
+use Rattle.bk_dir.specs.Shown.{WritesText, AreLines}
 use Rattle.bk_dir.specs.Shown.AreLines.{none, more}
 
 pub appends_none : (before : Option (List ℕ)) → Appends before before []
@@ -20,13 +20,13 @@ taken_none [] = ap (λ (l : List ℕ). l) (append-nil [])
 taken_none (x ∷ xs) = append-nil []
 
 -- no line for no log
-pub no_lines : (IsLine : ℕ → List ℕ → Type 0) (logs : List ℕ) (before : Option (List ℕ)) → Writes (AreLines IsLine (take 0 logs)) before before
+pub no_lines : (IsLine : ℕ → List ℕ → Type 0) (logs : List ℕ) (before : Option (List ℕ)) → WritesText (AreLines IsLine (take 0 logs)) before before
 no_lines IsLine logs before = ([], subst (λ l. AreLines IsLine l []) (sym (taken_none logs)) none, appends_none before)
 
 -- one line more for one log more
 pub line_more : (IsLine : ℕ → List ℕ → Type 0) (logs : List ℕ) (i : ℕ) (before mid after : Option (List ℕ)) → i < length logs
-    → Writes (AreLines IsLine (take i logs)) before mid → Writes (IsLine (get_or logs i 0)) mid after
-    → Writes (AreLines IsLine (take (i + 1) logs)) before after
+    → WritesText (AreLines IsLine (take i logs)) before mid → WritesText (IsLine (get_or logs i 0)) mid after
+    → WritesText (AreLines IsLine (take (i + 1) logs)) before after
 line_more IsLine logs i before mid after inside first next = (
   first.0 ++ next.0,
   subst (λ l. AreLines IsLine l (first.0 ++ next.0)) (sym (take_more logs i 0 inside)) (more first.1 next.1),

@@ -17,7 +17,7 @@ use Rattle.bk_log.specs.Ranges.{entries_in, foreign_in, part}
 use Rattle.bk_log.specs.Scanning.{Scan, part_of, IsGiven, IsFinished, NextMoves}
 use Rattle.bk_log.proofs.Ranges.{all_pieces-file, all_leftover-file, entries_in-file, foreign_in-file}
 use Rattle.bk_dir.specs.Texts.{found_line, entry_line, counts_line}
-use Rattle.bk_dir.specs.Shown.{Writes, IsScanText}
+use Rattle.bk_dir.specs.Shown.{WritesText, IsScanText}
 use Rattle.bk_dir.proofs.Lines.{appends_none, appends_then}
 
 -- how far a scan has come that gave so many entries, each with its line
@@ -88,7 +88,7 @@ whole_view file end is = take_all (end - header_length) (drop header_length file
 -- what was shown when the scan came to its end
 pub shown_all : (first now next : Scan) (entries : ℕ) (file : List ℕ) (before mid after : Option (List ℕ)) → Shown first now entries before mid
     → NextMoves now (Ok None) next → (IsTrue now.honest → IsFinished next) → Appends mid after (counts_line entries next.foreign next.torn)
-    → IsTrue first.honest → first.from ≡ header_length → part_of first ≡ drop header_length file → Writes (IsScanText file) before after
+    → IsTrue first.honest → first.from ≡ header_length → part_of first ≡ drop header_length file → WritesText (IsScanText file) before after
 unfolding torn_of
 shown_all first now next entries file before mid after shown moves finished counts honest from_is part_is =
     let is : next ≡ record first { left = next.left; given = entries; foreign = next.foreign; torn = next.torn; ended = true } =

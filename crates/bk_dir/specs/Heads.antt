@@ -6,8 +6,8 @@ use Rattle.bk_head.specs.Header.{IsHeader, HeaderFault}
 use Rattle.bk_dir.specs.declared.header.Head.{Head}
 use Rattle.bk_dir.specs.declared.header.Head.TheVariants.{Short, Bad, Whole}
 use Rattle.bk_dir.specs.declared.header.LogHead.{LogHead}
-use Rattle.bk_dir.specs.declared.listing.LogState.{LogState}
-use Rattle.bk_dir.specs.declared.listing.LogState.TheVariants as states
+use Rattle.bk_dir.specs.declared.listing.LogStanding.{LogStanding}
+use Rattle.bk_dir.specs.declared.listing.LogStanding.TheVariants as states
 
 -- the header of a log that has at least its length, or why there is none
 abbrev pub StartsWith : List ℕ → Head → Type 0
@@ -30,7 +30,7 @@ abbrev pub NamesNoMap : Header → Type 0
 NamesNoMap header = (header.map_offset ≡ pos 0) × (header.count ≡ pos 0)
 
 -- what a log's header says of its state
-abbrev pub HeadState : Head → LogState → Type 0
+abbrev pub HeadState : Head → LogStanding → Type 0
 HeadState Short state = state ≡ states.Short
 HeadState (Bad fault) state = state ≡ states.Bad
 HeadState (Whole header) states.Open = NamesNoMap header
@@ -39,5 +39,5 @@ HeadState (Whole header) states.Short = ⊥
 HeadState (Whole header) states.Bad = ⊥
 
 -- the state of a log with these bytes
-abbrev pub HasState : List ℕ → LogState → Type 0
+abbrev pub HasState : List ℕ → LogStanding → Type 0
 HasState file state = (head : Head) × IsHead file head × HeadState head state

@@ -8,7 +8,7 @@ use Rattle.bk_dir.specs.declared.command.DirCommand.{DirCommand}
 use Rattle.bk_dir.specs.declared.command.DirCommand.TheVariants.{Logs, Header, Map, Scan, Find, Check}
 use Rattle.bk_dir.specs.declared.header.Head.{Head}
 use Rattle.bk_dir.specs.declared.header.Head.TheVariants as heads
-use Rattle.bk_dir.specs.declared.listing.LogState.{LogState}
+use Rattle.bk_dir.specs.declared.listing.LogStanding.{LogStanding}
 use Rattle.bk_head.specs.Ledgers.{LedgersMap}
 use Rattle.bk_dir.specs.Heads.{IsHead, HasState}
 use Rattle.bk_dir.specs.Maps.{IsMapIn, map_lines}
@@ -16,8 +16,8 @@ use Rattle.bk_dir.specs.Reading.{OfFile}
 use Rattle.bk_dir.specs.Texts.{log_line, header_line, scan_lines}
 
 -- a writer got a text of which this is so
-abbrev pub Writes : (List ℕ → Type 0) → Option (List ℕ) → Option (List ℕ) → Type 0
-Writes Is before now = (text : List ℕ) × Is text × Appends before now text
+abbrev pub WritesText : (List ℕ → Type 0) → Option (List ℕ) → Option (List ℕ) → Type 0
+WritesText Is before now = (text : List ℕ) × Is text × Appends before now text
 
 -- A text of one line for each of some logs, in their order.
 pub data AreLines (IsLine : ℕ → List ℕ → Type 0) : List ℕ → List ℕ → Type 0 where
@@ -26,7 +26,7 @@ pub data AreLines (IsLine : ℕ → List ℕ → Type 0) : List ℕ → List ℕ
 
 -- the line of a log in the list of all
 abbrev pub IsLogLine : Files → ℕ → List ℕ → Type 0
-IsLogLine files log line = OfFile files log (λ file. (state : LogState) × HasState file state × (line ≡ log_line log (length file) state))
+IsLogLine files log line = OfFile files log (λ file. (state : LogStanding) × HasState file state × (line ≡ log_line log (length file) state))
 
 -- what is shown of a log's header; a bad one is a fault
 abbrev pub HeadText : Head → List ℕ → Type 0
@@ -47,9 +47,9 @@ MapText file (heads.Whole header) text = (map : Option LedgersMap) × IsMapIn fi
 
 -- What a command does to the writer where it is done. Of `find` and `check` nothing is said here.
 abbrev pub Prints : DirCommand → Files → Option (List ℕ) → Option (List ℕ) → Type 0
-Prints Logs files before now = Writes (AreLines (IsLogLine files) (map.keys files)) before now
-Prints (Header log) files before now = Writes (λ text. OfFile files log (λ file. (head : Head) × IsHead file head × HeadText head text)) before now
-Prints (Scan log) files before now = Writes (λ text. OfFile files log (λ file. IsScanText file text)) before now
-Prints (Map log) files before now = Writes (λ text. OfFile files log (λ file. (head : Head) × IsHead file head × MapText file head text)) before now
+Prints Logs files before now = WritesText (AreLines (IsLogLine files) (map.keys files)) before now
+Prints (Header log) files before now = WritesText (λ text. OfFile files log (λ file. (head : Head) × IsHead file head × HeadText head text)) before now
+Prints (Scan log) files before now = WritesText (λ text. OfFile files log (λ file. IsScanText file text)) before now
+Prints (Map log) files before now = WritesText (λ text. OfFile files log (λ file. (head : Head) × IsHead file head × MapText file head text)) before now
 Prints (Find key) files before now = Unit {0}
 Prints Check files before now = Unit {0}

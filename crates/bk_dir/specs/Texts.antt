@@ -4,17 +4,17 @@ use Rattle.std.specs.Fmt.{decimal, signed_decimal}
 use Rattle.bk_record.specs.Record.{ledger_field, entry_field}
 use Rattle.bk_record.specs.Scan.{entries_of, foreign_of, torn_of}
 use Rattle.bk_head.specs.declared.header.Header.{Header}
-use Rattle.bk_dir.specs.declared.listing.LogState.{LogState}
-use Rattle.bk_dir.specs.declared.listing.LogState.TheVariants.{Short, Bad, Open, Sealed}
+use Rattle.bk_dir.specs.declared.listing.LogStanding.{LogStanding}
+use Rattle.bk_dir.specs.declared.listing.LogStanding.TheVariants.{Short, Bad, Open, Sealed}
 
-abbrev pub state_text : LogState → List ℕ
+abbrev pub state_text : LogStanding → List ℕ
 state_text Short = codes "short"
 state_text Bad = codes "bad"
 state_text Open = codes "open"
 state_text Sealed = codes "sealed"
 
 -- a log in the list of all: its id, its length and its state
-abbrev pub log_line : ℕ → ℕ → LogState → List ℕ
+abbrev pub log_line : ℕ → ℕ → LogStanding → List ℕ
 log_line log size state = decimal log ++ codes " " ++ decimal size ++ codes " " ++ state_text state ++ 10 ∷ []
 
 abbrev pub header_line : Header → List ℕ

@@ -7,7 +7,7 @@ use crate::calls::{list_logs, view_of};
 use crate::header::{Head, read_head};
 use crate::ledgers::counted_ledgers;
 use crate::written::written_ledgers;
-use crate::{DirFault, LogFault};
+use crate::{BytesFault, DirFault};
 use bk_disk::{LogDisk, LogView};
 use bk_head::Header;
 use std::alloc::Global;
@@ -21,7 +21,7 @@ pub(crate) enum Health {
     /// It is shorter than a header.
     Short,
     /// It can't be read.
-    Faulty(LogFault),
+    Faulty(BytesFault),
     /// It can be read, and names no ledgers map.
     Unsealed,
     /// Its ledgers map isn't that of its entries.
@@ -89,7 +89,7 @@ fn examine<D: LogDisk>(alloc: Global, disk: &mut D, log: u32) -> Result<Health, 
 {
     let header = match read_head(alloc, disk, log)?.head {
         Head::Short => return Ok(Health::Short),
-        Head::Bad(fault) => return Ok(Health::Faulty(LogFault::Head(fault))),
+        Head::Bad(fault) => return Ok(Health::Faulty(BytesFault::Head(fault))),
         Head::Whole(header) => header,
     };
     let view = view_of(alloc, disk, log)?;

@@ -8,7 +8,7 @@ use std::{fmt, io};
 
 /// What is wrong with a log's bytes.
 #[derive(Clone, Copy, Debug, PartialEq, Eq)]
-pub(crate) enum LogFault {
+pub(crate) enum BytesFault {
     /// Its header or its ledgers map.
     Head(HeadFault),
     /// At this position stands this length, read as a signed number, which is below 16.
@@ -19,7 +19,7 @@ pub(crate) enum LogFault {
 #[derive(Clone, Copy, Debug, PartialEq, Eq)]
 pub(crate) enum DirFault {
     /// The log's bytes don't say what is asked for.
-    Log(LogFault),
+    Log(BytesFault),
     /// There is no log of the id that is asked for.
     NoLog,
     /// The device failed.
@@ -57,7 +57,7 @@ impl From<ScanFault> for DirFault {
     fn from(fault: ScanFault) -> DirFault {
         match fault {
             ScanFault::BadLength { at, length } => {
-                DirFault::Log(LogFault::BadLength { at, length })
+                DirFault::Log(BytesFault::BadLength { at, length })
             }
             ScanFault::Disk => DirFault::Disk,
             ScanFault::Memory => DirFault::Memory,
@@ -70,7 +70,7 @@ impl From<HeadFault> for DirFault {
     fn from(fault: HeadFault) -> DirFault {
         match fault {
             HeadFault::Memory => DirFault::Memory,
-            fault => DirFault::Log(LogFault::Head(fault)),
+            fault => DirFault::Log(BytesFault::Head(fault)),
         }
     }
 }
@@ -81,18 +81,18 @@ impl From<io::Error> for DirFault {
     }
 }
 
-impl Display for LogFault {
+impl Display for BytesFault {
     fn fmt<W: fmt::Write>(&self, f: &mut Formatter<W>) -> fmt::Result {
         match self {
-            LogFault::Head(HeadFault::BadMagic) => write!(f, "bad magic"),
-            LogFault::Head(HeadFault::Version(version)) => write!(f, "version {version}"),
-            LogFault::Head(HeadFault::Negative) => write!(f, "negative number"),
-            LogFault::Head(HeadFault::NotAMap(at)) => write!(f, "not a map {at}"),
-            LogFault::Head(HeadFault::MapLength(at)) => write!(f, "map length {at}"),
-            LogFault::Head(HeadFault::Repeated(ledger)) => write!(f, "repeated {ledger}"),
-            LogFault::Head(HeadFault::CountDiffers(found)) => write!(f, "count differs {found}"),
-            LogFault::Head(HeadFault::Memory) => write!(f, "memory"),
-            LogFault::BadLength { at, length } => write!(f, "bad length {at} {length}"),
+            BytesFault::Head(HeadFault::BadMagic) => write!(f, "bad magic"),
+            BytesFault::Head(HeadFault::Version(version)) => write!(f, "version {version}"),
+            BytesFault::Head(HeadFault::Negative) => write!(f, "negative number"),
+            BytesFault::Head(HeadFault::NotAMap(at)) => write!(f, "not a map {at}"),
+            BytesFault::Head(HeadFault::MapLength(at)) => write!(f, "map length {at}"),
+            BytesFault::Head(HeadFault::Repeated(ledger)) => write!(f, "repeated {ledger}"),
+            BytesFault::Head(HeadFault::CountDiffers(found)) => write!(f, "count differs {found}"),
+            BytesFault::Head(HeadFault::Memory) => write!(f, "memory"),
+            BytesFault::BadLength { at, length } => write!(f, "bad length {at} {length}"),
         }
     }
 }

@@ -3,10 +3,10 @@
 ghost use Rattle.std.specs.Prelude.{IsTrue, IfOk, IfSome, OnOk};
 ghost use Rattle.bk_dir.specs.Heads.{IsHeadOf, StartsWith};
 ghost use Rattle.bk_dir.specs.Reading.{OfFile, OnlyReads};
-ghost use Rattle.bk_dir.specs.Shown.{HeadText, Prints, Writes};
+ghost use Rattle.bk_dir.specs.Shown.{HeadText, Prints, WritesText};
 ghost use Rattle.bk_dir.specs.declared.command.DirCommand.TheVariants as commands;
 
-use crate::{DirFault, LogFault};
+use crate::{BytesFault, DirFault};
 use bk_disk::LogDisk;
 use bk_head::{HeadFault, Header, read_header};
 use bk_record::HEADER_LENGTH;
@@ -90,11 +90,11 @@ pub(crate) fn show_header<D: LogDisk, W: Write>(
 
 /// Writes a header; a bad one is a fault.
 fn write_head<W: Write>(head: Head, writer: &mut W) -> Result<(), DirFault>
-    ensures { OnOk result (Writes (HeadText head) (W.contents writer.old) (W.contents writer.new)) }
+    ensures { OnOk result (WritesText (HeadText head) (W.contents writer.old) (W.contents writer.new)) }
 {
     match head {
         Head::Short => writeln!(writer, "short")?,
-        Head::Bad(fault) => return Err(DirFault::Log(LogFault::Head(fault))),
+        Head::Bad(fault) => return Err(DirFault::Log(BytesFault::Head(fault))),
         Head::Whole(header) => writeln!(
             writer,
             "version {} map {} count {}",

@@ -4,14 +4,14 @@ ghost use Rattle.std.specs.Prelude.{IsTrue, OnOk, flat_map};
 ghost use Rattle.std.specs.Io.KnownBytes.{Appends};
 ghost use Rattle.bk_dir.specs.Maps.{ledger_line};
 ghost use Rattle.bk_dir.specs.Reading.{OnlyReads};
-ghost use Rattle.bk_dir.specs.Shown.{MapText, Prints, Writes};
+ghost use Rattle.bk_dir.specs.Shown.{MapText, Prints, WritesText};
 ghost use Rattle.bk_dir.specs.declared.command.DirCommand.TheVariants as commands;
 ghost use Rattle.bk_dir.specs.declared.header.Head.TheVariants as heads;
 
 use crate::calls::view_of;
 use crate::header::{HEADER, Head, read_head};
 use crate::written::written_ledgers;
-use crate::{DirFault, LogFault};
+use crate::{BytesFault, DirFault};
 use bk_disk::{LogDisk, LogView};
 use bk_head::Header;
 use bk_log::{LedgerSizes, Scanner};
@@ -51,7 +51,7 @@ pub(crate) fn show_map<D: LogDisk, W: Write>(
 {
     let header = match read_head(alloc, disk, log)?.head {
         Head::Short => return Ok(writeln!(writer, "short")?),
-        Head::Bad(fault) => return Err(DirFault::Log(LogFault::Head(fault))),
+        Head::Bad(fault) => return Err(DirFault::Log(BytesFault::Head(fault))),
         Head::Whole(header) => header,
     };
     match view_of(alloc, disk, log) {
@@ -67,7 +67,7 @@ fn show_view<V: LogView, W: Write>(
     header: &Header,
     writer: &mut W,
 ) -> Result<(), DirFault>
-    ensures { IsTrue (V.honest view.now) → OnOk result (Writes (MapText (V.bytes view.now) (heads.Whole header.now))
+    ensures { IsTrue (V.honest view.now) → OnOk result (WritesText (MapText (V.bytes view.now) (heads.Whole header.now))
         (W.contents writer.old) (W.contents writer.new)) }
 {
     match written_ledgers(alloc, view, header)? {

@@ -17,5 +17,5 @@ mod tests;
 mod written;
 
 pub use command::DirCommand;
-use fault::{DirFault, LogFault};
+use fault::{BytesFault, DirFault};
 pub use run::run_dir;

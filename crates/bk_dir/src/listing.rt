@@ -4,7 +4,7 @@ ghost use Rattle.std.specs.Prelude.{IsTrue, OnOk, Some};
 ghost use Rattle.std.specs.Io.KnownBytes.{Appends};
 ghost use Rattle.bk_dir.specs.Heads.{HeadState};
 ghost use Rattle.bk_dir.specs.Reading.{OnlyReads};
-ghost use Rattle.bk_dir.specs.Shown.{IsLogLine, Prints, Writes};
+ghost use Rattle.bk_dir.specs.Shown.{IsLogLine, Prints, WritesText};
 ghost use Rattle.bk_dir.specs.Texts.{log_line, state_text};
 ghost use Rattle.bk_dir.specs.declared.command.DirCommand.TheVariants as commands;
 
@@ -19,7 +19,7 @@ use std::{fmt, io};
 
 /// How a log stands, by its length and its header alone.
 #[derive(Clone, Copy, Debug, PartialEq, Eq)]
-pub(crate) enum LogState {
+pub(crate) enum LogStanding {
     /// It is shorter than a header.
     Short,
     /// Its header can't be read.
@@ -30,28 +30,28 @@ pub(crate) enum LogState {
     Sealed,
 }
 
-impl Display for LogState {
+impl Display for LogStanding {
     ghost output = { λ state. Some (state_text state) };
 
     fn fmt<W: fmt::Write>(&self, f: &mut Formatter<W>) -> fmt::Result {
         match self {
-            LogState::Short => write!(f, "short"),
-            LogState::Bad => write!(f, "bad"),
-            LogState::Open => write!(f, "open"),
-            LogState::Sealed => write!(f, "sealed"),
+            LogStanding::Short => write!(f, "short"),
+            LogStanding::Bad => write!(f, "bad"),
+            LogStanding::Open => write!(f, "open"),
+            LogStanding::Sealed => write!(f, "sealed"),
         }
     }
 }
 
 /// What a log's header says of its state.
-fn state_of(head: Head) -> LogState
+fn state_of(head: Head) -> LogStanding
     ensures { HeadState head result }
 {
     match head {
-        Head::Short => LogState::Short,
-        Head::Bad(_) => LogState::Bad,
-        Head::Whole(header) if header.map_offset == 0 && header.count == 0 => LogState::Open,
-        Head::Whole(_) => LogState::Sealed,
+        Head::Short => LogStanding::Short,
+        Head::Bad(_) => LogStanding::Bad,
+        Head::Whole(header) if header.map_offset == 0 && header.count == 0 => LogStanding::Open,
+        Head::Whole(_) => LogStanding::Sealed,
     }
 }
 
@@ -80,7 +80,7 @@ fn show_log<D: LogDisk, W: Write>(
     writer: &mut W,
 ) -> Result<(), DirFault>
     ensures reads { OnlyReads (D.honest disk.old) (D.files disk.old) (D.honest disk.new) (D.files disk.new) }
-    ensures ok { IsTrue (D.honest disk.old) → OnOk result (Writes (IsLogLine (D.files disk.old) log)
+    ensures ok { IsTrue (D.honest disk.old) → OnOk result (WritesText (IsLogLine (D.files disk.old) log)
         (W.contents writer.old) (W.contents writer.new)) }
 {
     match read_head(alloc, disk, log) {
@@ -90,7 +90,7 @@ fn show_log<D: LogDisk, W: Write>(
 }
 
 /// Writes the line of a log.
-fn write_line<W: Write>(log: u32, length: u64, state: LogState, writer: &mut W) -> io::Result<()>
+fn write_line<W: Write>(log: u32, length: u64, state: LogStanding, writer: &mut W) -> io::Result<()>
     ensures { OnOk result (Appends (W.contents writer.old) (W.contents writer.new) (log_line log length state)) }
 {
     writeln!(writer, "{log} {length} {state}")

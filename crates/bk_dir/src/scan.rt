@@ -3,7 +3,7 @@
 ghost use Rattle.std.specs.Prelude.{IsTrue, OnOk};
 ghost use Rattle.std.specs.Io.KnownBytes.{Appends};
 ghost use Rattle.bk_dir.specs.Reading.{OnlyReads};
-ghost use Rattle.bk_dir.specs.Shown.{IsScanText, Prints, Writes};
+ghost use Rattle.bk_dir.specs.Shown.{IsScanText, Prints, WritesText};
 ghost use Rattle.bk_dir.specs.Texts.{counts_line, found_line};
 ghost use Rattle.bk_dir.specs.declared.command.DirCommand.TheVariants as commands;
 
@@ -38,7 +38,7 @@ fn show_entries<V: LogView, W: Write>(
     view: &V,
     writer: &mut W,
 ) -> Result<(), DirFault>
-    ensures { IsTrue (V.honest view.now) → OnOk result (Writes (IsScanText (V.bytes view.now))
+    ensures { IsTrue (V.honest view.now) → OnOk result (WritesText (IsScanText (V.bytes view.now))
         (W.contents writer.old) (W.contents writer.new)) }
 {
     let end = view.end().max(HEADER);

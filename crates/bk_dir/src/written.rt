@@ -12,7 +12,7 @@ ghost use Rattle.bk_dir.specs.Maps.{IsMapIn};
 
 use crate::calls::read_view;
 use crate::header::HEADER;
-use crate::{DirFault, LogFault};
+use crate::{BytesFault, DirFault};
 use bk_disk::LogView;
 use bk_head::{BATCH_HEAD, HeadFault, Header, PAIR, add_pairs, pairs_in_batch, place_of_map};
 use std::alloc::Global;
@@ -38,7 +38,7 @@ pub(crate) fn written_ledgers<V: LogView>(
     let map = read_batches(alloc, view, offset, end - offset)?;
     let found = map.len() as u64;
     if found != count {
-        return Err(DirFault::Log(LogFault::Head(HeadFault::CountDiffers(found))));
+        return Err(DirFault::Log(BytesFault::Head(HeadFault::CountDiffers(found))));
     }
     Ok(Some(map))
 }

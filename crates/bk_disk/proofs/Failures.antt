@@ -10,7 +10,7 @@ use Rattle.bk_record.specs.Files.{Files}
 use Rattle.bk_disk.specs.Disk.{Appends, grown, patched, patched_file}
 use Rattle.bk_disk.specs.declared.fault.DiskFault.{DiskFault}
 use Rattle.bk_disk.specs.declared.fault.DiskFault.TheVariants.{Disk, Exists, NoLog, PastEnd, TooLong, Memory}
-use Rattle.bk_disk.proofs.FileMaps.{insert_same}
+use Rattle.bk_record.proofs.NumberMaps.{insert_same}
 
 -- no bytes at the end of a log leave the files
 pub grown-nil : (old : Files) (log : ℕ) → grown old log [] ≡ old

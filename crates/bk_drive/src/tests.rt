@@ -7,7 +7,7 @@ use crate::{
 };
 use bk_disk::{LogDisk, MemDisk};
 use bk_record::Key;
-use std::alloc::Global;
+use std::alloc::{AllocError, Global};
 use std::test::Fail;
 
 mod deleting;
@@ -15,6 +15,7 @@ mod failing;
 mod found;
 mod one_log;
 mod recording;
+mod series;
 mod several_logs;
 
 /// The limits of these runs.
@@ -60,14 +61,14 @@ const ROLL: Plan = Plan::Do(Work::Roll);
 /// fetch tells whether it read `hello`.
 type Told = (&'static str, u64);
 
-fn step_of(alloc: Global, plan: Plan) -> Result<Step, Fail> {
+/// The step of a plan. An id past 2^63 - 1 is told as want of memory.
+fn step_of(alloc: Global, plan: Plan) -> Result<Step, AllocError> {
     Ok(match plan {
         Plan::Hello => Step::Add(HELLO.to_vec(alloc)?),
         Plan::Zeros(ledger, entry, size) => Step::Add(zeros(alloc, ledger, entry, size)?),
-        Plan::Take(reader, ledger, entry) => Step::Take(
-            reader,
-            Key::new(ledger, entry).ok_or("an id past 2^63 - 1")?,
-        ),
+        Plan::Take(reader, ledger, entry) => {
+            Step::Take(reader, Key::new(ledger, entry).ok_or(AllocError)?)
+        }
         Plan::Fetch(reader) => Step::Fetch(reader),
         Plan::Release(reader) => Step::Release(reader),
         Plan::Delete(ledger) => Step::Delete(ledger),
@@ -76,7 +77,7 @@ fn step_of(alloc: Global, plan: Plan) -> Result<Step, Fail> {
 }
 
 /// The payload of an entry, with so many zero bytes of data.
-fn zeros(alloc: Global, ledger: u8, entry: u8, size: usize) -> Result<Vec<u8>, Fail> {
+fn zeros(alloc: Global, ledger: u8, entry: u8, size: usize) -> Result<Vec<u8>, AllocError> {
     let mut payload = Vec::with_capacity(alloc, 16)?;
     payload.extend_from_slice(&u64::from(ledger).to_be_bytes())?;
     payload.extend_from_slice(&u64::from(entry).to_be_bytes())?;
@@ -86,7 +87,7 @@ fn zeros(alloc: Global, ledger: u8, entry: u8, size: usize) -> Result<Vec<u8>, F
     Ok(payload)
 }
 
-fn steps_of(alloc: Global, plans: &[Plan]) -> Result<Vec<Step>, Fail> {
+fn steps_of(alloc: Global, plans: &[Plan]) -> Result<Vec<Step>, AllocError> {
     let mut steps = Vec::new(alloc);
     for plan in plans {
         steps.push(step_of(alloc, *plan)?)?;

@@ -1,21 +1,21 @@
 -- What the first twenty-four bytes say of the batch that begins with them, whatever stands behind.
-use Rattle.std.proofs.Common.{◌≡◌, ◌≢◌, ℕ, ◌+◌, ◌-◌, ◌*◌, ◌<◌, ◌≤◌, ◌^◌, Bool, true, false, eqb, List, ◌++◌, length, take, drop, min}
-use Rattle.std.proofs.Common.{refl, sym, ap, ◌∙◌, append_assoc, arith}
+use Rattle.std.proofs.Common.{◌≡◌, ◌≢◌, ℕ, ◌+◌, ◌-◌, ◌*◌, ◌<◌, ◌≤◌, ◌^◌, Bool, true, false, eqb, List, length, take, drop, min}
+use Rattle.std.proofs.Common.{refl, sym, ap, ◌∙◌, arith}
 use Rattle.std.specs.List.{starts_with}
 use Rattle.std.specs.Int.{w32, to_be_bytes, from_be_bytes}
 use Rattle.std.proofs.lemmas.Bool.{both_ways}
-use Rattle.std.proofs.lemmas.List.{length-take-le, length-drop, take-append-drop, drop-drop, take_at, take-take, drop-take}
+use Rattle.std.proofs.lemmas.List.{length-drop, drop-drop, take_at, take-take, drop-take}
 use Rattle.byteorder.specs.Endian.{big_number}
-use Rattle.bk_record.specs.Record.{record_of}
 use Rattle.bk_record.specs.Piece.{BeginsWith}
 use Rattle.bk_record.specs.Spelling.{IsBytes}
-use Rattle.bk_record.proofs.Records.{bytes_drop}
+use Rattle.bk_record.proofs.Records.{bytes_drop, drop_field}
+use Rattle.bk_record.proofs.Pieces.{length-payload, begins_with_field}
 use Rattle.bk_head.specs.Ledgers.{batch_ids}
 use Rattle.bk_head.specs.Faults.{IsForMap, IsSized, HasPairs}
 use Rattle.bk_head.specs.Parts.{IsShown, IsSizedBatch}
 use Rattle.bk_head.proofs.Bytes.{big_number-4, from_be_bytes-take-4, front_4}
 use Rattle.bk_head.proofs.BatchBytes.{is_for_map, is_asked, not_sized, has_pairs}
-use Rattle.bk_head.proofs.RecordBytes.{Begins-field, Begins-long, payload_is}
+use Rattle.bk_head.proofs.RecordBytes.{Begins-field, Begins-long}
 
 -- ---- the length field
 
@@ -42,7 +42,7 @@ no_end bytes head payload left n shown read more s =
 -- the first bytes of the payload are shown
 front_shown : (bytes payload : List ℕ) → (s : BeginsWith bytes payload) → take (length payload) (drop 4 bytes) ≡ payload
 front_shown bytes payload s =
-    ap (λ (x : List ℕ). take (length payload) (drop 4 x)) s.is ∙ ap (take (length payload)) (payload_is payload s.behind)
+    ap (λ (x : List ℕ). take (length payload) (drop 4 x)) s.is ∙ ap (take (length payload)) (drop_field payload s.behind)
     ∙ take_at payload s.behind (length payload) refl
 
 ids_shown : (bytes head payload : List ℕ) → head ≡ take 24 bytes → BeginsWith bytes payload → take 16 (drop 4 head) ≡ take 16 payload
@@ -57,35 +57,19 @@ no_ids bytes head payload ids r is ids-are asked not s for_map =
 
 -- ---- a record with these ids
 
-split_at : (bytes : List ℕ) (n : ℕ) → (take 4 bytes ++ take n (drop 4 bytes)) ++ drop (4 + n) bytes ≡ bytes
-split_at bytes n =
-    append_assoc (take 4 bytes) (take n (drop 4 bytes)) (drop (4 + n) bytes)
-    ∙ ap (λ (x : List ℕ). take 4 bytes ++ (take n (drop 4 bytes) ++ x)) (sym (drop-drop n 4 bytes))
-    ∙ ap (λ (x : List ℕ). take 4 bytes ++ x) (take-append-drop n (drop 4 bytes))
-    ∙ take-append-drop 4 bytes
-
-begins_so : (bytes : List ℕ) (n : ℕ) → to_be_bytes w32 n ≡ take 4 bytes → 16 ≤ n → n < 2 ^ 31 → length (take n (drop 4 bytes)) ≡ n
-    → BeginsWith bytes (take n (drop 4 bytes))
-unfolding record_of
-begins_so bytes n written low high size = record {
-  legal = (omega (arith, size), omega (arith, size));
-  behind = drop (4 + n) bytes;
-  is = sym (ap (λ (x : List ℕ). (x ++ take n (drop 4 bytes)) ++ drop (4 + n) bytes) (ap (to_be_bytes w32) size ∙ written) ∙ split_at bytes n);
-}
-
 pub batch_begins : (bytes head ids : List ℕ) (left n : ℕ) (r : Bool) → IsBytes head → length head ≡ min 24 left → IsShown head left bytes → 20 ≤ left
     → n ≡ big_number 4 head → 16 ≤ n → n ≤ 2147483647 → n ≤ left - 4 → ids ≡ batch_ids → r ≡ starts_with eqb (drop 4 head) ids → r ≡ true
     → IsSizedBatch n bytes
 batch_begins bytes head ids left n r each many shown enough read low high fits ids-are asked same =
     let written : to_be_bytes w32 n ≡ take 4 bytes =
     ap (to_be_bytes w32) (read ∙ big_number-4 head) ∙ front_4 head each (omega (arith, many)) ∙ ap (take 4) shown.1 ∙ take-take 4 24 bytes (omega arith) in
-    let size : length (take n (drop 4 bytes)) ≡ n = length-take-le n (drop 4 bytes) (omega (arith, length-drop 4 bytes, shown.0)) in
-    let begins = begins_so bytes n written low (omega arith) size in
+    let whole : 4 + n ≤ length bytes = omega (arith, fits, enough, shown.0) in
+    let begins = begins_with_field bytes n written low (omega arith) whole in
     record {
       payload = take n (drop 4 bytes);
       begins = begins;
       for_map = sym (ids_shown bytes head (take n (drop 4 bytes)) shown.1 begins) ∙ is_for_map (drop 4 head) ids r ids-are asked same;
-      size_is = size;
+      size_is = length-payload bytes n whole;
     }
 
 -- ---- the count and the pairs

@@ -9,7 +9,6 @@ use Rattle.bk_record.specs.Record.{record_of}
 use Rattle.bk_head.specs.Ledgers.{batch_ids, pair_bytes, batch_payload, batch_of}
 use Rattle.bk_head.specs.Written.{batch_pairs, written_pairs, AreWritten}
 use Rattle.bk_head.specs.Parts.{batch_head}
-use Rattle.bk_head.proofs.BatchBytes.{length-batch_ids}
 use Rattle.bk_head.proofs.Spelling.{written_pairs-cons, written_pairs-nil, length-batch_payload}
 
 -- the bytes of these pairs where the batch that was begun still wants so many
@@ -21,10 +20,6 @@ unfolding record_of batch_head batch_payload
 batch_of-head ps =
     ap (λ (n : ℕ). to_be_bytes w32 n ++ (batch_ids ++ to_be_bytes w32 (length ps) ++ flat_map pair_bytes ps)) (length-batch_payload ps)
     ∙ sym (append_assoc (to_be_bytes w32 (20 + 16 * length ps)) (batch_ids ++ to_be_bytes w32 (length ps)) (flat_map pair_bytes ps))
-
-pub length-batch_head : (n : ℕ) → length (batch_head n) ≡ 24
-unfolding batch_head
-length-batch_head n = omega (arith, length-append batch_ids (to_be_bytes w32 n), length-batch_ids)
 
 -- a batch is begun
 pub unwritten-begin : (p : ℕ × ℕ) (ps : List (ℕ × ℕ)) (n : ℕ) → n ≡ min (length (p ∷ ps)) batch_pairs → unwritten 0 (p ∷ ps)

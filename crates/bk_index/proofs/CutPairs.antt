@@ -2,13 +2,14 @@
 use Rattle.std.proofs.Common.{◌≡◌, Bool, cond, ◌&&◌, List, [], ◌∷◌, ◌++◌, Some, None, refl, ap, ◌∙◌}
 use Rattle.std.specs.declared.cmp.Ordering.{Ordering}
 use Rattle.std.specs.declared.cmp.Ordering.TheVariants.{Less, Equal, Greater}
-use Rattle.std.specs.Ordering.{eq_by_cmp, is_lt, ordering_reverse}
+use Rattle.std.specs.Ordering.{eq_by_cmp, ordering_reverse}
 use Rattle.std.specs.Bool.{IsTrue}
 use Rattle.std.specs.Cmp.{IsTotalOrder}
 use Rattle.std.specs.List.{AllByRecursion}
 use Rattle.std.specs.FinMap.{find, put, is_sorted}
 use Rattle.std.specs.FinMap.Entries.{by_order, below_all}
 use Rattle.std.proofs.lemmas.Bool.{and_parts}
+use Rattle.bk_record.proofs.SortedPairs.{less_from_test}
 
 module _ {A : Type 0} (P : A → Type 0) where
   pub each_front : (xs ys : List A) → AllByRecursion P (xs ++ ys) → AllByRecursion P xs
@@ -19,18 +20,9 @@ module _ {A : Type 0} (P : A → Type 0) where
   each_back [] ys each = each
   each_back (x ∷ xs) ys each = each_back xs ys each.1
 
-  pub each_both : (xs ys : List A) → AllByRecursion P xs → AllByRecursion P ys → AllByRecursion P (xs ++ ys)
-  each_both [] ys front back = back
-  each_both (x ∷ xs) ys front back = (front.0, each_both xs ys front.1 back)
-
 pub each_weaker : {A : Type 0} (P Q : A → Type 0) → ((x : A) → P x → Q x) → (xs : List A) → AllByRecursion P xs → AllByRecursion Q xs
 each_weaker P Q weaker [] each = tt
 each_weaker P Q weaker (x ∷ xs) each = (weaker x each.0, each_weaker P Q weaker xs each.1)
-
-less_from_test : (r : Ordering) → IsTrue (is_lt r) → r ≡ Less
-less_from_test Less passes = refl
-less_from_test Equal passes = cc
-less_from_test Greater passes = cc
 
 and_true : (a b : Bool) → IsTrue a → IsTrue b → IsTrue (a && b)
 and_true a b left right = rw left right

@@ -96,10 +96,6 @@ module _ {X : Type 0} (q : EntryKey) where
   )
 
 module _ {X : Type 0} where
-  pub all_pairs-append : (xs ys : List (List (EntryKey × X))) → all_pairs (xs ++ ys) ≡ all_pairs xs ++ all_pairs ys
-  all_pairs-append [] ys = refl
-  all_pairs-append (x ∷ xs) ys = ap (λ rest. x ++ rest) (all_pairs-append xs ys) ∙ sym (append_assoc x (all_pairs xs) (all_pairs ys))
-
   -- a page that is cut in two keeps its pairs
   pub all_pairs-cut : (pages : List (List (EntryKey × X))) (at : ℕ) (page behind : List (EntryKey × X)) → at < length pages
       → all_pairs (insert (set pages at page) (suc at) behind) ≡ all_pairs (set pages at (page ++ behind))

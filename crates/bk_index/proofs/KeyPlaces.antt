@@ -1,14 +1,13 @@
 -- The place of a key among pairs in order: what a search finds, and what a write there does to the map.
-use Rattle.std.proofs.Common.{◌≡◌, ℕ, ◌+◌, List, length, get_or, set, Option, Some, None, slice_get, option_map, Result, Ok, Err, IfOk, IfErr, refl, inl, inr}
+use Rattle.std.proofs.Common.{◌≡◌, ℕ, ◌+◌, List, length, get_or, Option, Some, None, slice_get, option_map, Result, Ok, Err, IfOk, IfErr, refl, inl, inr}
 use Rattle.std.proofs.Common.{sym, ap, subst, ◌∙◌, arith}
 use Rattle.std.specs.Cmp.{IsTotalOrder}
 use Rattle.std.specs.declared.cmp.Ordering.{Ordering}
 use Rattle.std.specs.declared.cmp.Ordering.TheVariants.{Less, Equal, Greater}
 use Rattle.std.specs.Ordering.{is_lt, ordering_reverse}
 use Rattle.std.specs.Bool.{IsTrue}
-use Rattle.std.specs.List.{insert}
 use Rattle.std.specs.List.Sorted.{IsSearchInRange, IsBinarySearchResult, IsSortedBy}
-use Rattle.std.specs.FinMap.{FinMap, put, is_sorted, from_sorted}
+use Rattle.std.specs.FinMap.{is_sorted}
 use Rattle.std.specs.FinMap as map
 use Rattle.std.specs.Map.{keys_of}
 use Rattle.std.proofs.lemmas.List.{get_or-map}
@@ -19,8 +18,7 @@ use Rattle.std.proofs.lemmas.Option.{slice_get_cases, slice_get_within, get_or_f
 use Rattle.bk_record.specs.Key.{EntryKey, key_cmp}
 use Rattle.bk_index.specs.Sorted.{IsAt, IsGapFor}
 use Rattle.bk_record.proofs.Keys.{key_cmp_total, key_cmp_antisymmetric}
-use Rattle.bk_record.proofs.SortedPairs.{Some-same, keys_rise, find_at, find_gap, put_at, put_gap, is_sorted_put}
-use Rattle.bk_record.proofs.SortedMaps.{get-sorted, insert-sorted}
+use Rattle.bk_record.proofs.SortedPairs.{Some-same, keys_rise}
 
 module _ {K X : Type 0} {R : K → K → Ordering} (o : IsTotalOrder R) (es : List (K × X)) (sorted : IsTrue (is_sorted R es)) where
   -- no pair is below the one before it, as a binary search asks
@@ -65,38 +63,3 @@ module _ {X : Type 0} (pairs : List (EntryKey × X)) (sorted : IsTrue (is_sorted
               ≡ Greater) (get_or_from_slice_get pairs i e e there) (sides.1 i e from (slice_get_within pairs i e there));
         };
       }
-
-  module _ (m : FinMap key_cmp X) (seen : from_sorted pairs ≡ m) (key : EntryKey) where
-    module _ (at : ℕ) (held : EntryKey × X) (here : IsAt pairs key at) (read : held ≡ get_or pairs at held) where
-      stands : slice_get pairs at ≡ Some (key, held.1)
-      stands = named (slice_get pairs at) key held here (λ e there. read_there pairs at e held read there)
-
-      -- the map sends the key to what was read there
-      pub get_held : map.get m key ≡ Some held.1
-      get_held = subst (λ n. map.get n key ≡ Some held.1) seen (get-sorted key_cmp pairs sorted key ∙ find_at key_cmp_total pairs at key held.1 sorted stands)
-
-      put_here : (v : X) → put key_cmp key v pairs ≡ set pairs at (key, v)
-      put_here v = put_at key_cmp_total key held.1 v pairs at sorted stands
-
-      -- to write over its pair is to insert it into the map
-      pub insert_held : (v : X) → from_sorted (set pairs at (key, v)) ≡ map.insert m key v
-      insert_held v = ap from_sorted (sym (put_here v)) ∙ sym (insert-sorted key_cmp pairs sorted key_cmp_total key v) ∙ ap (λ n. map.insert n key v) seen
-
-      pub is_sorted_held : (v : X) → IsTrue (is_sorted key_cmp (set pairs at (key, v)))
-      is_sorted_held v = subst (λ es. IsTrue (is_sorted key_cmp es)) (put_here v) (is_sorted_put key_cmp_total key v pairs sorted)
-
-    module _ (at : ℕ) (gap : IsGapFor pairs key at) where
-      -- the map does not have a key that has a gap
-      pub get_gap : map.get m key ≡ None
-      get_gap = subst (λ n. map.get n key ≡ None) seen (get-sorted key_cmp pairs sorted key
-          ∙ find_gap key_cmp_total key pairs at gap.smaller_before gap.greater_from sorted)
-
-      put_there : (v : X) → put key_cmp key v pairs ≡ insert pairs at (key, v)
-      put_there v = put_gap key_cmp_total key v pairs at gap.smaller_before gap.greater_from gap.in_range
-
-      -- to insert its pair there is to insert it into the map
-      pub insert_gap : (v : X) → from_sorted (insert pairs at (key, v)) ≡ map.insert m key v
-      insert_gap v = ap from_sorted (sym (put_there v)) ∙ sym (insert-sorted key_cmp pairs sorted key_cmp_total key v) ∙ ap (λ n. map.insert n key v) seen
-
-      pub is_sorted_gap : (v : X) → IsTrue (is_sorted key_cmp (insert pairs at (key, v)))
-      is_sorted_gap v = subst (λ es. IsTrue (is_sorted key_cmp es)) (put_there v) (is_sorted_put key_cmp_total key v pairs sorted)

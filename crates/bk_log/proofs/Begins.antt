@@ -1,34 +1,8 @@
--- Bytes that begin with a record: its length field, its payload, its key.
-use Rattle.std.proofs.Common.{◌≡◌, ℕ, ◌+◌, ◌<◌, ◌≤◌, ◌^◌, List, ◌++◌, length, take, drop, refl, sym, ap, ◌∙◌, arith, append_assoc, length-drop}
-use Rattle.std.proofs.lemmas.List.{drop-drop, take-append-drop, take-take, length-take-le, drop-take}
-use Rattle.std.specs.Int.{w32, w64, to_be_bytes, from_be_bytes}
-use Rattle.bk_record.specs.Record.{record_of, key_of, ledger_field, entry_field}
-use Rattle.bk_record.specs.Piece.{BeginsWith}
-
--- four bytes and then so many are what they say, and what stands behind them
-split_at : (bytes : List ℕ) (n : ℕ) → (take 4 bytes ++ take n (drop 4 bytes)) ++ drop (4 + n) bytes ≡ bytes
-split_at bytes n =
-    append_assoc (take 4 bytes) (take n (drop 4 bytes)) (drop (4 + n) bytes)
-    ∙ ap (λ (x : List ℕ). take 4 bytes ++ (take n (drop 4 bytes) ++ x)) (sym (drop-drop n 4 bytes))
-    ∙ ap (λ (x : List ℕ). take 4 bytes ++ x) (take-append-drop n (drop 4 bytes))
-    ∙ take-append-drop 4 bytes
-
--- so many bytes behind the length field, where there are so many
-pub length-payload : (bytes : List ℕ) (n : ℕ) → 4 + n ≤ length bytes → length (take n (drop 4 bytes)) ≡ n
-length-payload bytes n enough = length-take-le n (drop 4 bytes) (omega (arith, length-drop 4 bytes))
-
--- the first four bytes are a number's, and so many stand behind them
-pub begins_at : (bytes : List ℕ) (n : ℕ) → to_be_bytes w32 n ≡ take 4 bytes → 16 ≤ n → n < 2 ^ 31 → 4 + n ≤ length bytes
-    → BeginsWith bytes (take n (drop 4 bytes))
-unfolding record_of
-begins_at bytes n written low high enough =
-    let size = length-payload bytes n enough in
-    let field : to_be_bytes w32 (length (take n (drop 4 bytes))) ≡ take 4 bytes = ap (to_be_bytes w32) size ∙ written in
-    record {
-      legal = (omega arith, omega arith);
-      behind = drop (4 + n) bytes;
-      is = sym (ap (λ (x : List ℕ). (x ++ take n (drop 4 bytes)) ++ drop (4 + n) bytes) field ∙ split_at bytes n);
-    }
+-- The key of a payload, told from its first bytes.
+use Rattle.std.proofs.Common.{◌≡◌, ℕ, ◌≤◌, List, length, take, drop, refl, ap, ◌∙◌, arith}
+use Rattle.std.proofs.lemmas.List.{take-take, drop-take}
+use Rattle.std.specs.Int.{w64, from_be_bytes}
+use Rattle.bk_record.specs.Record.{key_of, ledger_field, entry_field}
 
 ids_of-take : (payload : List ℕ) → 16 ≤ length payload → (ledger_field (take 16 payload) ≡ ledger_field payload)
     × (entry_field (take 16 payload) ≡ entry_field payload)

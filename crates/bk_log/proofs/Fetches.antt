@@ -6,7 +6,7 @@ use Rattle.bk_record.specs.Key.{EntryKey}
 use Rattle.bk_record.specs.Record.{record_of, key_of, length_field}
 use Rattle.bk_record.proofs.Records.{length-record_of, length_field-take, length_field-record_of, drop_field}
 use Rattle.bk_record.specs.Piece.{BeginsWith}
-use Rattle.bk_log.proofs.Begins.{begins_at}
+use Rattle.bk_record.proofs.Pieces.{begins_with_field}
 use Rattle.bk_disk.specs.Disk.{IsInView}
 use Rattle.bk_log.specs.declared.reading.ReadFault.{ReadFault}
 use Rattle.bk_log.specs.declared.reading.ReadFault.TheVariants.{Disk, PastEnd, Memory, Odd}
@@ -59,7 +59,7 @@ record_here file payload field at n least is written low high view same =
     let stands : take n (drop 4 front) ≡ payload = ap (take n) (drop-field file at (omega arith)) ∙ sym same in
     record {
       behind_header = least;
-      begins = subst (BeginsWith front) stands (begins_at front n number low high (omega (arith, view.1, length-drop (at - 4) file)));
+      begins = subst (BeginsWith front) stands (begins_with_field front n number low high (omega (arith, view.1, length-drop (at - 4) file)));
     }
 
 -- what a fetch has read: the field that stands before a place, as bytes, and the number in it

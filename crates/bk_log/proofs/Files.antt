@@ -8,7 +8,7 @@ use Rattle.std.proofs.lemmas.List.{append-nil}
 use Rattle.bk_record.specs.Files.{Files}
 use Rattle.bk_disk.specs.Disk.{IsFile, grown, patched, patched_file}
 use Rattle.bk_log.specs.Calls.{HasRoom}
-use Rattle.bk_log.proofs.Maps.{insert-insert, insert_same}
+use Rattle.bk_record.proofs.NumberMaps.{insert-insert, insert_same}
 
 -- a file that was put in stands
 pub stands-insert : {X : Type 0} (m : FinMap nat_cmp X) (k : ℕ) (v : X) → get (insert m k v) k ≡ Some v

@@ -1,10 +1,9 @@
 -- What stands at the front of bytes, told from what the first of them say.
-use Rattle.std.proofs.Common.{◌≡◌, ◌⊎◌, inl, inr, ℕ, suc, ◌+◌, ◌-◌, ◌<◌, ◌≤◌, ◌^◌, ℤ, pos, negsuc, ◌<ℤ◌, Bool, cond, List, [], ◌∷◌, length, take, drop, min}
+use Rattle.std.proofs.Common.{◌≡◌, ◌⊎◌, inl, inr, ℕ, ◌+◌, ◌<◌, ◌≤◌, ◌^◌, ℤ, pos, ◌<ℤ◌, List, [], ◌∷◌, length, take, drop, min}
 use Rattle.std.proofs.Common.{Option, refl, sym, ap, ◌∙◌, subst, arith, length-drop}
 use Rattle.std.proofs.Math.Decide.{dec_le}
 use Rattle.std.proofs.lemmas.List.{take-take, drop-take, length-take}
-use Rattle.std.proofs.lemmas.Int.{ints, of_z-to_z, to_z_pos}
-use Rattle.std.proofs.lemmas.Bool.{le-ltb}
+use Rattle.std.proofs.lemmas.Int.{of_z-to_z}
 use Rattle.std.specs.Int.{w32, to_be_bytes, cast_signed, cast_unsigned}
 use Rattle.bk_record.specs.Key.{EntryKey}
 use Rattle.bk_record.specs.Record.{key_of, length_field, signed_field}
@@ -12,7 +11,8 @@ use Rattle.bk_record.specs.Body.{IsTorn}
 use Rattle.bk_record.specs.Body.IsTorn.{short, cut}
 use Rattle.bk_record.specs.Piece.{BeginsWith}
 use Rattle.bk_record.proofs.Records.{length_field-take}
-use Rattle.bk_log.proofs.Begins.{begins_at, length-payload, key_of-take}
+use Rattle.bk_record.proofs.Pieces.{signed_below, length-payload, begins_with_field}
+use Rattle.bk_log.proofs.Begins.{key_of-take}
 
 -- fewer bytes than a length field
 pub rest_short : (bytes : List ℕ) → length bytes < 4 → IsTorn bytes ⊎ (bytes ≡ [])
@@ -29,12 +29,6 @@ pub rest_cut : (bytes head : List ℕ) (n : ℕ) → head ≡ take 20 bytes → 
 rest_cut bytes head n is four read low high less =
     let field = field_shown bytes head n is four read in
     inl (cut four (omega arith) (omega arith) (omega arith))
-
--- a length that is below 16 or negative, as a signed number
-signed_below : (n : ℕ) → n < 2 ^ 32 → (n < 16) ⊎ (2 ^ 31 ≤ n) → cast_signed w32 n <ℤ pos 16
-signed_below n fits (inl few) = subst (λ (v : ℤ). v <ℤ pos 16) (sym (to_z_pos w32 n (omega arith))) (omega (arith, ints))
-signed_below n fits (inr high) = subst (λ (v : ℤ). v <ℤ pos 16) (sym (ap (λ (b : Bool). cond b (pos n) (negsuc (2 ^ 32 - suc n))) (le-ltb _ _ high)))
-    (record { lt = tt })
 
 bad_number : (n : ℕ) → ¬ ((16 ≤ n) × (n < 2 ^ 31)) → (n < 16) ⊎ (2 ^ 31 ≤ n)
 bad_number n bad = elim (dec_le 16 n) [
@@ -56,7 +50,7 @@ bad_shown bytes head n value is four read fits bad said =
       (
         signed ∙ ap (cast_signed w32) field,
         (
-          subst (λ (v : ℤ). v <ℤ pos 16) (sym signed) (signed_below n fits (bad_number n bad)),
+          subst (λ (v : ℤ). v <ℤ pos 16) (sym signed) (signed_below n (bad_number n bad)),
           subst (λ k. k < 2 ^ 32) field fits,
         ),
       ),
@@ -73,7 +67,7 @@ record_shown bytes head ids n key is written low high enough shown found =
     let same : ids ≡ take 16 payload =
     shown ∙ ap (λ (x : List ℕ). take 16 (drop 4 x)) is ∙ ap (take 16) (drop-take 4 16 bytes) ∙ take-take 16 16 (drop 4 bytes) (omega arith)
     ∙ sym (take-take 16 n (drop 4 bytes) low) in
-    (payload, (begins_at bytes n front low high enough, (ap (λ k. 4 + k) (sym size), found ∙ ap key_of same ∙ key_of-take payload (omega arith))))
+    (payload, (begins_with_field bytes n front low high enough, (ap (λ k. 4 + k) (sym size), found ∙ ap key_of same ∙ key_of-take payload (omega arith))))
 
 -- the two ids are all there
 pub ids_are_long : (head : List ℕ) (left : ℕ) → length head ≡ min 20 left → 20 ≤ left → 16 ≤ length (take 16 (drop 4 head))

@@ -1,5 +1,5 @@
 -- Keys of payloads that are compared.
-use Rattle.std.proofs.Common.{◌≡◌, true, ◌&&◌, Some, eqb, eq-eqb, ap}
+use Rattle.std.proofs.Common.{◌≡◌, true, ◌&&◌, eqb, eq-eqb, ap}
 use Rattle.std.proofs.lemmas.Bool.{and_parts, and_from, eqb-true}
 use Rattle.bk_record.specs.Key.{EntryKey}
 
@@ -14,6 +14,3 @@ same_key a b is =
 pub key_is_itself : (a b : EntryKey) → a ≡ b → (eqb a.ledger b.ledger && eqb a.entry b.entry) ≡ true
 key_is_itself a b is =
     and_from _ _ (eq-eqb _ _ (ap (λ k. k.ledger) is)) (eq-eqb _ _ (ap (λ k. k.entry) is))
-
-pub some_same : (a b : EntryKey) → Some a ≡ Some b → a ≡ b
-some_same a b is = cc

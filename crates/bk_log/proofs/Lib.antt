@@ -1,4 +1,3 @@
-pub mod Maps
 pub mod Keys
 pub mod Files
 pub mod Sums

@@ -10,6 +10,8 @@ use Rattle.bk_record.specs.Body.Body.{done, more, torn}
 use Rattle.bk_record.specs.Files.{header_length, records_of, rest_of}
 use Rattle.bk_record.specs.Scan.{entries_of, foreign_of}
 use Rattle.bk_record.proofs.Records.{length-record_of, length_field-record_of, starts-record_of, starts-nil, drop_field, drop_record}
+use Rattle.bk_record.proofs.Bodies.{pieces-stop, leftover-stop}
+use Rattle.bk_record.proofs.EntryLists.{pieces-enough}
 use Rattle.bk_record.specs.Spelling.{all_pieces, all_leftover}
 use Rattle.bk_log.specs.Ranges.{entries_in, foreign_in, IsWholePart}
 
@@ -21,34 +23,11 @@ pieces_by starts most from bytes =
 leftover_by : Bool → ℕ → List ℕ → List ℕ
 leftover_by starts most bytes = cond starts (leftover most (drop (4 + length_field bytes) bytes)) bytes
 
-pub pieces-stop : (most from : ℕ) (bytes : List ℕ) → starts_with_record bytes ≡ false → pieces most from bytes ≡ []
-unfolding pieces_by
-pieces-stop zero from bytes is = refl
-pieces-stop (suc most) from bytes is = ap (λ b. pieces_by b most from bytes) is
-
-pub leftover-stop : (most : ℕ) (bytes : List ℕ) → starts_with_record bytes ≡ false → leftover most bytes ≡ bytes
-unfolding leftover_by
-leftover-stop zero bytes is = refl
-leftover-stop (suc most) bytes is = ap (λ b. leftover_by b most bytes) is
-
 no_bytes : (bytes : List ℕ) → length bytes ≤ 0 → bytes ≡ []
 no_bytes [] none = refl
 no_bytes (b ∷ bytes) none = absurd (omega arith)
 
 -- as many as there are bytes are enough
-pub pieces-enough : (most other from : ℕ) (bytes : List ℕ) → length bytes ≤ most → length bytes ≤ other → pieces most from bytes ≡ pieces other from bytes
-unfolding pieces_by
-pieces-enough zero other from bytes few also =
-    sym (pieces-stop other from bytes (ap starts_with_record (no_bytes bytes few) ∙ starts-nil))
-pieces-enough (suc most) zero from bytes few also = pieces-stop (suc most) from bytes (ap starts_with_record (no_bytes bytes also) ∙ starts-nil)
-pieces-enough (suc most) (suc other) from bytes few also =
-    let next = pieces-enough most other (from + 4 + length_field bytes) (drop (4 + length_field bytes) bytes)
-    (omega (arith, length-drop (4 + length_field bytes) bytes)) (omega (arith, length-drop (4 + length_field bytes) bytes)) in
-    elim (starts_with_record bytes) as (λ b. pieces_by b most from bytes ≡ pieces_by b other from bytes) [
-      | true ↦ ap (λ l. (from + 4, take (length_field bytes) (drop 4 bytes)) ∷ l) next
-      | false ↦ refl
-    ]
-
 pub leftover-enough : (most other : ℕ) (bytes : List ℕ) → length bytes ≤ most → length bytes ≤ other → leftover most bytes ≡ leftover other bytes
 unfolding leftover_by
 leftover-enough zero other bytes few also =

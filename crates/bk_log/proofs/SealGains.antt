@@ -13,9 +13,9 @@ use Rattle.bk_log.specs.declared.fault.LogFault.{LogFault}
 use Rattle.bk_log.specs.declared.fault.LogFault.TheVariants.{Disk, Failed, Memory, Odd}
 use Rattle.bk_log.specs.Writing.{Writing, Writes}
 use Rattle.bk_log.specs.Sealing.{map_bytes, map_fits, mapped, SealTurn}
-use Rattle.bk_log.specs.Growing.{SealGains}
+use Rattle.bk_log.specs.Growing.{SealGains, HasNoBadLength}
 use Rattle.bk_log.proofs.Files.{grown-stands}
-use Rattle.bk_log.proofs.Gains.{longer_patch, gains_same, gains_file, file_at}
+use Rattle.bk_log.proofs.Gains.{longer_patch, spelled_behind, spelled_patch, gains_same, gains_file, file_at}
 use Rattle.bk_log.proofs.Others.{Others, batches_prefix, records_of-patch}
 use Rattle.bk_log.proofs.Sealed.{whole_of, patched-mapped, long_enough, length-patch_of}
 
@@ -31,12 +31,15 @@ module _ (files files' : Files) (w : Writing) (writes : Writes files w) (writabl
   came : (n : ℕ) → records_of (writes.file ++ take n (map_bytes w)) ≡ records_of writes.file ++ (batches n).records
   came n = records_of-behind writes.file (whole_of files w writes) (take n (map_bytes w)) (batches n).rest (batches n).records (batches n).spelled
 
+  spelled : (n : ℕ) → HasNoBadLength (writes.file ++ take n (map_bytes w))
+  spelled n = spelled_behind writes.file (whole_of files w writes) (take n (map_bytes w)) (batches n).rest (batches n).records (batches n).spelled
+
   seal_part : (n : ℕ) → files' ≡ grown files w.log (take n (map_bytes w)) → SealGains files w files'
   seal_part n is = record {
     others = (batches n).records;
     foreign = (batches n).foreign;
     gains = gains_file files files' w.log writes.file (writes.file ++ take n (map_bytes w)) (batches n).records (file_at files w.log writes.file writes.stands)
-        (is ∙ grown-stands files w.log writes.file (take n (map_bytes w)) writes.stands) (came n) (longer_append writes.file (take n (map_bytes w)));
+        (is ∙ grown-stands files w.log writes.file (take n (map_bytes w)) writes.stands) (came n) (longer_append writes.file (take n (map_bytes w))) (λ _. spelled n);
   }
 
   all_map : take (length (map_bytes w)) (map_bytes w) ≡ map_bytes w
@@ -56,7 +59,8 @@ module _ (files files' : Files) (w : Writing) (writes : Writes files w) (writabl
         gains = gains_file files files' w.log writes.file (patched_file whole left) (batches n).records (file_at files w.log writes.file writes.stands)
             (is ∙ patched-mapped files w left writes)
             (records_of-patch whole left twelve long ∙ ap (λ b. records_of (writes.file ++ b)) (sym all_map) ∙ came n)
-            (longer_trans writes.file whole (patched_file whole left) (longer_append writes.file (map_bytes w)) (longer_patch whole left twelve long));
+            (longer_trans writes.file whole (patched_file whole left) (longer_append writes.file (map_bytes w)) (longer_patch whole left twelve long))
+            (λ _. spelled_patch whole left twelve long (subst (λ (b : List ℕ). HasNoBadLength (writes.file ++ b)) all_map (spelled n)));
       }
 
   seal_done : (b : Bool) → files' ≡ cond b (patched (mapped files w) w.log (patch_of w.end (len w.sizes))) files → SealGains files w files'

@@ -14,7 +14,7 @@ use Rattle.bk_log.specs.declared.fault.LogFault.TheVariants.{Disk, Failed, Memor
 use Rattle.bk_log.specs.Writing.{Writing, Writes}
 use Rattle.bk_log.specs.Sealing.{map_bytes, map_fits, mapped, SealTurn, KeepsEntries}
 use Rattle.bk_log.proofs.Files.{stands-insert, grown-stands, patched-stands}
-use Rattle.bk_log.proofs.Maps.{insert-insert}
+use Rattle.bk_record.proofs.NumberMaps.{insert-insert}
 use Rattle.bk_log.proofs.Writes.{text_is_long}
 use Rattle.bk_log.proofs.Others.{batches_prefix, keeps_append, keeps_patch, keeps_insert}
 

@@ -6,20 +6,17 @@ use Rattle.std.proofs.lemmas.List.Sums.{sum_by-cons}
 use Rattle.std.proofs.lemmas.Map.Lookups.{exact_unsigned}
 use Rattle.std.proofs.lemmas.Map.Views.{tells_apart}
 use Rattle.std.specs.Cmp.{nat_cmp_total, tied_itself}
+use Rattle.std.proofs.Math.Bool.{or-false}
 use Rattle.std.specs.List.{list_any}
 use Rattle.std.specs.Ordering.{eq_by_cmp, is_eq}
 use Rattle.std.specs.FinMap.{get, empty, contains_key, get-insert, get-empty}
 use Rattle.bk_record.specs.Record.{ledger_field}
 use Rattle.bk_log.specs.Sizes.{Sizes, size_in, with_record, sizes_of, is_of, AddsUp}
 
-or_none : (b : Bool) → (b || false) ≡ b
-or_none true = refl
-or_none false = refl
-
 some_by : (b : Bool) (n : ℕ) (o : Option ℕ) → is_some (cond b (Some n) o) ≡ (is_some o || b)
 some_by true n (Some x) = refl
 some_by true n None = refl
-some_by false n o = sym (or_none (is_some o))
+some_by false n o = sym (or-false (is_some o))
 
 or_in : (a b c : Bool) → ((b || a) || c) ≡ (b || (a || c))
 or_in a true c = refl
@@ -63,7 +60,7 @@ sums_from sizes (r ∷ records) q =
 
 present_from : (sizes : Sizes) (records : List (ℕ × List ℕ)) (q : ℕ)
     → contains_key (fold (λ s r. with_record s r.1) sizes records) q ≡ (contains_key sizes q || list_any (is_of q) records)
-present_from sizes [] q = sym (or_none (contains_key sizes q))
+present_from sizes [] q = sym (or-false (contains_key sizes q))
 present_from sizes (r ∷ records) q =
     present_from (with_record sizes r.1) records q
     ∙ ap (λ b. b || list_any (is_of q) records) (ap is_some (get-with_record sizes r.1 q) ∙ some_by (eqb (ledger_field r.1) q) _ (get sizes q))

@@ -6,7 +6,7 @@ use Rattle.bk_record.specs.Key.{EntryKey}
 use Rattle.bk_record.specs.Record.{key_of, ledger_field, entry_field}
 use Rattle.bk_log.specs.declared.found.Found.{Found}
 use Rattle.bk_log.specs.Sizes.{Sizes, Tally, size_in, with_size, with_last, with_record, sizes_of, IsLast, CountsNext}
-use Rattle.bk_log.proofs.Maps.{insert-insert, insert_same}
+use Rattle.bk_record.proofs.NumberMaps.{insert-insert, insert_same}
 use Rattle.bk_log.proofs.Files.{stands-insert}
 use Rattle.bk_log.proofs.Sums.{sizes_of-push}
 

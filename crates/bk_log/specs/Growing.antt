@@ -1,23 +1,29 @@
 -- What calls that write a log leave of the files: the other logs stay, and records come only behind those of the log.
-use Rattle.std.specs.Prelude.{◌≡◌, ◌≢◌, ℕ, ◌+◌, List, [], ◌∷◌, ◌++◌, not, IsSome, Result, Ok, Err, ◌⊎◌}
+use Rattle.std.specs.Prelude.{◌≡◌, ◌≢◌, ℕ, ◌+◌, ℤ, List, [], ◌∷◌, ◌++◌, drop, not, IsSome, Result, Ok, Err, ◌⊎◌}
 use Rattle.std.specs.List.{filter}
 use Rattle.std.specs.FinMap as map
 use Rattle.bk_record.specs.Location.{Place}
 use Rattle.bk_record.specs.Record.{is_foreign}
-use Rattle.bk_record.specs.Files.{Files, file_of, records_of}
+use Rattle.bk_record.specs.Body.{IsBadAt}
+use Rattle.bk_record.specs.Files.{Files, file_of, header_length, records_of}
 use Rattle.bk_record.specs.Longer.{IsLonger}
 use Rattle.bk_log.specs.declared.fault.LogFault.{LogFault}
 use Rattle.bk_log.specs.declared.fault.LogFault.TheVariants.{Disk, Failed, Memory, Odd}
 use Rattle.bk_log.specs.Places.{HasRecordAt}
 use Rattle.bk_log.specs.Writing.{Writing}
 
+-- no length below 16 stands where a record of the file should begin
+abbrev pub HasNoBadLength : List ℕ → Type 0
+HasNoBadLength file = (at : ℕ) (value : ℤ) → ¬ (IsBadAt header_length (drop header_length file) at value)
+
 -- The other logs are as they were, and the log stands where it stood and goes on behind its old end. Each of its records
--- stays at its place, and behind them are these.
+-- stays at its place, and behind them are these; where no bad length stood, none stands.
 pub record Gains (files : Files) (log : ℕ) (others : List (ℕ × List ℕ)) (files' : Files) : Type 0 where
   pub only : (id : ℕ) → id ≢ log → map.get files' id ≡ map.get files id
   pub stands : IsSome (map.get files log) → IsSome (map.get files' log)
   pub records : records_of (file_of files' log) ≡ records_of (file_of files log) ++ others
   pub longer : IsLonger (file_of files log) (file_of files' log)
+  pub spelled : HasNoBadLength (file_of files log) → HasNoBadLength (file_of files' log)
   pub stays : (at : ℕ) (payload : List ℕ) → HasRecordAt (file_of files log) at payload → HasRecordAt (file_of files' log) at payload
 
 -- the record of a payload that is put, with its place

@@ -20,7 +20,7 @@ use Rattle.bk_record.proofs.Longer.{has-record, record-has}
 -- ---- the same bytes behind the header
 
 -- as many pieces are looked for as bytes are there, or more
-pieces-enough : (most other from : ℕ) (bytes : List ℕ) → length bytes ≤ most → length bytes ≤ other → pieces most from bytes ≡ pieces other from bytes
+pub pieces-enough : (most other from : ℕ) (bytes : List ℕ) → length bytes ≤ most → length bytes ≤ other → pieces most from bytes ≡ pieces other from bytes
 pieces-enough zero zero from bytes m n = refl
 pieces-enough zero (suc other) from [] m n = sym (pieces-stop (suc other) from [] starts-nil)
 pieces-enough zero (suc other) from (b ∷ bytes) m n = absurd (omega arith)

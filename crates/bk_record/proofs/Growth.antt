@@ -36,7 +36,7 @@ pub records_of-whole : (file : List ℕ) (w : IsWhole file) → records_of file 
 records_of-whole file w = records_of-body file w.spelled
 
 -- a body behind a whole file
-grown_body : (file : List ℕ) (w : IsWhole file) (behind rest : List ℕ) (others : List (ℕ × List ℕ)) → Body (length file) behind others rest
+pub grown_body : (file : List ℕ) (w : IsWhole file) (behind rest : List ℕ) (others : List (ℕ × List ℕ)) → Body (length file) behind others rest
     → Body header_length (drop header_length (file ++ behind)) (w.records ++ others) rest
 grown_body file w behind rest others next =
     let size : header_length + length (drop header_length file) ≡ length file = omega (arith, w.headed, length-drop header_length file) in

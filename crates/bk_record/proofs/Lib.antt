@@ -12,6 +12,7 @@ pub mod OnePiece
 pub mod Maps
 pub mod SortedPairs
 pub mod SortedMaps
+pub mod NumberMaps
 pub mod KeyedLaws
 pub mod Weights
 pub mod KeyedCounts

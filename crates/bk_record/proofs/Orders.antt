@@ -64,7 +64,7 @@ pieces_in_order log (suc most) from bytes =
 
 -- ---- all logs
 
-less_told : (a b : ℕ) → T (is_lt (nat_cmp a b)) → a < b
+pub less_told : (a b : ℕ) → T (is_lt (nat_cmp a b)) → a < b
 less_told a b is =
     elim (nat_lt a b) as (λ l. nat_lt a b ≡ l → T (is_lt (cond l Less (cond (a == b) Equal Greater))) → a < b) [
       | true ↦ λ less _. ltb-true a b less

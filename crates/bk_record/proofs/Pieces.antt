@@ -4,7 +4,7 @@ use Rattle.std.proofs.Common.{w8, Bool, true, false, Some, None, IsSome, IsNone,
 use Rattle.std.proofs.lemmas.List.{length-take, take_rest}
 use Rattle.std.proofs.lemmas.Int.{ints, of_z-to_z, to_z_pos}
 use Rattle.std.proofs.lemmas.Bool.{ltb-true, le-ltb}
-use Rattle.std.specs.Int.{w32, cast_signed, cast_unsigned}
+use Rattle.std.specs.Int.{w32, cast_signed, cast_unsigned, to_be_bytes}
 use Rattle.std.specs.Option.{ok_or}
 use Rattle.byteorder.specs.Endian.{big_number}
 use Rattle.bk_record.specs.Key.{EntryKey}
@@ -14,7 +14,7 @@ use Rattle.bk_record.specs.Body.IsTorn.{short, cut}
 use Rattle.bk_record.specs.Piece.{BeginsWith}
 use Rattle.bk_record.specs.declared.fault.RecordFault.{RecordFault}
 use Rattle.bk_record.specs.declared.fault.RecordFault.TheVariants.{Short, Negative}
-use Rattle.bk_record.proofs.Records.{IsBytes, bytes_drop, Starts, record_in_front}
+use Rattle.bk_record.proofs.Records.{IsBytes, bytes_drop, Starts, record_in_front, split_at}
 
 -- what is read as a number is the length field
 field_read : (left here : List ℕ) (n : ℕ) → left ≡ here → n ≡ big_number 4 left → n ≡ length_field here
@@ -70,6 +70,23 @@ pub begins_at : (bytes : List ℕ) (at n : ℕ) → ((i : ℕ) → Fits w8 (get_
     n ≡ big_number 4 left → 4 ≤ length left → 16 ≤ n → n ≤ 2147483647 → n ≤ length left - 4
     → BeginsWith (drop at bytes) (take (4 + n - 4) (drop 4 left)) × (n ≡ length (take (4 + n - 4) (drop 4 left)))
 begins_at bytes at n each = begins_here _ _ n (take_rest bytes at) (bytes_drop at bytes (λ i. omega (arith, each i)))
+
+-- so many bytes behind the length field, where there are so many
+pub length-payload : (bytes : List ℕ) (n : ℕ) → 4 + n ≤ length bytes → length (take n (drop 4 bytes)) ≡ n
+length-payload bytes n enough = omega (arith, length-take n (drop 4 bytes), length-drop 4 bytes)
+
+-- the first four bytes are a length's, and so many stand behind them
+pub begins_with_field : (bytes : List ℕ) (n : ℕ) → to_be_bytes w32 n ≡ take 4 bytes → 16 ≤ n → n < 2 ^ 31 → 4 + n ≤ length bytes
+    → BeginsWith bytes (take n (drop 4 bytes))
+unfolding record_of
+begins_with_field bytes n written low high enough =
+    let size = length-payload bytes n enough in
+    let field : to_be_bytes w32 (length (take n (drop 4 bytes))) ≡ take 4 bytes = ap (to_be_bytes w32) size ∙ written in
+    record {
+      legal = (omega arith, omega arith);
+      behind = drop (4 + n) bytes;
+      is = sym (ap (λ (x : List ℕ). (x ++ take n (drop 4 bytes)) ++ drop (4 + n) bytes) field ∙ split_at bytes n);
+    }
 
 -- what the key of a payload was answered to be, is told of it
 pub some_key : (payload : List ℕ) (key : EntryKey) → Ok key ≡ read_key payload → IsSome (key_of payload)

@@ -102,6 +102,14 @@ field_bytes bytes each four =
     ap length_field (sym (take-append-drop 4 bytes)) ∙ length_field-append (take 4 bytes) (drop 4 bytes) size in
     be_bytes_4 (take 4 bytes) (length_field bytes) size (bytes_take 4 bytes each) (same ∙ length_field-is (take 4 bytes))
 
+-- four bytes, so many behind them, and the rest
+pub split_at : (bytes : List ℕ) (n : ℕ) → (take 4 bytes ++ take n (drop 4 bytes)) ++ drop (4 + n) bytes ≡ bytes
+split_at bytes n =
+    append_assoc (take 4 bytes) (take n (drop 4 bytes)) (drop (4 + n) bytes)
+    ∙ ap (λ (x : List ℕ). take 4 bytes ++ (take n (drop 4 bytes) ++ x)) (sym (drop-drop n 4 bytes))
+    ∙ ap (λ (x : List ℕ). take 4 bytes ++ x) (take-append-drop n (drop 4 bytes))
+    ∙ take-append-drop 4 bytes
+
 -- bytes that begin with a whole record are its bytes and those behind it
 pub record_in_front : (bytes : List ℕ) → IsBytes bytes → Starts bytes
     → bytes ≡ record_of (take (length_field bytes) (drop 4 bytes)) ++ drop (4 + length_field bytes) bytes
@@ -110,11 +118,7 @@ record_in_front bytes each s =
     let payload = take n (drop 4 bytes) in
     let size : length payload ≡ n = omega (arith, s.whole, length-take n (drop 4 bytes), length-drop 4 bytes) in
     let field : to_be_bytes w32 (length payload) ≡ take 4 bytes = ap (to_be_bytes w32) size ∙ field_bytes bytes each s.field in
-    sym (ap (λ (x : List ℕ). x ++ drop (4 + n) bytes) (record_of-is payload ∙ ap (λ (x : List ℕ). x ++ payload) field)
-    ∙ append_assoc (take 4 bytes) payload (drop (4 + n) bytes)
-    ∙ ap (λ (x : List ℕ). take 4 bytes ++ (payload ++ x)) (sym (drop-drop n 4 bytes))
-    ∙ ap (λ (x : List ℕ). take 4 bytes ++ x) (take-append-drop n (drop 4 bytes))
-    ∙ take-append-drop 4 bytes)
+    sym (ap (λ (x : List ℕ). x ++ drop (4 + n) bytes) (record_of-is payload ∙ ap (λ (x : List ℕ). x ++ payload) field) ∙ split_at bytes n)
 
 -- behind the length field stands the payload, behind that what follows
 pub drop_field : (payload behind : List ℕ) → drop 4 (record_of payload ++ behind) ≡ payload ++ behind

@@ -23,7 +23,7 @@ pub is_true : (b : Bool) → T b → IsTrue b
 is_true true h = refl
 is_true false h = absurd h
 
-less_from_test : (r : Ordering) → IsTrue (is_lt r) → r ≡ Less
+pub less_from_test : (r : Ordering) → IsTrue (is_lt r) → r ≡ Less
 less_from_test Less e = refl
 less_from_test Equal e = cc
 less_from_test Greater e = cc

@@ -8,6 +8,7 @@ use Rattle.bk_record.specs.Files.{Files, file_of, header_length, records_of, In,
 use Rattle.bk_record.specs.Entry.{HasEntry}
 use Rattle.bk_record.specs.Longer.{AreLonger}
 use Rattle.bk_record.proofs.Places.{one_record}
+use Rattle.bk_record.proofs.SortedPairs.{Some-same}
 use Rattle.bk_record.proofs.StandingRecords.{record-longer, more-record, same-record, short-record, next_place, new-record}
 use Rattle.bk_record.proofs.StandingRecords.{grown-record, part-record, record-remove, remove-record, record-insert_else}
 
@@ -16,10 +17,7 @@ pub one_entry : (files : Files) (place : Place) (key other : EntryKey) (a b : Li
     → (key ≡ other) × (a ≡ b)
 one_entry files place key other a b here there =
     let same = one_record files place a b here.stands there.stands in
-    (some_same key other (sym here.keyed ∙ ap key_of same ∙ there.keyed), same)
-  where
-    some_same : (j k : EntryKey) → Some j ≡ Some k → j ≡ k
-    some_same j k is = cc
+    (Some-same (sym here.keyed ∙ ap key_of same ∙ there.keyed), same)
 
 -- an entry keeps its place where files only grow
 pub entry-longer : (files later : Files) → AreLonger files later → (place : Place) (key : EntryKey) (payload : List ℕ)

@@ -17,10 +17,10 @@ use Rattle.bk_record.proofs.KeyedCounts.{log_count-none}
 use Rattle.bk_head.specs.Header.{empty_header}
 use Rattle.bk_log.specs.Writing as writers
 use Rattle.bk_log.specs.Writing.{CreateTurn, CreateFails, new_writing}
-use Rattle.bk_log.specs.Growing.{Gains}
+use Rattle.bk_log.specs.Growing.{Gains, HasNoBadLength}
 use Rattle.bk_log.specs.declared.fault.LogFault.{LogFault}
 use Rattle.bk_log.specs.declared.fault.LogFault.TheVariants as log_faults
-use Rattle.bk_log.proofs.Gains.{create_gains}
+use Rattle.bk_log.proofs.Gains.{create_gains, spelled_short}
 use Rattle.bk_log.proofs.Makes.{writes_new, length-empty_header}
 use Rattle.bk_accounts.specs.Book.{Book, named_in, total_at, total_in, after_open}
 use Rattle.bk_accounts.specs.Sums.{AreSums}
@@ -298,6 +298,8 @@ module _ (p : Parts) (keeps : Keeps p) where
                 writes = λ w writer. writes_same w (ap (finite.get files) ((keeps.fits.held id l is).by w writer).own ∙ same
                     ∙ ap (finite.get p.state.files) (sym ((keeps.fits.held id l is).by w writer).own)) (old.writes w writer);
                 honest = old.honest;
+                spelled = subst HasNoBadLength (sym (ap (λ (o : Option (List ℕ)). unwrap_or o []) same)) old.spelled;
+                shown = old.shown;
               });
           fresh = λ id above. gains.only id (λ here. omega (arith, above, here)) ∙ promise.fresh id (omega (arith, above));
           placed = λ key place is.
@@ -439,7 +441,13 @@ module _ (p q : Parts) (keeps : Keeps p) (state : LogState) (fault : MakeFault) 
             let left = left_made p.state.files q.state.files p.state.next told (fails honest) in (
               create_gains {W = Unit {0}} p.state.files q.state.files p.state.next (Err (record { made = is.made; fault = told })) (is.files honest),
               left.0,
-              record { stands = left.1; writes = λ w wrong. absurd (cc); honest = λ v wrong. absurd (cc) },
+              record {
+                stands = left.1;
+                writes = λ w wrong. absurd (cc);
+                honest = λ v wrong. absurd (cc);
+                spelled = spelled_short (file_of q.state.files p.state.next) left.0;
+                shown = λ v wrong. absurd (cc);
+              },
             )))
             (is.left ∙ ap (λ b. with_next p.state q.state.files failures (logs_left p.state b is.slot) (keeper_left p.state b is.slot)) made)
         | false ↦ λ made.
@@ -472,14 +480,17 @@ made p q state id keeps written none turn beside writes unfilled =
     (λ flushed. elim flushed [ inl w ↦ beside.listed w refl | inr wrong ↦ absurd (unfilled wrong) ])
     (λ honest.
     let create = is.files honest in
-    let short = length-empty_header in (
+    let header = length-empty_header in
+    let short = short_now p.state.files q.state.files p.state.next empty_header create.1 (omega (arith, header)) in (
       create_gains {W = Unit {0}} p.state.files q.state.files p.state.next (Ok tt) create,
-      short_now p.state.files q.state.files p.state.next empty_header create.1 (omega (arith, short)),
+      short,
       record {
         stands = ap is_some (file_now p.state.files q.state.files p.state.next empty_header create.1);
         writes = λ w is. let same : new_writing p.state.next ≡ w = cc in
             writes_new p.state.files q.state.files p.state.next w create.1 (sym same);
         honest = λ v wrong. absurd (cc);
+        spelled = spelled_short (file_of q.state.files p.state.next) short;
+        shown = λ v wrong. absurd (cc);
       },
     )))
     is.left

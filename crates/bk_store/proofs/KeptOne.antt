@@ -7,7 +7,7 @@ use Rattle.bk_record.specs.Location.{Place}
 use Rattle.bk_record.specs.Record.{key_of}
 use Rattle.bk_record.specs.Files.{Files, file_of, header_length, In}
 use Rattle.bk_record.specs.Keyed.{log_count}
-use Rattle.bk_log.specs.Growing.{Gains}
+use Rattle.bk_log.specs.Growing.{Gains, HasNoBadLength}
 use Rattle.bk_log.specs.Writing as writers
 use Rattle.bk_accounts.specs.Book.{Book, named_in, total_at}
 use Rattle.bk_accounts.specs.Sums.{AreSums}
@@ -124,6 +124,8 @@ module _ (p : Parts) (id : ℕ) (log new : Log) (held : finite.get p.state.logs 
               stands = ap is_some (gains.only q apart) ∙ old.stands;
               writes = λ w writer. writes_else q w ((fits.held q l is).by w writer).own (gains.only q apart) (old.writes w writer);
               honest = old.honest;
+              spelled = subst HasNoBadLength (sym (file_else gains.only q apart)) old.spelled;
+              shown = old.shown;
             });
         fresh = λ q above. elim (same_or_apart q id) [
           | inr apart ↦ gains.only q apart ∙ promise.fresh q above

@@ -136,6 +136,8 @@ module _ (p : Parts) (keeps : Keeps p) (rule : LogState → Log → Log) (mild :
           stands = old.stands;
           writes = λ w writer. old.writes w (mild.writer l w writer);
           honest = λ view seen. old.honest view (sym (mild.view l) ∙ seen);
+          spelled = old.spelled;
+          shown = λ view seen. old.shown view (sym (mild.view l) ∙ seen);
         });
     fresh = promise.fresh;
     placed = λ key place is. absurd (no_place key place is);

@@ -61,7 +61,13 @@ module _ (p : Parts) (keeps : Keeps p) (id : ℕ) (state : LogState) (log : Log)
       (λ stood. subst (λ ps. Shows (file_of files) ps p.state.index)
       (λ i q. sym (parts_same p.state.logs id log new held (opened ∙ sym was_open) refl q) i)
       (shows_grown promise.shows (file_of files) stood))
-      (record { stands = gains.stands old.stands; writes = λ v wrong. absurd (cc); honest = old.honest })
+      (record {
+        stands = gains.stands old.stands;
+        writes = λ v wrong. absurd (cc);
+        honest = old.honest;
+        spelled = gains.spelled old.spelled;
+        shown = old.shown;
+      })
       (subst (λ f. AreSums entry_measure (set.contains p.state.dead) f (log_count p.state.index) p.accounts) (λ i q. sym (same q) i) promise.counted)
 
   pub closed_fits : ((key : EntryKey) (place : Place) → finite.get p.state.places key ≡ Some place → IsFlushLog (finite.insert p.state.logs id new) place.log)

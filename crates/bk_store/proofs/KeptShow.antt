@@ -4,6 +4,7 @@ use Rattle.std.specs.FinMap as finite
 use Rattle.std.specs.FinSet as set
 use Rattle.bk_record.specs.Files.{file_of}
 use Rattle.bk_record.specs.Keyed.{log_count}
+use Rattle.bk_log.specs.Growing.{HasNoBadLength}
 use Rattle.bk_log.proofs.Gains.{gains_same}
 use Rattle.bk_log.specs.declared.fault.LogFault.{LogFault}
 use Rattle.bk_log.specs.declared.fault.LogFault.TheVariants as log_faults
@@ -25,14 +26,21 @@ module _ (p : Parts) (keeps : Keeps p) (id : ℕ) (log : Log) (held : finite.get
       → Promises (with_one p id shown p.state.files p.state.failures p.accounts p.writing)
   promised promise honest whole =
       let files = p.state.files in
+      let file : file_of files id ≡ view.bytes = ap (λ (o : Option (List ℕ)). unwrap_or o []) whole in
       let all : open_parts (finite.insert p.state.logs id shown) id ≡ file_of files id =
-      parts_here p.state.logs id log shown held ∙ ap (λ b. cond b view.bytes []) opened ∙ sym (ap (λ (o : Option (List ℕ)). unwrap_or o []) whole) in
+      parts_here p.state.logs id log shown held ∙ ap (λ b. cond b view.bytes []) opened ∙ sym file in
       let same = entries_stay p.state.logs id log shown held files files (λ _ _. refl) refl in
       let old = promise.backed id log held in
       promises_one p id log shown held files p.state.failures p.accounts p.writing keeps.fits promise [] (gains_same files files id refl)
       (λ at payload key never. absurd never)
       (λ _. shows_all_of_one promise.shows (open_parts (finite.insert p.state.logs id shown)) id (parts_else p.state.logs id log shown held) all)
-      (record { stands = old.stands; writes = old.writes; honest = λ v is. let one : view ≡ v = cc in subst (λ (x : View). IsTrue x.is_honest) one honest })
+      (record {
+        stands = old.stands;
+        writes = old.writes;
+        honest = λ v is. let one : view ≡ v = cc in subst (λ (x : View). IsTrue x.is_honest) one honest;
+        spelled = old.spelled;
+        shown = λ v is. let one : view ≡ v = cc in subst (λ (x : View). HasNoBadLength x.bytes) one (subst HasNoBadLength file old.spelled);
+      })
       (subst (λ f. AreSums entry_measure (set.contains p.state.dead) f (log_count p.state.index) p.accounts) (λ i q. sym (same q) i) promise.counted)
 
   pub keeps_shown : (IsTrue p.state.honest → IsTrue view.is_honest × (finite.get p.state.files id ≡ Some view.bytes))

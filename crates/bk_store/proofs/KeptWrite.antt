@@ -324,6 +324,8 @@ module _ (p : Parts) (keeps : Keeps p) (id : ℕ) (log : Log) (held : finite.get
           stands = put_gained.stands old.stands;
           writes = λ v is. let same : with_put w payload ≡ v = cc in subst (λ x. writers.Writes files x) same new_writes;
           honest = old.honest;
+          spelled = put_gained.spelled old.spelled;
+          shown = old.shown;
         })
         put_sums
 

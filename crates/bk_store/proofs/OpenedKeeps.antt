@@ -18,6 +18,7 @@ use Rattle.bk_record.proofs.Entries.{In-map, map-In, flat_map-In, get-In}
 use Rattle.bk_record.proofs.Growth.{In-append_right}
 use Rattle.bk_disk.specs.Disk.{IsFile, view_end}
 use Rattle.bk_log.specs.declared.found.Found.{Found}
+use Rattle.bk_log.specs.Growing.{HasNoBadLength}
 use Rattle.bk_accounts.specs.Book.{named_in, total_at}
 use Rattle.bk_accounts.specs.Sums.{AreSums, all_bytes, live_bytes, live_bytes_of}
 use Rattle.bk_accounts.proofs.CallerLaws.{sums_new}
@@ -311,6 +312,8 @@ module _ (settings : Settings) (honest : Bool) (files : Files) (failures : ℕ) 
             stands = ap is_some (read_file id r.0 r.1.0);
             writes = λ w wrong. cc;
             honest = λ view shows. subst (λ (v : View). IsTrue v.is_honest) (same_Some r.0.view view shows) (whole_read r.0 r.1.0.there).honest;
+            spelled = subst HasNoBadLength (sym (file_is id r.0 r.1.0)) (whole_read r.0 r.1.0.there).opens.whole;
+            shown = λ view shows. subst (λ (v : View). HasNoBadLength v.bytes) (same_Some r.0.view view shows) (whole_read r.0 r.1.0.there).opens.whole;
           });
       fresh = λ id past. elim (some_or_none (finite.get files id)) [
         | inl none ↦ none

@@ -83,6 +83,9 @@ listed_entries log (r ∷ records) = elim (key_of r.1) as (λ o. key_of r.1 ≡ 
       ∙ ap (λ (l : Listed). cons_option (placed_key log r) l) (listed_entries log records)
 ] refl
 
+pub listed_entries_of : (log : ℕ) (file : List ℕ) → listed_of log (entries_of file) ≡ listed_of log (records_of file)
+listed_entries_of log file = ap (listed_of log) (entries_of-is file) ∙ listed_entries log (records_of file)
+
 found_listed : (log : ℕ) (records : List (ℕ × List ℕ)) (founds : List Found) → AreFoundAt records founds → found_in log founds ≡ listed_of log records
 found_listed log [] [] are = refl
 found_listed log [] (found ∷ later) are = absurd are
@@ -102,6 +105,6 @@ found_walked honest files (r ∷ later) is all =
     let file : file_of files r.id ≡ r.view.bytes = ap (λ o. unwrap_or o []) whole.stands in
     let here : found_in r.id r.founds ≡ listed_of r.id (records_of (file_of files r.id)) =
     found_listed r.id (entries_of r.view.bytes) r.founds whole.found
-    ∙ ap (listed_of r.id) (entries_of-is r.view.bytes) ∙ listed_entries r.id (records_of r.view.bytes) ∙ ap (λ b. listed_of r.id (records_of b)) (sym file) in
+    ∙ listed_entries_of r.id r.view.bytes ∙ ap (λ b. listed_of r.id (records_of b)) (sym file) in
     ap (λ (l : Listed). l ++ found_in_all later) here
     ∙ ap (λ (l : Listed). listed_of r.id (records_of (file_of files r.id)) ++ l) (found_walked honest files later is all.1)

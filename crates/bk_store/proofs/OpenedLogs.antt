@@ -1,10 +1,9 @@
 -- Logs that are taken in one after another: which are held, with which entries, and the ids that they have.
 use Rattle.std.proofs.Common.{◌≡◌, ◌⊎◌, inl, inr, ℕ, ◌+◌, ◌<◌, ◌≤◌, ◌^◌, true, false, cond, ◌==◌, if◌then◌else◌, List, [], ◌∷◌, ◌++◌, length, Some, refl, sym, ap, subst, ◌∙◌, arith, eqb-true, eq-eqb}
 use Rattle.std.specs.List.{AllByRecursion}
-use Rattle.std.specs.Cmp.{nat_cmp_total}
+use Rattle.std.specs.Cmp.{nat_cmp_total, unsigned_tied}
 use Rattle.std.specs.FinMap as finite
 use Rattle.bk_record.specs.Files.{In}
-use Rattle.bk_accounts.proofs.Maps.{tied_is}
 use Rattle.bk_store.specs.Logs.{Logs, found_log}
 use Rattle.bk_store.specs.Found.{LogRead, AreIds, logs_with}
 use Rattle.bk_store.proofs.OpenedSums.{Lists, with_list, with_lists}
@@ -32,7 +31,7 @@ get-with_log : (logs : Logs) (r : LogRead) (id : ℕ)
     → finite.get (with_log logs r) id ≡ (if id == r.id then Some (found_log r.view r.slot r.end) else finite.get logs id)
 get-with_log logs r id =
     finite.get-insert nat_cmp_total logs r.id (found_log r.view r.slot r.end) id
-    ∙ ap (λ b. cond b (Some (found_log r.view r.slot r.end)) (finite.get logs id)) (tied_is id r.id)
+    ∙ ap (λ b. cond b (Some (found_log r.view r.slot r.end)) (finite.get logs id)) (unsigned_tied id r.id)
 
 pub each_log : (reads : List LogRead) (old : Lists) (before : Logs) (id : ℕ) → HeldOr reads old before (with_lists old reads) (logs_with before reads) id
 each_log [] old before id = inl (record { apart = λ r never. absurd never; listed = refl; held = refl })

@@ -11,12 +11,13 @@ use Rattle.bk_record.specs.Scan.{entries_of}
 use Rattle.bk_disk.specs.Disk.{IsFile, view_end}
 use Rattle.bk_disk.specs.declared.fault.DiskFault.{DiskFault}
 use Rattle.bk_disk.specs.declared.fault.DiskFault.TheVariants as disk_faults
+use Rattle.bk_log.specs.Growing.{HasNoBadLength}
 use Rattle.bk_log.specs.declared.fault.ScanFault.{ScanFault}
 use Rattle.bk_log.specs.declared.fault.ScanFault.TheVariants as scan_faults
 use Rattle.bk_log.specs.declared.found.Found.{Found}
 use Rattle.bk_accounts.specs.Book.{Book, named_in, after_open, after_ready, after_count, after_count_dead, after_name}
 use Rattle.bk_store.specs.Logs.{View, Log, Logs, found_log}
-use Rattle.bk_store.specs.Opening.{Opens, HasNoBadLength}
+use Rattle.bk_store.specs.Opening.{Opens}
 use Rattle.bk_store.specs.declared.answer.LogCause.TheVariants as causes
 use Rattle.bk_store.specs.declared.answer.OpenFault.{OpenFault}
 use Rattle.bk_store.specs.declared.answer.OpenFault.TheVariants as open_faults

@@ -9,6 +9,7 @@ use Rattle.bk_record.specs.Record.{ledger_field}
 use Rattle.bk_record.specs.Files.{Files, file_of, header_length, In}
 use Rattle.bk_record.specs.Scan.{Payloads, entries_of}
 use Rattle.bk_log.specs.Writing as writers
+use Rattle.bk_log.specs.Growing.{HasNoBadLength}
 use Rattle.bk_record.specs.Keyed.{log_count}
 use Rattle.bk_cache.specs.Caches as caches
 use Rattle.bk_cache.specs.Recents.{recent_of}
@@ -74,11 +75,14 @@ entry_measure = record { ledger = λ entry. ledger_field entry.1; size = λ entr
 abbrev pub acknowledged_entries : Files → Logs → ℕ → Option (List (ℕ × List ℕ))
 acknowledged_entries files logs id = option_map (λ log. entries_of (acknowledged_part files id log)) (finite.get logs id)
 
--- beside an honest disk, a log has its file, its writer is that file's, and its view shows what the log held
+-- beside an honest disk, a log has its file, its writer is that file's, and its view shows what the log held; a scan of
+-- either meets no bad length
 pub record IsBacked (files : Files) (id : ℕ) (log : Log) : Type 0 where
   pub stands : IsSome (finite.get files id)
   pub writes : (w : writers.Writing) → log.writer ≡ Some w → writers.Writes files w
   pub honest : (view : View) → log.view ≡ Some view → IsTrue view.is_honest
+  pub spelled : HasNoBadLength (file_of files id)
+  pub shown : (view : View) → log.view ≡ Some view → HasNoBadLength view.bytes
 
 -- an entry of the flush that has a place stands there
 pub record IsWrittenAt (s : State) (key : EntryKey) (place : Place) : Type 0 where

@@ -5,6 +5,7 @@ use Rattle.bk_record.specs.Files.{Files, file_of, header_length}
 use Rattle.bk_record.specs.Body.{IsBadAt}
 use Rattle.bk_disk.specs.Disk.{IsFile, view_end}
 use Rattle.bk_head.specs.Header.{magic, version_field, HeaderFault}
+use Rattle.bk_log.specs.Growing.{HasNoBadLength}
 use Rattle.bk_cache.specs.Caches as caches
 use Rattle.bk_store.specs.Entries.{IsIndexOf}
 use Rattle.bk_store.specs.Limits.{IsAllowed}
@@ -22,10 +23,6 @@ use Rattle.bk_store.specs.declared.answer.OpenFault.TheVariants as open_faults
 -- A header, where there are bytes enough for one, has the magic and the version (this project's rule).
 abbrev pub IsHeaded : List ℕ → Type 0
 IsHeaded file = header_length ≤ length file → (take 4 (take header_length file) ≡ magic) × (version_field (take header_length file) ≡ 1)
-
--- no length below 16 stands where a record should begin
-abbrev pub HasNoBadLength : List ℕ → Type 0
-HasNoBadLength file = (at : ℕ) (value : ℤ) → ¬ (IsBadAt header_length (drop header_length file) at value)
 
 -- a file on which a store opens
 pub record Opens (file : List ℕ) : Type 0 where

@@ -1,9 +1,9 @@
 //! Worked examples, with bytes written by hand.
 
 use crate::{AddFault, DeleteFault, OpenFault, Settings, Store, TakeFault, Taken};
-use bk_disk::{FaultDisk, LogDisk, MemDisk};
+use bk_disk::{DiskFault, FaultDisk, LogDisk, MemDisk};
 use bk_record::Key;
-use std::alloc::{AllocError, Global};
+use std::alloc::Global;
 use std::test::Fail;
 
 mod deleting;
@@ -21,70 +21,105 @@ const SETTINGS: Settings = Settings {
     major: 800,
 };
 
-/// The header of a log that is not sealed, as far as it says something.
-const HEADER: [u8; 8] = *b"BKLO\0\0\0\x01";
+/// A log that is found: its id, the first bytes of its header, and the bytes behind the header.
+type Found = (u8, [u8; 20], &'static [u8]);
 
-/// A file that begins with these bytes, zeros up to byte 1024, and these bytes behind it.
-fn log_of(alloc: Global, header: &[u8], behind: &[u8]) -> Result<Vec<u8>, AllocError> {
-    let mut bytes = Vec::from_slice(alloc, header)?;
-    bytes.resize(1024, 0)?;
-    bytes.extend_from_slice(behind)?;
-    Ok(bytes)
-}
+/// The first bytes of the header of a log that is not sealed.
+const OPEN: [u8; 20] = *b"BKLO\0\0\0\x01\0\0\0\0\0\0\0\0\0\0\0\0";
 
-/// A disk with these logs, four at most, the first of id 0.
-fn disk_of(alloc: Global, files: &[Vec<u8>]) -> Result<MemDisk, Fail> {
+/// Records of ledgers 1 to 4 have entry 0, with one byte of data: 21 bytes each. Behind those of this log stands its map.
+const SEALED: Found = (
+    0,
+    *b"BKLO\0\0\0\x01\0\0\0\0\0\0\x04\x2a\0\0\0\x02",
+    b"\0\0\0\x11\0\0\0\0\0\0\0\x01\0\0\0\0\0\0\0\0a\
+\0\0\0\x11\0\0\0\0\0\0\0\x02\0\0\0\0\0\0\0\0b\
+\0\0\0\x34\xff\xff\xff\xff\xff\xff\xff\xff\xff\xff\xff\xff\xff\xff\xff\xfe\0\0\0\x02\
+\0\0\0\0\0\0\0\x01\0\0\0\0\0\0\0\x15\0\0\0\0\0\0\0\x02\0\0\0\0\0\0\0\x15",
+);
+
+/// A log that ends in 20 bytes of a record of 21.
+const TORN: Found = (
+    1,
+    OPEN,
+    b"\0\0\0\x11\0\0\0\0\0\0\0\x03\0\0\0\0\0\0\0\0c\
+\0\0\0\x11\0\0\0\0\0\0\0\x01\0\0\0\0\0\0\0\0",
+);
+
+/// A log with a later record of a key of the first.
+const LATER: Found = (
+    2,
+    OPEN,
+    b"\0\0\0\x11\0\0\0\0\0\0\0\x01\0\0\0\0\0\0\0\0a\
+\0\0\0\x11\0\0\0\0\0\0\0\x04\0\0\0\0\0\0\0\0d",
+);
+
+/// A disk with these logs. Their headers have zeros up to byte 1024.
+fn disk_of(alloc: Global, logs: &[Found]) -> Result<MemDisk, DiskFault> {
     let mut disk = MemDisk::new(alloc);
-    for id in 0..4 {
-        if let Some(bytes) = files.get(id as usize) {
-            disk.create(alloc, id)?;
-            disk.append(alloc, id, bytes)?;
-        }
+    for (id, header, behind) in logs {
+        let id = u32::from(*id);
+        disk.create(alloc, id)?;
+        disk.append(alloc, id, header)?;
+        disk.append(alloc, id, &[0; 1004])?;
+        disk.append(alloc, id, behind)?;
     }
     Ok(disk)
 }
 
-/// Records of ledgers 1 to 4, each entry 0, with one byte of data: 21 bytes each.
-const FIRST: [u8; 21] = *b"\0\0\0\x11\0\0\0\0\0\0\0\x01\0\0\0\0\0\0\0\0a";
-
-const SECOND: [u8; 21] = *b"\0\0\0\x11\0\0\0\0\0\0\0\x02\0\0\0\0\0\0\0\0b";
-
-const THIRD: [u8; 21] = *b"\0\0\0\x11\0\0\0\0\0\0\0\x03\0\0\0\0\0\0\0\0c";
-
-const FOURTH: [u8; 21] = *b"\0\0\0\x11\0\0\0\0\0\0\0\x04\0\0\0\0\0\0\0\0d";
-
-/// The map of a log with the first two records, and the header that says where it stands.
-const MAP: [u8; 56] =
-    *b"\0\0\0\x34\xff\xff\xff\xff\xff\xff\xff\xff\xff\xff\xff\xff\xff\xff\xff\xfe\0\0\0\x02\
-\0\0\0\0\0\0\0\x01\0\0\0\0\0\0\0\x15\0\0\0\0\0\0\0\x02\0\0\0\0\0\0\0\x15";
-
-const SEALED: [u8; 20] = *b"BKLO\0\0\0\x01\0\0\0\0\0\0\x04\x2a\0\0\0\x02";
-
-/// Three logs: a sealed one, one that is torn, and one with a later record of a key of the first.
-fn three_logs(alloc: Global) -> Result<MemDisk, Fail> {
-    let mut first = log_of(alloc, &SEALED, &FIRST)?;
-    first.extend_from_slice(&SECOND)?;
-    first.extend_from_slice(&MAP)?;
-    let mut second = log_of(alloc, &HEADER, &THIRD)?;
-    second.extend_from_slice(&FIRST[..20])?;
-    let mut third = log_of(alloc, &HEADER, &FIRST)?;
-    third.extend_from_slice(&FOURTH)?;
-    disk_of(alloc, &[first, second, third])
+fn three_logs(alloc: Global) -> Result<MemDisk, DiskFault> {
+    disk_of(alloc, &[SEALED, TORN, LATER])
 }
 
-/// Where a store has the entry 0 of a ledger: `None` where it has none, or the ledger is dead.
-fn place_of<D: LogDisk>(store: &mut Store<D>, ledger: u64) -> Result<Option<u64>, Fail> {
-    let key = Key::new(ledger, 0).ok_or("no key")?;
-    match store.take(key)? {
-        Taken::Leased(_, location) => Ok(Some(location.value())),
-        _ => Ok(None),
+/// A store on three logs, of which these ledgers were deleted before.
+fn opened(alloc: Global, dead: &[u64]) -> Result<Store<MemDisk>, OpenFault> {
+    match three_logs(alloc) {
+        Ok(disk) => Store::open(alloc, disk, SETTINGS, dead),
+        Err(_) => Err(OpenFault::Disk),
     }
 }
 
+/// Where a store has the entry 0 of a ledger: `None` where it has none, or the ledger is dead.
+fn place_of(store: &mut Store<MemDisk>, ledger: u64) -> Result<Option<u64>, TakeFault> {
+    match Key::new(ledger, 0) {
+        Some(key) => match &store.take(key)? {
+            Taken::Leased(_, location) => Ok(Some(location.value())),
+            _ => Ok(None),
+        },
+        None => Ok(None),
+    }
+}
+
+/// The first of these ledgers whose entry 0 is in another place than is said here.
+fn other_place(store: &mut Store<MemDisk>, places: &[(u64, Option<u64>)]) -> Option<u64> {
+    for (ledger, place) in places {
+        if place_of(store, *ledger) != Ok(*place) {
+            return Some(*ledger);
+        }
+    }
+    None
+}
+
 /// What a log has: the bytes of its records, how many of them remain, and how many keys name it.
-fn account_of<D: LogDisk>(store: &Store<D>, log: u32) -> Option<(u32, u32, u64)> {
+type Account = (u32, u32, u64);
+
+fn account_of(store: &Store<MemDisk>, log: u32) -> Option<Account> {
     let accounts = &store.fields.accounts;
-    let total = accounts.total(log).ok()?;
-    let remaining = accounts.remaining(log).ok()?;
-    Some((total, remaining, accounts.named(log).ok()?))
+    match (
+        accounts.total(log),
+        accounts.remaining(log),
+        accounts.named(log),
+    ) {
+        (Ok(total), Ok(remaining), Ok(named)) => Some((total, remaining, named)),
+        _ => None,
+    }
+}
+
+/// The first of these logs that has another account than is said here.
+fn other_account(store: &Store<MemDisk>, accounts: &[(u32, Account)]) -> Option<u32> {
+    for (log, account) in accounts {
+        if account_of(store, *log) != Some(*account) {
+            return Some(*log);
+        }
+    }
+    None
 }

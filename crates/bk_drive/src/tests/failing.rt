@@ -36,7 +36,8 @@ const OUTCOMES: [(u64, usize, u64); 7] = [
     (8, 8, 1028),
 ];
 
-fn is_disk_fault(answer: &Answer) -> bool {
+/// Whether a step of the store was answered by `Disk`.
+pub(super) fn is_disk_fault(answer: &Answer) -> bool {
     matches!(
         answer,
         Answer::Write(Err(FlushFault::Disk))

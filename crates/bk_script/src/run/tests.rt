@@ -8,7 +8,6 @@ use super::run_script;
 use bk_drive::Settings;
 use std::alloc::Global;
 use std::io::Read;
-use std::process::Abort;
 
 /// The settings of a store without options.
 const DEFAULTS: Settings = Settings {
@@ -22,7 +21,7 @@ const DEFAULTS: Settings = Settings {
 };
 
 /// What a run of a script left: its status, and the texts on the two streams.
-#[derive(Debug, PartialEq, Eq, Drop)]
+#[derive(Drop)]
 struct Shown {
     status: u8,
     output: Vec<u8>,
@@ -46,23 +45,9 @@ fn run_from<R: Read>(alloc: Global, settings: Settings, dead: &[u64], reader: &m
     }
 }
 
-fn assert_shown(
-    rt: &impl Abort,
-    shown: &Shown,
-    status: u8,
-    output: &str,
-    errors: &str,
-    about: &str,
-) {
-    assert_eq!(rt; shown.status, status, "the status of {about:?}");
-    assert_eq!(rt;
-        shown.output.as_slice(),
-        output.as_bytes(),
-        "the output of {about:?}"
-    );
-    assert_eq!(rt;
-        shown.errors.as_slice(),
-        errors.as_bytes(),
-        "the errors of {about:?}"
-    );
+/// Whether a run ended with this status, and left these texts on the two streams.
+fn is_shown(shown: &Shown, status: u8, output: &str, errors: &str) -> bool {
+    shown.status == status
+        && shown.output.as_slice() == output.as_bytes()
+        && shown.errors.as_slice() == errors.as_bytes()
 }

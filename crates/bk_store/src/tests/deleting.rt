@@ -16,39 +16,41 @@ const DELETIONS: [(u64, Result<u64, DeleteFault>); 6] = [
     (u64::MAX, Err(DeleteFault::AlreadyDeleted)),
 ];
 
+/// The number of the first deletion that is answered otherwise.
+fn other_deletion(store: &mut Store<MemDisk>) -> Option<usize> {
+    for (number, (ledger, told)) in DELETIONS.iter().enumerate() {
+        if store.delete(*ledger) != *told {
+            return Some(number);
+        }
+    }
+    None
+}
+
 #[test]
 fn each_key_of_a_deleted_ledger_counts_once(rt: HostRuntime) -> Result<(), Fail> {
-    let mut store = Store::open(rt.alloc(), three_logs(rt.alloc())?, SETTINGS, &[4])?;
+    let mut store = opened(rt.alloc(), &[4])?;
     store.add(&ADDED)?;
-    for (ledger, told) in DELETIONS {
-        assert_eq!(rt; store.delete(ledger), told);
-    }
+    assert_eq!(rt; other_deletion(&mut store), None);
     Ok(())
 }
 
 /// A store on three logs, without ledger 1.
 fn deleted(alloc: Global) -> Result<Store<MemDisk>, Fail> {
-    let mut store = Store::open(alloc, three_logs(alloc)?, SETTINGS, &[])?;
+    let mut store = opened(alloc, &[])?;
     store.delete(1)?;
     Ok(store)
 }
 
 /// The logs keep their bytes; what remains of the ledger, and its names, leave the accounts.
-#[test]
-fn other_ledgers_keep_their_accounts(rt: HostRuntime) -> Result<(), Fail> {
-    let store = deleted(rt.alloc())?;
-    for (log, account) in [(0, (42, 21, 1)), (1, (21, 21, 1)), (2, (42, 21, 1))] {
-        assert_eq!(rt; account_of(&store, log), Some(account));
-    }
-    Ok(())
-}
+const ACCOUNTS: [(u32, Account); 3] = [(0, (42, 21, 1)), (1, (21, 21, 1)), (2, (42, 21, 1))];
+
+const PLACES: [(u64, Option<u64>); 3] = [(1, None), (2, Some(1049)), (3, Some((1 << 32) + 1028))];
 
 #[test]
-fn other_ledgers_keep_their_places(rt: HostRuntime) -> Result<(), Fail> {
+fn other_ledgers_keep_their_accounts_and_places(rt: HostRuntime) -> Result<(), Fail> {
     let mut store = deleted(rt.alloc())?;
-    for (ledger, place) in [(1, None), (2, Some(1049)), (3, Some((1 << 32) + 1028))] {
-        assert_eq!(rt; place_of(&mut store, ledger)?, place);
-    }
+    assert_eq!(rt; other_account(&store, &ACCOUNTS), None);
+    assert_eq!(rt; other_place(&mut store, &PLACES), None);
     Ok(())
 }
 

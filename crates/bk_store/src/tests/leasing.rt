@@ -1,56 +1,74 @@
-//! Leases of a store's logs.
+//! Leases of a store's logs: entry 0 of ledger 2 stands in log 0, that of ledger 3 in log 1.
 
 use super::*;
 use bk_disk::MemView;
 use bk_lease::Lease;
 
-/// A store of at most two leases of one log, on the log 0 with entries of ledgers 1 and 2, and the log 1 with one of ledger 3.
-fn leased(alloc: Global) -> Result<Store<MemDisk>, Fail> {
+/// A store on three logs, of each of which at most two leases are out.
+fn two_leases(alloc: Global) -> Result<Store<MemDisk>, OpenFault> {
     let settings = Settings {
         leases: 2,
         ..SETTINGS
     };
-    Ok(Store::open(alloc, three_logs(alloc)?, settings, &[])?)
+    match three_logs(alloc) {
+        Ok(disk) => Store::open(alloc, disk, settings, &[]),
+        Err(_) => Err(OpenFault::Disk),
+    }
 }
 
-/// A lease of the log that has the entry 0 of a ledger.
-fn lease_of(store: &mut Store<MemDisk>, ledger: u64) -> Result<Lease<MemView>, Fail> {
-    let key = Key::new(ledger, 0).ok_or("no key")?;
-    match store.take(key)? {
-        Taken::Leased(lease, _) => Ok(lease),
-        _ => Err(Fail::new("no lease")),
+/// What a take of entry 0 of a ledger gives, where the store has it in a log: a lease, or `None` where there are too many.
+fn lease_of(store: &mut Store<MemDisk>, ledger: u64) -> Option<Lease<MemView>> {
+    let key = Key::new(ledger, 0)?;
+    let taken = store.take(key).ok()?;
+    match taken {
+        Taken::Leased(lease, _) => Some(lease),
+        _ => None,
+    }
+}
+
+/// Whether a take of entry 0 of a ledger is refused, since as many leases of its log are out as are allowed.
+fn has_too_many(store: &mut Store<MemDisk>, ledger: u64) -> bool {
+    match Key::new(ledger, 0) {
+        Some(key) => matches!(store.take(key), Err(TakeFault::TooMany)),
+        None => false,
     }
 }
 
 #[test]
 fn log_has_as_many_leases_as_are_allowed(rt: HostRuntime) -> Result<(), Fail> {
-    let mut store = leased(rt.alloc())?;
-    let first = lease_of(&mut store, 2)?;
-    let _second = lease_of(&mut store, 2)?;
-    let _other = lease_of(&mut store, 3)?;
-    let key = Key::new(2, 0).ok_or("no key")?;
-    assert!(rt; matches!(store.take(key), Err(TakeFault::TooMany)));
+    let mut store = two_leases(rt.alloc())?;
+    let first = lease_of(&mut store, 2);
+    let second = lease_of(&mut store, 2);
+    assert!(rt; first.is_some() && second.is_some());
+    assert!(rt; has_too_many(&mut store, 2) && !has_too_many(&mut store, 3));
     drop(first);
-    assert!(rt; lease_of(&mut store, 2)?.log() == 0);
+    assert!(rt; !has_too_many(&mut store, 2));
     Ok(())
+}
+
+/// The store as it was, of which this many leases of its lowest leased log are out; `None` where its disk is given back.
+fn refused(store: Store<MemDisk>) -> Option<(Store<MemDisk>, u32, u64)> {
+    match store.into_disk() {
+        Ok(_) => None,
+        Err(refused) => Some((refused.store, refused.log, refused.count)),
+    }
 }
 
 #[test]
 fn disk_is_given_back_once_no_lease_is_out(rt: HostRuntime) -> Result<(), Fail> {
-    let mut store = leased(rt.alloc())?;
-    let _second = lease_of(&mut store, 3)?;
-    let first = lease_of(&mut store, 3)?;
-    let Err(refused) = store.into_disk() else {
+    let mut store = two_leases(rt.alloc())?;
+    let high = (lease_of(&mut store, 3), lease_of(&mut store, 3));
+    let Some((mut store, log, count)) = refused(store) else {
         return Err(Fail::new("given back"));
     };
-    assert_eq!(rt; (refused.log, refused.count), (1, 2));
-    let mut store = refused.store;
-    drop(first);
-    let low = lease_of(&mut store, 2)?;
-    let Err(refused) = store.into_disk() else {
+    assert_eq!(rt; (log, count), (1, 2));
+    let low = lease_of(&mut store, 2);
+    let Some((store, log, count)) = refused(store) else {
         return Err(Fail::new("given back"));
     };
-    assert_eq!(rt; (refused.log, refused.count), (0, 1));
+    assert_eq!(rt; (log, count), (0, 1));
+    drop(high);
     drop(low);
+    assert!(rt; refused(store).is_none());
     Ok(())
 }

@@ -2,112 +2,124 @@
 
 use super::*;
 
+/// Where the last records of ledgers stand. Ledger 4 is dead, and there is no ledger 5.
+const PLACES: [(u64, Option<u64>); 5] = [
+    (1, Some((2 << 32) + 1028)),
+    (2, Some(1049)),
+    (3, Some((1 << 32) + 1028)),
+    (4, None),
+    (5, None),
+];
+
 #[test]
 fn last_records_of_live_ledgers_are_found(rt: HostRuntime) -> Result<(), Fail> {
-    let disk = three_logs(rt.alloc())?;
-    let mut store = Store::open(rt.alloc(), disk, SETTINGS, &[4, 9, 1 << 63])?;
-    let places = [
-        (1, Some((2 << 32) + 1028)),
-        (2, Some(1049)),
-        (3, Some((1 << 32) + 1028)),
-        (4, None),
-        (5, None),
-    ];
-    for (ledger, place) in places {
-        assert_eq!(rt; place_of(&mut store, ledger)?, place);
-    }
+    let mut store = opened(rt.alloc(), &[4, 9, 1 << 63])?;
+    assert_eq!(rt; other_place(&mut store, &PLACES), None);
     Ok(())
 }
 
 /// Of each log all whole records, those of dead ledgers too; what remains, without them; and how many keys name it.
+const ACCOUNTS: [(u32, Account); 3] = [(0, (42, 42, 1)), (1, (21, 21, 1)), (2, (42, 21, 1))];
+
 #[test]
 fn found_logs_have_accounts(rt: HostRuntime) -> Result<(), Fail> {
-    let disk = three_logs(rt.alloc())?;
-    let store = Store::open(rt.alloc(), disk, SETTINGS, &[4])?;
-    for (log, account) in [(0, (42, 42, 1)), (1, (21, 21, 1)), (2, (42, 21, 1))] {
-        assert_eq!(rt; account_of(&store, log), Some(account));
-    }
+    let store = opened(rt.alloc(), &[4])?;
+    assert_eq!(rt; other_account(&store, &ACCOUNTS), None);
     Ok(())
 }
 
 /// Why a store does not open on this disk.
-fn refusal<D: LogDisk>(alloc: Global, disk: D, settings: Settings) -> Option<OpenFault> {
+fn refusal(alloc: Global, disk: FaultDisk<MemDisk>, settings: Settings) -> Option<OpenFault> {
     Store::open(alloc, disk, settings, &[]).err()
 }
 
+/// Headers that are no entry log's.
+const VERSION_2: [u8; 20] = *b"BKLO\0\0\0\x02\0\0\0\0\0\0\0\0\0\0\0\0";
+
+const OTHER_NAME: [u8; 20] = *b"BKLA\0\0\0\x01\0\0\0\0\0\0\0\0\0\0\0\0";
+
+/// Logs that are refused, and what is told of each.
+const BAD: [(Found, &str); 4] = [
+    ((0, VERSION_2, b""), "log 0: version 2"),
+    ((0, OTHER_NAME, b""), "log 0: bad magic"),
+    ((0, OPEN, b"\0\0\0\x07zero"), "log 0: bad length 1024 7"),
+    (
+        (0, OPEN, b"\xff\xff\xff\xffzero"),
+        "log 0: bad length 1024 -1",
+    ),
+];
+
 #[test]
 fn bad_files_are_refused(rt: HostRuntime) -> Result<(), Fail> {
-    let cases: [(&[u8], &[u8], &str); 4] = [
-        (b"BKLO\0\0\0\x02", b"", "log 0: version 2"),
-        (b"BKLA\0\0\0\x01", b"", "log 0: bad magic"),
-        (&HEADER, b"\0\0\0\x07zero", "log 0: bad length 1024 7"),
-        (
-            &HEADER,
-            b"\xff\xff\xff\xffzero",
-            "log 0: bad length 1024 -1",
-        ),
-    ];
-    for (header, behind, text) in cases {
-        let disk = disk_of(rt.alloc(), &[log_of(rt.alloc(), header, behind)?])?;
+    for (log, text) in &BAD {
+        let disk = FaultDisk::new(disk_of(rt.alloc(), &[*log])?, 0, 0);
         let fault = refusal(rt.alloc(), disk, SETTINGS).ok_or("opened")?;
-        assert_eq!(rt; fault.to_string(rt.alloc())?.as_str(), text);
+        assert_eq!(rt; fault.to_string(rt.alloc())?.as_str(), *text);
     }
     Ok(())
 }
 
+/// Slots and recent entries, and why a store of three logs does not open with them.
+const LIMITS: [(u32, u32, Option<OpenFault>); 4] = [
+    (0, 0, Some(OpenFault::Settings)),
+    (2, 0, Some(OpenFault::LogsFull)),
+    (3, 0, None),
+    (3, 65_537, Some(OpenFault::Settings)),
+];
+
 #[test]
 fn settings_come_before_slots(rt: HostRuntime) -> Result<(), Fail> {
-    let cases = [
-        (0, 0, Some(OpenFault::Settings)),
-        (2, 0, Some(OpenFault::LogsFull)),
-        (3, 0, None),
-        (3, 65_537, Some(OpenFault::Settings)),
-    ];
-    for (slots, recent, fault) in cases {
+    for (slots, recent, fault) in &LIMITS {
         let settings = Settings {
-            slots,
-            recent,
+            slots: *slots,
+            recent: *recent,
             ..SETTINGS
         };
-        assert_eq!(rt;
-            refusal(rt.alloc(), three_logs(rt.alloc())?, settings),
-            fault
-        );
+        let disk = FaultDisk::new(three_logs(rt.alloc())?, 0, 0);
+        assert_eq!(rt; refusal(rt.alloc(), disk, settings), *fault);
     }
     Ok(())
+}
+
+/// Why an opening is refused where the device fails at this call.
+fn fault_at(alloc: Global, call: u64) -> Result<Option<OpenFault>, DiskFault> {
+    let disk = FaultDisk::new(three_logs(alloc)?, call, 0);
+    Ok(refusal(alloc, disk, SETTINGS))
+}
+
+/// Why an opening is refused where this view is broken.
+fn fault_with(alloc: Global, view: u64) -> Result<Option<OpenFault>, DiskFault> {
+    let disk = FaultDisk::broken_view(three_logs(alloc)?, view);
+    Ok(refusal(alloc, disk, SETTINGS))
 }
 
 /// A failing device at each call of an opening: the list, and for each log its length, its header and its view.
 #[test]
 fn each_failing_call_is_told(rt: HostRuntime) -> Result<(), Fail> {
-    for call in 1..=11 {
-        let disk = FaultDisk::new(three_logs(rt.alloc())?, call, 0);
-        let fault = if call <= 10 {
-            Some(OpenFault::Disk)
-        } else {
-            None
-        };
-        assert_eq!(rt; refusal(rt.alloc(), disk, SETTINGS), fault);
+    for call in 1..=10 {
+        assert_eq!(rt; fault_at(rt.alloc(), call)?, Some(OpenFault::Disk));
     }
-    for view in 1..=4 {
-        let disk = FaultDisk::broken_view(three_logs(rt.alloc())?, view);
-        let fault = if view <= 3 {
-            Some(OpenFault::Disk)
-        } else {
-            None
-        };
-        assert_eq!(rt; refusal(rt.alloc(), disk, SETTINGS), fault);
+    assert_eq!(rt; fault_at(rt.alloc(), 11)?, None);
+    for view in 1..=3 {
+        assert_eq!(rt; fault_with(rt.alloc(), view)?, Some(OpenFault::Disk));
     }
+    assert_eq!(rt; fault_with(rt.alloc(), 4)?, None);
     Ok(())
+}
+
+/// A disk with a log of no bytes, and one of four.
+fn short_files(alloc: Global) -> Result<MemDisk, DiskFault> {
+    let mut disk = MemDisk::new(alloc);
+    disk.create(alloc, 0)?;
+    disk.create(alloc, 1)?;
+    disk.append(alloc, 1, b"zero")?;
+    Ok(disk)
 }
 
 /// A file shorter than a header is an empty log, whatever its bytes are.
 #[test]
 fn short_files_are_empty_logs(rt: HostRuntime) -> Result<(), Fail> {
-    let short = Vec::from_slice(rt.alloc(), b"zero")?;
-    let disk = disk_of(rt.alloc(), &[Vec::new(rt.alloc()), short])?;
-    let store = Store::open(rt.alloc(), disk, SETTINGS, &[])?;
-    assert_eq!(rt; store.fields.index.len(), 0);
-    assert_eq!(rt; store.fields.next, 2);
+    let store = Store::open(rt.alloc(), short_files(rt.alloc())?, SETTINGS, &[])?;
+    assert_eq!(rt; (store.fields.index.len(), store.fields.next), (0, 2));
     Ok(())
 }

@@ -1,6 +1,6 @@
 use Rattle.std.proofs.Common.{[], get_or, subst}
 use Rattle.bk_record.specs.Files.{Files}
-use Rattle.bk_dir.specs.Shown.{IsLogLine, Writes}
+use Rattle.bk_dir.specs.Shown.{IsLogLine, WritesText}
 use Rattle.bk_dir.specs.Shown.AreLines.{none}
 use Rattle.bk_dir.proofs.Lines.{appends_none, line_more}
 use Rattle.bk_dir.proofs.Reading.{honest_still, read_then}
@@ -19,6 +19,6 @@ loop-log-preserved g c =
       read_then _ _ _ _ _ _ first.0 c.show_log.ensures.reads,
       λ honest.
           line_more (IsLogLine (g.D.LogDisk.files c.args.disk.now)) logs c.loop-log.log-index _ _ _ c.loop-log-test.true (first.1 honest)
-          (subst (λ (fs : Files). Writes (IsLogLine fs log) before after) (first.0.1 honest)
+          (subst (λ (fs : Files). WritesText (IsLogLine fs log) before after) (first.0.1 honest)
           (c.in_ok-show_log.ensures.ok (honest_still _ _ _ _ first.0 honest))),
     )

@@ -1,10 +1,10 @@
 use Rattle.std.proofs.Common.{IsTrue, take}
 use Rattle.bk_dir.specs.Reading.{OnlyReads}
-use Rattle.bk_dir.specs.Shown.{AreLines, IsLogLine, Writes}
+use Rattle.bk_dir.specs.Shown.{AreLines, IsLogLine, WritesText}
 use Rattle.bk_dir.proofs.listing.show_logs.Given as goal
 
 abbrev pub invariant-loop-log : goal.invariant-loop-log
 invariant-loop-log g l =
     OnlyReads (g.D.LogDisk.honest l.fn.disk) (g.D.LogDisk.files l.fn.disk) (g.D.LogDisk.honest l.disk) (g.D.LogDisk.files l.disk)
-    × (IsTrue (g.D.LogDisk.honest l.fn.disk) → Writes (AreLines (IsLogLine (g.D.LogDisk.files l.fn.disk)) (take l.log-index l.log-items))
+    × (IsTrue (g.D.LogDisk.honest l.fn.disk) → WritesText (AreLines (IsLogLine (g.D.LogDisk.files l.fn.disk)) (take l.log-index l.log-items))
     (g.W.Write.contents l.fn.writer) (g.W.Write.contents l.writer))

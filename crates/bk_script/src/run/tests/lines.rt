@@ -1,36 +1,39 @@
-use super::{assert_shown, run};
+use super::{is_shown, run};
+
+/// Scripts and what they print.
+const SCRIPTS: [(&str, &str); 13] = [
+    ("", ""),
+    ("\n\n", ""),
+    ("swap", "nothing\n"),
+    ("\nswap\n\n\nwrite", "nothing\nno flush\n"),
+    ("add 0 0\ntake 0 0 0", "accepted\ncached -\n"),
+    ("add 1 0  \ntake 0 1 0", "accepted\ncached 20\n"),
+    (
+        "add 1 0 a  b ~\ntake 0 1 0",
+        "accepted\ncached 61202062207e\n",
+    ),
+    ("pad 1 0 0\ntake 0 1 0", "accepted\ncached -\n"),
+    ("pad 1 0 3\ntake 0 1 0", "accepted\ncached 000000\n"),
+    (
+        "pad 9223372036854775807 9223372036854775807 1\ntake 3 9223372036854775807 9223372036854775807",
+        "accepted\ncached 00\n",
+    ),
+    ("pad 1 0 2097152", "fault too long 2097168\n"),
+    (
+        "fetch 3\nrelease 3\nroll",
+        "no lease\nno lease\nnothing open\n",
+    ),
+    (
+        "add 9223372036854775807 9223372036854775807 x\ntake 3 9223372036854775807 9223372036854775807",
+        "accepted\ncached 78\n",
+    ),
+];
 
 #[test]
 fn lines_are_read_to_the_letter(rt: HostRuntime) {
-    let scripts = [
-        ("", ""),
-        ("\n\n", ""),
-        ("swap", "nothing\n"),
-        ("\nswap\n\n\nwrite", "nothing\nno flush\n"),
-        ("add 0 0\ntake 0 0 0", "accepted\ncached -\n"),
-        ("add 1 0  \ntake 0 1 0", "accepted\ncached 20\n"),
-        (
-            "add 1 0 a  b ~\ntake 0 1 0",
-            "accepted\ncached 61202062207e\n",
-        ),
-        ("pad 1 0 0\ntake 0 1 0", "accepted\ncached -\n"),
-        ("pad 1 0 3\ntake 0 1 0", "accepted\ncached 000000\n"),
-        (
-            "pad 9223372036854775807 9223372036854775807 1\ntake 3 9223372036854775807 9223372036854775807",
-            "accepted\ncached 00\n",
-        ),
-        ("pad 1 0 2097152", "fault too long 2097168\n"),
-        (
-            "fetch 3\nrelease 3\nroll",
-            "no lease\nno lease\nnothing open\n",
-        ),
-        (
-            "add 9223372036854775807 9223372036854775807 x\ntake 3 9223372036854775807 9223372036854775807",
-            "accepted\ncached 78\n",
-        ),
-    ];
-    for (script, output) in scripts {
-        assert_shown(&rt, &run(rt.alloc(), script), 0, output, "", script);
+    for (script, output) in &SCRIPTS {
+        let shown = run(rt.alloc(), script);
+        assert!(rt; is_shown(&shown, 0, output, ""), "{script:?}");
     }
 }
 
@@ -110,26 +113,26 @@ const NO_STEPS: [&str; 70] = [
 
 #[test]
 fn a_line_that_is_no_step_refuses_the_script(rt: HostRuntime) {
-    for line in NO_STEPS {
-        assert_shown(
-            &rt,
-            &run(rt.alloc(), line),
-            1,
-            "",
-            "line 1: bad command\n",
-            line,
+    for line in &NO_STEPS {
+        let shown = run(rt.alloc(), line);
+        assert!(rt;
+            is_shown(&shown, 1, "", "line 1: bad command\n"),
+            "{line:?}"
         );
     }
 }
 
+/// Scripts with bad lines, and what is told of them.
+const BAD: [(&str, &str); 3] = [
+    ("add 1 0 a\n\nfrob\nfrob\n", "line 3: bad command\n"),
+    ("\n\n\n \n", "line 4: bad command\n"),
+    ("swap\nswap\nswap x", "line 3: bad command\n"),
+];
+
 #[test]
 fn the_first_bad_line_is_told_and_no_step_runs(rt: HostRuntime) {
-    let scripts = [
-        ("add 1 0 a\n\nfrob\nfrob\n", "line 3: bad command\n"),
-        ("\n\n\n \n", "line 4: bad command\n"),
-        ("swap\nswap\nswap x", "line 3: bad command\n"),
-    ];
-    for (script, errors) in scripts {
-        assert_shown(&rt, &run(rt.alloc(), script), 1, "", errors, script);
+    for (script, errors) in &BAD {
+        let shown = run(rt.alloc(), script);
+        assert!(rt; is_shown(&shown, 1, "", errors), "{script:?}");
     }
 }

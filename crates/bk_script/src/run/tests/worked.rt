@@ -1,9 +1,9 @@
 //! Worked scripts: each line with its answer, written by hand.
 
-use super::{DEFAULTS, assert_shown, run_from};
+use super::{DEFAULTS, is_shown, run_from};
 use bk_drive::Settings;
-use std::alloc::Global;
-use std::process::Abort;
+use std::alloc::{AllocError, Global};
+use std::test::Fail;
 
 /// The lines of a script, each with its answer.
 type Worked = &'static [(&'static str, &'static str)];
@@ -230,91 +230,78 @@ const FULL_LOG: Worked = &[
     ("publish", "published 4"),
 ];
 
-/// Runs the lines on a store with these settings, of which these ledgers were deleted before, and compares what each
-/// prints.
-fn assert_answers(
-    rt: &impl Abort,
+/// Whether each of these lines prints its answer, on a store with these settings, of which these ledgers were deleted
+/// before.
+fn are_answered(
     alloc: Global,
     settings: Settings,
     dead: &[u64],
     steps: &[(&str, &str)],
-) {
+) -> Result<bool, AllocError> {
     let mut script = String::new(alloc);
     let mut output = String::new(alloc);
     for (line, answer) in steps {
-        push_line(rt, &mut script, line);
-        push_line(rt, &mut output, answer);
+        push_line(&mut script, line)?;
+        push_line(&mut output, answer)?;
     }
     let shown = run_from(alloc, settings, dead, &mut script.as_bytes());
-    assert_shown(rt, &shown, 0, &output, "", &script);
+    Ok(is_shown(&shown, 0, &output, ""))
 }
 
-fn push_line(rt: &impl Abort, text: &mut String, line: &str) {
-    text.push_str(line).expect(rt, "memory");
-    text.push('\n').expect(rt, "memory");
+fn push_line(text: &mut String, line: &str) -> Result<(), AllocError> {
+    text.push_str(line)?;
+    text.push('\n')?;
+    Ok(())
 }
+
+/// With one slot there is one log.
+const ONE_SLOT: Settings = Settings {
+    slots: 1,
+    ..DEFAULTS
+};
+
+const SHORT_LOGS: Settings = Settings {
+    log_limit: 2048,
+    ..DEFAULTS
+};
+
+const SMALL_CACHE: Settings = Settings {
+    cache_limit: 100,
+    ..DEFAULTS
+};
+
+/// The entry that was flushed last is kept in memory.
+const ONE_RECENT: Settings = Settings {
+    recent: 1,
+    ..DEFAULTS
+};
+
+/// Scripts, with the settings of their stores and the ledgers that were deleted before.
+const SCRIPTS: [(Settings, &[u64], Worked); 17] = [
+    (DEFAULTS, &[], READ),
+    (DEFAULTS, &[], HELD),
+    (DEFAULTS, &[], FLUSHING),
+    (DEFAULTS, &[], LONGEST),
+    (DEFAULTS, &[], READERS),
+    (DEFAULTS, &[], DATA),
+    (DEFAULTS, &[], DELETED),
+    (DEFAULTS, &[], DELETED_UNDER_A_LEASE),
+    (DEFAULTS, &[], DELETED_EVERYWHERE),
+    (DEFAULTS, &[], NO_FLUSH),
+    (ONE_SLOT, &[], NO_SECOND_LOG),
+    (SHORT_LOGS, &[], NEXT_LOG),
+    (SHORT_LOGS, &[], FULL_LOG),
+    (SMALL_CACHE, &[], FULL_CACHE),
+    (ONE_RECENT, &[], RECENT),
+    (DEFAULTS, &[9, 9], DEAD_FROM_THE_START),
+    (DEFAULTS, &[7, 9], DEAD_FROM_THE_START),
+];
 
 #[test]
-fn scripts_are_answered_as_written(rt: HostRuntime) {
-    for steps in [
-        READ,
-        HELD,
-        FLUSHING,
-        LONGEST,
-        READERS,
-        DATA,
-        DELETED,
-        DELETED_UNDER_A_LEASE,
-        DELETED_EVERYWHERE,
-        NO_FLUSH,
-    ] {
-        assert_answers(&rt, rt.alloc(), DEFAULTS, &[], steps);
+fn scripts_are_answered_as_written(rt: HostRuntime) -> Result<(), Fail> {
+    for (number, (settings, dead, steps)) in SCRIPTS.iter().enumerate() {
+        let answered = are_answered(rt.alloc(), *settings, dead, steps)?;
+        assert!(rt; answered, "script {number}");
     }
-}
-
-#[test]
-fn with_one_slot_there_is_one_log(rt: HostRuntime) {
-    let settings = Settings {
-        slots: 1,
-        ..DEFAULTS
-    };
-    for steps in [NO_SECOND_LOG] {
-        assert_answers(&rt, rt.alloc(), settings, &[], steps);
-    }
-}
-
-#[test]
-fn a_log_limit_is_kept(rt: HostRuntime) {
-    let settings = Settings {
-        log_limit: 2048,
-        ..DEFAULTS
-    };
-    for steps in [NEXT_LOG, FULL_LOG] {
-        assert_answers(&rt, rt.alloc(), settings, &[], steps);
-    }
-}
-
-#[test]
-fn a_cache_limit_is_kept(rt: HostRuntime) {
-    let settings = Settings {
-        cache_limit: 100,
-        ..DEFAULTS
-    };
-    assert_answers(&rt, rt.alloc(), settings, &[], FULL_CACHE);
-}
-
-#[test]
-fn recent_entries_are_read_from_memory(rt: HostRuntime) {
-    let settings = Settings {
-        recent: 1,
-        ..DEFAULTS
-    };
-    assert_answers(&rt, rt.alloc(), settings, &[], RECENT);
-}
-
-#[test]
-fn ledgers_may_be_dead_from_the_start(rt: HostRuntime) {
-    for dead in [[9, 9], [7, 9]] {
-        assert_answers(&rt, rt.alloc(), DEFAULTS, &dead, DEAD_FROM_THE_START);
-    }
+    Ok(())
 }

@@ -5,7 +5,8 @@ use Rattle.bk_disk.specs.Disk.{Appends, IsLogFile}
 use Rattle.bk_disk.specs.declared.fault.DiskFault.TheVariants.{Memory}
 use Rattle.bk_disk.specs.Logs.{files_of}
 use Rattle.bk_disk.proofs.Answered.{answer_of-map_err}
-use Rattle.bk_disk.proofs.FileMaps.{written, insert_same, grown_there}
+use Rattle.bk_record.proofs.NumberMaps.{insert_same}
+use Rattle.bk_disk.proofs.FileMaps.{written, grown_there}
 use Rattle.bk_disk.proofs.Bounds.{AreLogFiles-same, AreLogFiles-written, IsLogFile-append, each_byte, on_answer}
 use Rattle.bk_disk.proofs.mem_disk.MemDiskLogDisk.append.Goals as goal
 

@@ -3,7 +3,8 @@ use Rattle.std.specs.FinMap as files
 use Rattle.std.proofs.lemmas.List.{take_rest}
 use Rattle.std.proofs.lemmas.Option.{same_Some}
 use Rattle.bk_disk.specs.Disk.{grown}
-use Rattle.bk_disk.proofs.FileMaps.{get-insert_same, grown-insert}
+use Rattle.bk_record.proofs.NumberMaps.{get-insert_same}
+use Rattle.bk_disk.proofs.FileMaps.{grown-insert}
 use Rattle.bk_disk.proofs.Answered.{IfOk-always, IfOk-reads_view}
 use Rattle.bk_disk.proofs.tests.bound.view_between.Goals as goal
 

@@ -1,6 +1,6 @@
 use Rattle.std.proofs.Common.{sym, ◌∙◌, ap, arith}
 use Rattle.bk_head.specs.Ledgers.{map_of}
-use Rattle.bk_log.proofs.Maps.{inserted}
+use Rattle.bk_record.proofs.NumberMaps.{inserted}
 use Rattle.bk_log.proofs.Tallies.{with_last-some, with_last-none}
 use Rattle.bk_log.proofs.sizes.LedgerSizes.into_map.Goals as goal
 use Rattle.bk_log.proofs.sizes.LedgerSizes.into_map.Goals.{then-size-gt0+in_ok-insert, else-size-gt0}

@@ -1,7 +1,7 @@
 use Rattle.std.proofs.Common.{◌≡◌, sym, ◌∙◌, ap, arith, unwrap_or, refl}
 use Rattle.std.specs.FinMap as map
 use Rattle.bk_log.specs.Sizes.{size_in, with_last}
-use Rattle.bk_log.proofs.Maps.{inserted, get-made}
+use Rattle.bk_record.proofs.NumberMaps.{inserted, get-made}
 use Rattle.bk_log.proofs.Tallies.{with_last-some, with_last-none, turned}
 use Rattle.bk_log.proofs.sizes.LedgerSizes.turn_to.Goals as goal
 use Rattle.bk_log.proofs.sizes.LedgerSizes.turn_to.Goals.{then-self-gt0+in_ok-insert, else-self-gt0}

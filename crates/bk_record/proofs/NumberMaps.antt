@@ -1,18 +1,15 @@
--- Finite maps made of a `BTreeMap`'s entries, at keys that are numbers; a number put back.
-use Rattle.std.proofs.Common.{◌≡◌, ℕ, cond, List, [], ◌∷◌, Some, nat_cmp, refl, sym, ap, ◌∙◌}
+-- Finite maps at keys that are numbers: those made of a `BTreeMap`'s entries, and what is put in or taken out there.
+use Rattle.std.proofs.Common.{◌≡◌, ℕ, cond, List, Some, None, nat_cmp, sym, ap, ◌∙◌}
 use Rattle.std.specs.Cmp.{nat_cmp_total, eq_by_cmp_equiv}
 use Rattle.std.specs.BTreeMap.{is_at}
 use Rattle.std.specs.Map.{lookup}
+use Rattle.std.specs.FinMap.{FinMap, get, insert, remove, from_entries, get-insert, get-remove, get-from_entries, same_map, nat_cmp-IsAntisymmetric}
 use Rattle.bk_record.proofs.Maps as maps
-use Rattle.std.specs.FinMap.{FinMap, find, get, insert, from_entries, get-insert, get-from_entries, same_map, nat_cmp-IsAntisymmetric}
-
-find-lookup : {X : Type 0} (es : List (ℕ × X)) (q : ℕ) → find nat_cmp q es ≡ lookup (is_at (nat_cmp q)) es
-find-lookup [] q = refl
-find-lookup (e ∷ es) q = ap (cond (is_at (nat_cmp q) e.0) (Some e.1)) (find-lookup es q)
+use Rattle.bk_record.proofs.SortedPairs.{find-lookup}
 
 -- what the map of the entries has at a key
 pub get-entries : {X : Type 0} (es : List (ℕ × X)) (q : ℕ) → get (from_entries {R = nat_cmp} es) q ≡ lookup (is_at (nat_cmp q)) es
-get-entries es q = get-from_entries nat_cmp_total es q ∙ find-lookup es q
+get-entries es q = get-from_entries nat_cmp_total es q ∙ find-lookup nat_cmp q es
 
 -- the same of a map that is that of the entries
 pub get-made : {X : Type 0} (es : List (ℕ × X)) (m : FinMap nat_cmp X) (q : ℕ) → from_entries {R = nat_cmp} es ≡ m → lookup (is_at (nat_cmp q)) es ≡ get m q
@@ -29,6 +26,18 @@ pub inserted : {X : Type 0} (es fs : List (ℕ × X)) (k : ℕ) (v : X)
 inserted es fs k v at = same_by_get _ _ (λ q.
     get-entries fs q ∙ at q ∙ ap (λ b. cond b (Some v) (lookup (is_at (nat_cmp q)) es)) ((eq_by_cmp_equiv nat_cmp_total).symm k q)
     ∙ sym (get-insert nat_cmp_total (from_entries es) k v q ∙ ap (cond (is_at (nat_cmp q) k) (Some v)) (get-entries es q)))
+
+-- entries that lack one key make the map without it
+pub removed : {X : Type 0} (es fs : List (ℕ × X)) (k : ℕ)
+    → ((q : ℕ) → lookup (is_at (nat_cmp q)) fs ≡ cond (is_at (nat_cmp k) q) None (lookup (is_at (nat_cmp q)) es))
+    → from_entries {R = nat_cmp} fs ≡ remove (from_entries es) k
+removed es fs k at = same_by_get _ _ (λ q.
+    get-entries fs q ∙ at q ∙ ap (λ b. cond b None (lookup (is_at (nat_cmp q)) es)) ((eq_by_cmp_equiv nat_cmp_total).symm k q)
+    ∙ sym (get-remove nat_cmp_total (from_entries es) k q ∙ ap (cond (is_at (nat_cmp q) k) None) (get-entries es q)))
+
+-- what was put in is there
+pub get-insert_same : {X : Type 0} (m : FinMap nat_cmp X) (k : ℕ) (v : X) → get (insert m k v) k ≡ Some v
+get-insert_same m k v = maps.get-insert_here nat_cmp_total nat_cmp-IsAntisymmetric m k v
 
 -- the second of two values at one key stays
 pub insert-insert : {X : Type 0} (m : FinMap nat_cmp X) (k : ℕ) (v w : X) → insert (insert m k v) k w ≡ insert m k w

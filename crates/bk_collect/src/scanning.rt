@@ -1,0 +1,84 @@
+//! The entries that one log shows are taken into an index as they come, so no log is held in memory.
+
+ghost use Rattle.std.specs.Prelude.{◌≡◌, ◌<◌, ◌≤◌, ◌^◌, IsErrOf, IfErr, OnOk, Some};
+ghost use Rattle.bk_store.specs.Logs.{view_of};
+ghost use Rattle.bk_collect.specs.Collecting.{AreSound, RebuildFails, open_view};
+ghost use Rattle.bk_collect.specs.Taking.{EntryFails, TakesIn, told, with_key};
+
+use crate::CollectFault;
+use bk_disk::{LogDisk, LogView};
+use bk_index::Index;
+use bk_log::{Found, ScanFault, Scanner};
+use bk_record::{HEADER_LENGTH, Location};
+use bk_store::{LogCause, Store};
+
+/// Takes the entries that a log shows into the index, one after another. Foreign records are passed over, and so is what is
+/// torn at the end.
+pub(crate) fn take_in<D: LogDisk>(
+    store: &Store<D>,
+    log: u32,
+    view: &D::View,
+    index: &mut Index,
+) -> Result<(), CollectFault>
+    requires id { log < 2 ^ 31 }
+    requires shown { open_view store.now.logs log ≡ Some (view_of D.View.bytes D.View.honest D.View.sound view.now) }
+    ensures ok { OnOk result (TakesIn store.now.dead log (view_of D.View.bytes D.View.honest D.View.sound view.now) index.old index.new) }
+    ensures fails { IfErr result (λ fault. RebuildFails store.now fault) }
+    ensures sound { AreSound D.View.sound → ¬ (IsErrOf result CollectFault.Disk) }
+{
+    store.promise();
+    store.disk().bounds();
+    let end = view.end();
+    if end < HEADER_LENGTH as u64 {
+        return Err(CollectFault::Odd);
+    }
+    let mut scanner = Scanner::new(view, store.alloc(), HEADER_LENGTH as u64, end);
+    loop {
+        match scanner.next() {
+            Ok(Some(found)) => name(store, log, &found, index)?,
+            Ok(None) => return Ok(()),
+            Err(fault) => return Err(scan_fault(log, fault)),
+        }
+    }
+}
+
+/// Sends the key of an entry to its place, where its ledger lives. The faults are `Memory`, and `Odd` where the place is past
+/// 2^32 - 1.
+fn name<D: LogDisk>(
+    store: &Store<D>,
+    log: u32,
+    found: &Found,
+    index: &mut Index,
+) -> Result<(), CollectFault>
+    requires id { log < 2 ^ 31 }
+    requires begins { 1028 ≤ found.now.at }
+    ensures ok { OnOk result (index.new ≡ with_key store.now.dead index.old found.now.key (record { log = log; at = found.now.at })) }
+    ensures fails { IfErr result (λ fault. EntryFails found.now fault) }
+{
+    if store.is_dead(found.key.ledger()) {
+        return Ok(());
+    }
+    if found.at > u64::from(u32::MAX) {
+        return Err(CollectFault::Odd);
+    }
+    let place = Location::pack(log, found.at as u32).unwrap();
+    match index.insert(found.key, place) {
+        Ok(_) => Ok(()),
+        Err(_) => Err(CollectFault::Memory),
+    }
+}
+
+/// A bad length is the log's of this id.
+fn scan_fault(id: u32, fault: ScanFault) -> CollectFault
+    ensures { result ≡ told id fault }
+{
+    match fault {
+        ScanFault::BadLength { at, length } => CollectFault::Log {
+            id,
+            cause: LogCause::BadLength { at, length },
+        },
+        ScanFault::Disk => CollectFault::Disk,
+        ScanFault::Memory => CollectFault::Memory,
+        ScanFault::Odd => CollectFault::Odd,
+    }
+}
