@@ -72,7 +72,7 @@ pub ready_failures : (s mid : State) (payload : List ℕ) (id : ℕ) → ReadyTu
 ready_failures s mid payload id (inl found) = same_failures s mid found.1
 ready_failures s mid payload id (inr new) =
     let filled = filled_failures s new.mid new.filled (Ok tt) new.sealed in
-    let made : mid.failures ≡ new.mid.failures = ap (λ (x : State). x.failures) new.made.3 in
+    let made : mid.failures ≡ new.mid.failures = ap (λ (x : State). x.failures) new.made.2.left in
     omega (arith, filled, made)
 
 refused_failures : (s after : State) (filled : Option ℕ) (fault : FlushFault) → IsRefused s filled fault after → after.failures ≡ s.failures + failed_of fault

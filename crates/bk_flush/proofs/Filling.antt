@@ -73,10 +73,11 @@ still_may s mid (Some id) seals may =
 pub made_takes : (mid t : State) (id : ℕ) (payload : List ℕ) (size : ℕ) → length payload ≡ size → size ≤ 1048576 → MakeTurn mid Writing (Ok id) t
     → CanTake t id Writing payload
 made_takes mid t id payload size long most made = record {
-  log = made_log Writing mid.next;
+  log = made_log Writing mid.next made.2.slot;
   w = new_writing mid.next;
   writer = record {
-    held = ap (λ (x : State). finite.get x.logs id) made.3 ∙ log-inserted mid.logs mid.next (made_log Writing mid.next) id made.1;
+    held = ap (λ (x : State). finite.get x.logs id) made.2.left
+        ∙ log-inserted mid.logs mid.next (made_log Writing mid.next made.2.slot) id made.1;
     writer = refl;
   };
   state_is = refl;

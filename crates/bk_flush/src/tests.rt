@@ -107,7 +107,7 @@ fn told_of_fault(fault: FlushFault) -> Told {
     }
 }
 
-fn told_of_take<D: LogDisk>(store: &Store<D>, entry: u8) -> Result<Told, Fail> {
+fn told_of_take<D: LogDisk>(store: &mut Store<D>, entry: u8) -> Result<Told, Fail> {
     let key = Key::new(1, u64::from(entry)).ok_or("no key")?;
     Ok(match store.take(key)? {
         Taken::Cached(_) => ("cached", 0),

@@ -11,6 +11,7 @@ use Rattle.bk_record.specs.Files.{Files, file_of}
 use Rattle.bk_record.specs.Scan.{entries_of}
 use Rattle.bk_log.specs.Writing as writers
 use Rattle.bk_store.specs.Logs.{Log, Logs, HasOpenView, AllChanged, is_open, is_written, settled_as, unfilled_as, open_parts, published_part, acknowledged_part}
+use Rattle.bk_store.specs.Seated.{slot_state}
 use Rattle.bk_store.specs.Kept.{IsHeld, IsWrittenBy, acknowledged_entries}
 use Rattle.bk_store.specs.declared.log.LogState.{LogState}
 use Rattle.bk_store.specs.declared.log.LogState.TheVariants.{Writing, Filled, Copying, Readable, Retired, Closed}
@@ -54,6 +55,8 @@ module _ {X : Type 0} (f : X → X) where
 
 pub record IsMild (rule : LogState → Log → Log) : Type 0 where
   pub view : (log : Log) → (rule log.state log).view ≡ log.view
+  pub slot : (log : Log) → (rule log.state log).slot ≡ log.slot
+  pub seat : (id : ℕ) (log : Log) → slot_state id (rule log.state log).state ≡ slot_state id log.state
   pub acknowledged : (log : Log) → (rule log.state log).acknowledged ≡ log.acknowledged
   pub opened : (log : Log) → is_open (rule log.state log).state ≡ is_open log.state
   pub held : (next id : ℕ) (log : Log) → IsHeld next id log → IsHeld next id (rule log.state log)
@@ -91,6 +94,22 @@ unfilled_held Copying next id log is was = was
 unfilled_held Readable next id log is was = was
 unfilled_held Retired next id log is was = was
 unfilled_held Closed next id log is was = was
+
+settled_slot : (s : LogState) (log : Log) → (settled_as s log).slot ≡ log.slot
+settled_slot Writing log = refl
+settled_slot Filled log = refl
+settled_slot Copying log = refl
+settled_slot Readable log = refl
+settled_slot Retired log = refl
+settled_slot Closed log = refl
+
+settled_seat : (id : ℕ) (s : LogState) (log : Log) → log.state ≡ s → slot_state id (settled_as s log).state ≡ slot_state id s
+settled_seat id Writing log is = refl
+settled_seat id Filled log is = refl
+settled_seat id Copying log is = ap (slot_state id) is
+settled_seat id Readable log is = ap (slot_state id) is
+settled_seat id Retired log is = ap (slot_state id) is
+settled_seat id Closed log is = ap (slot_state id) is
 
 settled_opened : (s : LogState) (log : Log) → log.state ≡ s → is_open (settled_as s log).state ≡ is_open s
 settled_opened Writing log is = refl
@@ -149,6 +168,8 @@ settled_unflushed Closed log is (inr wrong) = cc
 pub settled_mild : IsMild settled_as
 settled_mild = record {
   view = λ log. settled_view log.state log;
+  slot = λ log. settled_slot log.state log;
+  seat = λ id log. settled_seat id log.state log refl;
   acknowledged = λ log. settled_acknowledged log.state log;
   opened = λ log. settled_opened log.state log refl;
   held = λ next id log. settled_held log.state next id log refl;
@@ -156,6 +177,22 @@ settled_mild = record {
   writing = λ log wrong. absurd (settled_unflushed log.state log refl (inl wrong));
   filled = λ log wrong. settled_unflushed log.state log refl (inr wrong);
 }
+
+unfilled_slot : (s : LogState) (log : Log) → (unfilled_as s log).slot ≡ log.slot
+unfilled_slot Writing log = refl
+unfilled_slot Filled log = refl
+unfilled_slot Copying log = refl
+unfilled_slot Readable log = refl
+unfilled_slot Retired log = refl
+unfilled_slot Closed log = refl
+
+unfilled_seat : (id : ℕ) (s : LogState) (log : Log) → log.state ≡ s → slot_state id (unfilled_as s log).state ≡ slot_state id s
+unfilled_seat id Writing log is = ap (slot_state id) is
+unfilled_seat id Filled log is = refl
+unfilled_seat id Copying log is = ap (slot_state id) is
+unfilled_seat id Readable log is = ap (slot_state id) is
+unfilled_seat id Retired log is = ap (slot_state id) is
+unfilled_seat id Closed log is = ap (slot_state id) is
 
 unfilled_view : (s : LogState) (log : Log) → (unfilled_as s log).view ≡ log.view
 unfilled_view Writing log = refl
@@ -200,6 +237,8 @@ unfilled_not Closed log was is = cc
 pub unfilled_mild : IsMild unfilled_as
 unfilled_mild = record {
   view = λ log. unfilled_view log.state log;
+  slot = λ log. unfilled_slot log.state log;
+  seat = λ id log. unfilled_seat id log.state log refl;
   acknowledged = λ log. unfilled_acknowledged log.state log;
   opened = λ log. unfilled_opened log.state log refl;
   held = λ next id log. unfilled_held log.state next id log refl;

@@ -48,3 +48,10 @@ held_from p fits from (Some id) is =
     let below = (fits.held id log.0 log.1).below in
     let ids = fits.ids in
     omega (arith, below, ids)
+
+pub held_id : (p : Parts) → Fits p → (id : ℕ) → IsSome (finite.get p.state.logs id) → id < 2147483648
+held_id p fits id there =
+    let log = some_value (finite.get p.state.logs id) there in
+    let below = (fits.held id log.0 log.1).below in
+    let ids = fits.ids in
+    omega (arith, below, ids)

@@ -83,7 +83,7 @@ module _ (p : Parts) (payload : List ℕ) (key : EntryKey) (reads : read_added p
           allowed = fits.allowed;
           limit = fits.limit;
           ids = fits.ids;
-          slots = fits.slots;
+          seated = fits.seated;
           held = fits.held;
           sent = fits.sent;
           placed = record {

@@ -177,7 +177,7 @@ module _ (p : Parts) (ledger : ℕ) (keeps : Keeps p) (book : Book) (left : AreL
           allowed = fits.allowed;
           limit = fits.limit;
           ids = fits.ids;
-          slots = fits.slots;
+          seated = fits.seated;
           held = fits.held;
           sent = λ key place is. fits.sent key place (left_cases p.state.index ledger key place is).1;
           placed = placed_left p.state ledger fits.placed;

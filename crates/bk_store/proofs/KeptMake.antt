@@ -30,13 +30,18 @@ use Rattle.bk_store.specs.Shown.{Shows}
 use Rattle.bk_store.specs.Logs.{Log, Logs, HasOpenView, IsFlushLog, is_open, is_written, made_log, unmade_log, open_parts, published_part}
 use Rattle.bk_store.specs.State.{State, Parts}
 use Rattle.bk_store.specs.Kept.{Keeps, Fits, Promises, IsHeld, IsWrittenBy, IsBacked, entry_measure, acknowledged_entries}
-use Rattle.bk_store.specs.Doors.{MakeTurn, MayMake, IsUnmade, HasNoWriting, IsIn, with_next, logs_left}
+use Rattle.bk_lease.specs.declared.slot.Slot.TheVariants as slots
+use Rattle.bk_lease.specs.Slots.{IsFree}
+use Rattle.bk_lease.specs.Values.{SlotTable}
+use Rattle.bk_store.specs.Seated.{slot_state}
+use Rattle.bk_store.specs.Doors.{MakeTurn, MayMake, IsUnmade, HasNoWriting, IsIn, with_next, with_seat, logs_left, keeper_left}
 use Rattle.bk_store.specs.Beside.{MakesBeside, GoesOn, opened_for, writing_in, made_writing}
 use Rattle.bk_store.specs.declared.log.LogState.{LogState}
 use Rattle.bk_store.specs.declared.log.LogState.TheVariants.{Writing, Filled, Copying, Readable, Retired, Closed}
 use Rattle.bk_store.specs.declared.answer.MakeFault.{MakeFault}
 use Rattle.bk_store.specs.declared.answer.MakeFault.TheVariants as makes
 use Rattle.bk_store.proofs.Cases.{some_or_none, same_or_apart}
+use Rattle.bk_store.proofs.Seats.{seated_new, slot_state-written}
 use Rattle.bk_store.proofs.Growing.{Grows, grows_behind, carries_grown}
 use Rattle.bk_store.proofs.ShownMoves.{shows_grown}
 use Rattle.bk_store.proofs.LogMaps.{log-inserted, log-insert_else, log-insert_cases}
@@ -90,7 +95,7 @@ module _ (p : Parts) (keeps : Keeps p) where
           allowed = fits.allowed;
           limit = fits.limit;
           ids = fits.ids;
-          slots = fits.slots;
+          seated = fits.seated;
           held = fits.held;
           sent = fits.sent;
           placed = fits.placed;
@@ -114,7 +119,7 @@ module _ (p : Parts) (keeps : Keeps p) where
       }
 
   pub keeps_used : (files : Files) (failures : ℕ) (filled : List ℕ) → GoesOn p.filled filled → next < 2 ^ 31 → (IsTrue p.state.honest → files ≡ p.state.files)
-      → Keeps (record p { state = with_next p.state files failures p.state.logs; filled = filled })
+      → Keeps (record p { state = with_next p.state files failures p.state.logs p.state.keeper; filled = filled })
   keeps_used files failures filled goes room same =
       let fits = keeps.fits in
       record {
@@ -122,7 +127,7 @@ module _ (p : Parts) (keeps : Keeps p) where
           allowed = fits.allowed;
           limit = fits.limit;
           ids = omega (arith, room);
-          slots = fits.slots;
+          seated = fits.seated;
           held = λ id log is. held_later id log (fits.held id log is);
           sent = fits.sent;
           placed = record {
@@ -140,7 +145,7 @@ module _ (p : Parts) (keeps : Keeps p) where
         };
         promises = λ honest.
             let promise = keeps.promises honest in
-            subst (λ f. Promises (record p { state = with_next p.state f failures p.state.logs; filled = filled })) (sym (same honest)) (record {
+            subst (λ f. Promises (record p { state = with_next p.state f failures p.state.logs p.state.keeper; filled = filled })) (sym (same honest)) (record {
               carried = promise.carried;
               carries = promise.carries;
               shows = promise.shows;
@@ -157,10 +162,11 @@ module _ (p : Parts) (keeps : Keeps p) where
   -- ---- a log is held from now on
 
   module _ (new : Log) (blank : new.view ≡ None) (short : new.acknowledged ≡ header_length)
+      (slot : ℕ) (free : IsFree p.state.keeper.slots slot) (stands : new.slot ≡ slot) (seat : slot_state next new.state ≡ slots.Open next)
       (files : Files) (failures : ℕ) (writing : Option ℕ) (filled : List ℕ) where
     abbrev with_new : Parts
     with_new = record p {
-      state = with_next p.state files failures (finite.insert p.state.logs next new);
+      state = with_next p.state files failures (finite.insert p.state.logs next new) (with_seat p.state slot);
       accounts = after_open p.accounts next;
       writing = writing;
       filled = filled;
@@ -204,10 +210,7 @@ module _ (p : Parts) (keeps : Keeps p) where
           allowed = fits.allowed;
           limit = fits.limit;
           ids = let room = may.id in omega (arith, room);
-          slots = let room = may.room in
-              let count = finite.len-insert nat_cmp_total p.state.logs next new
-              ∙ ap (λ (o : Option Log). cond (is_some o) (finite.len p.state.logs) (finite.len p.state.logs + 1)) unheld in
-              omega (arith, room, count);
+          seated = seated_new p.state.settings p.state.keeper p.state.logs fits.seated slot next new free unheld stands seat;
           held = each_new (λ id l. IsHeld (next + 1) id l) held (λ id l is. held_later id l (fits.held id l is));
           sent = λ key place is.
               let seen = fits.sent key place is in
@@ -309,7 +312,7 @@ module _ (p : Parts) (keeps : Keeps p) where
         → GoesOn p.filled filled → ((new.state ≡ Writing) ⊎ (new.state ≡ Filled) → In next filled)
         → (IsTrue p.state.honest → Gains p.state.files next [] files × (length (file_of files next) ≤ header_length) × IsBacked files next new)
         → Keeps (record p {
-          state = with_next p.state files failures (finite.insert p.state.logs next new);
+          state = with_next p.state files failures (finite.insert p.state.logs next new) (with_seat p.state slot);
           accounts = after_open p.accounts next;
           writing = writing;
           filled = filled;
@@ -344,17 +347,17 @@ module _ (p : Parts) (keeps : Keeps p) (new : Log) where
     ]),
   )
 
-held_made : (state : LogState) (id : ℕ) → is_written state ≡ true → IsHeld (id + 1) id (made_log state id)
-held_made state id written = record {
+held_made : (state : LogState) (id slot : ℕ) → is_written state ≡ true → IsHeld (id + 1) id (made_log state id slot)
+held_made state id slot written = record {
   below = omega arith;
   written = λ _. refl;
   by = λ w is.
       let same : new_writing id ≡ w = cc in
-      subst (λ x. IsWrittenBy id (made_log state id) x) same (record { state = written; own = refl; going = refl; long = refl; empty = λ _. refl });
+      subst (λ x. IsWrittenBy id (made_log state id slot) x) same (record { state = written; own = refl; going = refl; long = refl; empty = λ _. refl });
 }
 
-held_unmade : (id : ℕ) → IsHeld (id + 1) id unmade_log
-held_unmade id = record { below = omega arith; written = λ wrong. absurd (cc); by = λ w wrong. absurd (cc) }
+held_unmade : (id slot : ℕ) → IsHeld (id + 1) id (unmade_log slot)
+held_unmade id slot = record { below = omega arith; written = λ wrong. absurd (cc); by = λ w wrong. absurd (cc) }
 
 file_now : (files files' : Files) (id : ℕ) (bytes : List ℕ) → files' ≡ finite.insert files id bytes → finite.get files' id ≡ Some bytes
 file_now files files' id bytes is = ap (λ m. finite.get m id) is ∙ log-inserted files id bytes id refl
@@ -394,20 +397,20 @@ module _ (p q : Parts) (keeps : Keeps p) (state : LogState) (result : Result ℕ
   }
 
   -- the next log is held, and its account is open
-  opened_now : (files : Files) (failures : ℕ) (new : Log)
+  opened_now : (files : Files) (failures : ℕ) (new : Log) (keeper : SlotTable)
       → Keeps (record p {
-        state = with_next p.state files failures (finite.insert p.state.logs p.state.next new);
+        state = with_next p.state files failures (finite.insert p.state.logs p.state.next new) keeper;
         accounts = after_open p.accounts p.state.next;
         writing = made_writing p.writing state result;
         filled = q.filled;
       })
-      → q.state ≡ with_next p.state files failures (finite.insert p.state.logs p.state.next new) → Keeps q
-  opened_now files failures new kept is =
+      → q.state ≡ with_next p.state files failures (finite.insert p.state.logs p.state.next new) keeper → Keeps q
+  opened_now files failures new keeper kept is =
       let there : opened_for (finite.insert p.state.logs p.state.next new) p.accounts p.state.next ≡ after_open p.accounts p.state.next =
       ap (λ (o : Option Log). cond (is_some o) (after_open p.accounts p.state.next) p.accounts)
       (log-inserted p.state.logs p.state.next new p.state.next refl) in
       subst Keeps (sym (beside.parts ∙ ap beside_of is)) (subst (λ a. Keeps (record p {
-        state = with_next p.state files failures (finite.insert p.state.logs p.state.next new);
+        state = with_next p.state files failures (finite.insert p.state.logs p.state.next new) keeper;
         accounts = a;
         writing = made_writing p.writing state result;
         filled = q.filled;
@@ -431,9 +434,9 @@ module _ (p q : Parts) (keeps : Keeps p) (state : LogState) (fault : MakeFault) 
         | true ↦ λ made.
             let fails = λ (honest : IsTrue p.state.honest).
             subst (λ b. CreateFails p.state.files p.state.next b told q.state.files) made (is.files honest) in
-            opened_now p q keeps state (Err fault) beside q.state.files failures unmade_log
-            (kept_new p keeps unmade_log refl refl q.state.files failures p.writing q.filled may (held_unmade p.state.next)
-            (writing_as_before p keeps unmade_log (λ wrong. cc)) beside.still (λ wrong. elim wrong [ inl w ↦ cc | inr w ↦ cc ])
+            opened_now p q keeps state (Err fault) beside q.state.files failures (unmade_log is.slot) (with_seat p.state is.slot)
+            (kept_new p keeps (unmade_log is.slot) refl refl is.slot is.free refl refl q.state.files failures p.writing q.filled may
+            (held_unmade p.state.next is.slot) (writing_as_before p keeps (unmade_log is.slot) (λ wrong. cc)) beside.still (λ wrong. elim wrong [ inl w ↦ cc | inr w ↦ cc ])
             (λ honest.
             let left = left_made p.state.files q.state.files p.state.next told (fails honest) in (
               create_gains {W = Unit {0}} p.state.files q.state.files p.state.next (Err (record { made = is.made; fault = told })) (is.files honest),
@@ -446,31 +449,37 @@ module _ (p q : Parts) (keeps : Keeps p) (state : LogState) (fault : MakeFault) 
                 shown = λ v wrong. absurd (cc);
               },
             )))
-            (is.left ∙ ap (λ b. with_next p.state q.state.files failures (logs_left p.state b)) made)
+            (is.left ∙ ap (λ b. with_next p.state q.state.files failures (logs_left p.state b is.slot) (keeper_left p.state b is.slot)) made)
         | false ↦ λ made.
             let fails = λ (honest : IsTrue p.state.honest).
             subst (λ b. CreateFails p.state.files p.state.next b told q.state.files) made (is.files honest) in
-            let left : q.state ≡ with_next p.state q.state.files failures p.state.logs =
-            is.left ∙ ap (λ b. with_next p.state q.state.files failures (logs_left p.state b)) made in
+            let left : q.state ≡ with_next p.state q.state.files failures p.state.logs p.state.keeper =
+            is.left ∙ ap (λ b. with_next p.state q.state.files failures (logs_left p.state b is.slot) (keeper_left p.state b is.slot)) made in
             subst Keeps (sym (beside.parts ∙ ap (beside_of p q keeps state (Err fault) beside) left))
-            (subst (λ a. Keeps (record p { state = with_next p.state q.state.files failures p.state.logs; accounts = a; filled = q.filled }))
+            (subst (λ a. Keeps (record p {
+              state = with_next p.state q.state.files failures p.state.logs p.state.keeper;
+              accounts = a;
+              filled = q.filled;
+            }))
             (sym (unopened p q keeps state (Err fault) beside))
             (keeps_used p keeps q.state.files failures q.filled beside.still room
             (λ honest. left_unmade p.state.files q.state.files p.state.next told (fails honest))))
       ] refl
 
 made : (p q : Parts) (state : LogState) (id : ℕ) → Keeps p → is_written state ≡ true → (state ≡ Writing → HasNoWriting p.state)
-    → MakeTurn p.state state (Ok id) q.state → MakesBeside p state (Ok id) q
+    → (turn : MakeTurn p.state state (Ok id) q.state) → MakesBeside p state (Ok id) q
     → ((n : ℕ) → (made_writing p.writing state (Ok id) ≡ Some n)
-    ↔ ((log : Log) × (finite.get (finite.insert p.state.logs p.state.next (made_log state p.state.next)) n ≡ Some log) × (log.state ≡ Writing)))
+    ↔ ((log : Log) × (finite.get (finite.insert p.state.logs p.state.next (made_log state p.state.next turn.2.slot)) n ≡ Some log) × (log.state ≡ Writing)))
     → ¬ (state ≡ Filled) → Keeps q
 made p q state id keeps written none turn beside writes unfilled =
-    opened_now p q keeps state (Ok id) beside q.state.files p.state.failures (made_log state p.state.next)
-    (kept_new p keeps (made_log state p.state.next) refl refl q.state.files p.state.failures (made_writing p.writing state (Ok id)) q.filled turn.0
-    (held_made state p.state.next written) writes beside.still
+    let is = turn.2 in
+    opened_now p q keeps state (Ok id) beside q.state.files p.state.failures (made_log state p.state.next is.slot) (with_seat p.state is.slot)
+    (kept_new p keeps (made_log state p.state.next is.slot) refl refl is.slot is.free refl (slot_state-written p.state.next state written)
+    q.state.files p.state.failures (made_writing p.writing state (Ok id)) q.filled turn.0
+    (held_made state p.state.next is.slot written) writes beside.still
     (λ flushed. elim flushed [ inl w ↦ beside.listed w refl | inr wrong ↦ absurd (unfilled wrong) ])
     (λ honest.
-    let create = turn.2 honest in
+    let create = is.files honest in
     let header = length-empty_header in
     let short = short_now p.state.files q.state.files p.state.next empty_header create.1 (omega (arith, header)) in (
       create_gains {W = Unit {0}} p.state.files q.state.files p.state.next (Ok tt) create,
@@ -484,7 +493,7 @@ made p q state id keeps written none turn beside writes unfilled =
         shown = λ v wrong. absurd (cc);
       },
     )))
-    turn.3
+    is.left
 
 pub keeps_make : (p q : Parts) (state : LogState) (result : Result ℕ MakeFault) → Keeps p → is_written state ≡ true → (state ≡ Writing → HasNoWriting p.state)
     → MakeTurn p.state state result q.state → MakesBeside p state result q → Keeps q
@@ -500,10 +509,10 @@ keeps_make p q state (Err makes.Odd) keeps written none turn beside =
     unmade p q keeps state makes.Odd beside log_faults.Odd p.state.failures turn.0.id turn.0 turn.2
 keeps_make p q Writing (Ok id) keeps written none turn beside =
     made p q Writing id keeps written none turn beside
-    (λ n. subst (λ m. (Some m ≡ Some n) ↔ ((log : Log) × (finite.get (finite.insert p.state.logs p.state.next (made_log Writing p.state.next)) n ≡ Some log)
-    × (log.state ≡ Writing))) (sym turn.1) (writing_now p keeps (made_log Writing p.state.next) refl (none refl) n)) (λ wrong. cc)
+    (λ n. subst (λ m. (Some m ≡ Some n) ↔ ((log : Log) × (finite.get (finite.insert p.state.logs p.state.next (made_log Writing p.state.next turn.2.slot)) n ≡ Some log)
+    × (log.state ≡ Writing))) (sym turn.1) (writing_now p keeps (made_log Writing p.state.next turn.2.slot) refl (none refl) n)) (λ wrong. cc)
 keeps_make p q Copying (Ok id) keeps written none turn beside =
-    made p q Copying id keeps written none turn beside (writing_as_before p keeps (made_log Copying p.state.next) (λ wrong. cc)) (λ wrong. cc)
+    made p q Copying id keeps written none turn beside (writing_as_before p keeps (made_log Copying p.state.next turn.2.slot) (λ wrong. cc)) (λ wrong. cc)
 keeps_make p q Filled (Ok id) keeps wrong none turn beside = absurd (cc)
 keeps_make p q Readable (Ok id) keeps wrong none turn beside = absurd (cc)
 keeps_make p q Retired (Ok id) keeps wrong none turn beside = absurd (cc)

@@ -118,7 +118,7 @@ module _ (p : Parts) (keeps : Keeps p) (key : EntryKey) (place : Place) (may : M
         allowed = fits.allowed;
         limit = fits.limit;
         ids = fits.ids;
-        slots = fits.slots;
+        seated = fits.seated;
         held = fits.held;
         sent = λ k pl is. elim (inserted_cases p.state.index key place k pl is) [
           | inl here ↦ subst (λ (x : Place). HasOpenView p.state.logs x.log) here.1

@@ -13,27 +13,34 @@ use Rattle.bk_accounts.specs.Book.{Book, named_in, total_at}
 use Rattle.bk_accounts.specs.Sums.{AreSums}
 use Rattle.bk_store.specs.Shown.{Shows}
 use Rattle.bk_store.specs.Logs.{Log, Logs, HasOpenView, IsFlushLog, open_parts}
+use Rattle.bk_lease.specs.Values.{SlotTable}
+use Rattle.bk_store.specs.Seated.{IsSeated, slot_state}
 use Rattle.bk_store.specs.State.{Parts}
 use Rattle.bk_store.specs.Kept.{Keeps, Fits, Promises, IsHeld, IsBacked, entry_measure, acknowledged_entries}
 use Rattle.bk_store.specs.declared.log.LogState.TheVariants.{Writing}
 use Rattle.bk_store.proofs.Cases.{same_or_apart}
 use Rattle.bk_store.proofs.Growing.{EntriesStay, OnlyIn, Grows, grows_behind, carries_grown}
-use Rattle.bk_store.proofs.OneLog.{IsFlushed, same_len, each_log, names_stay}
+use Rattle.bk_store.proofs.OneLog.{IsFlushed, each_log, names_stay}
+use Rattle.bk_store.proofs.Seats.{seated_one}
 
--- the parts with one log changed
-abbrev pub with_one : Parts → ℕ → Log → Files → ℕ → Book → Option ℕ → Parts
-with_one p id new files failures accounts writing = record p {
-  state = record p.state { files = files; failures = failures; logs = finite.insert p.state.logs id new };
+-- the parts with one log changed, and the table of the slots
+abbrev pub with_one_in : SlotTable → Parts → ℕ → Log → Files → ℕ → Book → Option ℕ → Parts
+with_one_in keeper p id new files failures accounts writing = record p {
+  state = record p.state { files = files; failures = failures; logs = finite.insert p.state.logs id new; keeper = keeper };
   accounts = accounts;
   writing = writing;
 }
+
+-- the parts with one log changed
+abbrev pub with_one : Parts → ℕ → Log → Files → ℕ → Book → Option ℕ → Parts
+with_one p id new files failures accounts writing = with_one_in p.state.keeper p id new files failures accounts writing
 
 -- the log of this id is Writing
 abbrev pub IsWritingIn : Logs → ℕ → Type 0
 IsWritingIn logs id = (log : Log) × (finite.get logs id ≡ Some log) × (log.state ≡ Writing)
 
 module _ (p : Parts) (id : ℕ) (log new : Log) (held : finite.get p.state.logs id ≡ Some log) (files : Files) (failures : ℕ) (accounts : Book) (writing : Option ℕ) where
-  pub fits_one : Fits p → IsHeld p.state.next id new
+  pub fits_in : (keeper : SlotTable) → IsSeated p.state.settings keeper (finite.insert p.state.logs id new) → Fits p → IsHeld p.state.next id new
       → ((key : EntryKey) (place : Place) → finite.get p.state.index key ≡ Some place → HasOpenView (finite.insert p.state.logs id new) place.log)
       → ((key : EntryKey) (place : Place) → finite.get p.state.places key ≡ Some place → IsFlushLog (finite.insert p.state.logs id new) place.log)
       → ((q : ℕ) → (writing ≡ Some q) ↔ IsWritingIn (finite.insert p.state.logs id new) q)
@@ -41,12 +48,12 @@ module _ (p : Parts) (id : ℕ) (log new : Log) (held : finite.get p.state.logs 
       → ((q : ℕ) → named_in accounts q ≡ named_in p.accounts q)
       → total_at accounts id + header_length ≤ new.acknowledged
       → ((q : ℕ) → q ≢ id → total_at accounts q ≡ total_at p.accounts q)
-      → Fits (with_one p id new files failures accounts writing)
-  fits_one fits new_held sent flushed writes listed written named total others = record {
+      → Fits (with_one_in keeper p id new files failures accounts writing)
+  fits_in keeper seated fits new_held sent flushed writes listed written named total others = record {
     allowed = fits.allowed;
     limit = fits.limit;
     ids = fits.ids;
-    slots = subst (λ n. n ≤ p.state.settings.slots) (sym (same_len p.state.logs id log new held)) fits.slots;
+    seated = seated;
     held = each_log p.state.logs id log new held (λ q l. IsHeld p.state.next q l) new_held (λ q l _ is. fits.held q l is);
     sent = sent;
     placed = record {
@@ -66,6 +73,19 @@ module _ (p : Parts) (id : ℕ) (log new : Log) (held : finite.get p.state.logs 
         (λ q l apart is. subst (λ n. n + header_length ≤ l.acknowledged) (sym (others q apart)) (fits.total q l is));
   }
 
+  -- the log stands as it did
+  pub fits_one : Fits p → new.slot ≡ log.slot → slot_state id new.state ≡ slot_state id log.state → IsHeld p.state.next id new
+      → ((key : EntryKey) (place : Place) → finite.get p.state.index key ≡ Some place → HasOpenView (finite.insert p.state.logs id new) place.log)
+      → ((key : EntryKey) (place : Place) → finite.get p.state.places key ≡ Some place → IsFlushLog (finite.insert p.state.logs id new) place.log)
+      → ((q : ℕ) → (writing ≡ Some q) ↔ IsWritingIn (finite.insert p.state.logs id new) q)
+      → (IsFlushed new → In id p.filled) → (new.state ≡ Writing → log.state ≡ Writing)
+      → ((q : ℕ) → named_in accounts q ≡ named_in p.accounts q)
+      → total_at accounts id + header_length ≤ new.acknowledged
+      → ((q : ℕ) → q ≢ id → total_at accounts q ≡ total_at p.accounts q)
+      → Fits (with_one p id new files failures accounts writing)
+  fits_one fits slot state =
+      fits_in p.state.keeper (seated_one p.state.settings p.state.keeper p.state.logs fits.seated id log new held slot state) fits
+
   file_else : ((q : ℕ) → q ≢ id → finite.get files q ≡ finite.get p.state.files q) → OnlyIn id (file_of p.state.files) (file_of files)
   file_else only q apart = ap (λ (o : Option (List ℕ)). unwrap_or o []) (only q apart)
 
@@ -82,14 +102,14 @@ module _ (p : Parts) (id : ℕ) (log new : Log) (held : finite.get p.state.logs 
     keyed = writes.keyed;
   }
 
-  pub promises_one : Fits p → (promise : Promises p) → (others : List (ℕ × List ℕ)) → Gains p.state.files id others files
+  pub promises_in : (keeper : SlotTable) → Fits p → (promise : Promises p) → (others : List (ℕ × List ℕ)) → Gains p.state.files id others files
       → ((at : ℕ) (payload : List ℕ) (key : EntryKey) → In (at, payload) others → key_of payload ≡ Some key → set.contains p.state.dead key.ledger ≡ false
       → finite.get promise.carried key ≡ Some payload)
       → (EntriesStay (file_of p.state.files) (file_of files) → Shows (file_of files) (open_parts (finite.insert p.state.logs id new)) p.state.index)
       → IsBacked files id new
       → AreSums entry_measure (set.contains p.state.dead) (acknowledged_entries files (finite.insert p.state.logs id new)) (log_count p.state.index) accounts
-      → Promises (with_one p id new files failures accounts writing)
-  promises_one fits promise others gains each shows backed counted =
+      → Promises (with_one_in keeper p id new files failures accounts writing)
+  promises_in keeper fits promise others gains each shows backed counted =
       let grows : Grows p.state.dead promise.carried (file_of p.state.files) (file_of files) =
       grows_behind p.state.dead promise.carried id (file_else gains.only) others gains.records each in
       record {
@@ -116,6 +136,15 @@ module _ (p : Parts) (id : ℕ) (log new : Log) (held : finite.get p.state.logs 
             record { payload = old.payload; flushing = old.flushing; stands = grows.stood place key old.payload old.stands };
       }
 
+  pub promises_one : Fits p → (promise : Promises p) → (others : List (ℕ × List ℕ)) → Gains p.state.files id others files
+      → ((at : ℕ) (payload : List ℕ) (key : EntryKey) → In (at, payload) others → key_of payload ≡ Some key → set.contains p.state.dead key.ledger ≡ false
+      → finite.get promise.carried key ≡ Some payload)
+      → (EntriesStay (file_of p.state.files) (file_of files) → Shows (file_of files) (open_parts (finite.insert p.state.logs id new)) p.state.index)
+      → IsBacked files id new
+      → AreSums entry_measure (set.contains p.state.dead) (acknowledged_entries files (finite.insert p.state.logs id new)) (log_count p.state.index) accounts
+      → Promises (with_one p id new files failures accounts writing)
+  promises_one = promises_in p.state.keeper
+
 -- ---- the files as they were, as far as an honest disk says, and the failures counted
 
 pub keeps_failures : (p : Parts) (files : Files) (failures : ℕ) → Keeps p → (IsTrue p.state.honest → files ≡ p.state.files)
@@ -127,7 +156,7 @@ keeps_failures p files failures keeps same =
         allowed = fits.allowed;
         limit = fits.limit;
         ids = fits.ids;
-        slots = fits.slots;
+        seated = fits.seated;
         held = fits.held;
         sent = fits.sent;
         placed = record {

@@ -127,7 +127,7 @@ module _ (p : Parts) (keeps : Keeps p) (index : Places) (may : MayReplace p.stat
         allowed = fits.allowed;
         limit = fits.limit;
         ids = fits.ids;
-        slots = fits.slots;
+        seated = fits.seated;
         held = fits.held;
         sent = may.sent;
         placed = record {

@@ -27,6 +27,7 @@ use Rattle.bk_store.specs.declared.log.LogState.TheVariants.{Writing, Filled}
 use Rattle.bk_store.proofs.Cases.{some_or_none}
 use Rattle.bk_store.proofs.KeptParts.{none_placed}
 use Rattle.bk_store.proofs.CachedMoves.{carries_let_go}
+use Rattle.bk_store.proofs.Seats.{seated_ruled}
 use Rattle.bk_store.proofs.AllChanged.{IsMild, changed_len, settled_mild, settled_unflushed, unfilled_mild}
 
 -- the parts with all logs changed, and no entry placed
@@ -100,7 +101,8 @@ module _ (p : Parts) (keeps : Keeps p) (rule : LogState → Log → Log) (mild :
         allowed = fits.allowed;
         limit = limit;
         ids = fits.ids;
-        slots = subst (λ n. n ≤ p.state.settings.slots) (sym (changed_len (λ (l : Log). rule l.state l) p.state.logs logs changed)) fits.slots;
+        seated = seated_ruled p.state.settings p.state.keeper p.state.logs fits.seated rule logs
+            (changed_len (λ (l : Log). rule l.state l) p.state.logs logs changed) (was rule mild p.state.logs logs changed) mild.slot mild.seat;
         held = each_ruled rule mild p.state.logs logs changed (λ id l. IsHeld p.state.next id l) (λ id l is. mild.held p.state.next id l (fits.held id l is));
         sent = λ key place is. views_ruled rule mild p.state.logs logs changed place.log (fits.sent key place is);
         placed = record {

@@ -27,6 +27,7 @@ use Rattle.bk_store.proofs.OneLog.{IsFlushed, views_stay, flush_logs_stay, entri
 use Rattle.bk_store.proofs.Acknowledged.{entries_acknowledged, entries_whole}
 use Rattle.bk_store.proofs.Closing.{held_closed, writing_closed, none_keyed, parts_same}
 use Rattle.bk_store.proofs.KeptSet.{not_flushed, one_log}
+use Rattle.bk_store.proofs.Seats.{slot_state-same}
 use Rattle.bk_store.proofs.KeptOne.{with_one, fits_one, promises_one}
 
 -- the entries that are acknowledged of a log stay as it grows
@@ -73,7 +74,7 @@ module _ (p : Parts) (keeps : Keeps p) (id : ℕ) (state : LogState) (log : Log)
       → (IsFlushed new → In id p.filled) → Fits (with_one p id new files failures p.accounts (unless_log p.writing id))
   closed_fits flushed listed =
       let fits = keeps.fits in
-      fits_one p id log new held files failures p.accounts (unless_log p.writing id) fits
+      fits_one p id log new held files failures p.accounts (unless_log p.writing id) fits refl (slot_state-same id state log.state opened was_open)
       (held_closed p.state.next id state log closed (fits.held id log held))
       (λ key place is. views_stay p.state.logs id log new held (λ v _ view_is. (opened, (v, view_is))) place.log (fits.sent key place is))
       flushed (writing_closed p.state.logs id new p.writing unwritten fits.writing) listed (λ now. absurd (unwritten now)) (λ q. refl)

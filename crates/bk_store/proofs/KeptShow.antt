@@ -49,7 +49,7 @@ module _ (p : Parts) (keeps : Keeps p) (id : ℕ) (log : Log) (held : finite.get
       let fits = keeps.fits in
       let was = fits.held id log held in
       record {
-        fits = fits_one p id log shown held p.state.files p.state.failures p.accounts p.writing fits
+        fits = fits_one p id log shown held p.state.files p.state.failures p.accounts p.writing fits refl refl
             (record {
               below = was.below;
               written = was.written;

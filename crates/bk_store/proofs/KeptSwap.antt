@@ -52,7 +52,7 @@ module _ (p : Parts) (keeps : Keeps p) (idle : p.state.caches.flush ≡ None) wh
           allowed = fits.allowed;
           limit = fits.limit;
           ids = fits.ids;
-          slots = fits.slots;
+          seated = fits.seated;
           held = fits.held;
           sent = fits.sent;
           placed = record {

@@ -86,7 +86,7 @@ keeps_ready p log ledger keeps =
         allowed = fits.allowed;
         limit = fits.limit;
         ids = fits.ids;
-        slots = fits.slots;
+        seated = fits.seated;
         held = fits.held;
         sent = fits.sent;
         placed = record {
@@ -140,7 +140,7 @@ keeps_noted p key payload place keeps flushing in_log unplaced first stands =
         allowed = fits.allowed;
         limit = fits.limit;
         ids = fits.ids;
-        slots = fits.slots;
+        seated = fits.seated;
         held = fits.held;
         sent = fits.sent;
         placed = record {
@@ -250,7 +250,7 @@ module _ (p : Parts) (keeps : Keeps p) (id : ℕ) (log : Log) (held : finite.get
       let fits = keeps.fits in
       let size = 4 + length payload in
       let ready = after_ready p.accounts id key.ledger in
-      fits_one p id log new held files p.state.failures counted_book p.writing fits new_held
+      fits_one p id log new held files p.state.failures counted_book p.writing fits refl refl new_held
       (λ k place is. views_stay p.state.logs id log new held (λ v o view_is. (o, (v, view_is))) place.log (fits.sent k place is))
       (λ k place is. flush_logs_stay p.state.logs id log new held (λ f. f) place.log (fits.placed.logs k place is))
       (writing_same p.state.logs id log new held (λ s. s) (λ s. s) p.writing fits.writing) (fits.filled id log held) (λ s. s)

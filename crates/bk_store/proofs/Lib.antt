@@ -35,6 +35,11 @@ pub mod OpenedFinds
 pub mod LogMaps
 pub mod FlushLogs
 pub mod OneLog
+pub mod Seats
+pub mod Leased
+pub mod Seating
+pub mod Shutting
+pub mod KeptTake
 pub mod Acknowledged
 pub mod KeptOne
 pub mod KeptShow

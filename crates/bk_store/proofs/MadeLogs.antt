@@ -1,5 +1,5 @@
 -- A log is made: what its slot, its account and its file give the turn.
-use Rattle.std.proofs.Common.{◌≡◌, ◌⊎◌, inl, inr, ℕ, ◌+◌, ◌<◌, ◌^◌, Bool, true, false, cond, IsTrue, List, Option, Some, None, IsNone, is_some, option_map, not, Result, Ok, Err, refl, sym, ap, subst, ◌∙◌, arith}
+use Rattle.std.proofs.Common.{◌≡◌, ◌⊎◌, inl, inr, ℕ, ◌+◌, ◌<◌, ◌^◌, Bool, true, false, cond, IsTrue, List, length, Option, Some, None, IsNone, is_some, option_map, not, Result, Ok, Err, refl, sym, ap, subst, ◌∙◌, arith}
 use Rattle.std.specs.FinMap as finite
 use Rattle.std.specs.Ordering.{nat_cmp}
 use Rattle.std.specs.FinMap.{nat_cmp-IsAntisymmetric}
@@ -18,7 +18,10 @@ use Rattle.bk_accounts.specs.Book.{Book, IsNotOpen, after_open, after_drop}
 use Rattle.bk_store.specs.Logs.{Log, Logs, made_log, unmade_log}
 use Rattle.bk_store.specs.State.{State, Parts}
 use Rattle.bk_store.specs.Kept.{Keeps}
-use Rattle.bk_store.specs.Doors.{MakeTurn, MayMake, IsUnmade, with_next, logs_left}
+use Rattle.bk_lease.specs.declared.slot.Slot.TheVariants.{Open}
+use Rattle.bk_lease.specs.Slots.{IsFree, taken_count}
+use Rattle.bk_lease.specs.Values.{SlotTable, with_state}
+use Rattle.bk_store.specs.Doors.{MakeTurn, MayMake, IsUnmade, with_next, with_seat, logs_left, keeper_left}
 use Rattle.bk_store.specs.Beside.{MakesBeside, HasSlot, HasNoSlot, GoesOn, make_told, opened_for, writing_in, made_writing}
 use Rattle.bk_store.specs.declared.log.LogState.{LogState}
 use Rattle.bk_store.specs.declared.log.LogState.TheVariants.{Writing}
@@ -61,17 +64,23 @@ no_account p keeps = none_there (finite.get p.accounts p.state.next)
 pub not_open : (p : Parts) → Keeps p → IsNotOpen p.accounts p.state.next
 not_open p keeps = subst IsNone (sym (no_account p keeps)) refl
 
+-- where there is room for a log, a slot is free
+pub slot_there : (p : Parts) → Keeps p → finite.len p.state.logs < p.state.settings.slots → taken_count p.state.keeper.slots ≡ length p.state.keeper.slots → ⊥
+slot_there p keeps room full =
+    let taken = keeps.fits.seated.seats.taken in let many = keeps.fits.seated.slots in omega (arith, room, full, taken, many)
+
 -- an account that is opened and dropped
 pub reopened : (p : Parts) → Keeps p → (book left : Book) → book ≡ after_open p.accounts p.state.next → left ≡ after_drop book p.state.next → left ≡ p.accounts
 reopened p keeps book left opened dropped =
     dropped ∙ ap (λ b. after_drop b p.state.next) opened ∙ remove-insert p.accounts p.state.next fresh (no_account p keeps)
 
 module _ (p now : Parts) (here : p ≡ now) (filled : List ℕ) (book : Book) (logs : Logs) (still : GoesOn p.filled filled) where
-  pub slot_taken : (state : LogState) → book ≡ after_open p.accounts p.state.next → logs ≡ finite.insert p.state.logs p.state.next unmade_log
-      → (state ≡ Writing → In p.state.next filled)
-      → HasSlot now state (record p { state = record p.state { logs = logs }; accounts = book; filled = filled })
-  slot_taken state opened held listed =
-      subst (λ (n : Parts). HasSlot n state (record p { state = record p.state { logs = logs }; accounts = book; filled = filled })) here (record {
+  pub slot_taken : (state : LogState) (number : ℕ) → book ≡ after_open p.accounts p.state.next → logs ≡ finite.insert p.state.logs p.state.next (unmade_log number)
+      → (state ≡ Writing → In p.state.next filled) → IsFree p.state.keeper.slots number
+      → HasSlot now state number (record p { state = record p.state { logs = logs }; accounts = book; filled = filled })
+  slot_taken state number opened held listed free =
+      subst (λ (n : Parts). HasSlot n state number (record p { state = record p.state { logs = logs }; accounts = book; filled = filled })) here (record {
+        free = free;
         parts = λ i. record p { state = record p.state { logs = held i }; accounts = opened i; filled = filled };
         still = still;
         listed = listed;
@@ -87,9 +96,9 @@ module _ (p now : Parts) (here : p ≡ now) (filled : List ℕ) (book : Book) (l
 
 -- ---- the turn
 
-module _ (p s : Parts) (state : LogState) (slot : HasSlot p state s) where
-  pub slot_held : finite.get s.state.logs s.state.next ≡ Some unmade_log
-  slot_held = ap (λ (q : Parts). finite.get q.state.logs q.state.next) slot.parts ∙ log-inserted p.state.logs p.state.next unmade_log p.state.next refl
+module _ (p s : Parts) (state : LogState) (number : ℕ) (slot : HasSlot p state number s) where
+  pub slot_held : finite.get s.state.logs s.state.next ≡ Some (unmade_log number)
+  slot_held = ap (λ (q : Parts). finite.get q.state.logs q.state.next) slot.parts ∙ log-inserted p.state.logs p.state.next (unmade_log number) p.state.next refl
 
   pub slot_next : s.state.next ≡ p.state.next
   slot_next = ap (λ (q : Parts). q.state.next) slot.parts
@@ -116,7 +125,7 @@ module _ (p s : Parts) (state : LogState) (slot : HasSlot p state s) where
   -- the slot is given back
   pub slot_gone : Keeps p → (logs : Logs) → logs ≡ finite.remove s.state.logs s.state.next → logs ≡ p.state.logs
   slot_gone keeps logs gone = gone ∙ ap (λ (q : Parts). finite.remove q.state.logs q.state.next) slot.parts
-      ∙ remove-insert p.state.logs p.state.next unmade_log (unheld p keeps)
+      ∙ remove-insert p.state.logs p.state.next (unmade_log number) (unheld p keeps)
 
   account_gone : Keeps p → (book : Book) → book ≡ after_drop s.accounts s.state.next → book ≡ p.accounts
   account_gone keeps book gone = gone ∙ ap (λ (q : Parts). after_drop q.accounts q.state.next) slot.parts
@@ -131,59 +140,80 @@ module _ (p s : Parts) (state : LogState) (slot : HasSlot p state s) where
 
   pub left_beside : (t : State) (fault : MakeFault) → t.logs ≡ s.state.logs → MakesBeside p state (Err fault) (record s { state = t })
   left_beside t fault same = beside_slot t s.accounts s.writing (Err fault)
-      (opened_there t.logs unmade_log (ap (finite.get t.logs) (sym slot_next) ∙ ap (λ (l : Logs). finite.get l s.state.next) same ∙ slot_held))
+      (opened_there t.logs (unmade_log number) (ap (finite.get t.logs) (sym slot_next) ∙ ap (λ (l : Logs). finite.get l s.state.next) same ∙ slot_held))
       (ap (λ (q : Parts). q.writing) slot.parts)
 
-  pub slot_left : s.state.logs ≡ finite.insert p.state.logs p.state.next unmade_log
+  pub slot_left : s.state.logs ≡ finite.insert p.state.logs p.state.next (unmade_log number)
   slot_left = ap (λ (q : Parts). q.state.logs) slot.parts
+
+  -- the table, where no slot was opened, and where the slot was opened for the log
+  pub seat_kept : s.state.keeper ≡ p.state.keeper
+  seat_kept = ap (λ (q : Parts). q.state.keeper) slot.parts
+
+  pub seat_opened : (keeper : SlotTable) → keeper ≡ with_state s.state.keeper number (Open s.state.next) → keeper ≡ with_seat p.state number
+  seat_opened keeper opened = opened ∙ ap (λ (q : Parts). with_state q.state.keeper number (Open q.state.next)) slot.parts
 
   pub written_slot : (w : Option ℕ) → w ≡ writing_in s.writing s.state.next state → w ≡ writing_in p.writing s.state.next state
   written_slot w is = is ∙ ap (λ (o : Option ℕ). writing_in o s.state.next state) (ap (λ (q : Parts). q.writing) slot.parts)
 
-  module _ (files : Files) (honest : Bool) (failures : ℕ) (logs : Logs) (same_honest : honest ≡ s.state.honest) where
+  module _ (files : Files) (honest : Bool) (failures : ℕ) (logs : Logs) (keeper : SlotTable) (same_honest : honest ≡ s.state.honest) where
     abbrev after : State
-    after = record s.state { files = files; honest = honest; failures = failures; logs = logs; next = s.state.next + 1 }
+    after = record s.state { files = files; honest = honest; failures = failures; logs = logs; keeper = keeper; next = s.state.next + 1 }
 
     -- the file was made
     pub made_turn : {Told : Type 0} → MayMake p.state → IsCaused s.state.failures failures Told → ¬ Told
-        → logs ≡ finite.insert s.state.logs s.state.next (made_log state s.state.next)
+        → logs ≡ finite.insert s.state.logs s.state.next (made_log state s.state.next number)
+        → keeper ≡ with_state s.state.keeper number (Open s.state.next)
         → (IsTrue s.state.honest → IsNone (finite.get s.state.files s.state.next) × (files ≡ finite.insert s.state.files s.state.next empty_header))
         → MakeTurn p.state state (Ok s.state.next) after
-    made_turn may cause never put create = (
+    made_turn may cause never put opened create = (
       may,
       slot_next,
-      (λ h. subst (λ (q : Parts). IsNone (finite.get q.state.files q.state.next) × (files ≡ finite.insert q.state.files q.state.next empty_header))
-          slot.parts (create (honest_now ∙ h))),
-      (λ i. record s.state {
-        files = files;
-        honest = same_honest i;
-        failures = not_failed cause never i;
-        logs = put i;
-        next = s.state.next + 1;
-      })
-          ∙ ap (λ (q : Parts). record q.state {
-            files = files;
-            logs = finite.insert q.state.logs q.state.next (made_log state q.state.next);
-            next = q.state.next + 1;
-          }) slot.parts
-          ∙ ap (λ (l : Logs). with_next p.state files p.state.failures l)
-          (insert-insert nat_cmp_total nat_cmp-IsAntisymmetric p.state.logs p.state.next unmade_log (made_log state p.state.next)),
+      record {
+        slot = number;
+        free = slot.free;
+        files = λ h. subst (λ (q : Parts). IsNone (finite.get q.state.files q.state.next) × (files ≡ finite.insert q.state.files q.state.next empty_header))
+            slot.parts (create (honest_now ∙ h));
+        left = (λ i. record s.state {
+          files = files;
+          honest = same_honest i;
+          failures = not_failed cause never i;
+          logs = put i;
+          keeper = opened i;
+          next = s.state.next + 1;
+        })
+            ∙ ap (λ (q : Parts). record q.state {
+              files = files;
+              logs = finite.insert q.state.logs q.state.next (made_log state q.state.next number);
+              keeper = with_state q.state.keeper number (Open q.state.next);
+              next = q.state.next + 1;
+            }) slot.parts
+            ∙ ap (λ (l : Logs). with_next p.state files p.state.failures l (with_seat p.state number))
+            (insert-insert nat_cmp_total nat_cmp-IsAntisymmetric p.state.logs p.state.next (unmade_log number) (made_log state p.state.next number));
+      },
     )
 
-    pub made_beside : (w : Option ℕ) → logs ≡ finite.insert s.state.logs s.state.next (made_log state s.state.next)
+    pub made_beside : (w : Option ℕ) → logs ≡ finite.insert s.state.logs s.state.next (made_log state s.state.next number)
         → w ≡ made_writing p.writing state (Ok s.state.next)
         → MakesBeside p state (Ok s.state.next) (record s { state = after; writing = w })
     made_beside w put writes = beside_slot after s.accounts w (Ok s.state.next)
-        (opened_there logs (made_log state s.state.next)
+        (opened_there logs (made_log state s.state.next number)
         (ap (finite.get logs) (sym slot_next) ∙ ap (λ (l : Logs). finite.get l s.state.next) put
-        ∙ log-inserted s.state.logs s.state.next (made_log state s.state.next) s.state.next refl)) writes
+        ∙ log-inserted s.state.logs s.state.next (made_log state s.state.next number) s.state.next refl)) writes
 
     -- the making was refused
-    module _ (keeps : Keeps p) (may : MayMake p.state) (made : Bool) (left : logs ≡ logs_left p.state made) where
-      left_is : (n : ℕ) → failures ≡ n → after ≡ with_next p.state files n (logs_left p.state made)
+    module _ (keeps : Keeps p) (may : MayMake p.state) (made : Bool) (left : logs ≡ logs_left p.state made number)
+        (seat : keeper ≡ keeper_left p.state made number) where
+      left_is : (n : ℕ) → failures ≡ n → after ≡ with_next p.state files n (logs_left p.state made number) (keeper_left p.state made number)
       left_is n same =
-          (λ i. record s.state { files = files; honest = same_honest i; failures = same i; logs = left i; next = s.state.next + 1 })
-          ∙ ap (λ (q : Parts). record q.state { files = files; failures = n; logs = logs_left p.state made; next = q.state.next + 1 }) slot.parts
+          (λ i. record s.state { files = files; honest = same_honest i; failures = same i; logs = left i; keeper = seat i; next = s.state.next + 1 })
+          ∙ ap (λ (q : Parts). record q.state {
+            files = files;
+            failures = n;
+            logs = logs_left p.state made number;
+            keeper = keeper_left p.state made number;
+            next = q.state.next + 1;
+          }) slot.parts
 
       fails_at : (fault : LogFault) → (IsTrue s.state.honest → CreateFails s.state.files s.state.next made fault files)
           → IsTrue p.state.honest → CreateFails p.state.files p.state.next made fault files
@@ -191,7 +221,7 @@ module _ (p s : Parts) (state : LogState) (slot : HasSlot p state s) where
 
       unmade_is : (fault : LogFault) (n : ℕ) → failures ≡ n → (IsTrue p.state.honest → CreateFails p.state.files p.state.next made fault files)
           → IsUnmade p.state fault n after
-      unmade_is fault n same fails = record { made = made; files = fails; left = left_is n same }
+      unmade_is fault n same fails = record { made = made; slot = number; free = slot.free; files = fails; left = left_is n same }
 
       -- no file of the next id stands beside an honest disk, so that nothing is odd
       never_odd : IsTrue p.state.honest → CreateFails p.state.files p.state.next made log_faults.Odd files → ⊥

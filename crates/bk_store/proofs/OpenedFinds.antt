@@ -31,13 +31,14 @@ opened_total old opened id is =
     ap (λ b. total_in b id) is ∙ total_in-after_open old id id ∙ ap (λ b. if b then Some 0 else total_in old id) (eq-eqb id id refl)
 
 -- a log that was scanned was taken in
-pub log_taken : (honest : Bool) (files : Files) (id end : ℕ) (view : View) (old opened now : Tally)
+pub log_taken : (honest : Bool) (files : Files) (id slot end : ℕ) (view : View) (old opened now : Tally)
     → opened ≡ record old { accounts = after_open old.accounts id } → IsScanned id end view.is_honest view.bytes opened now
     → (IsTrue honest → IsFile files id view.bytes × IsTrue view.is_honest) → (IsTrue view.is_honest → end ≡ view_end view.bytes)
-    → (IsTrue honest → (length view.bytes < 2 ^ 32) × IsHeaded view.bytes) → IsTaken honest files id (found_log view end) old now
-log_taken honest files id end view old opened now begun scanned shown whole judged = record {
-  read = record { id = id; view = view; end = end; founds = scanned.founds };
+    → (IsTrue honest → (length view.bytes < 2 ^ 32) × IsHeaded view.bytes) → IsTaken honest files id slot (found_log view slot end) old now
+log_taken honest files id slot end view old opened now begun scanned shown whole judged = record {
+  read = record { id = id; slot = slot; view = view; end = end; founds = scanned.founds };
   own = refl;
+  seat = refl;
   reads = record {
     fits = scanned.fits;
     whole = λ is.
@@ -68,9 +69,9 @@ reads_push t [] r = refl
 reads_push t (x ∷ reads) r = reads_push (with_read t x) reads r
 
 logs_push : (logs : Logs) (reads : List LogRead) (r : LogRead)
-    → logs_with logs (reads ++ r ∷ []) ≡ finite.insert (logs_with logs reads) r.id (found_log r.view r.end)
+    → logs_with logs (reads ++ r ∷ []) ≡ finite.insert (logs_with logs reads) r.id (found_log r.view r.slot r.end)
 logs_push logs [] r = refl
-logs_push logs (x ∷ reads) r = logs_push (finite.insert logs x.id (found_log x.view x.end)) reads r
+logs_push logs (x ∷ reads) r = logs_push (finite.insert logs x.id (found_log x.view x.slot x.end)) reads r
 
 map_push : (reads : List LogRead) (r : LogRead) → map (λ x. x.id) (reads ++ r ∷ []) ≡ map (λ x. x.id) reads ++ r.id ∷ []
 map_push [] r = refl
@@ -79,10 +80,10 @@ map_push (x ∷ reads) r = ap (λ l. x.id ∷ l) (map_push reads r)
 pub none_taken : (honest : Bool) (files : Files) (old : Tally) (before : Logs) → AreTaken honest files [] 0 old old before before
 none_taken honest files old before = record { reads = []; ids_are = refl; each = tt; rising = refl; taken = refl; held_are = refl }
 
-pub taken_on : (honest : Bool) (files : Files) (ids : List ℕ) (next id : ℕ) (old now now' : Tally) (before logs logs' : Logs) (log : Log)
-    → AreTaken honest files ids next old now before logs → IsTaken honest files id log now now' → next ≤ id → id < 2 ^ 31
+pub taken_on : (honest : Bool) (files : Files) (ids : List ℕ) (next id slot : ℕ) (old now now' : Tally) (before logs logs' : Logs) (log : Log)
+    → AreTaken honest files ids next old now before logs → IsTaken honest files id slot log now now' → next ≤ id → id < 2 ^ 31
     → logs' ≡ finite.insert logs id log → AreTaken honest files (ids ++ id ∷ []) (id + 1) old now' before logs'
-taken_on honest files ids next id old now now' before logs logs' log taken one above below held = record {
+taken_on honest files ids next id slot old now now' before logs logs' log taken one above below held = record {
   reads = taken.reads ++ one.read ∷ [];
   ids_are = map_push taken.reads one.read ∙ (λ i. taken.ids_are i ++ one.own i ∷ []);
   each = all_push (IsRead honest files) one.read taken.reads taken.each one.reads;
@@ -181,11 +182,12 @@ pub record IsFinding (honest : Bool) (files : Files) (failures : ℕ) (ids : Lis
   pub taken : AreTaken honest files (take k ids) next old now before logs
 
 -- what was read of a disk that is the same
-taken_as : (honest honest' : Bool) (files files' : Files) (id : ℕ) (log : Log) (old new : Tally) → honest' ≡ honest → (IsTrue honest → files' ≡ files)
-    → IsTaken honest' files' id log old new → IsTaken honest files id log old new
-taken_as honest honest' files files' id log old new stays same one = record {
+taken_as : (honest honest' : Bool) (files files' : Files) (id slot : ℕ) (log : Log) (old new : Tally) → honest' ≡ honest → (IsTrue honest → files' ≡ files)
+    → IsTaken honest' files' id slot log old new → IsTaken honest files id slot log old new
+taken_as honest honest' files files' id slot log old new stays same one = record {
   read = one.read;
   own = one.own;
+  seat = one.seat;
   reads = record {
     fits = one.reads.fits;
     whole = λ is. subst (λ fs. IsReadWhole fs one.read) (same is) (one.reads.whole (stays ∙ is));
@@ -202,17 +204,17 @@ module _ {honest : Bool} {files : Files} {failures : ℕ} {ids : List ℕ} {old 
   finding_closed id fresh above = next_closed honest files (take k ids) next id old now before logs so_far.taken fresh above
 
   -- one log more
-  pub finding_on : (d : ℕ) (log : Log) (honest'' : Bool) (files'' : Files) (failures'' : ℕ) (now' : Tally) (logs' : Logs) → k < length ids
+  pub finding_on : (d slot : ℕ) (log : Log) (honest'' : Bool) (files'' : Files) (failures'' : ℕ) (now' : Tally) (logs' : Logs) → k < length ids
       → next ≤ get_or ids k d → get_or ids k d < 2 ^ 31 → honest'' ≡ honest' → failures'' ≡ failures' → (IsTrue honest' → files'' ≡ files')
-      → IsTaken honest' files' (get_or ids k d) log now now' → logs' ≡ finite.insert logs (get_or ids k d) log
+      → IsTaken honest' files' (get_or ids k d) slot log now now' → logs' ≡ finite.insert logs (get_or ids k d) log
       → IsFinding honest files failures ids old before honest'' files'' failures'' (k + 1) (get_or ids k d + 1) now' logs'
-  finding_on d log honest'' files'' failures'' now' logs' within above below stays unfailed same one held = record {
+  finding_on d slot log honest'' files'' failures'' now' logs' within above below stays unfailed same one held = record {
     stays = stays ∙ so_far.stays;
     unfailed = unfailed ∙ so_far.unfailed;
     same = λ is. same (so_far.stays ∙ is) ∙ so_far.same is;
     taken = subst (λ l. AreTaken honest files l (get_or ids k d + 1) old now' before logs') (sym (take_more ids k d within))
-        (taken_on honest files (take k ids) next (get_or ids k d) old now now' before logs logs' log so_far.taken
-        (taken_as honest honest' files files' (get_or ids k d) log now now' so_far.stays so_far.same one) above below held);
+        (taken_on honest files (take k ids) next (get_or ids k d) slot old now now' before logs logs' log so_far.taken
+        (taken_as honest honest' files files' (get_or ids k d) slot log now now' so_far.stays so_far.same one) above below held);
   }
 
   -- all logs

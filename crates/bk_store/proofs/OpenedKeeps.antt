@@ -30,7 +30,9 @@ use Rattle.bk_store.specs.Logs.{View, Log, Logs, found_log, open_parts, is_open,
 use Rattle.bk_store.specs.State.{Parts}
 use Rattle.bk_store.specs.Meaning.{written_at}
 use Rattle.bk_store.specs.Turns.{ledgers_of}
+use Rattle.bk_lease.specs.Values.{SlotTable}
 use Rattle.bk_store.specs.Limits.{IsAllowed}
+use Rattle.bk_store.specs.Seated.{IsSeated}
 use Rattle.bk_store.specs.Kept.{IsHeld, Fits, IsBacked, Promises, Keeps, entry_measure, acknowledged_entries}
 use Rattle.bk_store.specs.Opening.{HoldsFiles, IsOpened, Opens, FirstFails, OpenFails}
 use Rattle.bk_store.specs.Found.{LogRead, IsRead, IsReadWhole, AreTaken, AreUnnamed, with_reads, with_names, named_by, logs_with}
@@ -48,15 +50,15 @@ use Rattle.bk_store.proofs.Opening.{carries_opened}
 use Rattle.bk_store.proofs.OpenedSums.{found_measure, Lists, with_lists, no_names, names_in, dead-reads, sums_reads, sums_named}
 use Rattle.bk_store.proofs.OpenedTotals.{same_total, same_live, same_part}
 use Rattle.bk_store.proofs.OpenedLists.{found_in, found_in_all, indexed_reads, found_walked}
-use Rattle.bk_store.proofs.OpenedLogs.{IsHeldAs, IsElsewhere, HeldOr, each_log, len-logs_with, id_below, next_cases, all-In}
+use Rattle.bk_store.proofs.OpenedLogs.{IsHeldAs, IsElsewhere, HeldOr, each_log, id_below, next_cases, all-In}
 
 -- nothing was taken in yet
 abbrev pub started : Ledgers → Tally
 started dead = record { index = finite.empty; accounts = finite.empty; dead = dead }
 
 -- the parts of a store that was opened
-abbrev pub opened_parts : Settings → Files → Bool → ℕ → Tally → Logs → ℕ → Parts
-opened_parts settings files honest failures t logs next = record {
+abbrev pub opened_parts : Settings → Files → Bool → ℕ → Tally → Logs → SlotTable → ℕ → Parts
+opened_parts settings files honest failures t logs keeper next = record {
   state = record {
     settings = settings;
     files = files;
@@ -66,6 +68,7 @@ opened_parts settings files honest failures t logs next = record {
     places = finite.empty;
     index = t.index;
     logs = logs;
+    keeper = keeper;
     next = next;
     dead = t.dead;
   };
@@ -88,9 +91,9 @@ plus : (n : ℕ) → 0 + n ≡ n
 plus n = omega arith
 
 module _ (settings : Settings) (honest : Bool) (files : Files) (failures : ℕ) (dead : Ledgers) (ids : List ℕ) (next : ℕ) (t : Tally) (logs : Logs)
-    (taken : AreTaken honest files ids next (started dead) t finite.empty logs) where
+    (taken : AreTaken honest files ids next (started dead) t finite.empty logs) (keeper : SlotTable) where
   abbrev p : Parts
-  p = opened_parts settings files honest failures t logs next
+  p = opened_parts settings files honest failures t logs keeper next
 
   dead_is : t.dead ≡ dead
   dead_is = ap (λ (x : Tally). x.dead) taken.taken ∙ dead-reads (started dead) taken.reads
@@ -121,12 +124,12 @@ module _ (settings : Settings) (honest : Bool) (files : Files) (failures : ℕ) 
       (each_log taken.reads no_lists finite.empty id)
 
   abbrev IsRead_of : ℕ → Log → LogRead → Type 0
-  IsRead_of id log r = IsHeldAs taken.reads (with_lists no_lists taken.reads) logs id r × (log ≡ found_log r.view r.end)
+  IsRead_of id log r = IsHeldAs taken.reads (with_lists no_lists taken.reads) logs id r × (log ≡ found_log r.view r.slot r.end)
 
   read_of : (id : ℕ) (log : Log) → finite.get logs id ≡ Some log → (r : LogRead) × IsRead_of id log r
   read_of id log is = elim (each_held id) [
     | inl apart ↦ absurd (none_held id log (sym apart.held ∙ is))
-    | inr found ↦ (found.0, (found.1, same_Some log (found_log found.0.view found.0.end) (sym is ∙ found.1.held)))
+    | inr found ↦ (found.0, (found.1, same_Some log (found_log found.0.view found.0.slot found.0.end) (sym is ∙ found.1.held)))
   ]
 
   -- a read is of one of the ids
@@ -183,23 +186,16 @@ module _ (settings : Settings) (honest : Bool) (files : Files) (failures : ℕ) 
       let fits = (all-In (IsRead honest files) r.0 taken.reads taken.each r.1.0.there).fits in
       omega (arith, total, long, fits)
 
-  pub opened_fits : IsAllowed settings → length ids ≤ settings.slots → Fits p
-  opened_fits allowed room = record {
+  pub opened_fits : IsAllowed settings → IsSeated settings keeper logs → Fits p
+  opened_fits allowed seated = record {
     allowed = allowed;
     limit = refl;
     ids = ids_fit;
-    slots = subst (λ l. finite.len l ≤ settings.slots) (sym taken.held_are) (omega (
-      arith,
-      len-logs_with taken.reads finite.empty,
-      finite.len-empty nat_cmp Log,
-      ap length taken.ids_are,
-      length-map taken.reads (λ (r : LogRead). r.id),
-      room,
-    ));
+    seated = seated;
     held = kept_log;
     sent = λ key place named.
         let r = sent_read key place named in
-        record { log = found_log r.0.view r.0.end; view = r.0.view; held = r.1.held; opened = refl; view_is = refl };
+        record { log = found_log r.0.view r.0.slot r.0.end; view = r.0.view; held = r.1.held; opened = refl; view_is = refl };
     placed = record {
       idle = λ _. refl;
       flushing = λ key place is. absurd (none_placed finite.empty key place refl is);
@@ -339,7 +335,8 @@ module _ (settings : Settings) (honest : Bool) (files : Files) (failures : ℕ) 
           let shows : held.0.view.bytes ≡ file = same_Some held.0.view.bytes file (sym (read_file id held.0 held.1) ∙ stands) in
           record {
             view = held.0.view;
-            held = held.1.held ∙ ap (λ n. Some (found_log held.0.view n)) (whole.end_is ∙ ap view_end shows);
+            slot = held.0.slot;
+            held = held.1.held ∙ ap (λ n. Some (found_log held.0.view held.0.slot n)) (whole.end_is ∙ ap view_end shows);
             honest = whole.honest;
             shows = shows;
           };
@@ -384,11 +381,19 @@ taken_as honest honest' files files' dead ids next old t before logs taken first
   held_are = taken.held_are ∙ ap (λ l. logs_with l taken.reads) none;
 }
 
+no_table : SlotTable
+no_table = record {
+  table = record { words = 0; slots = 0; views_name = 0; atom = 0; block = 0; offset = 0; slot_names = [] };
+  slots = [];
+  most = 0;
+  given = 0;
+}
+
 -- where no key is named yet, no log has a name
 pub taken_unnamed : (settings : Settings) (honest : Bool) (files : Files) (dead : Ledgers) (ids : List ℕ) (next : ℕ) (t : Tally) (logs : Logs)
     → AreTaken honest files ids next (started dead) t finite.empty logs → AreUnnamed t.accounts
 taken_unnamed settings honest files dead ids next t logs taken log =
-    let sums = counted settings honest files 0 dead ids next t logs taken in
+    let sums = counted settings honest files 0 dead ids next t logs taken no_table in
     subst (λ o. IfSome o (λ named. named ≡ 0)) (sym (sums.named log))
     (elim (with_lists no_lists taken.reads log) as (λ o. IfSome (option_map (λ _. no_names log) o) (λ named. named ≡ 0)) [
       | None ↦ tt
@@ -396,8 +401,8 @@ taken_unnamed settings honest files dead ids next t logs taken log =
     ])
 
 -- the parts that an opening makes
-abbrev pub made_parts : Settings → Files → Bool → ℕ → CacheState → Places → Tally → Logs → ℕ → List ℕ → Parts
-made_parts settings files honest failures kept places t logs next filled = record {
+abbrev pub made_parts : Settings → Files → Bool → ℕ → CacheState → Places → Tally → Logs → SlotTable → ℕ → List ℕ → Parts
+made_parts settings files honest failures kept places t logs keeper next filled = record {
   state = record {
     settings = settings;
     files = files;
@@ -407,6 +412,7 @@ made_parts settings files honest failures kept places t logs next filled = recor
     places = places;
     index = t.index;
     logs = logs;
+    keeper = keeper;
     next = next;
     dead = t.dead;
   };
@@ -416,7 +422,7 @@ made_parts settings files honest failures kept places t logs next filled = recor
 }
 
 module _ (settings : Settings) (honest honest' : Bool) (files files' : Files) (failures : ℕ) (dead : Ledgers) (ids : List ℕ) (next : ℕ) (t : Tally)
-    (logs : Logs) (taken : AreTaken honest files ids next (started dead) t finite.empty logs) (stays : honest' ≡ honest)
+    (logs : Logs) (taken : AreTaken honest files ids next (started dead) t finite.empty logs) (keeper : SlotTable) (stays : honest' ≡ honest)
     (same : IsTrue honest → files' ≡ files) (listed : IsTrue honest → ids ≡ finite.keys files)
     (kept : CacheState) (places : Places) (now : Tally) (filled : List ℕ) (kept_are : kept ≡ caches.new_caches settings.cache_limit settings.recent)
     (places_are : places ≡ finite.empty) (now_is : now ≡ with_names t) (filled_is : filled ≡ []) where
@@ -426,17 +432,18 @@ module _ (settings : Settings) (honest honest' : Bool) (files files' : Files) (f
   listed_now : IsTrue honest' → ids ≡ finite.keys files'
   listed_now is' = let is : IsTrue honest = sym stays ∙ is' in listed is ∙ ap finite.keys (sym (same is))
 
-  parts_are : opened_parts settings files' honest' failures t logs next ≡ made_parts settings files' honest' failures kept places now logs next filled
-  parts_are = λ i. made_parts settings files' honest' failures (sym kept_are i) (sym places_are i) (sym now_is i) logs next (sym filled_is i)
+  parts_are : opened_parts settings files' honest' failures t logs keeper next ≡ made_parts settings files' honest' failures kept places now logs keeper next filled
+  parts_are = λ i. made_parts settings files' honest' failures (sym kept_are i) (sym places_are i) (sym now_is i) logs keeper next (sym filled_is i)
 
-  pub opened_keeps : IsAllowed settings → length ids ≤ settings.slots → Keeps (made_parts settings files' honest' failures kept places now logs next filled)
-  opened_keeps allowed room = subst Keeps parts_are (record {
-    fits = opened_fits settings honest' files' failures dead ids next t logs taken_now allowed room;
-    promises = λ is. opened_promises settings honest' files' failures dead ids next t logs taken_now is (listed_now is);
+  pub opened_keeps : IsAllowed settings → IsSeated settings keeper logs
+      → Keeps (made_parts settings files' honest' failures kept places now logs keeper next filled)
+  opened_keeps allowed seated = subst Keeps parts_are (record {
+    fits = opened_fits settings honest' files' failures dead ids next t logs taken_now keeper allowed seated;
+    promises = λ is. opened_promises settings honest' files' failures dead ids next t logs taken_now keeper is (listed_now is);
   })
 
   pub opened_is : (given : List ℕ) → dead ≡ ledgers_of given
-      → IsOpened honest files settings given (made_parts settings files' honest' failures kept places now logs next filled).state
+      → IsOpened honest files settings given (made_parts settings files' honest' failures kept places now logs keeper next filled).state
   opened_is given dead_are = subst (λ p. IsOpened honest files settings given p.state) parts_are (record {
     settings_are = refl;
     caches_are = refl;
@@ -444,8 +451,8 @@ module _ (settings : Settings) (honest honest' : Bool) (files files' : Files) (f
     dead_are = ap (λ (x : Tally). x.dead) taken.taken ∙ dead-reads (started dead) taken.reads ∙ dead_are;
     holds = λ is.
         let is' : IsTrue honest' = stays ∙ is in
-        subst (λ fs. HoldsFiles fs (opened_parts settings files' honest' failures t logs next).state) (same is)
-        (opened_files settings honest' files' failures dead ids next t logs taken_now is' (listed_now is'));
+        subst (λ fs. HoldsFiles fs (opened_parts settings files' honest' failures t logs keeper next).state) (same is)
+        (opened_files settings honest' files' failures dead ids next t logs taken_now keeper is' (listed_now is'));
   })
 
 -- ---- refusals

@@ -13,7 +13,7 @@ pub record IsHeldAs (reads : List LogRead) (lists : Lists) (logs : Logs) (id : �
   pub there : In r reads
   pub own : r.id ≡ id
   pub listed : lists id ≡ Some r.founds
-  pub held : finite.get logs id ≡ Some (found_log r.view r.end)
+  pub held : finite.get logs id ≡ Some (found_log r.view r.slot r.end)
 
 -- no read is of this log, which is as it was before
 pub record IsElsewhere (reads : List LogRead) (old : Lists) (before : Logs) (lists : Lists) (logs : Logs) (id : ℕ) : Type 0 where
@@ -25,13 +25,13 @@ abbrev pub HeldOr : List LogRead → Lists → Logs → Lists → Logs → ℕ �
 HeldOr reads old before lists logs id = IsElsewhere reads old before lists logs id ⊎ ((r : LogRead) × IsHeldAs reads lists logs id r)
 
 abbrev with_log : Logs → LogRead → Logs
-with_log logs r = finite.insert logs r.id (found_log r.view r.end)
+with_log logs r = finite.insert logs r.id (found_log r.view r.slot r.end)
 
 get-with_log : (logs : Logs) (r : LogRead) (id : ℕ)
-    → finite.get (with_log logs r) id ≡ (if id == r.id then Some (found_log r.view r.end) else finite.get logs id)
+    → finite.get (with_log logs r) id ≡ (if id == r.id then Some (found_log r.view r.slot r.end) else finite.get logs id)
 get-with_log logs r id =
-    finite.get-insert nat_cmp_total logs r.id (found_log r.view r.end) id
-    ∙ ap (λ b. cond b (Some (found_log r.view r.end)) (finite.get logs id)) (unsigned_tied id r.id)
+    finite.get-insert nat_cmp_total logs r.id (found_log r.view r.slot r.end) id
+    ∙ ap (λ b. cond b (Some (found_log r.view r.slot r.end)) (finite.get logs id)) (unsigned_tied id r.id)
 
 pub each_log : (reads : List LogRead) (old : Lists) (before : Logs) (id : ℕ) → HeldOr reads old before (with_lists old reads) (logs_with before reads) id
 each_log [] old before id = inl (record { apart = λ r never. absurd never; listed = refl; held = refl })
@@ -45,7 +45,7 @@ each_log (r ∷ later) old before id = elim (each_log later (with_list old r.id 
             there = inl refl;
             own = sym (eqb-true id r.id same);
             listed = apart.listed ∙ ap (λ b. if b then Some r.founds else old id) same;
-            held = apart.held ∙ get-with_log before r id ∙ ap (λ b. if b then Some (found_log r.view r.end) else finite.get before id) same;
+            held = apart.held ∙ get-with_log before r id ∙ ap (λ b. if b then Some (found_log r.view r.slot r.end) else finite.get before id) same;
           },
         )
         | false ↦ λ other. inl (record {
@@ -54,24 +54,10 @@ each_log (r ∷ later) old before id = elim (each_log later (with_list old r.id 
             | inr behind ↦ apart.apart x behind own
           ];
           listed = apart.listed ∙ ap (λ b. if b then Some r.founds else old id) other;
-          held = apart.held ∙ get-with_log before r id ∙ ap (λ b. if b then Some (found_log r.view r.end) else finite.get before id) other;
+          held = apart.held ∙ get-with_log before r id ∙ ap (λ b. if b then Some (found_log r.view r.slot r.end) else finite.get before id) other;
         })
       ] refl
 ]
-
--- ---- how many
-
-len-with_log : (logs : Logs) (r : LogRead) → finite.len (with_log logs r) ≤ finite.len logs + 1
-len-with_log logs r =
-    subst (λ n. n ≤ finite.len logs + 1) (sym (finite.len-insert nat_cmp_total logs r.id (found_log r.view r.end)))
-    (elim (finite.contains_key logs r.id) as (λ b. cond b (finite.len logs) (finite.len logs + 1) ≤ finite.len logs + 1) [
-      | true ↦ omega arith
-      | false ↦ omega arith
-    ])
-
-pub len-logs_with : (reads : List LogRead) (logs : Logs) → finite.len (logs_with logs reads) ≤ finite.len logs + length reads
-len-logs_with [] logs = omega arith
-len-logs_with (r ∷ later) logs = omega (arith, len-logs_with later (with_log logs r), len-with_log logs r)
 
 -- ---- ids
 

@@ -11,13 +11,14 @@ use Rattle.bk_record.proofs.Keys.{key_cmp_total, key_cmp_antisymmetric}
 use Rattle.bk_record.specs.Keyed.{without_ledger}
 use Rattle.bk_cache.specs.Caches as caches
 use Rattle.bk_cache.specs.Recents.{recent_of}
+use Rattle.bk_lease.specs.Values.{Ticket}
 use Rattle.bk_store.specs.Entries.{HasEntry}
 use Rattle.bk_store.specs.Carried.{Carries}
-use Rattle.bk_store.specs.Logs.{View, view_of, is_open, open_parts, published_part}
+use Rattle.bk_store.specs.Logs.{View, HasOpenView, view_of, is_open, open_parts, published_part}
 use Rattle.bk_store.specs.State.{State, Parts}
 use Rattle.bk_store.specs.Meaning.{written_at, cached_at, holds}
 use Rattle.bk_store.specs.Kept.{Keeps, Promises}
-use Rattle.bk_store.specs.Turns.{AddTurn, TakeTurn, SwapTurn, DeleteTurn, IsOpenView, deleted}
+use Rattle.bk_store.specs.Turns.{AddTurn, TakeTurn, SwapTurn, DeleteTurn, deleted}
 use Rattle.bk_store.specs.Plain.{Plain, IsNew, PlainAdd, PlainTake, PlainDelete, after_swap, without, told_at, Agrees}
 use Rattle.bk_store.specs.declared.answer.Added.{Added}
 use Rattle.bk_store.specs.declared.answer.Added.TheVariants.{Accepted, Held}
@@ -147,35 +148,63 @@ module _ (parts : Parts) (keeps : Keeps parts) (promise : Promises parts) (p : P
   indexed_mapped key place named = ap is_some (carries.indexed key place named).mapped
 
   -- the view of an open log has the entry of a key that the index sends there, with what the map has
-  shown_at : (key : EntryKey) (place : Place) (view : View) → finite.get s.index key ≡ Some place → IsOpenView s place.log view
+  shown_at : (key : EntryKey) (place : Place) (view : View) → finite.get s.index key ≡ Some place → (opened : HasOpenView s.logs place.log)
+      → opened.view ≡ view
       → (payload : List ℕ) × (finite.get p.map key ≡ Some payload) × IsTrue view.is_honest × HasEntry (λ _. view.bytes) place key payload
-  shown_at key place view named opened =
+  shown_at key place view named opened same_view =
       let entry = carries.indexed key place named in
       let shown = promise.shows.shown key place named in
       let same : shown.0 ≡ entry.payload = one_payload (promise.shows.stands place key shown.0 shown.1) entry.stands in
+      let view_is : opened.log.view ≡ Some view = opened.view_is ∙ ap (λ (v : View). Some v) same_view in
       let part : open_parts s.logs place.log ≡ view.bytes =
       ap (λ o. option_map_or (λ log. cond (is_open log.state) (published_part log) []) o []) opened.held
-      ∙ (λ i. cond (opened.opened i) (published_part opened.log) []) ∙ ap (λ o. option_map_or (λ v. v.bytes) o []) opened.view_is in (
+      ∙ (λ i. cond (opened.opened i) (published_part opened.log) []) ∙ ap (λ o. option_map_or (λ v. v.bytes) o []) view_is in (
         shown.0,
         entry.mapped ∙ ap Some (sym same),
-        (promise.backed place.log opened.log opened.held).honest view opened.view_is,
+        (promise.backed place.log opened.log opened.held).honest view view_is,
         record { stands = subst (λ b. In (place.at, shown.0) (records_of b)) part shown.1.stands; keyed = shown.1.keyed },
       )
 
   pub plain_take : {V : Type 0} (bytes : V → List ℕ) (honest sound : V → Bool) (key : EntryKey) (r : Result (Taken V) TakeFault)
-      → TakeTurn bytes honest sound s key r → PlainTake bytes honest p key r
-  plain_take bytes honest sound key (Ok Deleted) turn = lives_in key true turn
-  plain_take bytes honest sound key (Ok (Cached payload)) turn = (lives_in key false turn.0, cached_mapped key payload.value.items turn.1)
-  plain_take bytes honest sound key (Ok NotHeld) turn = (lives_in key false turn.0, unheld_unmapped carries key (uncached key turn.1) turn.2)
-  plain_take bytes honest sound key (Ok (Leased lease place)) turn =
-      let shown = shown_at key place (view_of bytes honest sound lease.view.value) turn.2 turn.4 in
-      (lives_in key false turn.0, (shown.0, shown.1, record { log = turn.3; honest_is = shown.2; shown = shown.3 }))
-  plain_take bytes honest sound key (Err take_faults.Memory) turn = (
-    lives_in key false turn.0,
-    elim turn.1 [
-      | inl cached ↦ let found = some_value (cached_at s key) cached in ap is_some (cached_mapped key found.0 found.1)
-      | inr named ↦ let found = some_value (finite.get s.index key) named in indexed_mapped key found.0 found.1
-    ],
+      (t : State) → TakeTurn bytes honest sound s key r t → PlainTake bytes honest p key r × Agrees t p
+  plain_take bytes honest sound key (Ok Deleted) t turn = (lives_in key true turn.0, agrees_same agrees turn.1)
+  plain_take bytes honest sound key (Ok (Cached payload)) t turn =
+      ((lives_in key false turn.0, cached_mapped key payload.value.items turn.1), agrees_same agrees turn.2)
+  plain_take bytes honest sound key (Ok NotHeld) t turn =
+      ((lives_in key false turn.0, unheld_unmapped carries key (uncached key turn.1) turn.2), agrees_same agrees turn.3)
+  plain_take bytes honest sound key (Ok (Leased lease place)) t turn =
+      let entry = turn.0 in
+      let of = turn.1 in
+      let shown = shown_at key place (view_of bytes honest sound lease.view) entry.sent
+      (record { log = of.log; view = view_of bytes honest sound lease.view; held = of.held; opened = of.opened; view_is = of.view_is }) refl in (
+        (
+          lives_in key false entry.lives,
+          (
+            shown.0,
+            shown.1,
+            record {
+              log = ap (λ (k : Ticket). k.log) of.ticket_is;
+              held = ap (λ (k : Ticket). k.is_held) of.ticket_is;
+              honest_is = shown.2;
+              shown = shown.3;
+            },
+          ),
+        ),
+        agrees_same (record { meaning = agrees.meaning; dead = agrees.dead; active = agrees.active; flush = agrees.flush }) turn.2,
+      )
+  plain_take bytes honest sound key (Err take_faults.NoSeat) t turn =
+      ((lives_in key false turn.1.lives, indexed_mapped key turn.0 turn.1.sent), agrees_same agrees turn.2)
+  plain_take bytes honest sound key (Err take_faults.TooMany) t turn =
+      ((lives_in key false turn.1.lives, indexed_mapped key turn.0 turn.1.sent), agrees_same agrees turn.3)
+  plain_take bytes honest sound key (Err take_faults.Memory) t turn = (
+    (
+      lives_in key false turn.0,
+      elim turn.1 [
+        | inl cached ↦ let found = some_value (cached_at s key) cached in ap is_some (cached_mapped key found.0 found.1)
+        | inr named ↦ let found = some_value (finite.get s.index key) named in indexed_mapped key found.0 found.1
+      ],
+    ),
+    agrees_same agrees turn.2,
   )
 
   pub plain_swap : (t : State) (r : SwapAnswer) → SwapTurn s r t → Agrees t (after_swap r p)

@@ -21,6 +21,8 @@ use Rattle.bk_store.specs.State.{State, Parts}
 use Rattle.bk_store.specs.Meaning.{MeansTheSame, meaning_at, written_at}
 use Rattle.bk_store.specs.Kept.{Keeps, Promises}
 use Rattle.bk_store.specs.Putting.{next_place}
+use Rattle.bk_lease.specs.declared.answers.Leased.{Leased}
+use Rattle.bk_store.specs.Leasing.{CloseTurn}
 use Rattle.bk_store.specs.Doors.{MakeTurn, IsUnmade, MayWrite, WriteTurn, Seals, AllNamed, Ends}
 use Rattle.bk_store.specs.Beside.{WritesBeside}
 use Rattle.bk_store.specs.declared.log.LogState.{LogState}
@@ -75,8 +77,8 @@ make_means p q state (Err makes.Memory) keeps turn honest = elim turn.1 [
 make_means p q state (Err makes.Disk) keeps turn honest = unmade_means p q log_faults.Disk (p.state.failures + 1) keeps turn.1 honest
 make_means p q state (Err makes.Odd) keeps turn honest = absurd (let wrong = turn.1 in cc)
 make_means p q state (Ok id) keeps turn honest =
-    subst (MeansTheSame p.state) (sym turn.3) (gained p (keeps.promises honest) p.state.next q.state.files []
-    (create_gains {W = Unit {0}} p.state.files q.state.files p.state.next (Ok tt) (turn.2 honest)) (λ at payload key never. absurd never))
+    subst (MeansTheSame p.state) (sym turn.2.left) (gained p (keeps.promises honest) p.state.next q.state.files []
+    (create_gains {W = Unit {0}} p.state.files q.state.files p.state.next (Ok tt) (turn.2.files honest)) (λ at payload key never. absurd never))
 
 -- ---- writing and sealing
 
@@ -143,3 +145,9 @@ end_means p q keeps named turn honest =
     let ended : State = record p.state { caches = record p.state.caches { flush = None } } in
     subst (MeansTheSame p.state) (sym turn.left)
     (same_map p.state ended promise.carried promise.carries (carries_let_go promise.carries (written_at ended) (let_go p.state named)))
+
+-- ---- a log is closed
+
+pub close_means : (s t : State) (id : ℕ) (result : Result (Unit {0}) Leased) → CloseTurn s id result t → MeansTheSame s t
+close_means s t id (Ok _) turn = subst (MeansTheSame s) (sym turn.1.2) (λ key. refl)
+close_means s t id (Err leased) turn = means_same s t turn.1

@@ -8,6 +8,7 @@ use Rattle.bk_record.specs.Files.{In}
 use Rattle.bk_log.specs.declared.fault.LogFault.{LogFault}
 use Rattle.bk_log.specs.declared.fault.LogFault.TheVariants as log_faults
 use Rattle.bk_cache.specs.Kept.{IsSound}
+use Rattle.bk_lease.specs.Slots.{IsFree}
 use Rattle.bk_accounts.specs.Book.{Book, after_open, after_ready, after_count, after_name, after_unname}
 use Rattle.bk_store.specs.Logs.{Logs, unmade_log}
 use Rattle.bk_store.specs.State.{State, Parts}
@@ -30,10 +31,11 @@ make_told log_faults.Odd = makes.Odd
 abbrev pub GoesOn : List ℕ → List ℕ → Type 0
 GoesOn old new = (id : ℕ) → In id old → In id new
 
--- the next log has a slot and an account, and is in the list where it is to be Writing
-pub record HasSlot (p : Parts) (state : LogState) (q : Parts) : Type 0 where
+-- the next log has a slot, which is free yet, and an account, and is in the list where it is to be Writing
+pub record HasSlot (p : Parts) (state : LogState) (slot : ℕ) (q : Parts) : Type 0 where
+  pub free : IsFree p.state.keeper.slots slot
   pub parts : q ≡ record p {
-    state = record p.state { logs = finite.insert p.state.logs p.state.next unmade_log };
+    state = record p.state { logs = finite.insert p.state.logs p.state.next (unmade_log slot) };
     accounts = after_open p.accounts p.state.next;
     filled = q.filled;
   }

@@ -18,6 +18,9 @@ use Rattle.bk_log.specs.declared.fault.LogFault.TheVariants as log_faults
 use Rattle.bk_cache.specs.Caches as caches
 use Rattle.bk_record.specs.Keyed.{log_count}
 use Rattle.bk_cache.specs.Recents.{Recents, remembered}
+use Rattle.bk_lease.specs.declared.slot.Slot.TheVariants.{Open}
+use Rattle.bk_lease.specs.Slots.{IsFree}
+use Rattle.bk_lease.specs.Values.{SlotTable, with_state}
 use Rattle.bk_store.specs.Entries.{IsIndexOf, Places}
 use Rattle.bk_store.specs.Logs.{View, Log, Logs, made_log, unmade_log, closed_log, halted_log, with_view, settled_as, unfilled_as, AllChanged, is_open, open_parts, HasOpenView}
 use Rattle.bk_store.specs.Putting.{next_place, grown_log}
@@ -34,19 +37,35 @@ pub record MayMake (s : State) : Type 0 where
   pub room : finite.len s.logs < s.settings.slots
   pub id : s.next < 2 ^ 31
 
--- the state after a try to make the next log, which uses its id up; so many more failures of the device
-abbrev pub with_next : State → Files → ℕ → Logs → State
-with_next s files failures logs = record s { files = files; failures = failures; logs = logs; next = s.next + 1 }
+-- the state after a try to make the next log, which uses its id up; so many failures of the device, these logs, and this table
+abbrev pub with_next : State → Files → ℕ → Logs → SlotTable → State
+with_next s files failures logs keeper = record s { files = files; failures = failures; logs = logs; keeper = keeper; next = s.next + 1 }
 
--- a log whose file stands after a refused making is held
-abbrev pub logs_left : State → Bool → Logs
-logs_left s made = if made then finite.insert s.logs s.next unmade_log else s.logs
+-- the next log stands in a slot
+abbrev pub with_seat : State → ℕ → SlotTable
+with_seat s slot = with_state s.keeper slot (Open s.next)
+
+-- the next log was made in this state, in a slot that was free
+pub record IsMade (s : State) (state : LogState) (t : State) : Type 0 where
+  pub slot : ℕ
+  pub free : IsFree s.keeper.slots slot
+  pub files : IsTrue s.honest → CreateTurn {W = Unit {0}} s.files s.next (Ok tt) t.files
+  pub left : t ≡ with_next s t.files s.failures (finite.insert s.logs s.next (made_log state s.next slot)) (with_seat s slot)
+
+-- a log whose file stands after a refused making is held, and stands in a slot
+abbrev pub logs_left : State → Bool → ℕ → Logs
+logs_left s made slot = if made then finite.insert s.logs s.next (unmade_log slot) else s.logs
+
+abbrev pub keeper_left : State → Bool → ℕ → SlotTable
+keeper_left s made slot = if made then with_seat s slot else s.keeper
 
 -- a refused making of the next log, for this fault of the log
 pub record IsUnmade (s : State) (fault : LogFault) (failures : ℕ) (t : State) : Type 0 where
   pub made : Bool
+  pub slot : ℕ
+  pub free : IsFree s.keeper.slots slot
   pub files : IsTrue s.honest → CreateTurn {W = Unit {0}} s.files s.next (Err (record { made = made; fault = fault })) t.files
-  pub left : t ≡ with_next s t.files failures (logs_left s made)
+  pub left : t ≡ with_next s t.files failures (logs_left s made slot) (keeper_left s made slot)
 
 -- whether the next log may be made: a full table of logs is told before used-up ids
 abbrev pub MayMakeTurn : State → Result (Unit {0}) MakeFault → Type 0
@@ -72,16 +91,15 @@ abbrev pub IsWritingLog : State → Option ℕ → Type 0
 IsWritingLog s None = HasNoWriting s
 IsWritingLog s (Some id) = IsIn s id Writing × ((other : ℕ) → IsIn s other Writing → other ≡ id)
 
--- The next log is made, and is in this state from then on; a full table of logs is told before used-up ids, and both
--- before anything is done.
+-- The next log is made in a free slot, and is in this state from then on; a full table of logs is told before used-up ids,
+-- and both before anything is done.
 abbrev pub MakeTurn : State → LogState → Result ℕ MakeFault → State → Type 0
 MakeTurn s state (Err makes.LogsFull) t = (s.settings.slots ≤ finite.len s.logs) × (t ≡ s)
 MakeTurn s state (Err makes.NoMoreIds) t = (finite.len s.logs < s.settings.slots) × (2 ^ 31 ≤ s.next) × (t ≡ s)
 MakeTurn s state (Err makes.Memory) t = MayMake s × ((t ≡ s) ⊎ IsUnmade s log_faults.Memory s.failures t)
 MakeTurn s state (Err makes.Disk) t = MayMake s × IsUnmade s log_faults.Disk (s.failures + 1) t
 MakeTurn s state (Err makes.Odd) t = MayMake s × (s.honest ≡ false) × IsUnmade s log_faults.Odd s.failures t
-MakeTurn s state (Ok id) t = MayMake s × (id ≡ s.next) × (IsTrue s.honest → CreateTurn {W = Unit {0}} s.files s.next (Ok tt) t.files)
-    × (t ≡ with_next s t.files s.failures (finite.insert s.logs s.next (made_log state s.next)))
+MakeTurn s state (Ok id) t = MayMake s × (id ≡ s.next) × IsMade s state t
 
 -- ---- writing a log
 
@@ -249,11 +267,11 @@ pub record Ends (s t : State) : Type 0 where
 
 -- ---- the other logs, and the index
 
--- A log may come into this state: a copy becomes Readable, a Readable log that no key names Retired, a Retired one Closed.
+-- A log may come into this state: a copy becomes Readable, a Readable log that no key names Retired.
 abbrev pub MaySet : State → ℕ → LogState → Type 0
 MaySet s id Readable = IsIn s id Copying
 MaySet s id Retired = IsIn s id Readable × (log_count s.index id ≡ 0)
-MaySet s id Closed = IsIn s id Retired
+MaySet s id Closed = ⊥
 MaySet s id Writing = ⊥
 MaySet s id Filled = ⊥
 MaySet s id Copying = ⊥

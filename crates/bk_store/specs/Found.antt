@@ -83,9 +83,11 @@ pub record IsScanned (log end : ℕ) (honest : Bool) (file : List ℕ) (old new 
 
 -- ---- logs
 
--- A log as it was read: its id, its view and where that ends, and the entries that were found.
+-- A log as it was read: its id, the slot that it is to stand in, its view and where that ends, and the entries that were
+-- found.
 pub record LogRead : Type 0 where
   pub id : ℕ
+  pub slot : ℕ
   pub view : View
   pub end : ℕ
   pub founds : List Found
@@ -115,14 +117,15 @@ with_reads t (r ∷ later) = with_reads (with_read t r) later
 -- and the logs themselves
 abbrev pub logs_with : Logs → List LogRead → Logs
 logs_with logs [] = logs
-logs_with logs (r ∷ later) = logs_with (finite.insert logs r.id (found_log r.view r.end)) later
+logs_with logs (r ∷ later) = logs_with (finite.insert logs r.id (found_log r.view r.slot r.end)) later
 
--- One log was taken in, and is to be held so.
-pub record IsTaken (honest : Bool) (files : Files) (id : ℕ) (log : Log) (old new : Tally) : Type 0 where
+-- One log was taken in, and is to be held so, in this slot.
+pub record IsTaken (honest : Bool) (files : Files) (id slot : ℕ) (log : Log) (old new : Tally) : Type 0 where
   pub read : LogRead
   pub own : read.id ≡ id
+  pub seat : read.slot ≡ slot
   pub reads : IsRead honest files read
-  pub log_is : log ≡ found_log read.view read.end
+  pub log_is : log ≡ found_log read.view read.slot read.end
   pub taken : new ≡ with_read old read
 
 -- ids from a first one on, rising; the next one is past them all

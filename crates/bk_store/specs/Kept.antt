@@ -22,6 +22,7 @@ use Rattle.bk_store.specs.Logs.{View, Log, Logs, HasOpenView, IsFlushLog, is_wri
 use Rattle.bk_store.specs.State.{State, Parts}
 use Rattle.bk_store.specs.Meaning.{written_at}
 use Rattle.bk_store.specs.Limits.{IsAllowed}
+use Rattle.bk_store.specs.Seated.{IsSeated}
 use Rattle.bk_store.specs.declared.log.LogState.TheVariants.{Writing, Filled}
 
 -- the log is written by this writer, which has not failed and is as long as what is acknowledged
@@ -56,7 +57,7 @@ pub record Fits (p : Parts) : Type 0 where
   pub allowed : IsAllowed p.state.settings
   pub limit : p.state.caches.limit ≡ p.state.settings.cache_limit
   pub ids : p.state.next ≤ 2 ^ 31
-  pub slots : finite.len p.state.logs ≤ p.state.settings.slots
+  pub seated : IsSeated p.state.settings p.state.keeper p.state.logs
   pub held : (id : ℕ) (log : Log) → finite.get p.state.logs id ≡ Some log → IsHeld p.state.next id log
   pub sent : (key : EntryKey) (place : Place) → finite.get p.state.index key ≡ Some place → HasOpenView p.state.logs place.log
   pub placed : IsPlaced p.state

@@ -5,6 +5,8 @@ pub mod Logs
 pub mod State
 pub mod Meaning
 pub mod Limits
+pub mod Seated
+pub mod Leasing
 pub mod Kept
 pub mod Turns
 pub mod Doors

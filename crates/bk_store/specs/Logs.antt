@@ -17,10 +17,11 @@ pub record View : Type 0 where
   pub is_honest : Bool
   pub is_sound : Bool
 
--- One log: its state; its last view, none before the first; how many bytes of its file are acknowledged; its writer while
--- it is written.
+-- One log: its state; the number of its slot; its last view, none before the first; how many bytes of its file are
+-- acknowledged; its writer while it is written.
 pub record Log : Type 0 where
   pub state : LogState
+  pub slot : ℕ
   pub view : Option View
   pub acknowledged : ℕ
   pub writer : Option writers.Writing
@@ -34,25 +35,27 @@ abbrev pub view_of : {V : Type 0} → (V → List ℕ) → (V → Bool) → (V �
 view_of bytes honest sound view = record { bytes = bytes view; is_honest = honest view; is_sound = sound view }
 
 -- what is to be seen of a log that is held
-abbrev pub seen_log : {V : Type 0} → (V → List ℕ) → (V → Bool) → (V → Bool) → LogState → Option (Arc V Global) → ℕ → Option writers.Writing → Log
-seen_log bytes honest sound state view acknowledged writer = record {
+abbrev pub seen_log : {V : Type 0} → (V → List ℕ) → (V → Bool) → (V → Bool)
+    → LogState → ℕ → Option (Arc V Global) → ℕ → Option writers.Writing → Log
+seen_log bytes honest sound state slot view acknowledged writer = record {
   state = state;
+  slot = slot;
   view = option_map (λ v. view_of bytes honest sound v.value) view;
   acknowledged = acknowledged;
   writer = writer;
 }
 
 -- a log that was found when the store was opened, with a view of all its bytes, of which all are acknowledged
-abbrev pub found_log : View → ℕ → Log
-found_log view length = record { state = Readable; view = Some view; acknowledged = length; writer = None }
+abbrev pub found_log : View → ℕ → ℕ → Log
+found_log view slot length = record { state = Readable; slot = slot; view = Some view; acknowledged = length; writer = None }
 
 -- a log that was just made, in a state in which it is written: nothing of it is published
-abbrev pub made_log : LogState → ℕ → Log
-made_log state id = record { state = state; view = None; acknowledged = header_length; writer = Some (writers.new_writing id) }
+abbrev pub made_log : LogState → ℕ → ℕ → Log
+made_log state id slot = record { state = state; slot = slot; view = None; acknowledged = header_length; writer = Some (writers.new_writing id) }
 
 -- a log whose making failed when its file stood: it is read, and has no record
-abbrev pub unmade_log : Log
-unmade_log = record { state = Readable; view = None; acknowledged = header_length; writer = None }
+abbrev pub unmade_log : ℕ → Log
+unmade_log slot = record { state = Readable; slot = slot; view = None; acknowledged = header_length; writer = None }
 
 -- the log in another state, written no more
 abbrev pub closed_log : LogState → Log → Log

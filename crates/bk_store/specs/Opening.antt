@@ -75,7 +75,8 @@ OpenFails files settings open_faults.Odd = ⊥
 -- a log that was found is held with a view of its whole file, all of it acknowledged
 pub record IsHeldWhole (logs : Logs) (id : ℕ) (file : List ℕ) : Type 0 where
   pub view : View
-  pub held : finite.get logs id ≡ Some (found_log view (view_end file))
+  pub slot : ℕ
+  pub held : finite.get logs id ≡ Some (found_log view slot (view_end file))
   pub honest : IsTrue view.is_honest
   pub shows : view.bytes ≡ file
 

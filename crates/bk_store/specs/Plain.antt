@@ -10,10 +10,10 @@ use Rattle.bk_record.specs.Files.{Files}
 use Rattle.bk_record.specs.Scan.{Payloads, Ledgers, scan_of}
 use Rattle.bk_record.specs.Keyed.{ledger_count, without_ledger}
 use Rattle.bk_cache.specs.Caches.{used_of, AreApart}
+use Rattle.bk_lease.specs.Values.{LeasedView}
 use Rattle.bk_store.specs.Entries.{HasEntry}
 use Rattle.bk_store.specs.State.{State, Parts}
 use Rattle.bk_store.specs.Kept.{Keeps}
-use Rattle.bk_store.specs.declared.lease.Lease.{Lease}
 use Rattle.bk_store.specs.declared.answer.Added.{Added}
 use Rattle.bk_store.specs.declared.answer.Added.TheVariants.{Accepted, Held}
 use Rattle.bk_store.specs.declared.answer.AddFault.{AddFault}
@@ -62,19 +62,22 @@ PlainAdd limit p payload (Ok Accepted) q = (key : EntryKey) × IsNew p payload k
     × (q ≡ record p { map = finite.insert p.map key payload; active = finite.insert p.active key payload })
 
 -- a lease on an entry: on the log of its place, with a view that shows what the log held and has the entry there
-pub record IsLeaseOn {V : Type 0} (bytes : V → List ℕ) (honest : V → Bool) (lease : Lease V) (place : Place) (key : EntryKey) (payload : List ℕ) : Type 0 where
-  pub log : lease.log ≡ place.log
-  pub honest_is : IsTrue (honest lease.view.value)
-  pub shown : HasEntry (λ _. bytes lease.view.value) place key payload
+pub record IsLeaseOn {V : Type 0} (bytes : V → List ℕ) (honest : V → Bool) (lease : LeasedView V) (place : Place) (key : EntryKey) (payload : List ℕ) : Type 0 where
+  pub log : lease.ticket.log ≡ place.log
+  pub held : lease.ticket.is_held ≡ true
+  pub honest_is : IsTrue (honest lease.view)
+  pub shown : HasEntry (λ _. bytes lease.view) place key payload
 
 -- A take says that the ledger is dead, or gives the payload that the map has, as bytes or as a lease on it, or says that
--- there is none. Want of memory may come in place of a payload.
+-- there is none. Want of memory may come in place of a payload, and too many leases in place of one.
 abbrev pub PlainTake : {V : Type 0} → (V → List ℕ) → (V → Bool) → Plain → EntryKey → Result (Taken V) TakeFault → Type 0
 PlainTake bytes honest p key (Ok Deleted) = set.contains p.dead key.ledger ≡ true
 PlainTake bytes honest p key (Ok (Cached payload)) = (set.contains p.dead key.ledger ≡ false) × (finite.get p.map key ≡ Some payload.value.items)
 PlainTake bytes honest p key (Ok NotHeld) = (set.contains p.dead key.ledger ≡ false) × (finite.get p.map key ≡ None)
 PlainTake bytes honest p key (Ok (Leased lease place)) = (set.contains p.dead key.ledger ≡ false)
     × ((payload : List ℕ) × (finite.get p.map key ≡ Some payload) × IsLeaseOn bytes honest lease place key payload)
+PlainTake bytes honest p key (Err take_faults.NoSeat) = (set.contains p.dead key.ledger ≡ false) × IsSome (finite.get p.map key)
+PlainTake bytes honest p key (Err take_faults.TooMany) = (set.contains p.dead key.ledger ≡ false) × IsSome (finite.get p.map key)
 PlainTake bytes honest p key (Err take_faults.Memory) = (set.contains p.dead key.ledger ≡ false) × IsSome (finite.get p.map key)
 
 -- A swap that is answered so makes the active pairs the flushing ones.

@@ -10,6 +10,8 @@ use Rattle.bk_log.specs.Writing as writers
 use Rattle.bk_record.specs.Keyed.{key_code, place_code}
 use Rattle.bk_cache.specs.Caches.{CacheState, cache_code}
 use Rattle.bk_accounts.specs.Book.{Book, book_code}
+use Rattle.bk_lease.specs.Values.{SlotTable}
+use Rattle.bk_lease.specs.Codes.{slot_table_code}
 use Rattle.bk_store.specs.Entries.{Places}
 use Rattle.bk_store.specs.Logs.{View, Log, Logs}
 use Rattle.bk_store.specs.declared.log.LogState.{LogState}
@@ -17,8 +19,8 @@ use Rattle.bk_store.specs.declared.log.LogState.TheVariants.{Writing, Filled, Co
 use Rattle.bk_store.specs.declared.settings.Settings.{Settings}
 
 -- What is to be seen of a store: its limits; the disk's files, whether it is honest, and how often it has failed; the
--- caches; the places of the running flush's entries, by key; the index; the logs that it holds; the id of the next one;
--- the ledgers that are dead.
+-- caches; the places of the running flush's entries, by key; the index; the logs that it holds; the table of the slots in
+-- which they stand; the id of the next log; the ledgers that are dead.
 pub record State : Type 0 where
   pub settings : Settings
   pub files : Files
@@ -28,6 +30,7 @@ pub record State : Type 0 where
   pub places : Places
   pub index : Places
   pub logs : Logs
+  pub keeper : SlotTable
   pub next : ℕ
   pub dead : Ledgers
 
@@ -73,10 +76,10 @@ view_code = code_by (List ℕ × (Bool × Bool)) (coded× (coded_list coded_ℕ)
     (λ v. (v.bytes, (v.is_honest, v.is_sound))) (λ p. record { bytes = p.0; is_honest = p.1.0; is_sound = p.1.1 }) (λ _. refl)
 
 abbrev pub log_code : Coded Log
-log_code = code_by (LogState × (Option View × (ℕ × Option writers.Writing)))
-    (coded× log_state_code (coded× (coded_option view_code) (coded× coded_ℕ (coded_option writers.writing_code))))
-    (λ l. (l.state, (l.view, (l.acknowledged, l.writer))))
-    (λ p. record { state = p.0; view = p.1.0; acknowledged = p.1.1.0; writer = p.1.1.1 }) (λ _. refl)
+log_code = code_by (LogState × (ℕ × (Option View × (ℕ × Option writers.Writing))))
+    (coded× log_state_code (coded× coded_ℕ (coded× (coded_option view_code) (coded× coded_ℕ (coded_option writers.writing_code)))))
+    (λ l. (l.state, (l.slot, (l.view, (l.acknowledged, l.writer)))))
+    (λ p. record { state = p.0; slot = p.1.0; view = p.1.1.0; acknowledged = p.1.1.1.0; writer = p.1.1.1.1 }) (λ _. refl)
 
 abbrev pub logs_code : Coded Logs
 logs_code = finite.code coded_ℕ log_code
@@ -97,10 +100,10 @@ places_code = finite.code key_code place_code
 -- a state is stored as the tuple of its fields
 abbrev pub state_code : Coded State
 state_code = code_by
-    (Settings × (Files × (Bool × (ℕ × (CacheState × (Places × (Places × (Logs × (ℕ × Ledgers)))))))))
+    (Settings × (Files × (Bool × (ℕ × (CacheState × (Places × (Places × (Logs × (SlotTable × (ℕ × Ledgers))))))))))
     (coded× settings_code (coded× files_code (coded× coded_bool (coded× coded_ℕ (coded× cache_code (coded× places_code
-    (coded× places_code (coded× logs_code (coded× coded_ℕ (set.code coded_ℕ))))))))))
-    (λ s. (s.settings, (s.files, (s.honest, (s.failures, (s.caches, (s.places, (s.index, (s.logs, (s.next, s.dead))))))))))
+    (coded× places_code (coded× logs_code (coded× slot_table_code (coded× coded_ℕ (set.code coded_ℕ)))))))))))
+    (λ s. (s.settings, (s.files, (s.honest, (s.failures, (s.caches, (s.places, (s.index, (s.logs, (s.keeper, (s.next, s.dead)))))))))))
     (λ p. record {
       settings = p.0;
       files = p.1.0;
@@ -110,8 +113,9 @@ state_code = code_by
       places = p.1.1.1.1.1.0;
       index = p.1.1.1.1.1.1.0;
       logs = p.1.1.1.1.1.1.1.0;
-      next = p.1.1.1.1.1.1.1.1.0;
-      dead = p.1.1.1.1.1.1.1.1.1;
+      keeper = p.1.1.1.1.1.1.1.1.0;
+      next = p.1.1.1.1.1.1.1.1.1.0;
+      dead = p.1.1.1.1.1.1.1.1.1.1;
     })
     (λ _. refl)
 

@@ -4,13 +4,16 @@ use Rattle.std.specs.List.{count_by, filter}
 use Rattle.std.specs.FinMap as finite
 use Rattle.std.specs.FinSet as set
 use Rattle.bk_record.specs.Key.{EntryKey}
+use Rattle.bk_record.specs.Location.{Place}
 use Rattle.bk_record.specs.Record.{read_added}
 use Rattle.bk_record.specs.Scan.{Ledgers}
 use Rattle.bk_record.specs.Keyed.{ledger_count, without_ledger}
 use Rattle.bk_cache.specs.Caches as caches
-use Rattle.bk_store.specs.Logs.{View, Log, view_of, is_open}
+use Rattle.bk_lease.specs.Values.{LeasedView, with_given}
+use Rattle.bk_store.specs.Logs.{view_of}
 use Rattle.bk_store.specs.State.{State}
 use Rattle.bk_store.specs.Meaning.{written_at, cached_at, holds}
+use Rattle.bk_store.specs.Leasing.{IsLeaseOf, IsMet}
 use Rattle.bk_store.specs.declared.answer.Added.{Added}
 use Rattle.bk_store.specs.declared.answer.Added.TheVariants.{Accepted, Held}
 use Rattle.bk_store.specs.declared.answer.AddFault.{AddFault}
@@ -46,21 +49,32 @@ AddTurn s payload (Err add_faults.Memory) t = Asks s payload false × (¬ (cache
 AddTurn s payload (Ok Accepted) t = Asks s payload false × (¬ (caches.IsFull s.caches payload))
     × (t ≡ record s { caches = caches.with_added s.caches payload })
 
--- the log of this id is held, keys may be sent to it, and this is its view
-pub record IsOpenView (s : State) (id : ℕ) (view : View) : Type 0 where
-  pub log : Log
-  pub held : finite.get s.logs id ≡ Some log
-  pub opened : is_open log.state ≡ true
-  pub view_is : log.view ≡ Some view
+-- the key is of a live ledger, is not cached, and the index sends it to this place: so it is to be read in a log
+pub record IsInLog (s : State) (key : EntryKey) (place : Place) : Type 0 where
+  pub lives : is_dead s key.ledger ≡ false
+  pub uncached : cached_at s key ≡ None
+  pub sent : finite.get s.index key ≡ Some place
 
--- A take looks into the caches first, then into the index; of a dead ledger it tells that. It leaves the store as it was.
-abbrev pub TakeTurn : {V : Type 0} → (V → List ℕ) → (V → Bool) → (V → Bool) → State → EntryKey → Result (Taken V) TakeFault → Type 0
-TakeTurn bytes honest sound s key (Ok Deleted) = is_dead s key.ledger ≡ true
-TakeTurn bytes honest sound s key (Ok (Cached payload)) = (is_dead s key.ledger ≡ false) × (cached_at s key ≡ Some payload.value.items)
-TakeTurn bytes honest sound s key (Ok NotHeld) = (is_dead s key.ledger ≡ false) × (cached_at s key ≡ None) × (finite.get s.index key ≡ None)
-TakeTurn bytes honest sound s key (Ok (Leased lease place)) = (is_dead s key.ledger ≡ false) × (cached_at s key ≡ None)
-    × (finite.get s.index key ≡ Some place) × (lease.log ≡ place.log) × IsOpenView s place.log (view_of bytes honest sound lease.view.value)
-TakeTurn bytes honest sound s key (Err take_faults.Memory) = (is_dead s key.ledger ≡ false) × (IsSome (cached_at s key) ⊎ IsSome (finite.get s.index key))
+-- A lease of a log is one more that was given out; each fault leaves the store as it was.
+abbrev pub LeaseTurn : {V : Type 0} → (V → List ℕ) → (V → Bool) → (V → Bool) → State → ℕ → Result (LeasedView V) TakeFault → State → Type 0
+LeaseTurn bytes honest sound s id (Ok lease) t =
+    IsLeaseOf s.keeper s.logs id lease.ticket (view_of bytes honest sound lease.view) × (t ≡ record s { keeper = with_given s.keeper })
+LeaseTurn bytes honest sound s id (Err take_faults.NoSeat) t = t ≡ s
+LeaseTurn bytes honest sound s id (Err take_faults.TooMany) t = IsMet s.keeper s.logs id s.keeper.most × (t ≡ s)
+LeaseTurn bytes honest sound s id (Err take_faults.Memory) t = t ≡ s
+
+-- A take looks into the caches first, then into the index; of a dead ledger it tells that. A lease that it gives is one more
+-- that was given out, and every other answer leaves the store as it was.
+abbrev pub TakeTurn : {V : Type 0} → (V → List ℕ) → (V → Bool) → (V → Bool) → State → EntryKey → Result (Taken V) TakeFault → State → Type 0
+TakeTurn bytes honest sound s key (Ok Deleted) t = (is_dead s key.ledger ≡ true) × (t ≡ s)
+TakeTurn bytes honest sound s key (Ok (Cached payload)) t = (is_dead s key.ledger ≡ false) × (cached_at s key ≡ Some payload.value.items) × (t ≡ s)
+TakeTurn bytes honest sound s key (Ok NotHeld) t = (is_dead s key.ledger ≡ false) × (cached_at s key ≡ None) × (finite.get s.index key ≡ None) × (t ≡ s)
+TakeTurn bytes honest sound s key (Ok (Leased lease place)) t = IsInLog s key place
+    × IsLeaseOf s.keeper s.logs place.log lease.ticket (view_of bytes honest sound lease.view) × (t ≡ record s { keeper = with_given s.keeper })
+TakeTurn bytes honest sound s key (Err take_faults.NoSeat) t = (place : Place) × IsInLog s key place × (t ≡ s)
+TakeTurn bytes honest sound s key (Err take_faults.TooMany) t = (place : Place) × IsInLog s key place × IsMet s.keeper s.logs place.log s.keeper.most × (t ≡ s)
+TakeTurn bytes honest sound s key (Err take_faults.Memory) t = (is_dead s key.ledger ≡ false)
+    × (IsSome (cached_at s key) ⊎ IsSome (finite.get s.index key)) × (t ≡ s)
 
 -- how many keys of a ledger the store has: those of the write caches, and those that the index alone has
 abbrev pub held_count : State → ℕ → ℕ

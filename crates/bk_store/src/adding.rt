@@ -1,12 +1,12 @@
-//! The calls that ask no device: an add, a take, a swap.
+//! An add, and a swap.
 
 ghost use Rattle.std.specs.Prelude.{◌≡◌};
-ghost use Rattle.bk_store.specs.Turns.{AddTurn, TakeTurn, SwapTurn};
+ghost use Rattle.bk_store.specs.Turns.{AddTurn, SwapTurn};
 ghost use Rattle.bk_store.specs.Meaning.{holds};
 ghost use Rattle.bk_store.specs.Kept.{Keeps};
 
 use crate::fields::Fields;
-use crate::{AddFault, Added, Lease, SwapAnswer, TakeFault, Taken};
+use crate::{AddFault, Added, SwapAnswer};
 use bk_cache::{CacheFault, Swap};
 use bk_disk::LogDisk;
 use bk_record::{Key, check_add};
@@ -37,31 +37,6 @@ impl<D: LogDisk> Fields<D> {
             Ok(()) => Ok(Added::Accepted),
             Err(CacheFault::Full { used, limit }) => Err(AddFault::Full { used, limit }),
             Err(CacheFault::Memory) => Err(AddFault::Memory),
-        }
-    }
-
-    pub fn take(&self, key: Key) -> Result<Taken<D::View>, TakeFault>
-        requires { Keeps self.now }
-        ensures { TakeTurn D.View.bytes D.View.honest D.View.sound self.now.state key result }
-    {
-        if self.dead.contains(key.ledger()) {
-            return Ok(Taken::Deleted);
-        }
-        if let Some(payload) = self.caches.get(&key) {
-            return match payload.clone() {
-                Ok(payload) => Ok(Taken::Cached(payload)),
-                Err(_) => Err(TakeFault::Memory),
-            };
-        }
-        let Some(location) = self.index.get(&key) else {
-            return Ok(Taken::NotHeld);
-        };
-        let Some(view) = self.logs.view(location.log()) else {
-            unreachable!();
-        };
-        match view.clone() {
-            Ok(view) => Ok(Taken::Leased(Lease::new(location.log(), view), location)),
-            Err(_) => Err(TakeFault::Memory),
         }
     }
 

@@ -1,6 +1,6 @@
 //! What the calls of a store answer: an enum for each call, and why a call is refused.
 
-use crate::Lease;
+use bk_lease::Lease;
 use bk_record::{Location, RecordFault};
 use std::sync::Arc;
 use thiserror::Error;
@@ -33,7 +33,7 @@ pub enum AddFault {
 
 /// What a take gives.
 #[derive(Drop)]
-pub enum Taken<V> {
+pub enum Taken<V: Drop> {
     /// The entry's ledger was deleted.
     Deleted,
     /// The payload, from a cache.
@@ -47,6 +47,12 @@ pub enum Taken<V> {
 /// Why a take was refused. The store is as it was, and no lease of that call is out.
 #[derive(Clone, Copy, Debug, PartialEq, Eq, Error)]
 pub enum TakeFault {
+    /// The table of leases was refused a further owner.
+    #[error("no seat")]
+    NoSeat,
+    /// As many leases of the log are out as one log may have.
+    #[error("too many leases")]
+    TooMany,
     /// A payload or a view was refused a further owner.
     #[error("memory")]
     Memory,

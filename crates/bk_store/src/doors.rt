@@ -7,12 +7,15 @@ ghost use Rattle.std.specs.FinMap as map;
 ghost use Rattle.bk_cache.specs.Caches.{flush_of};
 ghost use Rattle.bk_store.specs.Logs.{is_written};
 ghost use Rattle.bk_store.specs.Meaning.{MeansTheSame};
-ghost use Rattle.bk_store.specs.declared.log.LogState.TheVariants.{Writing};
-ghost use Rattle.bk_store.specs.Doors.{MakeTurn, HasNoWriting, MayWrite, WriteTurn, MaySeal, Seals, IsOpenLog, ShowTurn, MayName, NameTurn, AllNamed, Restarts, Ends, MaySet, SetTurn, MayReplace, Replaces};
+ghost use Rattle.bk_store.specs.declared.log.LogState.TheVariants.{Writing, Retired};
+ghost use Rattle.bk_lease.specs.Leases.{IsClosed};
+ghost use Rattle.bk_store.specs.Leasing.{CloseTurn};
+ghost use Rattle.bk_store.specs.Doors.{MakeTurn, HasNoWriting, IsIn, MayWrite, WriteTurn, MaySeal, Seals, IsOpenLog, ShowTurn, MayName, NameTurn, AllNamed, Restarts, Ends, MaySet, SetTurn, MayReplace, Replaces};
 
 use crate::{LogState, MakeFault, Store};
 use bk_disk::LogDisk;
 use bk_index::Index;
+use bk_lease::{Lease, Leased};
 use bk_log::LogFault;
 use bk_record::{Key, Location};
 use std::alloc::AllocError;
@@ -101,13 +104,34 @@ impl<D: LogDisk> Store<D> {
     }
 
     /// Puts a log that is not the flush's into a state: a copy becomes Readable, written no more; a Readable log that no
-    /// key names becomes Retired; a Retired one Closed.
+    /// key names becomes Retired.
     pub fn set_log_state(&mut self, log: u32, state: LogState)
         requires { MaySet self.old log state }
         ensures turn { SetTurn self.old log state self.new }
         ensures meaning { IsTrue self.old.honest → MeansTheSame self.old self.new }
     {
         self.fields.set_log_state(log, state)
+    }
+
+    /// Closes a Retired log, at one step at which no lease of it is out: from then on none is given.
+    ///
+    /// The fault tells how many leases of the log were out, 1 to as many as one log may have; the store is as it was.
+    pub fn close_log(&mut self, log: u32) -> Result<(), Leased>
+        requires { IsIn self.old log Retired }
+        ensures turn { CloseTurn self.old log result self.new }
+        ensures meaning { IsTrue self.old.honest → MeansTheSame self.old self.new }
+    {
+        self.fields.close_log(log)
+    }
+
+    /// Shows that no lease is of a log that is closed, by putting the two together: a caller that has both calls it in an
+    /// arm that is never reached.
+    pub fn meet(&mut self, lease: Lease<D::View>)
+        requires table { lease.ticket.table ≡ self.old.keeper.table }
+        requires closed { IsClosed self.old.keeper.slots lease.ticket.slot }
+        ensures { ⊥ }
+    {
+        self.fields.keeper.meet(lease);
     }
 
     /// Sends each key where this index does, which was made anew of all that the logs show. It takes no memory.

@@ -12,6 +12,7 @@ use bk_accounts::Accounts;
 use bk_cache::Caches;
 use bk_disk::LogDisk;
 use bk_index::Index;
+use bk_lease::Keeper;
 use std::alloc::Global;
 use std::marker::Model;
 
@@ -27,6 +28,8 @@ pub(crate) struct Fields<D: LogDisk> {
     pub index: Index,
     pub accounts: Accounts,
     pub logs: LogTable<D::View>,
+    /// The slots in which the logs stand.
+    pub keeper: Keeper,
     pub writing: Option<u32>,
     pub filled: Vec<u32>,
     pub next: u32,
@@ -50,6 +53,7 @@ impl<D: LogDisk> Model for Fields<D> {
         places = f.places;
         index = f.index;
         logs = f.logs;
+        keeper = f.keeper;
         next = f.next;
         dead = f.dead;
       };

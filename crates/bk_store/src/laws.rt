@@ -86,10 +86,11 @@ pub fn add_is_plain()
         → AddTurn s payload answer t → (q : Plain) × PlainAdd s.caches.limit p payload answer q × Agrees t q }
 {}
 
-/// A take of a store answers as the plain map does: a lease has a view in which the entry stands with what the map has.
+/// A take of a store answers as the plain map does, and leaves them agreeing: a lease has a view in which the entry stands
+/// with what the map has.
 pub fn take_is_plain<V: LogView>()
-    ensures { (s : State) (p : Plain) (key : EntryKey) (answer : Result (Taken V) TakeFault)
-        → IsKept s → IsTrue s.honest → Agrees s p → TakeTurn V.bytes V.honest V.sound s key answer → PlainTake V.bytes V.honest p key answer }
+    ensures { (s t : State) (p : Plain) (key : EntryKey) (answer : Result (Taken V) TakeFault) → IsKept s → IsTrue s.honest → Agrees s p
+        → TakeTurn V.bytes V.honest V.sound s key answer t → PlainTake V.bytes V.honest p key answer × Agrees t p }
 {}
 
 /// A swap changes nothing of the plain map but which pairs are flushing.

@@ -9,7 +9,7 @@ mod doors;
 mod fields;
 mod flushing;
 mod laws;
-mod lease;
+mod leasing;
 mod log;
 mod logs;
 mod making;
@@ -34,7 +34,7 @@ pub use laws::{
     deleted_ledger_leaves, files_have_an_index, index_is_one, opened_index_carries,
     rebuilt_index_carries, reopened_means_the_same, swap_is_plain, take_is_plain,
 };
-pub use lease::Lease;
+pub use leasing::StillLeased;
 pub use log::LogState;
 pub use settings::Settings;
 pub use store::Store;

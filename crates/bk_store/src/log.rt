@@ -6,6 +6,7 @@ ghost use Rattle.bk_disk.specs.Disk.{IsCaused};
 ghost use Rattle.bk_log.specs.Writing.{Writing, Writes, PutTurn};
 ghost use Rattle.bk_store.specs.Logs.{in_state, closed_log, halted_log, settled_as, unfilled_as, unmade_log, with_view, view_of};
 ghost use Rattle.bk_store.specs.Putting.{put_log, IsPutAt, MayPut};
+ghost use Rattle.bk_store.specs.Leasing.{slot_lent};
 
 use bk_disk::{LogDisk, LogView};
 use bk_log::{LogFault, LogWriter};
@@ -31,11 +32,12 @@ pub enum LogState {
     Closed,
 }
 
-/// A log that is held. `acknowledged` is how many bytes of its file are: all of a file that was found, and else the
-/// header and the records whose write was answered.
+/// A log that is held, in a slot of the store's table. `acknowledged` is how many bytes of its file are: all of a file that
+/// was found, and else the header and the records whose write was answered.
 #[derive(Drop)]
 pub(crate) struct HeldLog<V: LogView> {
     pub state: LogState,
+    pub slot: usize,
     pub view: Option<Arc<V>>,
     pub acknowledged: u64,
     pub writer: Option<LogWriter>,
@@ -49,19 +51,34 @@ impl<V: LogView> Model for HeldLog<V> {
 
     ghost coded = { log_code };
 
-    ghost view = { λ log. seen_log V.bytes V.honest V.sound log.state log.view log.acknowledged log.writer };
+    ghost view = { λ log. seen_log V.bytes V.honest V.sound log.state log.slot log.view log.acknowledged log.writer };
 }
 
 impl<V: LogView> HeldLog<V> {
-    /// A log whose file is to be made.
-    pub fn unmade() -> HeldLog<V>
-        ensures { result ≡ unmade_log }
+    /// A log whose file is to be made, and which is to stand in this slot.
+    pub fn unmade(slot: usize) -> HeldLog<V>
+        ensures { result ≡ unmade_log slot }
     {
         HeldLog {
             state: LogState::Readable,
+            slot,
             view: None,
             acknowledged: HEADER_LENGTH as u64,
             writer: None,
+        }
+    }
+
+    /// The log's slot, `None` where the log is closed to leases.
+    pub fn lent_slot(&self) -> Option<usize>
+        ensures { result ≡ slot_lent self.now.state self.now.slot }
+    {
+        match self.state {
+            LogState::Closed => None,
+            LogState::Writing
+            | LogState::Filled
+            | LogState::Copying
+            | LogState::Readable
+            | LogState::Retired => Some(self.slot),
         }
     }
 

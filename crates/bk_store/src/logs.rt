@@ -1,6 +1,6 @@
 //! The logs that a store holds, found by their ids.
 
-ghost use Rattle.std.specs.Prelude.{◌≡◌, ◌⊎◌, ℕ, Some, IsSome, IsTrue, IsErrOf, OnOk, OnErr, option_map};
+ghost use Rattle.std.specs.Prelude.{◌≡◌, ◌⊎◌, ℕ, ◌<◌, ◌^◌, Some, IsSome, IsTrue, IsErrOf, IfSome, IfNone, OnOk, OnErr, option_map};
 ghost use Rattle.std.specs.FinMap as map;
 ghost use Rattle.bk_record.specs.Record.{IsPayload, key_of};
 ghost use Rattle.bk_record.specs.Files.{In};
@@ -9,10 +9,14 @@ ghost use Rattle.bk_log.specs.Writing.{Writing, Writes, PutTurn};
 ghost use Rattle.bk_store.specs.Logs.{Log, AllChanged, IsFlushLog, IsNextHeld, in_state, closed_log, settled_as, unfilled_as, last_view, view_of, with_view};
 ghost use Rattle.bk_store.specs.Putting.{put_log, IsPutAt, MayPut};
 ghost use Rattle.bk_store.specs.Doors.{writer_of};
+ghost use Rattle.bk_store.specs.Seated.{AreSeated};
+ghost use Rattle.bk_store.specs.Leasing.{AreUnleased, AreShut, IsLowestLeased, lent_slot};
+ghost use Rattle.bk_lease.specs.Values.{SlotTable};
 
 use crate::LogState;
 use crate::log::HeldLog;
 use bk_disk::{LogDisk, LogView};
+use bk_lease::{Keeper, Leased};
 use bk_log::{LogFault, LogWriter};
 use bk_record::Location;
 use std::alloc::{AllocError, Global};
@@ -158,6 +162,53 @@ impl<V: LogView> LogTable<V> {
             → IsTrue (D.honest disk.old) → PutTurn (D.files disk.old) w payload.now result (D.files disk.new) }
     {
         self.logs.get_mut(&id).unwrap().put(disk, alloc, payload)
+    }
+
+    /// The slot of a log that is not closed to leases, `None` where no such log is held.
+    fn lent_slot(&self, id: u32) -> Option<usize>
+        ensures { result ≡ lent_slot self.now id }
+    {
+        self.get(id)?.lent_slot()
+    }
+
+    /// Closes the slots of all logs that are not closed, by rising ids. At the first of which a lease is out all are opened
+    /// again, and it is answered with the number of its leases.
+    pub fn close_all(&self, keeper: &mut Keeper) -> Option<(u32, u64)>
+        requires seated { AreSeated keeper.old self.now }
+        requires ids { (id : ℕ) → IsSome (map.get self.now id) → id < 2 ^ 31 }
+        ensures none { IfNone result (AreUnleased keeper.old self.now (2 ^ 31)) }
+        ensures some { IfSome result (λ found. IsLowestLeased keeper.old self.now found.0 found.1) }
+        ensures same { IfSome result (λ _. keeper.new ≡ keeper.old) }
+    {
+        let mut from = 0;
+        while let Some(id) = self.next_from(from) {
+            if let Some(slot) = self.lent_slot(id) {
+                if let Err(Leased { count }) = keeper.close(slot) {
+                    self.open_below(keeper, id);
+                    return Some((id, count));
+                }
+            }
+            from = id + 1;
+        }
+        None
+    }
+
+    /// Opens the slots of the logs below this one that are not closed.
+    fn open_below(&self, keeper: &mut Keeper, end: u32)
+        requires shut { (old : SlotTable) × AreSeated old self.now × AreShut self.now old keeper.old 0 end }
+        requires ids { (id : ℕ) → IsSome (map.get self.now id) → id < 2 ^ 31 }
+        ensures { (old : SlotTable) → AreSeated old self.now → AreShut self.now old keeper.old 0 end → keeper.new ≡ old }
+    {
+        let mut from = 0;
+        while let Some(id) = self.next_from(from) {
+            if id >= end {
+                return;
+            }
+            if let Some(slot) = self.lent_slot(id) {
+                keeper.open(slot, id);
+            }
+            from = id + 1;
+        }
     }
 
     /// The flush starts again, which wrote these logs and no other.

@@ -1,6 +1,8 @@
-//! A log is made: it has its slot and its account before its file, so that no file stands that is not held.
+//! A log is made: it has its place and its account before its file, so that no file stands that is not held, and its slot is
+//! opened behind the file, so that a log that is not made leaves its slot free.
 
-ghost use Rattle.std.specs.Prelude.{◌≡◌, true, OnOk, OnErr, IsOkUnless};
+ghost use Rattle.std.specs.Prelude.{◌≡◌, ◌<◌, true, IfOk, OnErr, OnOk, IsOkUnless};
+ghost use Rattle.std.specs.FinMap as map;
 ghost use Rattle.bk_store.specs.Logs.{is_written};
 ghost use Rattle.bk_store.specs.Kept.{Keeps};
 ghost use Rattle.bk_store.specs.Doors.{MayMakeTurn, MakeTurn};
@@ -40,19 +42,22 @@ impl<D: LogDisk> Fields<D> {
         if let Err(fault) = self.may_make() {
             return Err(fault);
         }
-        let Ok(()) = self.take_slot(state) else {
+        let Ok(slot) = self.take_slot(state) else {
             return Err(MakeFault::Memory);
         };
         let log = self.next;
         self.next += 1;
         match LogWriter::create(&mut self.disk, self.alloc, log) {
             Ok(writer) => {
+                self.keeper.open(slot, log);
                 self.logs.start(log, state, writer);
                 self.writing = written_after(self.writing, log, state);
                 Ok(log)
             }
             Err(fault) => {
-                if !fault.made {
+                if fault.made {
+                    self.keeper.open(slot, log);
+                } else {
                     self.logs.let_go(log);
                     self.accounts.drop_log(log);
                 }
@@ -61,25 +66,30 @@ impl<D: LogDisk> Fields<D> {
         }
     }
 
-    /// Takes a slot for the next log and opens its account. The only fault is `Memory`, which leaves both as they were.
-    fn take_slot(&mut self, state: LogState) -> Result<(), MakeFault>
-        requires { Keeps self.old }
-        ensures ok { OnOk result (HasSlot self.old state self.new) }
+    /// Finds a free slot for the next log, which is held from then on, and opens its account. The slot is free yet: it is
+    /// opened once the log's file stands. The only fault is `Memory`, which leaves all as it was.
+    fn take_slot(&mut self, state: LogState) -> Result<usize, MakeFault>
+        requires keeps { Keeps self.old }
+        requires room { map.len self.old.state.logs < self.old.state.settings.slots }
+        ensures ok { IfOk result (λ slot. HasSlot self.old state slot self.new) }
         ensures err { OnErr result (HasNoSlot self.old self.new) }
         ensures memory { IsOkUnless result MakeFault.Memory }
     {
         let log = self.next;
+        let Some(slot) = self.keeper.free_slot() else {
+            unreachable!();
+        };
         let Ok(()) = list_written(&mut self.filled, log, state) else {
             return Err(MakeFault::Memory);
         };
         let Ok(()) = self.accounts.open(log) else {
             return Err(MakeFault::Memory);
         };
-        let Ok(()) = self.logs.hold(log, HeldLog::unmade()) else {
+        let Ok(()) = self.logs.hold(log, HeldLog::unmade(slot)) else {
             self.accounts.drop_log(log);
             return Err(MakeFault::Memory);
         };
-        Ok(())
+        Ok(slot)
     }
 }
 

@@ -21,6 +21,7 @@ use bk_accounts::Accounts;
 use bk_cache::Caches;
 use bk_disk::LogDisk;
 use bk_index::Index;
+use bk_lease::LeaseTable;
 use fault::open_fault;
 use logs::find_all;
 use std::alloc::Global;
@@ -44,12 +45,16 @@ impl<D: LogDisk> Fields<D> {
         if !settings.is_allowed() {
             return Err(OpenFault::Settings);
         }
+        let slots = settings.slots as usize;
+        let Ok(mut keeper) = LeaseTable::new(alloc, slots, u64::from(settings.leases)) else {
+            return Err(OpenFault::Memory);
+        };
         let mut disk = disk;
         let ids = match disk.list(alloc) {
             Ok(ids) => ids,
             Err(fault) => return Err(open_fault(fault)),
         };
-        if ids.len() > settings.slots as usize {
+        if ids.len() > slots {
             return Err(OpenFault::LogsFull);
         }
         let Ok(caches) = Caches::new(alloc, u64::from(settings.cache_limit), settings.recent) else {
@@ -60,7 +65,7 @@ impl<D: LogDisk> Fields<D> {
         };
         let mut tally = Tally::new(alloc, dead);
         let mut logs = LogTable::new(alloc);
-        let next = find_all(&mut disk, alloc, &ids, &mut tally, &mut logs)?;
+        let next = find_all(&mut disk, alloc, &ids, &mut tally, &mut logs, &mut keeper)?;
         tally.name_all();
         let Tally {
             index,
@@ -76,6 +81,7 @@ impl<D: LogDisk> Fields<D> {
             index,
             accounts,
             logs,
+            keeper,
             writing: None,
             filled: Vec::new(alloc),
             next,

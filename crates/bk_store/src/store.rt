@@ -85,9 +85,13 @@ impl<D: LogDisk> Store<D> {
     }
 
     /// The entry of a key: its payload where a cache has it, else a lease on the log where the index says that it
-    /// stands. The fault, `Memory`, comes only where the entry is held, and no lease is out then.
-    pub fn take(&self, key: Key) -> Result<Taken<D::View>, TakeFault>
-        ensures { TakeTurn D.View.bytes D.View.honest D.View.sound self.now key result }
+    /// stands. As long as the lease lives the log is not closed.
+    ///
+    /// Faults, each of which leaves the store as it was, no lease of that call being out: `Memory`, only where the entry is
+    /// held; `NoSeat` and `TooMany`, in the place of a lease alone, `TooMany` where as many leases of the log are out as one
+    /// log may have.
+    pub fn take(&mut self, key: Key) -> Result<Taken<D::View>, TakeFault>
+        ensures { TakeTurn D.View.bytes D.View.honest D.View.sound self.old key result self.new }
     {
         self.fields.take(key)
     }

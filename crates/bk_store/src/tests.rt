@@ -8,6 +8,7 @@ use std::alloc::Global;
 use std::test::Fail;
 
 mod deleting;
+mod leasing;
 mod opening;
 
 /// Settings that nothing in a test comes near, and no recent entries.
@@ -79,7 +80,7 @@ fn opened(alloc: Global, dead: &[u64]) -> Result<Store<MemDisk>, OpenFault> {
 }
 
 /// The place of a ledger's entry 0: 0 where the store has none, or the ledger is dead.
-fn place_of(store: &Store<MemDisk>, ledger: u64) -> Result<u64, TakeFault> {
+fn place_of(store: &mut Store<MemDisk>, ledger: u64) -> Result<u64, TakeFault> {
     match Key::new(ledger, 0) {
         Some(key) => match &store.take(key)? {
             Taken::Leased(_, location) => Ok(location.value()),
@@ -90,7 +91,7 @@ fn place_of(store: &Store<MemDisk>, ledger: u64) -> Result<u64, TakeFault> {
 }
 
 /// Whether the entries 0 of these ledgers are at these places.
-fn are_placed(store: &Store<MemDisk>, places: &[(u64, u64)]) -> bool {
+fn are_placed(store: &mut Store<MemDisk>, places: &[(u64, u64)]) -> bool {
     for (ledger, place) in places {
         match place_of(store, *ledger) {
             Ok(found) if found == *place => {}

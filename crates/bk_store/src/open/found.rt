@@ -20,11 +20,13 @@ use std::sync::Arc;
 /// The most bytes that a log's file may have (this project's rule).
 const MOST: u64 = u32::MAX as u64;
 
-/// Reads a log: its entries are taken in, and it is held as one that is written no more, with a view of its whole file.
+/// Reads a log, which is to stand in this slot: its entries are taken in, and it is held as one that is written no more,
+/// with a view of its whole file.
 pub(super) fn find<D: LogDisk>(
     disk: &mut D,
     alloc: Global,
     id: u32,
+    slot: usize,
     tally: &mut Tally,
 ) -> Result<HeldLog<D::View>, OpenFault>
     requires id { id < 2 ^ 31 }
@@ -33,7 +35,7 @@ pub(super) fn find<D: LogDisk>(
     ensures failures { OnOk result (D.failures disk.new ≡ D.failures disk.old) }
     ensures never { ¬ (IsErrOf result OpenFault.Settings) }
     ensures files { IsTrue (D.honest disk.old) → D.files disk.new ≡ D.files disk.old }
-    ensures ok { IfOk result (λ log. IsTaken (D.honest disk.old) (D.files disk.old) id log tally.old tally.new) }
+    ensures ok { IfOk result (λ log. IsTaken (D.honest disk.old) (D.files disk.old) id slot log tally.old tally.new) }
     ensures err { (file : List ℕ) → IsTrue (D.honest disk.old) → IsFile (D.files disk.old) id file
         → IfErr result (FileFails id file) }
 {
@@ -55,6 +57,7 @@ pub(super) fn find<D: LogDisk>(
     };
     Ok(HeldLog {
         state: LogState::Readable,
+        slot,
         view: Some(view),
         acknowledged: end,
         writer: None,

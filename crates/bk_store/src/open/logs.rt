@@ -1,47 +1,60 @@
 //! All logs that were found, one after another.
 
-ghost use Rattle.std.specs.Prelude.{◌≡◌, IsTrue, IsErrOf, IfOk, IfErr, OnOk};
+ghost use Rattle.std.specs.Prelude.{◌≡◌, ◌≤◌, IsTrue, IsErrOf, IfOk, IfErr, OnOk, length, replicate};
 ghost use Rattle.std.specs.FinMap as map;
 ghost use Rattle.bk_store.specs.Opening.{FirstFails};
 ghost use Rattle.bk_store.specs.Found.{AreTaken};
+ghost use Rattle.bk_store.specs.Seated.{AreSeated, IsSameTable};
+ghost use Rattle.bk_lease.specs.declared.slot.Slot.TheVariants.{Free};
 
 use super::found::find;
 use super::tally::Tally;
 use crate::OpenFault;
 use crate::logs::LogTable;
 use bk_disk::LogDisk;
+use bk_lease::Keeper;
 use std::alloc::Global;
 
 /// The greatest id of a log (this project's rule).
 const LAST: u32 = i32::MAX as u32;
 
-/// Reads the logs of these ids, and answers the next id that is free: one more than the greatest, 0 where there is none.
+/// Reads the logs of these ids, which are seated one behind the other, the first in slot 0. It answers the next id that is
+/// free: one more than the greatest, 0 where there is none.
 pub(super) fn find_all<D: LogDisk>(
     disk: &mut D,
     alloc: Global,
     ids: &[u32],
     tally: &mut Tally,
     logs: &mut LogTable<D::View>,
+    keeper: &mut Keeper,
 ) -> Result<u32, OpenFault>
     requires listed { IsTrue (D.honest disk.old) → ids.now ≡ map.keys (D.files disk.old) }
     requires first { tally.old.accounts ≡ map.empty }
+    requires none { logs.old ≡ map.empty }
+    requires free { keeper.old.slots ≡ replicate (length keeper.old.slots) Free }
+    requires room { length ids.now ≤ length keeper.old.slots }
     ensures honest { D.honest disk.new ≡ D.honest disk.old }
     ensures failures { OnOk result (D.failures disk.new ≡ D.failures disk.old) }
     ensures never { ¬ (IsErrOf result OpenFault.Settings) }
     ensures files { IsTrue (D.honest disk.old) → D.files disk.new ≡ D.files disk.old }
     ensures ok { IfOk result (λ next. AreTaken (D.honest disk.old) (D.files disk.old) ids.now next tally.old tally.new logs.old logs.new) }
+    ensures seated { OnOk result (AreSeated keeper.new logs.new) }
+    ensures keeper { IsSameTable keeper.old keeper.new }
     ensures err { IfErr result (λ fault. IsTrue (D.honest disk.old) → FirstFails (D.files disk.old) fault) }
 {
     disk.bounds();
     let mut next = 0;
+    let mut slot = 0;
     for id in ids {
         if *id < next || *id > LAST {
             return Err(OpenFault::Odd);
         }
-        let log = find(disk, alloc, *id, tally)?;
+        let log = find(disk, alloc, *id, slot, tally)?;
         if logs.hold(*id, log).is_err() {
             return Err(OpenFault::Memory);
         }
+        keeper.open(slot, *id);
+        slot += 1;
         next = *id + 1;
     }
     Ok(next)

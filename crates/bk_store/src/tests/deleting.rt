@@ -57,9 +57,9 @@ const PLACES: [(u64, u64); 3] = [(1, 0), (2, 1049), (3, 4_294_968_324)];
 
 #[test]
 fn other_ledgers_keep_their_accounts_and_places(rt: HostRuntime) -> Result<(), Fail> {
-    let store = deleted(rt.alloc())?;
+    let mut store = deleted(rt.alloc())?;
     assert!(rt; are_accounts(&store, &ACCOUNTS));
-    assert!(rt; are_placed(&store, &PLACES));
+    assert!(rt; are_placed(&mut store, &PLACES));
     Ok(())
 }
 

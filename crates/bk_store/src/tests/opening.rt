@@ -13,8 +13,8 @@ const PLACES: [(u64, u64); 5] = [
 
 #[test]
 fn last_records_of_live_ledgers_are_found(rt: HostRuntime) -> Result<(), Fail> {
-    let store = opened(rt.alloc(), &[4, 9, 1 << 63])?;
-    assert!(rt; are_placed(&store, &PLACES));
+    let mut store = opened(rt.alloc(), &[4, 9, 1 << 63])?;
+    assert!(rt; are_placed(&mut store, &PLACES));
     Ok(())
 }
 

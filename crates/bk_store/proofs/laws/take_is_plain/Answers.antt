@@ -5,7 +5,8 @@ use Rattle.bk_store.proofs.PlainMaps.{plain_take}
 use Rattle.bk_store.proofs.laws.take_is_plain.Goals as goal
 
 pub returns : goal.returns
-returns g c = λ s p key answer kept truth agrees turn.
+returns g c = λ s t p key answer kept truth agrees turn.
     let keeps = kept.keeps in
     plain_take kept.parts keeps (keeps.promises (subst (λ x. IsTrue x.honest) (sym kept.seen) truth)) p (subst (λ x. Agrees x p) (sym kept.seen) agrees)
-    g.V.LogView.bytes g.V.LogView.honest g.V.LogView.sound key answer (subst (λ x. TakeTurn g.V.LogView.bytes g.V.LogView.honest g.V.LogView.sound x key answer) (sym kept.seen) turn)
+    g.V.LogView.bytes g.V.LogView.honest g.V.LogView.sound key answer t
+    (subst (λ x. TakeTurn g.V.LogView.bytes g.V.LogView.honest g.V.LogView.sound x key answer t) (sym kept.seen) turn)

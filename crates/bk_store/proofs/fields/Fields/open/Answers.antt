@@ -1,16 +1,17 @@
-use Rattle.std.proofs.Common.{◌≡◌, IsTrue, IfErr, Err, length, refl, sym, ap, subst, ◌∙◌, arith}
+use Rattle.std.proofs.Common.{◌≡◌, IsTrue, IfErr, Err, refl, sym, ap, subst, ◌∙◌, arith}
 use Rattle.std.proofs.lemmas.Result.{err_from_is_err_and}
 use Rattle.bk_cache.specs.Caches.{new_caches}
 use Rattle.bk_store.specs.Opening.{OpenFails}
 use Rattle.bk_store.specs.declared.answer.OpenFault.TheVariants as open_faults
 use Rattle.bk_store.proofs.OpenedKeeps.{taken_as, taken_unnamed, opened_keeps, opened_is, open_fails, listed_len}
+use Rattle.bk_store.proofs.Seating.{seated_by}
 use Rattle.bk_store.proofs.fields.Fields.open.Goals as goal
 
-pub returns-then-len-settings-clause-fails : goal.returns-then-len-settings-clause-fails
-returns-then-len-settings-clause-fails g c = λ honest.
+pub returns-then-len-slots-clause-fails : goal.returns-then-len-slots-clause-fails
+returns-then-len-slots-clause-fails g c = λ honest.
     let allowed : IsTrue c.is_allowed.result = let told = c.if-not-is_allowed.false in cc in
-    let many = listed_len (g.D.LogDisk.files c.args.disk) c.in-Ok.ids.items (c.in-Ok.ensures.turn honest).0 in
-    (c.is_allowed.ensures.0 allowed, omega (arith, many, c.if-len-settings.true, c.len.ensures, c.in-Ok.ids.ok.0))
+    let many = listed_len (g.D.LogDisk.files c.args.disk) c.in-Ok-list.ids.items (c.in-Ok-list.ensures.turn honest).0 in
+    (c.is_allowed.ensures.0 allowed, omega (arith, many, c.if-len-slots.true, c.len.ensures, c.in-Ok-list.ids.ok.0))
 
 pub returns-in_err-next-clause-settings : goal.returns-in_err-next-clause-settings
 returns-in_err-next-clause-settings g c =
@@ -28,10 +29,10 @@ returns-in_err-next-clause-fails g c =
     subst (λ r. IfErr r (λ fault. IsTrue (g.D.LogDisk.honest c.args.disk) → OpenFails (g.D.LogDisk.files c.args.disk) c.args.settings fault))
     (sym (told.1 ∙ ap Err told.2))
     (λ honest.
-    let turn = c.in-Ok.ensures.turn honest in
-    let many = listed_len (g.D.LogDisk.files c.args.disk) c.in-Ok.ids.items turn.0 in
+    let turn = c.in-Ok-list.ensures.turn honest in
+    let many = listed_len (g.D.LogDisk.files c.args.disk) c.in-Ok-list.ids.items turn.0 in
     open_fails (g.D.LogDisk.files c.args.disk) _ c.args.settings _ turn.1 (c.is_allowed.ensures.0 allowed)
-    (omega (arith, many, c.if-len-settings.false, c.len.ensures, c.in-Ok.ids.ok.0)) (c.in_err-next.ensures.err (c.in-Ok.ensures.honest ∙ honest)))
+    (omega (arith, many, c.if-len-slots.false, c.len.ensures, c.in-Ok-list.ids.ok.0)) (c.in_err-next.ensures.err (c.in-Ok-list.ensures.honest ∙ honest)))
 
 pub name_all-requires : goal.name_all-requires
 name_all-requires g c =
@@ -42,26 +43,27 @@ pub returns-clause-kept : goal.returns-clause-kept
 returns-clause-kept g c =
     let allowed : IsTrue c.is_allowed.result = let told = c.if-not-is_allowed.false in cc in
     let was = taken_as _ (g.D.LogDisk.honest c.args.disk) _ (g.D.LogDisk.files c.args.disk) c.in-Ok-of.dead _ _ _ _ _ _ c.in_ok-next.ensures.ok
-    c.new-tally.ensures c.new-logs.ensures (sym c.in-Ok.ensures.honest) (λ is. sym (c.in-Ok.ensures.turn (sym c.in-Ok.ensures.honest ∙ is)).1) in
+    c.new-tally.ensures c.new-logs.ensures (sym c.in-Ok-list.ensures.honest) (λ is. sym (c.in-Ok-list.ensures.turn (sym c.in-Ok-list.ensures.honest ∙ is)).1) in
     opened_keeps c.args.settings (g.D.LogDisk.honest c.args.disk) (g.D.LogDisk.honest c.find_all.new.disk) (g.D.LogDisk.files c.args.disk)
     (g.D.LogDisk.files c.find_all.new.disk) (g.D.LogDisk.failures c.find_all.new.disk) c.in-Ok-of.dead _ c.in_ok-next.next c.find_all.new.tally
-    c.find_all.new.logs was (c.in_ok-next.ensures.honest ∙ c.in-Ok.ensures.honest)
-    (λ is. c.in_ok-next.ensures.files (c.in-Ok.ensures.honest ∙ is) ∙ (c.in-Ok.ensures.turn is).1)
-    (λ is. c.deref.ensures.value ∙ (c.in-Ok.ensures.turn is).0)
-    c.in-Ok-new.caches c.new-2.result c.name_all.new.self c.new-3.result.items
-    (c.in-Ok-new.ensures.value ∙ ap (λ l. new_caches l c.args.settings.recent) c.from.ensures) c.new-2.ensures c.name_all.ensures c.new-3.ensures.items
+    c.find_all.new.logs was c.find_all.new.keeper (c.in_ok-next.ensures.honest ∙ c.in-Ok-list.ensures.honest)
+    (λ is. c.in_ok-next.ensures.files (c.in-Ok-list.ensures.honest ∙ is) ∙ (c.in-Ok-list.ensures.turn is).1)
+    (λ is. c.deref.ensures.value ∙ (c.in-Ok-list.ensures.turn is).0)
+    c.in-Ok-new.caches c.new-3.result c.name_all.new.self c.new-4.result.items
+    (c.in-Ok-new.ensures.value ∙ ap (λ l. new_caches l c.args.settings.recent) c.from-2.ensures) c.new-3.ensures c.name_all.ensures c.new-4.ensures.items
     (c.is_allowed.ensures.0 allowed)
-    (omega (arith, c.if-len-settings.false, c.len.ensures, c.in-Ok.ids.ok.0, ap length c.deref.ensures.value))
+    (seated_by c.args.settings c.in-Ok.keeper c.find_all.new.keeper c.find_all.new.logs c.in-Ok.ensures.free
+    (c.in-Ok.ensures.most ∙ c.from.ensures) c.in_ok-next.ensures.keeper c.in_ok-next.ensures.seated)
 
 pub returns-clause-opened : goal.returns-clause-opened
 returns-clause-opened g c =
     let was = taken_as _ (g.D.LogDisk.honest c.args.disk) _ (g.D.LogDisk.files c.args.disk) c.in-Ok-of.dead _ _ _ _ _ _ c.in_ok-next.ensures.ok
-    c.new-tally.ensures c.new-logs.ensures (sym c.in-Ok.ensures.honest) (λ is. sym (c.in-Ok.ensures.turn (sym c.in-Ok.ensures.honest ∙ is)).1) in
+    c.new-tally.ensures c.new-logs.ensures (sym c.in-Ok-list.ensures.honest) (λ is. sym (c.in-Ok-list.ensures.turn (sym c.in-Ok-list.ensures.honest ∙ is)).1) in
     opened_is c.args.settings (g.D.LogDisk.honest c.args.disk) (g.D.LogDisk.honest c.find_all.new.disk) (g.D.LogDisk.files c.args.disk)
     (g.D.LogDisk.files c.find_all.new.disk) (g.D.LogDisk.failures c.find_all.new.disk) c.in-Ok-of.dead _ c.in_ok-next.next c.find_all.new.tally
-    c.find_all.new.logs was (c.in_ok-next.ensures.honest ∙ c.in-Ok.ensures.honest)
-    (λ is. c.in_ok-next.ensures.files (c.in-Ok.ensures.honest ∙ is) ∙ (c.in-Ok.ensures.turn is).1)
-    (λ is. c.deref.ensures.value ∙ (c.in-Ok.ensures.turn is).0)
-    c.in-Ok-new.caches c.new-2.result c.name_all.new.self c.new-3.result.items
-    (c.in-Ok-new.ensures.value ∙ ap (λ l. new_caches l c.args.settings.recent) c.from.ensures) c.new-2.ensures c.name_all.ensures c.new-3.ensures.items
+    c.find_all.new.logs was c.find_all.new.keeper (c.in_ok-next.ensures.honest ∙ c.in-Ok-list.ensures.honest)
+    (λ is. c.in_ok-next.ensures.files (c.in-Ok-list.ensures.honest ∙ is) ∙ (c.in-Ok-list.ensures.turn is).1)
+    (λ is. c.deref.ensures.value ∙ (c.in-Ok-list.ensures.turn is).0)
+    c.in-Ok-new.caches c.new-3.result c.name_all.new.self c.new-4.result.items
+    (c.in-Ok-new.ensures.value ∙ ap (λ l. new_caches l c.args.settings.recent) c.from-2.ensures) c.new-3.ensures c.name_all.ensures c.new-4.ensures.items
     c.args.dead.now c.in-Ok-of.ensures

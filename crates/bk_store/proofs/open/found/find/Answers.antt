@@ -32,10 +32,10 @@ returns-clause-ok g c =
     let stands : IsTrue (g.D.LogDisk.honest c.args.disk.now) → IsFile files c.args.id (g.D.View.LogView.bytes c.in-Ok.view) = λ is.
     subst (λ fs. IsFile fs c.args.id (g.D.View.LogView.bytes c.in-Ok.view)) (c.in_ok-check_file.ensures.files is)
     (c.in-Ok.ensures.turn (c.in_ok-check_file.ensures.honest ∙ is)).0 in
-    subst (λ v. IsTaken (g.D.LogDisk.honest c.args.disk.now) files c.args.id
-    (found_log (view_of g.D.View.LogView.bytes g.D.View.LogView.honest g.D.View.LogView.sound v) c.end-end.result) c.args.tally.now c.scan.new.tally)
+    subst (λ v. IsTaken (g.D.LogDisk.honest c.args.disk.now) files c.args.id c.args.slot
+    (found_log (view_of g.D.View.LogView.bytes g.D.View.LogView.honest g.D.View.LogView.sound v) c.args.slot c.end-end.result) c.args.tally.now c.scan.new.tally)
     (sym c.in-Ok-new.ensures.ok)
-    (log_taken (g.D.LogDisk.honest c.args.disk.now) files c.args.id c.end-end.result
+    (log_taken (g.D.LogDisk.honest c.args.disk.now) files c.args.id c.args.slot c.end-end.result
     (view_of g.D.View.LogView.bytes g.D.View.LogView.honest g.D.View.LogView.sound c.in-Ok.view) c.args.tally.now _ c.scan.new.tally
     (ap (λ b. record c.args.tally.now { accounts = b }) (when_ok c.open.result made c.open.ensures.ok)) c.in_ok-scan.ensures.ok
     (λ is. (stands is, (c.in-Ok.ensures.turn (c.in_ok-check_file.ensures.honest ∙ is)).1)) c.end-end.ensures

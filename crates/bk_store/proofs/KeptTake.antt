@@ -1,0 +1,68 @@
+-- A take keeps what a store keeps: a lease that is given is one more that was given out.
+use Rattle.std.proofs.Common.{◌≡◌, ℕ, List, Bool, Result, Ok, Err, sym, ap, subst, ◌∙◌}
+use Rattle.bk_record.specs.Key.{EntryKey}
+use Rattle.bk_lease.specs.Values.{with_given}
+use Rattle.bk_store.specs.State.{State, Parts}
+use Rattle.bk_store.specs.Turns.{TakeTurn}
+use Rattle.bk_store.specs.Kept.{Keeps}
+use Rattle.bk_store.specs.declared.answer.Taken.{Taken}
+use Rattle.bk_store.specs.declared.answer.Taken.TheVariants.{Deleted, Cached, NotHeld, Leased}
+use Rattle.bk_store.specs.declared.answer.TakeFault.{TakeFault}
+use Rattle.bk_store.specs.declared.answer.TakeFault.TheVariants as take_faults
+use Rattle.bk_store.proofs.KeptParts.{with_state, keeps_same}
+
+-- one lease more was given out
+keeps_given : (p : Parts) → Keeps p → Keeps (with_state p (record p.state { keeper = with_given p.state.keeper }))
+keeps_given p keeps =
+    let fits = keeps.fits in
+    let seated = fits.seated in
+    record {
+      fits = record {
+        allowed = fits.allowed;
+        limit = fits.limit;
+        ids = fits.ids;
+        seated = record {
+          slots = seated.slots;
+          most = seated.most;
+          seats = record { taken = seated.seats.taken; stands = seated.seats.stands };
+        };
+        held = fits.held;
+        sent = fits.sent;
+        placed = record {
+          idle = fits.placed.idle;
+          flushing = fits.placed.flushing;
+          logs = fits.placed.logs;
+          front = fits.placed.front;
+          rising = fits.placed.rising;
+          newest = fits.placed.newest;
+        };
+        writing = fits.writing;
+        filled = fits.filled;
+        named = fits.named;
+        total = fits.total;
+      };
+      promises = λ honest.
+          let promise = keeps.promises honest in
+          record {
+            carried = promise.carried;
+            carries = promise.carries;
+            shows = promise.shows;
+            recent = promise.recent;
+            counted = promise.counted;
+            backed = promise.backed;
+            fresh = promise.fresh;
+            placed = λ key place is.
+                let old = promise.placed key place is in
+                record { payload = old.payload; flushing = old.flushing; stands = old.stands };
+          };
+    }
+
+module _ {V : Type 0} (bytes : V → List ℕ) (honest sound : V → Bool) (p q : Parts) (key : EntryKey) where
+  pub keeps_take : (r : Result (Taken V) TakeFault) → Keeps p → TakeTurn bytes honest sound p.state key r q.state → q ≡ with_state p q.state → Keeps q
+  keeps_take (Ok Deleted) keeps turn beside = keeps_same p q keeps beside turn.1
+  keeps_take (Ok (Cached payload)) keeps turn beside = keeps_same p q keeps beside turn.2
+  keeps_take (Ok NotHeld) keeps turn beside = keeps_same p q keeps beside turn.3
+  keeps_take (Ok (Leased lease place)) keeps turn beside = subst Keeps (sym (beside ∙ ap (with_state p) turn.2)) (keeps_given p keeps)
+  keeps_take (Err take_faults.NoSeat) keeps turn beside = keeps_same p q keeps beside turn.2
+  keeps_take (Err take_faults.TooMany) keeps turn beside = keeps_same p q keeps beside turn.3
+  keeps_take (Err take_faults.Memory) keeps turn beside = keeps_same p q keeps beside turn.2
