@@ -1,4 +1,5 @@
--- The calls of a collection, each a turn of the store: a log is retired, the index is rebuilt of what the logs show.
+-- The calls of a collection, each a turn of the store: a log is retired, then closed; the index is rebuilt of what the logs
+-- show.
 use Rattle.std.specs.Prelude.{◌≡◌, ◌⊎◌, ℕ, ◌≤◌, Bool, false, if◌then◌else◌, IsTrue, Option, Some, None, Result, Ok, Err}
 use Rattle.std.specs.Option.{option_and_then}
 use Rattle.std.specs.FinMap as finite
@@ -6,10 +7,14 @@ use Rattle.bk_record.specs.Keyed.{log_count}
 use Rattle.bk_store.specs.Entries.{Places}
 use Rattle.bk_store.specs.Logs.{View, Logs, is_open}
 use Rattle.bk_store.specs.State.{State}
-use Rattle.bk_store.specs.Doors.{IsIn, MayReplace, Replaces, SetTurn}
+use Rattle.bk_store.specs.Doors.{IsIn, IsOpenLog, MayReplace, Replaces, SetTurn}
+use Rattle.bk_store.specs.Leasing as leasing
+use Rattle.bk_store.specs.Leasing.{IsLeased}
 use Rattle.bk_store.specs.declared.log.LogState.TheVariants.{Writing, Filled, Copying, Readable, Retired, Closed}
 use Rattle.bk_collect.specs.declared.answer.RetireAnswer.{RetireAnswer}
 use Rattle.bk_collect.specs.declared.answer.RetireAnswer.TheVariants as retires
+use Rattle.bk_collect.specs.declared.answer.CloseAnswer.{CloseAnswer}
+use Rattle.bk_collect.specs.declared.answer.CloseAnswer.TheVariants as closes
 use Rattle.bk_collect.specs.declared.answer.CollectFault.{CollectFault}
 use Rattle.bk_collect.specs.declared.answer.CollectFault.TheVariants as faults
 
@@ -31,6 +36,16 @@ RetireTurn s id retires.InUse t = IsInUse s id × (t ≡ s)
 RetireTurn s id (retires.StillNamed n) t = IsIn s id Readable × (n ≡ log_count s.index id) × (1 ≤ n) × (t ≡ s)
 RetireTurn s id (retires.Retired log) t = (log ≡ id)
     × ((IsPast s id × (t ≡ s)) ⊎ (IsIn s id Readable × (log_count s.index id ≡ 0) × SetTurn s id Retired t))
+
+-- ---- closing
+
+-- A log that is Retired is closed where no lease of it is out, and told how many there are where some are. One that is
+-- Closed stays so, and no other is closed.
+abbrev pub CloseTurn : State → ℕ → CloseAnswer → State → Type 0
+CloseTurn s id closes.NoLog t = (finite.get s.logs id ≡ None) × (t ≡ s)
+CloseTurn s id closes.NotRetired t = IsOpenLog s id × (t ≡ s)
+CloseTurn s id (closes.Leased n) t = IsIn s id Retired × IsLeased s.keeper s.logs id n × (t ≡ s)
+CloseTurn s id closes.Closed t = (IsIn s id Closed × (t ≡ s)) ⊎ (IsIn s id Retired × leasing.CloseTurn s id (Ok tt) t)
 
 -- ---- rebuilding
 

@@ -16,6 +16,19 @@ pub enum RetireAnswer {
     StillNamed(u64),
 }
 
+/// What became of a closing.
+#[derive(Clone, Copy, Debug, PartialEq, Eq)]
+pub enum CloseAnswer {
+    /// No such log is held.
+    NoLog,
+    /// The log is not retired, so a key may still be sent to it.
+    NotRetired,
+    /// The log is closed: no lease of it is out, and none will be.
+    Closed,
+    /// So many leases of the log, at least one, were out when it was to be closed.
+    Leased(u64),
+}
+
 /// Why a call of a collection was refused. The store is as it was.
 #[derive(Clone, Copy, Debug, PartialEq, Eq, Error)]
 pub enum CollectFault {
