@@ -1,20 +1,27 @@
 -- The run that a machine has made so far.
-use Rattle.std.proofs.Common.{◌≡◌, ℕ, ◌<◌, ◌≤◌, List, [], ◌∷◌, ◌++◌, length, take, replicate, Bool, true, Option, None, IsTrue, get_or, ◌+◌, add-one, sym, ap, ◌∙◌, subst, arith}
+use Rattle.std.proofs.Common.{◌≡◌, ◌⊎◌, inl, inr, ℕ, ◌<◌, ◌≤◌, List, [], ◌∷◌, ◌++◌, length, take, replicate, Bool, true, Option, None, IsTrue, get_or, ◌+◌, add-one, sym, ap, ◌∙◌, subst, arith}
 use Rattle.std.specs.List.{All}
 use Rattle.std.proofs.lemmas.List.Elements.{All-nil, All-cons, All-append, All-weaker}
+use Rattle.std.proofs.lemmas.List.{length-append}
 use Rattle.std.proofs.Math.Seq.{take-suc}
 use Rattle.bk_record.specs.Files.{Files}
 use Rattle.bk_store.specs.State.{State}
 use Rattle.bk_store.specs.Opening.{IsOpened}
 use Rattle.bk_store.specs.declared.settings.Settings.{Settings}
+use Rattle.bk_lease.specs.Values.{SlotTable}
+use Rattle.bk_store.specs.Turns.{ledgers_of}
+use Rattle.bk_store.specs.Plain.{IsKept}
+use Rattle.bk_drive.specs.Plain.{PlainDesk}
 use Rattle.bk_drive.specs.Machine.{Hold, Turn, PlainTurn}
-use Rattle.bk_drive.specs.Headline.{reader_count, Headline}
+use Rattle.bk_drive.specs.Leased.{AreOpenLeases, StandsClosed, Closes, WasClosed}
+use Rattle.bk_drive.specs.Headline.{reader_count, Headline, Run, first_desk, first_plain}
 use Rattle.bk_drive.specs.Headline.Run.{stop}
 use Rattle.bk_drive.specs.declared.step.Step.{Step}
 use Rattle.bk_drive.specs.declared.step.Answer.{Answer}
 use Rattle.bk_drive.specs.Failing.{IsDiskFault, NoneIsDiskFault}
 use Rattle.bk_drive.proofs.Runs.{run_end, run_push, first_agrees}
 use Rattle.bk_drive.proofs.PlainTurns.{GoesOn}
+use Rattle.bk_drive.proofs.Leases.{closed_unread}
 
 -- a device fault among the answers was counted by then
 abbrev pub AreCounted : ℕ → List Answer → Type 0
@@ -36,7 +43,10 @@ counted_never failures answers counted never =
 
 -- these steps were answered so, from a disk of these files on, by a store that asks an honest disk
 pub record IsDriven (settings : Settings) (files : Files) (dead : List ℕ) (steps : List Step) (answers : List Answer) (store : State) (readers : List (Option Hold)) : Type 0 where
-  pub headline : Headline settings files dead steps answers store readers
+  pub first : State
+  pub opened : IsOpened true files settings dead first
+  pub plain : PlainDesk
+  pub run : Run settings.cache_limit (first_desk first) (first_plain files (ledgers_of dead)) steps answers (record { store = store; readers = readers }) plain
   pub honest : IsTrue store.honest
   pub settings_are : store.settings ≡ settings
 
@@ -49,7 +59,10 @@ driven_first settings files dead store readers steps answers honest is same open
     (subst (λ ss. IsDriven settings files dead ss answers store (replicate reader_count None)) (sym no_steps)
     (subst (λ as'. IsDriven settings files dead [] as' store (replicate reader_count None)) (sym no_answers)
     (record {
-      headline = record { first = store; opened = opened_so; plain = _; run = stop (first_agrees settings files dead store opened_so) };
+      first = store;
+      opened = opened_so;
+      plain = _;
+      run = stop (first_agrees settings files dead store opened_so);
       honest = same ∙ is;
       settings_are = opened.settings_are;
     })))
@@ -61,22 +74,59 @@ pub driven_on : (settings : Settings) (files : Files) (dead : List ℕ) (steps s
     → (IsTrue store.honest → GoesOn store readers x a store' readers')
     → steps' ≡ steps ++ x ∷ [] → answers' ≡ answers ++ a ∷ [] → IsDriven settings files dead steps' answers' store' readers'
 driven_on settings files dead steps steps' answers answers' store store' readers readers' x a so_far honest same turn goes more_steps more_answers =
-    let head = so_far.headline in
-    let next = goes so_far.honest head.plain (run_end head.run) in
-    let beside : PlainTurn settings.cache_limit head.plain x a next.0 =
-    subst (λ (s : Settings). PlainTurn s.cache_limit head.plain x a next.0) so_far.settings_are next.1 in
+    let next = goes so_far.honest so_far.plain (run_end so_far.run) in
+    let beside : PlainTurn settings.cache_limit so_far.plain x a next.0 =
+    subst (λ (s : Settings). PlainTurn s.cache_limit so_far.plain x a next.0) so_far.settings_are next.1 in
     subst (λ ss. IsDriven settings files dead ss answers' store' readers') (sym more_steps)
     (subst (λ as'. IsDriven settings files dead (steps ++ x ∷ []) as' store' readers') (sym more_answers)
     (record {
-      headline = record { first = head.first; opened = head.opened; plain = next.0; run = run_push head.run turn beside next.2 };
+      first = so_far.first;
+      opened = so_far.opened;
+      plain = next.0;
+      run = run_push so_far.run turn beside next.2;
       honest = subst (λ b. IsTrue b) (sym honest) so_far.honest;
       settings_are = same ∙ so_far.settings_are;
     }))
 
+-- the logs that were answered Closed stand closed
+abbrev pub AllClosed : List Step → List Answer → SlotTable → Type 0
+AllClosed steps answers keeper = (log : ℕ) → WasClosed steps answers log → StandsClosed keeper log
+
 pub driven_last : (settings : Settings) (files : Files) (dead : List ℕ) (steps steps' : List Step) (answers : List Answer) (store : State) (readers : List (Option Hold))
-    → IsDriven settings files dead steps answers store readers → steps' ≡ steps → Headline settings files dead steps' answers store readers
-driven_last settings files dead steps steps' answers store readers driven all =
-    subst (λ ss. Headline settings files dead ss answers store readers) (sym all) driven.headline
+    → IsDriven settings files dead steps answers store readers → IsKept store → AreOpenLeases store.keeper readers → AllClosed steps answers store.keeper
+    → steps' ≡ steps → Headline settings files dead steps' answers store readers
+driven_last settings files dead steps steps' answers store readers driven kept leases closed all =
+    subst (λ ss. Headline settings files dead ss answers store readers) (sym all) (record {
+      first = driven.first;
+      opened = driven.opened;
+      plain = driven.plain;
+      run = driven.run;
+      unread = λ log was. closed_unread store readers log kept leases (closed log was);
+    })
+
+-- ---- logs that were closed
+
+closed_push : (ss : List Step) (as' : List Answer) (x : Step) (a : Answer) (log : ℕ) → length ss ≡ length as' → WasClosed (ss ++ x ∷ []) (as' ++ a ∷ []) log
+    → WasClosed ss as' log ⊎ Closes x a log
+closed_push [] [] x a log same was = elim was [ inl closes ↦ inr closes | inr never ↦ absurd never ]
+closed_push [] (b ∷ bs) x a log same was = absurd (omega (arith, same))
+closed_push (s ∷ ss) [] x a log same was = absurd (omega (arith, same))
+closed_push (s ∷ ss) (b ∷ bs) x a log same was = elim was [
+  | inl closes ↦ inl (inl closes)
+  | inr later ↦ elim (closed_push ss bs x a log (omega (arith, same)) later) [ inl before ↦ inl (inr before) | inr closes ↦ inr closes ]
+]
+
+module _ (steps steps' : List Step) (answers answers' : List Answer) (x : Step) (a : Answer) (same : length steps ≡ length answers)
+    (more_steps : steps' ≡ steps ++ x ∷ []) (more_answers : answers' ≡ answers ++ a ∷ []) where
+  pub even_on : length steps' ≡ length answers'
+  even_on = ap length more_steps ∙ length-append steps (x ∷ []) ∙ ap (λ n. n + 1) same ∙ sym (length-append answers (a ∷ [])) ∙ sym (ap length more_answers)
+
+  pub closed_on : (old new : SlotTable) → AllClosed steps answers old → ((log : ℕ) → Closes x a log → StandsClosed new log)
+      → ((log : ℕ) → StandsClosed old log → StandsClosed new log) → AllClosed steps' answers' new
+  closed_on old new so_far closes stays = λ log was.
+      let now : WasClosed (steps ++ x ∷ []) (answers ++ a ∷ []) log = subst (λ ss. WasClosed ss (answers ++ a ∷ []) log) more_steps
+      (subst (λ as'. WasClosed steps' as' log) more_answers was) in
+      elim (closed_push steps answers x a log same now) [ inl before ↦ stays log (so_far log before) | inr here ↦ closes log here ]
 
 -- one step more of those that were taken
 pub one_more : {X : Type 0} (xs : List X) (i : ℕ) (x : X) → i < length xs → x ≡ get_or xs i x → take (i + 1) xs ≡ take i xs ++ x ∷ []

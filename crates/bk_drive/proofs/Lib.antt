@@ -1,8 +1,11 @@
 pub mod Standing
 pub mod Owing
+pub mod Slots
+pub mod Leases
 pub mod ReaderTurns
 pub mod Working
 pub mod Runs
+pub mod Closing
 pub mod PlainTurns
 pub mod Driving
 pub mod Seats

@@ -1,5 +1,5 @@
 -- Each turn of the machine has one of the plain machine beside it.
-use Rattle.std.proofs.Common.{ℕ, List, Option, IsTrue, Result, Vec}
+use Rattle.std.proofs.Common.{◌≡◌, ℕ, List, Option, IsTrue, Result, Vec, sym, subst}
 use Rattle.std.specs.declared.alloc.Global.{Global}
 use Rattle.bk_record.specs.Key.{EntryKey}
 use Rattle.bk_log.specs.declared.fault.FetchFault.{FetchFault}
@@ -12,10 +12,12 @@ use Rattle.bk_store.specs.declared.answer.AddFault.{AddFault}
 use Rattle.bk_store.specs.declared.answer.TakeFault.{TakeFault}
 use Rattle.bk_store.specs.declared.answer.DeleteFault.{DeleteFault}
 use Rattle.bk_drive.specs.Plain.{PlainDesk, after_work}
-use Rattle.bk_drive.specs.Machine.{Hold, WorkTurn, ReaderTake, ReaderFetch, ReaderRelease, PlainTurn}
-use Rattle.bk_drive.specs.Machine.WorkTurn.{swapped as work_swapped, wrote as work_wrote, published as work_published, rolled as work_rolled, retired as work_retired, rebuilt as work_rebuilt}
-use Rattle.bk_drive.specs.Machine.PlainTurn.{swapped, wrote, published, rolled, retired, rebuilt, added, deleted, taken, fetched, released}
-use Rattle.bk_drive.specs.Headline.{Agrees}
+use Rattle.bk_drive.specs.Machine.{Hold, WorkTurn, Turn, ReaderTake, ReaderFetch, ReaderRelease, PlainTurn}
+use Rattle.bk_drive.specs.Machine.Turn.{worked}
+use Rattle.bk_drive.specs.Machine.WorkTurn.{swapped as work_swapped, wrote as work_wrote, published as work_published, rolled as work_rolled, retired as work_retired, rebuilt as work_rebuilt, closed as work_closed}
+use Rattle.bk_drive.specs.Machine.PlainTurn.{swapped, wrote, published, rolled, retired, rebuilt, closed, added, deleted, taken, fetched, released}
+use Rattle.bk_drive.specs.Leased.{AreOpenLeases}
+use Rattle.bk_drive.specs.Headline.{AreOwed, Agrees}
 use Rattle.bk_drive.specs.declared.step.Step.{Step}
 use Rattle.bk_drive.specs.declared.step.Step.TheVariants as steps
 use Rattle.bk_drive.specs.declared.step.Work.{Work}
@@ -40,30 +42,43 @@ work_beside limit p (work_published turn) = published
 work_beside limit p (work_rolled turn) = rolled
 work_beside limit p (work_retired turn) = retired
 work_beside limit p (work_rebuilt turn) = rebuilt
+work_beside limit p (work_closed turn) = closed
 
-pub goes_worked : (s t : State) (readers : List (Option Hold)) (work : Work) (a : Answer) → WorkTurn s work a t
-    → ((p : Plain) → plain.Agrees s p → plain.Agrees t (after_work a p)) → GoesOn s readers (steps.Work work) a t readers
-goes_worked s t readers work a turn agreeing = λ p agrees.
-    (record p { store = after_work a p.store }, work_beside s.settings.cache_limit p turn, record { store = agreeing p.store agrees.store; readers = agrees.readers })
+module _ (s t : State) (readers readers' : List (Option Hold)) (work : Work) (a : Answer) (same : readers' ≡ readers) (turn : WorkTurn s work a t) where
+  pub turn_worked : Turn (record { store = s; readers = readers }) (steps.Work work) a (record { store = t; readers = readers' })
+  turn_worked = subst (λ (rs : List (Option Hold)). Turn (record { store = s; readers = readers }) (steps.Work work) a (record { store = t; readers = rs }))
+      (sym same) (worked turn)
 
-module _ (s t : State) (kept : IsKept s) (honest : IsTrue s.honest) (readers : List (Option Hold)) where
+  pub goes_worked : ((p : Plain) → plain.Agrees s p → plain.Agrees t (after_work a p)) → AreOpenLeases t.keeper readers'
+      → GoesOn s readers (steps.Work work) a t readers'
+  goes_worked agreeing leases = λ p agrees. (
+    record p { store = after_work a p.store },
+    work_beside s.settings.cache_limit p turn,
+    record {
+      store = agreeing p.store agrees.store;
+      readers = subst (λ (rs : List (Option Hold)). AreOwed rs p.readers) (sym same) agrees.readers;
+      leases = leases;
+    },
+  )
+
+module _ (s t : State) (kept : IsKept s) (honest : IsTrue s.honest) (readers : List (Option Hold)) (leases : AreOpenLeases t.keeper readers) where
   pub goes_added : (payload : Vec ℕ Global) (r : Result Added AddFault) → AddTurn s payload.items r t
       → GoesOn s readers (steps.Add payload) (answers.Add r) t readers
   goes_added payload r turn = λ p agrees.
       let done = added_plain s t p.store kept honest agrees.store payload.items r turn in
-      (record p { store = done.0 }, added done.1, record { store = done.2; readers = agrees.readers })
+      (record p { store = done.0 }, added done.1, record { store = done.2; readers = agrees.readers; leases = leases })
 
   pub goes_deleted : (ledger : ℕ) (r : Result ℕ DeleteFault) → DeleteTurn s ledger r t
       → GoesOn s readers (steps.Delete ledger) (answers.Delete r) t readers
   goes_deleted ledger r turn = λ p agrees.
       let done = deleted_plain s t p.store kept honest agrees.store ledger r turn in
-      (record p { store = done.0 }, deleted done.1, record { store = done.2; readers = agrees.readers })
+      (record p { store = done.0 }, deleted done.1, record { store = done.2; readers = agrees.readers; leases = leases })
 
-pub goes_taken : (s : State) (readers readers' : List (Option Hold)) (reader : ℕ) (key : EntryKey) (r : Result TakeAnswer TakeFault) → IsKept s → IsTrue s.honest
-    → ReaderTake (record { store = s; readers = readers }) reader key r (record { store = s; readers = readers' })
-    → GoesOn s readers (steps.Take reader key) (answers.Take r) s readers'
-goes_taken s readers readers' reader key r kept honest turn = λ p agrees.
-    let done = owed_take _ p agrees reader kept honest key r _ turn in
+pub goes_taken : (s t : State) (readers readers' : List (Option Hold)) (reader : ℕ) (key : EntryKey) (r : Result TakeAnswer TakeFault) → IsKept s → IsTrue s.honest
+    → ReaderTake (record { store = s; readers = readers }) reader key r (record { store = t; readers = readers' }) → AreOpenLeases t.keeper readers'
+    → GoesOn s readers (steps.Take reader key) (answers.Take r) t readers'
+goes_taken s t readers readers' reader key r kept honest turn leases = λ p agrees.
+    let done = owed_take _ p agrees reader kept honest key r _ turn leases in
     (done.0, taken done.1, done.2)
 
 pub goes_fetched : (s : State) (readers : List (Option Hold)) (reader : ℕ) (r : Result FetchAnswer FetchFault) → ReaderFetch readers reader r
@@ -71,7 +86,7 @@ pub goes_fetched : (s : State) (readers : List (Option Hold)) (reader : ℕ) (r 
 goes_fetched s readers reader r turn = λ p agrees. (p, fetched (owed_fetch _ p agrees reader r turn), agrees)
 
 pub goes_released : (s : State) (readers readers' : List (Option Hold)) (reader : ℕ) (r : ReleaseAnswer) → ReaderRelease readers reader r readers'
-    → GoesOn s readers (steps.Release reader) (answers.Release r) s readers'
-goes_released s readers readers' reader r turn = λ p agrees.
+    → AreOpenLeases s.keeper readers' → GoesOn s readers (steps.Release reader) (answers.Release r) s readers'
+goes_released s readers readers' reader r turn leases = λ p agrees.
     let done = owed_release _ p agrees reader r readers' turn in
-    (record p { readers = done.0 }, released done.1, record { store = agrees.store; readers = done.2 })
+    (record p { readers = done.0 }, released done.1, record { store = agrees.store; readers = done.2; leases = leases })

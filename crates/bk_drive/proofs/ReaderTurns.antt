@@ -1,6 +1,5 @@
 -- Steps of a reader: it gets what it is owed.
 use Rattle.std.proofs.Common.{◌≡◌, ℕ, List, Option, Some, None, Result, Ok, Err, IsTrue, refl, sym, subst, slice_set, arith}
-use denote.RawPtr.Ptr.{null_ptr}
 use Rattle.bk_record.specs.Key.{EntryKey}
 use Rattle.bk_log.specs.Places.{HasEntryAt}
 use Rattle.bk_log.specs.declared.fault.FetchFault.{FetchFault}
@@ -8,10 +7,11 @@ use Rattle.bk_log.specs.declared.fault.FetchFault.TheVariants as fetch_faults
 use Rattle.bk_log.proofs.OneRecord.{stands_once}
 use Rattle.bk_store.specs.Logs.{View}
 use Rattle.bk_store.specs.State.{State}
-use Rattle.bk_store.specs.Turns.{TakeTurn}
+use Rattle.bk_store.specs.Turns.{TakeTurn, IsInLog}
+use Rattle.bk_store.specs.Leasing.{IsLeaseOf}
 use Rattle.bk_store.specs.Plain.{Plain, PlainTake, IsKept}
 use Rattle.bk_store.specs.Plain as plain
-use Rattle.bk_store.specs.declared.lease.Lease.{Lease}
+use Rattle.bk_lease.specs.Values.{LeasedView, Ticket, with_given}
 use Rattle.bk_store.specs.declared.answer.Taken.{Taken}
 use Rattle.bk_store.specs.declared.answer.Taken.TheVariants as taken
 use Rattle.bk_store.specs.declared.answer.TakeFault.{TakeFault}
@@ -19,6 +19,7 @@ use Rattle.bk_store.specs.declared.answer.TakeFault.TheVariants as take_faults
 use Rattle.bk_store.proofs.PlainMaps.{plain_take}
 use Rattle.bk_drive.specs.Plain.{Owed, PlainDesk, IsFree, IsBusy, OwedTake, OwedFetch, OwedRelease}
 use Rattle.bk_drive.specs.Machine.{Desk, Hold, hold_on, ShowsBytes, ReaderTake, ReaderFetch, ReaderRelease}
+use Rattle.bk_drive.specs.Leased.{AreOpenLeases}
 use Rattle.bk_drive.specs.Headline.{IsOwed, AreOwed, Agrees}
 use Rattle.bk_drive.specs.declared.step.TakeAnswer.{TakeAnswer}
 use Rattle.bk_drive.specs.declared.step.TakeAnswer.TheVariants as takes
@@ -29,20 +30,23 @@ use Rattle.bk_drive.specs.declared.step.ReleaseAnswer.TheVariants as releases
 use Rattle.bk_drive.proofs.Standing.{stands_here}
 use Rattle.bk_drive.proofs.Owing.{length_owed, free_owed, busy_owed, set_owed, owed_at, unset_owed}
 
--- a take of a store, where leases show views as they are seen, answers as the plain map does
-abbrev Takes : State → EntryKey → Result (Taken View) TakeFault → Type 0
-Takes s key r = TakeTurn (λ v. v.bytes) (λ v. v.is_honest) (λ v. v.is_sound) s key r
+-- a take of a store, where leases show views as they are seen, answers as the plain map does, and agrees with it afterwards
+abbrev Takes : State → EntryKey → Result (Taken View) TakeFault → State → Type 0
+Takes s key r t = TakeTurn (λ v. v.bytes) (λ v. v.is_honest) (λ v. v.is_sound) s key r t
 
-seen_take : (s : State) (p : Plain) (key : EntryKey) (r : Result (Taken View) TakeFault) → IsKept s → IsTrue s.honest → plain.Agrees s p → Takes s key r
-    → PlainTake (λ v. v.bytes) (λ v. v.is_honest) p key r
-seen_take s p key r kept honest agrees turn =
+abbrev Owes : Plain → EntryKey → Result (Taken View) TakeFault → Type 0
+Owes p key r = PlainTake (λ v. v.bytes) (λ v. v.is_honest) p key r
+
+seen_take : (s t : State) (p : Plain) (key : EntryKey) (r : Result (Taken View) TakeFault) → IsKept s → IsTrue s.honest → plain.Agrees s p → Takes s key r t
+    → Owes p key r × plain.Agrees t p
+seen_take s t p key r kept honest agrees turn =
     plain_take kept.parts kept.keeps (kept.keeps.promises (subst (λ (x : State). IsTrue x.honest) (sym kept.seen) honest)) p
-    (subst (λ (x : State). plain.Agrees x p) (sym kept.seen) agrees) (λ v. v.bytes) (λ v. v.is_honest) (λ v. v.is_sound) key r
-    (subst (λ (x : State). Takes x key r) (sym kept.seen) turn)
+    (subst (λ (x : State). plain.Agrees x p) (sym kept.seen) agrees) (λ v. v.bytes) (λ v. v.is_honest) (λ v. v.is_sound) key r t
+    (subst (λ (x : State). Takes x key r t) (sym kept.seen) turn)
 
--- the lease whose view is seen so
-abbrev lease_of : ℕ → View → Lease View
-lease_of log view = record { log = log; view = record { ptr = null_ptr; value = view } }
+-- the lease of this ticket, whose view is seen so
+abbrev lease_of : Ticket → View → LeasedView View
+lease_of ticket view = record { ticket = ticket; view = view }
 
 -- the entry of a key at a place has one payload
 one_entry : (h : Hold) (o : Owed) (payload : List ℕ) → ShowsBytes h.view → IsOwed h o → HasEntryAt h.view.bytes h.place.at h.key payload → payload ≡ o.payload
@@ -61,32 +65,47 @@ module _ (d : Desk) (p : PlainDesk) (agrees : Agrees d p) (reader : ℕ) where
   busy is = busy_owed d.readers p.readers reader agrees.readers is
 
   module _ (kept : IsKept d.store) (honest : IsTrue d.store.honest) (key : EntryKey) where
-    reads : (r : Result (Taken View) TakeFault) → Takes d.store key r → PlainTake (λ v. v.bytes) (λ v. v.is_honest) p.store key r
-    reads r turn = seen_take d.store p.store key r kept honest agrees.store turn
+    reads : (r : Result (Taken View) TakeFault) (t : State) → Takes d.store key r t → Owes p.store key r × plain.Agrees t p.store
+    reads r t turn = seen_take d.store t p.store key r kept honest agrees.store turn
 
-    pub owed_take : (r : Result TakeAnswer TakeFault) (e : Desk) → ReaderTake d reader key r e → (q : PlainDesk) × OwedTake p reader key r q × Agrees e q
-    owed_take (Ok takes.NoReader) e turn = (p, (omega (arith, turn.0, length_owed d.readers p.readers agrees.readers), refl), stays e turn.1)
-    owed_take (Ok takes.ReaderBusy) e turn = (p, (busy turn.0, refl), stays e turn.1)
-    owed_take (Ok takes.Deleted) e turn = (p, (free turn.0, reads (Ok taken.Deleted) turn.1, refl), stays e turn.2)
-    owed_take (Ok (takes.Cached payload)) e turn =
-        let is = reads (Ok (taken.Cached payload)) (turn.0.lives, turn.1) in
+    pub owed_take : (r : Result TakeAnswer TakeFault) (e : Desk) → ReaderTake d reader key r e → AreOpenLeases e.store.keeper e.readers
+        → (q : PlainDesk) × OwedTake p reader key r q × Agrees e q
+    owed_take (Ok takes.NoReader) e turn leases = (p, (omega (arith, turn.0, length_owed d.readers p.readers agrees.readers), refl), stays e turn.1)
+    owed_take (Ok takes.ReaderBusy) e turn leases = (p, (busy turn.0, refl), stays e turn.1)
+    owed_take (Ok takes.Deleted) e turn leases = (p, (free turn.0, (reads (Ok taken.Deleted) d.store (turn.1, refl)).0, refl), stays e turn.2)
+    owed_take (Ok (takes.Cached payload)) e turn leases =
+        let is = (reads (Ok (taken.Cached payload)) d.store (turn.0.lives, turn.1, refl)).0 in
         (p, (free turn.0.free, is.0, is.1, refl), stays e turn.2)
-    owed_take (Ok takes.NotHeld) e turn =
-        let is = reads (Ok taken.NotHeld) (turn.0.lives, turn.1, turn.2) in
+    owed_take (Ok takes.NotHeld) e turn leases =
+        let is = (reads (Ok taken.NotHeld) d.store (turn.0.lives, turn.1, turn.2, refl)).0 in
         (p, (free turn.0.free, is.0, is.1, refl), stays e turn.3)
-    owed_take (Ok (takes.Leased place)) e turn =
-        let view = turn.3.0 in
-        let is = reads (Ok (taken.Leased (lease_of place.log view) place)) (turn.0.lives, turn.1, turn.2, refl, turn.3.1) in
+    owed_take (Ok (takes.Leased place)) e turn leases =
+        let ticket : Ticket = turn.1.0 in
+        let view : View = turn.1.1.0 in
+        let given : State = record d.store { keeper = with_given d.store.keeper } in
+        let lease : IsLeaseOf d.store.keeper d.store.logs place.log ticket view = turn.1.1.1 in
+        let done = reads (Ok (taken.Leased (lease_of ticket view) place)) given (turn.0.there, lease, refl) in
+        let is = done.0 in
         let owed : Owed = record { log = place.log; payload = is.1.0 } in
         let q : PlainDesk = record p { readers = slice_set p.readers reader (Some owed) } in
-        let holds : IsOwed (hold_on place key view) owed = record { log = refl; place = refl; honest = is.1.2.honest_is; shown = is.1.2.shown } in (
+        let holds : IsOwed (hold_on ticket place key view) owed =
+        record { log = is.1.2.log; place = refl; honest = is.1.2.honest_is; shown = is.1.2.shown } in (
           q,
           (free turn.0.free, is.0, (is.1.0, is.1.1, refl)),
-          subst (λ (x : Desk). Agrees x q) (sym turn.3.2)
-              (record { store = agrees.store; readers = set_owed d.readers p.readers reader _ owed agrees.readers holds }),
+          record {
+            store = subst (λ (x : Desk). plain.Agrees x.store p.store) (sym turn.1.1.2) done.1;
+            readers = subst (λ (x : Desk). AreOwed x.readers q.readers) (sym turn.1.1.2) (set_owed d.readers p.readers reader _ owed agrees.readers holds);
+            leases = leases;
+          },
         )
-    owed_take (Err take_faults.Memory) e turn =
-        let is = reads (Err take_faults.Memory) (turn.0.lives, turn.1) in
+    owed_take (Err take_faults.NoSeat) e turn leases =
+        let is = (reads (Err take_faults.NoSeat) d.store (turn.0, turn.1.there, refl)).0 in
+        (p, (free turn.1.free, is.0, is.1, refl), stays e turn.2)
+    owed_take (Err take_faults.TooMany) e turn leases =
+        let is = (reads (Err take_faults.TooMany) d.store (turn.0, turn.1.there, turn.2, refl)).0 in
+        (p, (free turn.1.free, is.0, is.1, refl), stays e turn.3)
+    owed_take (Err take_faults.Memory) e turn leases =
+        let is = (reads (Err take_faults.Memory) d.store (turn.0.lives, turn.1, refl)).0 in
         (p, (free turn.0.free, is.0, is.1, refl), stays e turn.2)
 
   pub owed_fetch : (r : Result FetchAnswer FetchFault) → ReaderFetch d.readers reader r → OwedFetch p.readers reader r

@@ -26,10 +26,11 @@ use Rattle.bk_store.specs.declared.answer.SwapAnswer.TheVariants as swaps
 use Rattle.bk_store.proofs.PlainMaps.{plain_add, plain_delete, plain_swap}
 use Rattle.bk_drive.specs.Plain.{PlainDesk}
 use Rattle.bk_drive.specs.Machine.{Desk, Turn, PlainTurn}
-use Rattle.bk_drive.specs.Headline.{Agrees, Run, first_desk, first_plain}
+use Rattle.bk_drive.specs.Headline.{Agrees, Run, first_desk, first_plain, reader_count}
 use Rattle.bk_drive.specs.Headline.Run.{stop, step}
 use Rattle.bk_drive.specs.declared.step.Step.{Step}
 use Rattle.bk_drive.specs.declared.step.Answer.{Answer}
+use Rattle.bk_drive.proofs.Leases.{leases_first}
 
 -- ---- steps that ask no device
 
@@ -60,7 +61,25 @@ module _ (s t : State) (p : Plain) (kept : IsKept s) (honest : IsTrue s.honest) 
   swapped_plain r turn =
       plain_swap kept.parts kept.keeps keeps_promises p agrees_seen t r (subst (λ (x : State). SwapTurn x r t) (sym kept.seen) turn)
 
--- ---- settings stay
+-- ---- what stays
+
+pub add_keeper : (s t : State) (payload : List ℕ) (r : Result Added AddFault) → AddTurn s payload r t → t.keeper ≡ s.keeper
+add_keeper s t payload (Err (add_faults.Bad fault)) turn = ap (λ (x : State). x.keeper) turn.1
+add_keeper s t payload (Err add_faults.Deleted) turn = ap (λ (x : State). x.keeper) turn.3
+add_keeper s t payload (Ok Held) turn = ap (λ (x : State). x.keeper) turn.1
+add_keeper s t payload (Err (add_faults.Full used limit)) turn = ap (λ (x : State). x.keeper) turn.4
+add_keeper s t payload (Err add_faults.Memory) turn = ap (λ (x : State). x.keeper) turn.2
+add_keeper s t payload (Ok Accepted) turn = ap (λ (x : State). x.keeper) turn.2
+
+pub delete_keeper : (s t : State) (ledger : ℕ) (r : Result ℕ DeleteFault) → DeleteTurn s ledger r t → t.keeper ≡ s.keeper
+delete_keeper s t ledger (Err delete_faults.AlreadyDeleted) turn = ap (λ (x : State). x.keeper) turn.1
+delete_keeper s t ledger (Err delete_faults.Memory) turn = ap (λ (x : State). x.keeper) turn.1
+delete_keeper s t ledger (Ok n) turn = ap (λ (x : State). x.keeper) turn.2
+
+pub swap_keeper : (s t : State) (r : SwapAnswer) → SwapTurn s r t → t.keeper ≡ s.keeper
+swap_keeper s t swaps.Running turn = ap (λ (x : State). x.keeper) turn.1
+swap_keeper s t swaps.Nothing turn = ap (λ (x : State). x.keeper) turn.2
+swap_keeper s t (swaps.Swapped n) turn = ap (λ (x : State). x.keeper) turn.3
 
 pub add_settings : (s t : State) (payload : List ℕ) (r : Result Added AddFault) → AddTurn s payload r t → t.settings ≡ s.settings
 add_settings s t payload (Err (add_faults.Bad fault)) turn = ap (λ (x : State). x.settings) turn.1
@@ -121,4 +140,5 @@ first_agrees settings files dead s opened =
         flush = (λ i. (opened.caches_are i).flush);
       };
       readers = tt;
+      leases = leases_first s.keeper reader_count;
     }

@@ -20,6 +20,7 @@ IsDiskFault (answers.Publish r) = IsErrOf r flush_faults.Disk
 IsDiskFault (answers.Roll r) = IsErrOf r flush_faults.Disk
 IsDiskFault (answers.Retire r) = ⊥
 IsDiskFault (answers.Rebuild r) = IsErrOf r collect_faults.Disk
+IsDiskFault (answers.Close r) = ⊥
 
 -- the answer is `Disk`, of a step that reads no view: the device failed
 abbrev pub IsDeviceFault : Answer → Type 0
@@ -34,6 +35,7 @@ IsDeviceFault (answers.Publish r) = IsErrOf r flush_faults.Disk
 IsDeviceFault (answers.Roll r) = IsErrOf r flush_faults.Disk
 IsDeviceFault (answers.Retire r) = ⊥
 IsDeviceFault (answers.Rebuild r) = ⊥
+IsDeviceFault (answers.Close r) = ⊥
 
 -- no answer is
 abbrev pub NoneIsDiskFault : List Answer → Type 0

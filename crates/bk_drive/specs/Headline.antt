@@ -12,13 +12,14 @@ use Rattle.bk_store.specs.Plain as plain
 use Rattle.bk_store.specs.declared.settings.Settings.{Settings}
 use Rattle.bk_drive.specs.Plain.{Owed, PlainDesk}
 use Rattle.bk_drive.specs.Machine.{Hold, Desk, Turn, PlainTurn}
+use Rattle.bk_drive.specs.Leased.{AreOpenLeases, IsUnread, WasClosed}
 use Rattle.bk_drive.specs.declared.step.Step.{Step}
 use Rattle.bk_drive.specs.declared.step.Answer.{Answer}
 
 -- The reader holds what it is owed: its lease is on the log that it keeps, where its place lies, and its view, which shows
 -- what that log held, has the entry of its key at that place.
 pub record IsOwed (hold : Hold) (owed : Owed) : Type 0 where
-  pub log : hold.log ≡ owed.log
+  pub log : hold.ticket.log ≡ owed.log
   pub place : hold.place.log ≡ owed.log
   pub honest : IsTrue hold.view.is_honest
   pub shown : HasEntry (λ _. hold.view.bytes) hold.place hold.key owed.payload
@@ -33,11 +34,12 @@ AreOwed (Some h ∷ holds) (None ∷ owed) = ⊥
 AreOwed [] (o ∷ owed) = ⊥
 AreOwed (h ∷ holds) [] = ⊥
 
--- What holds of the machine and the plain one between two steps: the files, with the cached pairs, give the plain map, and
--- each reader holds what it is owed.
+-- What holds of the machine and the plain one between two steps: the files, with the cached pairs, give the plain map, each
+-- reader holds what it is owed, and its lease stands open in the store's table.
 pub record Agrees (d : Desk) (p : PlainDesk) : Type 0 where
   pub store : plain.Agrees d.store p.store
   pub readers : AreOwed d.readers p.readers
+  pub leases : AreOpenLeases d.store.keeper d.readers
 
 -- These answers to these steps lead the machine and the plain one from here to there, side by side, agreeing at each moment;
 -- so many payload bytes may be in the active pairs.
@@ -62,9 +64,10 @@ first_plain files dead = record {
 }
 
 -- From these files, with these ledgers dead, these steps were answered so, and left this store and these readers: a run leads
--- there from a store that was opened on the files.
+-- there from a store that was opened on the files; and no reader holds a lease of a log that was answered Closed.
 pub record Headline (settings : Settings) (files : Files) (dead : List ℕ) (steps : List Step) (answers : List Answer) (store : State) (readers : List (Option Hold)) : Type 0 where
   pub first : State
   pub opened : IsOpened true files settings dead first
   pub plain : PlainDesk
   pub run : Run settings.cache_limit (first_desk first) (first_plain files (ledgers_of dead)) steps answers (record { store = store; readers = readers }) plain
+  pub unread : (log : ℕ) → WasClosed steps answers log → IsUnread readers log

@@ -1,5 +1,6 @@
 pub mod Plain
 pub mod Machine
 pub mod Held
+pub mod Leased
 pub mod Headline
 pub mod Failing

@@ -8,10 +8,12 @@ use Rattle.bk_record.specs.Location.{Place}
 use Rattle.bk_log.specs.Places.{HasEntryAt, FetchFails}
 use Rattle.bk_log.specs.declared.fault.FetchFault.{FetchFault}
 use Rattle.bk_log.specs.declared.fault.FetchFault.TheVariants as fetch_faults
+use Rattle.bk_lease.specs.Values.{Ticket, with_given}
 use Rattle.bk_store.specs.Logs.{View}
 use Rattle.bk_store.specs.State.{State}
 use Rattle.bk_store.specs.Meaning.{cached_at}
-use Rattle.bk_store.specs.Turns.{is_dead, IsOpenView, AddTurn, DeleteTurn, SwapTurn}
+use Rattle.bk_store.specs.Turns.{is_dead, IsInLog, AddTurn, DeleteTurn, SwapTurn}
+use Rattle.bk_store.specs.Leasing.{IsLeaseOf, IsMet}
 use Rattle.bk_store.specs.Plain.{Plain, PlainAdd, PlainDelete, after_swap}
 use Rattle.bk_store.specs.declared.answer.Added.{Added}
 use Rattle.bk_store.specs.declared.answer.AddFault.{AddFault}
@@ -24,7 +26,8 @@ use Rattle.bk_flush.specs.declared.answer.WriteAnswer.{WriteAnswer}
 use Rattle.bk_flush.specs.declared.answer.PublishAnswer.{PublishAnswer}
 use Rattle.bk_flush.specs.declared.answer.RollAnswer.{RollAnswer}
 use Rattle.bk_flush.specs.declared.answer.FlushFault.{FlushFault}
-use Rattle.bk_collect.specs.Collecting.{RetireTurn, RebuildTurn}
+use Rattle.bk_collect.specs.Collecting.{RetireTurn, RebuildTurn, CloseTurn}
+use Rattle.bk_collect.specs.declared.answer.CloseAnswer.{CloseAnswer}
 use Rattle.bk_collect.specs.declared.answer.RetireAnswer.{RetireAnswer}
 use Rattle.bk_collect.specs.declared.answer.CollectFault.{CollectFault}
 use Rattle.bk_drive.specs.Plain.{Owed, PlainDesk, IsFree, HasAt, IsBusy, OwedTake, OwedFetch, OwedRelease, after_publish}
@@ -41,9 +44,9 @@ use Rattle.bk_drive.specs.declared.step.Work.TheVariants as works
 use Rattle.bk_drive.specs.declared.step.Answer.{Answer}
 use Rattle.bk_drive.specs.declared.step.Answer.TheVariants as answers
 
--- what a reader holds: a lease on a log, an entry's place and key, and the view of that log
+-- what a reader holds: a lease on a log, as its ticket tells it; an entry's place and key; and the view of that log
 pub record Hold : Type 0 where
-  pub log : ℕ
+  pub ticket : Ticket
   pub place : Place
   pub key : EntryKey
   pub view : View
@@ -55,9 +58,21 @@ pub record Desk : Type 0 where
 
 -- ---- steps of a reader
 
--- a reader's hold on the entry of this key at this place: its lease is on the place's log
-abbrev pub hold_on : Place → EntryKey → View → Hold
-hold_on place key view = record { log = place.log; place = place; key = key; view = view }
+-- a reader's hold, by the lease of this ticket, on the entry of this key at this place
+abbrev pub hold_on : Ticket → Place → EntryKey → View → Hold
+hold_on ticket place key view = record { ticket = ticket; place = place; key = key; view = view }
+
+-- the reader is free, and the entry of the key is to be read in a log, at this place
+pub record MayLease (d : Desk) (reader : ℕ) (key : EntryKey) (place : Place) : Type 0 where
+  pub free : IsFree d.readers reader
+  pub there : IsInLog d.store key place
+
+-- the desk when a reader got a lease: the store has given out one more
+abbrev pub with_lease : Desk → ℕ → Hold → Desk
+with_lease d reader hold = record {
+  store = record d.store { keeper = with_given d.store.keeper };
+  readers = slice_set d.readers reader (Some hold);
+}
 
 -- the reader is free, and the key's ledger lives
 pub record MayTake (d : Desk) (reader : ℕ) (key : EntryKey) : Type 0 where
@@ -72,9 +87,11 @@ ReaderTake d reader key (Ok takes.Deleted) e = IsFree d.readers reader × (is_de
 ReaderTake d reader key (Ok (takes.Cached payload)) e = MayTake d reader key × (cached_at d.store key ≡ Some payload.value.items) × (e ≡ d)
 ReaderTake d reader key (Ok takes.NotHeld) e = MayTake d reader key × (cached_at d.store key ≡ None)
     × (finite.get d.store.index key ≡ None) × (e ≡ d)
-ReaderTake d reader key (Ok (takes.Leased place)) e = MayTake d reader key × (cached_at d.store key ≡ None)
-    × (finite.get d.store.index key ≡ Some place) × ((view : View) × IsOpenView d.store place.log view
-    × (e ≡ record d { readers = slice_set d.readers reader (Some (hold_on place key view)) }))
+ReaderTake d reader key (Ok (takes.Leased place)) e = MayLease d reader key place × ((ticket : Ticket) × ((view : View)
+    × IsLeaseOf d.store.keeper d.store.logs place.log ticket view × (e ≡ with_lease d reader (hold_on ticket place key view))))
+ReaderTake d reader key (Err take_faults.NoSeat) e = (place : Place) × MayLease d reader key place × (e ≡ d)
+ReaderTake d reader key (Err take_faults.TooMany) e = (place : Place) × MayLease d reader key place
+    × IsMet d.store.keeper d.store.logs place.log d.store.keeper.most × (e ≡ d)
 ReaderTake d reader key (Err take_faults.Memory) e = MayTake d reader key
     × (IsSome (cached_at d.store key) ⊎ IsSome (finite.get d.store.index key)) × (e ≡ d)
 
@@ -108,6 +125,7 @@ pub data WorkTurn : State → Work → Answer → State → Type 0 where
   rolled : {s t : State} {r : Result RollAnswer FlushFault} → RollTurn s r t → WorkTurn s works.Roll (answers.Roll r) t
   retired : {s t : State} {log : ℕ} {r : RetireAnswer} → RetireTurn s log r t → WorkTurn s (works.Retire log) (answers.Retire r) t
   rebuilt : {s t : State} {r : Result ℕ CollectFault} → RebuildTurn s r t → WorkTurn s works.Rebuild (answers.Rebuild r) t
+  closed : {s t : State} {log : ℕ} {r : CloseAnswer} → CloseTurn s log r t → WorkTurn s (works.Close log) (answers.Close r) t
 
 -- One step of the machine, with its answer.
 pub data Turn : Desk → Step → Answer → Desk → Type 0 where
@@ -136,6 +154,7 @@ pub data PlainTurn : ℕ → PlainDesk → Step → Answer → PlainDesk → Typ
   rolled : {limit : ℕ} {p : PlainDesk} {r : Result RollAnswer FlushFault} → PlainTurn limit p (steps.Work works.Roll) (answers.Roll r) p
   retired : {limit : ℕ} {p : PlainDesk} {log : ℕ} {r : RetireAnswer} → PlainTurn limit p (steps.Work (works.Retire log)) (answers.Retire r) p
   rebuilt : {limit : ℕ} {p : PlainDesk} {r : Result ℕ CollectFault} → PlainTurn limit p (steps.Work works.Rebuild) (answers.Rebuild r) p
+  closed : {limit : ℕ} {p : PlainDesk} {log : ℕ} {r : CloseAnswer} → PlainTurn limit p (steps.Work (works.Close log)) (answers.Close r) p
   added : {limit : ℕ} {p : PlainDesk} {q : Plain} {payload : Vec ℕ Global} {r : Result Added AddFault} → PlainAdd limit p.store payload.items r q
       → PlainTurn limit p (steps.Add payload) (answers.Add r) (record p { store = q })
   deleted : {limit : ℕ} {p : PlainDesk} {q : Plain} {ledger : ℕ} {r : Result ℕ DeleteFault} → PlainDelete p.store ledger r q

@@ -50,7 +50,8 @@ abbrev pub IsAlive : Plain → EntryKey → Type 0
 IsAlive p key = set.contains p.dead key.ledger ≡ false
 
 -- A take by a reader, unless there is no such reader or it holds a lease, says that the ledger is dead, or gives the payload
--- that the map has, as bytes or as a lease on it, or says that there is none. Want of memory may come in place of a payload.
+-- that the map has, as bytes or as a lease on it, or says that there is none. Want of memory, or too many leases, may come in place
+-- of a payload.
 abbrev pub OwedTake : PlainDesk → ℕ → EntryKey → Result TakeAnswer TakeFault → PlainDesk → Type 0
 OwedTake p reader key (Ok takes.NoReader) q = (length p.readers ≤ reader) × (q ≡ p)
 OwedTake p reader key (Ok takes.ReaderBusy) q = IsBusy p.readers reader × (q ≡ p)
@@ -61,6 +62,8 @@ OwedTake p reader key (Ok (takes.Cached payload)) q = IsFree p.readers reader ×
 OwedTake p reader key (Ok (takes.Leased place)) q = IsFree p.readers reader × IsAlive p.store key
     × ((payload : List ℕ) × (finite.get p.store.map key ≡ Some payload)
     × (q ≡ record p { readers = slice_set p.readers reader (Some (record { log = place.log; payload = payload })) }))
+OwedTake p reader key (Err take_faults.NoSeat) q = IsFree p.readers reader × IsAlive p.store key × IsSome (finite.get p.store.map key) × (q ≡ p)
+OwedTake p reader key (Err take_faults.TooMany) q = IsFree p.readers reader × IsAlive p.store key × IsSome (finite.get p.store.map key) × (q ≡ p)
 OwedTake p reader key (Err take_faults.Memory) q = IsFree p.readers reader × IsAlive p.store key × IsSome (finite.get p.store.map key) × (q ≡ p)
 
 -- A fetch gives the reader what it is owed: the payload that its entry held when the lease was taken.
@@ -99,3 +102,4 @@ after_work (answers.Publish r) p = after_publish r p
 after_work (answers.Roll r) p = p
 after_work (answers.Retire r) p = p
 after_work (answers.Rebuild r) p = p
+after_work (answers.Close r) p = p

@@ -4,14 +4,15 @@
 mod readers;
 mod run;
 mod step;
+mod taking;
 #[cfg(test)]
 mod tests;
 
-pub use bk_collect::{CollectFault, RetireAnswer};
+pub use bk_collect::{CloseAnswer, CollectFault, RetireAnswer};
 pub use bk_flush::{FlushFault, PublishAnswer, RollAnswer, WriteAnswer};
+pub use bk_lease::Lease;
 pub use bk_store::{
-    AddFault, Added, DeleteFault, Lease, LogCause, OpenFault, Settings, Store, SwapAnswer,
-    TakeFault,
+    AddFault, Added, DeleteFault, LogCause, OpenFault, Settings, Store, SwapAnswer, TakeFault,
 };
 pub use readers::{Readers, Reading};
 pub use run::{Ran, apply, drive};

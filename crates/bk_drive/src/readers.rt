@@ -5,15 +5,16 @@ ghost use Rattle.std.specs.Bool.{OnTrue, OnFalse};
 ghost use Rattle.bk_drive.specs.Plain.{IsFree, IsBusy, HasAt};
 ghost use Rattle.bk_drive.specs.Headline.{reader_count};
 ghost use Rattle.bk_drive.specs.Held.{seen_hold};
+ghost use Rattle.bk_drive.specs.Leased.{IsUnread};
 
 use bk_disk::LogView;
+use bk_lease::Lease;
 use bk_record::{Key, Location};
-use bk_store::Lease;
 use std::marker::Model;
 
 /// What a reader holds: a lease on a log, and the location and the key of its entry there.
 #[derive(Drop)]
-pub struct Reading<V> {
+pub struct Reading<V: LogView> {
     pub lease: Lease<V>,
     pub location: Location,
     pub key: Key,
@@ -26,8 +27,9 @@ pub struct Readers<V: LogView> {
 }
 
 impl<V: LogView> Model for Readers<V> {
-    ghost use Rattle.std.specs.Prelude.{List, Option, map, option_map};
+    ghost use Rattle.std.specs.Prelude.{◌≡◌, List, Option, length, map, option_map};
     ghost use Rattle.bk_drive.specs.Machine.{Hold};
+    ghost use Rattle.bk_drive.specs.Headline.{reader_count};
     ghost use Rattle.bk_drive.specs.Held.{holds_code, seen_hold};
 
     ghost Value = { List (Option Hold) };
@@ -35,6 +37,8 @@ impl<V: LogView> Model for Readers<V> {
     ghost coded = { holds_code };
 
     ghost view = { λ readers. map (option_map (seen_hold V.bytes V.honest V.sound)) readers.holds };
+
+    ghost invariant = { λ readers. length readers.holds ≡ reader_count };
 }
 
 impl<V: LogView> Readers<V> {
@@ -73,12 +77,32 @@ impl<V: LogView> Readers<V> {
         self.holds[reader as usize].as_ref()
     }
 
-    /// Ends the lease that the reader of this number holds.
-    pub fn let_go(&mut self, reader: u32)
-        requires { reader < length self.old }
-        ensures { self.new ≡ slice_set self.old reader None }
+    /// The first reader that holds a lease of this log, `None` where none does.
+    pub fn reader_of(&self, log: u32) -> Option<u32>
+        ensures some { IfSome result (λ reader. (hold : _) × HasAt self.now reader hold × (hold.ticket.log ≡ log)) }
+        ensures none { IfNone result (IsUnread self.now log) }
     {
-        self.holds[reader as usize] = None;
+        for (reader, hold) in self.holds.iter().enumerate() {
+            match hold {
+                None => {}
+                Some(reading) => {
+                    if reading.lease.log() == log {
+                        return Some(reader as u32);
+                    }
+                }
+            }
+        }
+        None
+    }
+
+    /// Takes out what the reader of this number holds, which then holds no lease.
+    pub fn let_go(&mut self, reader: u32) -> Option<Reading<V>>
+        requires { reader < length self.old }
+        ensures left { self.new ≡ slice_set self.old reader None }
+        ensures held { IfSome result (λ reading. HasAt self.old reader (seen_hold V.bytes V.honest V.sound reading)) }
+        ensures free { IfNone result (IsFree self.old reader) }
+    {
+        self.holds[reader as usize].take()
     }
 
     /// Gives the reader of this number a lease to hold.

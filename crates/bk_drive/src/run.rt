@@ -1,23 +1,24 @@
 //! The machine: a store and its readers take the steps of a script, one after another.
 
-ghost use Rattle.std.specs.Prelude.{◌≡◌, ◌↔◌, ◌<◌, ◌≤◌, ℕ, List, Option, IsTrue, IfOk, IfErr, IsErrOf, length};
+ghost use Rattle.std.specs.Prelude.{◌≡◌, ◌↔◌, ◌<◌, ◌≤◌, ℕ, List, Option, IsTrue, IfOk, IfErr, IsErrOf, IfSome, IfNone, length};
 ghost use Rattle.bk_disk.specs.Disk.{IsCaused};
 ghost use Rattle.bk_collect.specs.Collecting.{AreSound};
 ghost use Rattle.bk_store.specs.Limits.{IsAllowed};
 ghost use Rattle.bk_store.specs.Opening.{OpenFails};
 ghost use Rattle.bk_store.specs.Plain.{Plain, Agrees as StoreAgrees};
-ghost use Rattle.bk_drive.specs.Plain.{PlainDesk, after_work};
-ghost use Rattle.bk_drive.specs.Machine.{Hold, ReaderFetch, ReaderRelease, ReaderTake, WorkTurn, Turn, PlainTurn};
+ghost use Rattle.bk_drive.specs.Plain.{PlainDesk, HasAt, after_work};
+ghost use Rattle.bk_lease.specs.Leases.{IsClosed};
+ghost use Rattle.bk_drive.specs.Machine.{Hold, WorkTurn, Turn, PlainTurn};
 ghost use Rattle.bk_drive.specs.Headline.{Agrees, Headline};
+ghost use Rattle.bk_drive.specs.Leased.{AreOpenLeases, IsUnread, StandsClosed, Closes};
 ghost use Rattle.bk_drive.specs.Failing.{IsDiskFault, IsDeviceFault, NoneIsDiskFault, NeverFails};
 
-use crate::{Answer, FetchAnswer, Readers, Reading, ReleaseAnswer, Step, TakeAnswer, Work};
-use bk_collect::{rebuild, retire};
-use bk_disk::{LogDisk, LogView};
+use crate::taking::{fetch_by, release, take};
+use crate::{Answer, Readers, Step, Work};
+use bk_collect::{CloseAnswer, close, rebuild, retire};
+use bk_disk::LogDisk;
 use bk_flush::{publish, roll, swap, write_one};
-use bk_log::{FetchFault, fetch};
-use bk_record::Key;
-use bk_store::{OpenFault, Settings, Store, TakeFault, Taken};
+use bk_store::{OpenFault, Settings, Store};
 use std::alloc::Global;
 
 /// What a run left: the store, the answer of each step, and the readers with the leases that they hold.
@@ -45,6 +46,7 @@ pub fn apply<D: LogDisk>(store: &mut Store<D>, work: Work) -> Answer
         Work::Roll => Answer::Roll(roll(store)),
         Work::Retire(log) => Answer::Retire(retire(store, log)),
         Work::Rebuild => Answer::Rebuild(rebuild(store)),
+        Work::Close(log) => Answer::Close(close(store, log)),
     }
 }
 
@@ -80,6 +82,8 @@ pub fn drive<D: LogDisk>(
             .push(turn(alloc, &mut store, &mut readers, step))
             .unwrap();
     }
+    // No two of its logs stand in one slot; so a lease is of no log that is closed.
+    store.promise();
     // What the store counts are the failures of its disk.
     let _ = store.disk();
     Ok(Ran {
@@ -96,10 +100,14 @@ fn turn<D: LogDisk>(
     readers: &mut Readers<D::View>,
     step: &Step,
 ) -> Answer
+    requires { AreOpenLeases store.old.keeper readers.old }
     ensures honest { store.new.honest ≡ store.old.honest }
     ensures settings { store.new.settings ≡ store.old.settings }
     ensures later { store.old.failures ≤ store.new.failures }
     ensures disk { AreSound D.View.sound → IsDiskFault result → store.old.failures < store.new.failures }
+    ensures leases { AreOpenLeases store.new.keeper readers.new }
+    ensures closes { (log : ℕ) → Closes step.now result log → StandsClosed store.new.keeper log }
+    ensures closed { (log : ℕ) → StandsClosed store.old.keeper log → StandsClosed store.new.keeper log }
     ensures turn { Turn (record { store = store.old; readers = readers.old }) step.now result
         (record { store = store.new; readers = readers.new }) }
     ensures plain { IsTrue store.old.honest → (p : PlainDesk) → Agrees (record { store = store.old; readers = readers.old }) p
@@ -108,7 +116,7 @@ fn turn<D: LogDisk>(
 {
     store.promise();
     match step {
-        Step::Work(work) => apply(store, *work),
+        Step::Work(work) => work_on(store, readers, *work),
         Step::Add(payload) => Answer::Add(store.add(payload)),
         Step::Take(reader, key) => Answer::Take(take(store, readers, *reader, *key)),
         Step::Fetch(reader) => Answer::Fetch(fetch_by(alloc, readers, *reader)),
@@ -117,72 +125,55 @@ fn turn<D: LogDisk>(
     }
 }
 
-/// A take by a reader, which then holds the lease if it gets one.
-fn take<D: LogDisk>(
-    store: &Store<D>,
-    readers: &mut Readers<D::View>,
-    reader: u32,
-    key: Key,
-) -> Result<TakeAnswer, TakeFault>
-    ensures { ReaderTake (record { store = store.now; readers = readers.old }) reader key result
-        (record { store = store.now; readers = readers.new }) }
+/// One step of the store alone. Where it closed a log, no reader has a lease of that log.
+fn work_on<D: LogDisk>(store: &mut Store<D>, readers: &mut Readers<D::View>, work: Work) -> Answer
+    requires { AreOpenLeases store.old.keeper readers.old }
+    ensures honest { store.new.honest ≡ store.old.honest }
+    ensures cause { IsCaused store.old.failures store.new.failures (IsDeviceFault result) }
+    ensures sound { AreSound D.View.sound → IsDiskFault result → IsDeviceFault result }
+    ensures settings { store.new.settings ≡ store.old.settings }
+    ensures turn { WorkTurn store.old work result store.new }
+    ensures plain { IsTrue store.old.honest → (p : Plain) → StoreAgrees store.old p → StoreAgrees store.new (after_work result p) }
+    ensures readers { readers.new ≡ readers.old }
+    ensures leases { AreOpenLeases store.new.keeper readers.new }
+    ensures closes { (log : ℕ) → Closes (Step.Work work) result log → StandsClosed store.new.keeper log }
+    ensures closed { (log : ℕ) → StandsClosed store.old.keeper log → StandsClosed store.new.keeper log }
 {
-    if !readers.has(reader) {
-        return Ok(TakeAnswer::NoReader);
-    }
-    if readers.is_busy(reader) {
-        return Ok(TakeAnswer::ReaderBusy);
-    }
-    match store.take(key)? {
-        Taken::Deleted => Ok(TakeAnswer::Deleted),
-        Taken::NotHeld => Ok(TakeAnswer::NotHeld),
-        Taken::Cached(payload) => Ok(TakeAnswer::Cached(payload)),
-        Taken::Leased(lease, location) => {
-            readers.hold(
-                reader,
-                Reading {
-                    lease,
-                    location,
-                    key,
-                },
-            );
-            Ok(TakeAnswer::Leased(location))
-        }
-    }
-}
-
-/// A fetch by a reader: the entry on which it holds a lease, read from the view that it holds.
-fn fetch_by<V: LogView>(
-    alloc: Global,
-    readers: &Readers<V>,
-    reader: u32,
-) -> Result<FetchAnswer, FetchFault>
-    ensures turn { ReaderFetch readers.now reader result }
-    ensures disk { AreSound V.sound → ¬ (IsErrOf result FetchFault.Disk) }
-{
-    if !readers.has(reader) {
-        return Ok(FetchAnswer::NoReader);
-    }
-    let Some(reading) = readers.reading(reader) else {
-        return Ok(FetchAnswer::NoLease);
+    store.promise();
+    let answer = apply(store, work);
+    let Some(log) = closed_by(work, &answer) else {
+        return answer;
     };
-    reading.lease.view.bounds();
-    match fetch(&*reading.lease.view, alloc, reading.location, reading.key) {
-        Ok(payload) => Ok(FetchAnswer::Bytes(payload)),
-        Err(fault) => Err(fault),
+    meet_reader(store, readers, log);
+    answer
+}
+
+/// The log that a step asked to close, where it is answered Closed.
+fn closed_by(work: Work, answer: &Answer) -> Option<u32>
+    ensures some { IfSome result (Closes (Step.Work work) answer.now) }
+    ensures none { IfNone result ((log : ℕ) → ¬ (Closes (Step.Work work) answer.now log)) }
+{
+    match (work, answer) {
+        (Work::Close(log), Answer::Close(CloseAnswer::Closed)) => Some(log),
+        _ => None,
     }
 }
 
-/// A release by a reader, which then holds no lease.
-fn release<V: LogView>(readers: &mut Readers<V>, reader: u32) -> ReleaseAnswer
-    ensures { ReaderRelease readers.old reader result readers.new }
+/// Shows that no reader has a lease of a log that is closed: one that had it would be met here.
+fn meet_reader<D: LogDisk>(store: &mut Store<D>, readers: &mut Readers<D::View>, log: u32)
+    requires table { (reader : ℕ) (hold : Hold) → HasAt readers.old reader hold → hold.ticket.table ≡ store.old.keeper.table }
+    requires closed { (reader : ℕ) (hold : Hold) → HasAt readers.old reader hold → hold.ticket.log ≡ log
+        → IsClosed store.old.keeper.slots hold.ticket.slot }
+    ensures store { store.new ≡ store.old }
+    ensures readers { readers.new ≡ readers.old }
+    ensures unread { IsUnread readers.old log }
 {
-    if !readers.has(reader) {
-        return ReleaseAnswer::NoReader;
-    }
-    if !readers.is_busy(reader) {
-        return ReleaseAnswer::NoLease;
-    }
-    readers.let_go(reader);
-    ReleaseAnswer::Released
+    let Some(reader) = readers.reader_of(log) else {
+        return;
+    };
+    let Some(reading) = readers.let_go(reader) else {
+        unreachable!();
+    };
+    store.meet(reading.lease);
+    unreachable!()
 }

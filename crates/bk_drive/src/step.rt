@@ -1,6 +1,6 @@
 //! The steps of a script and their answers.
 
-use bk_collect::{CollectFault, RetireAnswer};
+use bk_collect::{CloseAnswer, CollectFault, RetireAnswer};
 use bk_flush::{FlushFault, PublishAnswer, RollAnswer, WriteAnswer};
 use bk_log::FetchFault;
 use bk_record::{Key, Location};
@@ -22,6 +22,8 @@ pub enum Work {
     Retire(u32),
     /// Makes the index anew from what the logs show.
     Rebuild,
+    /// Closes the log of this id, which is retired, where no lease of it is out.
+    Close(u32),
 }
 
 /// One step. Readers are numbered from 0 to 3.
@@ -96,4 +98,5 @@ pub enum Answer {
     Retire(RetireAnswer),
     /// How many keys the new index has.
     Rebuild(Result<u64, CollectFault>),
+    Close(CloseAnswer),
 }

@@ -2,9 +2,9 @@
 //! are the most that one has, and there are two of them.
 
 use crate::{
-    AddFault, Added, Answer, DeleteFault, FetchAnswer, FlushFault, OpenFault, PublishAnswer, Ran,
-    ReleaseAnswer, RetireAnswer, RollAnswer, Settings, Step, SwapAnswer, TakeAnswer, Work,
-    WriteAnswer, drive,
+    AddFault, Added, Answer, CloseAnswer, DeleteFault, FetchAnswer, FlushFault, OpenFault,
+    PublishAnswer, Ran, ReleaseAnswer, RetireAnswer, RollAnswer, Settings, Step, SwapAnswer,
+    TakeAnswer, TakeFault, Work, WriteAnswer, drive,
 };
 use bk_disk::{LogDisk, MemDisk};
 use bk_record::Key;
@@ -115,6 +115,7 @@ fn told(answer: &Answer) -> Told {
     match answer {
         Answer::Add(added) => told_of_add(added),
         Answer::Take(Ok(taken)) => told_of_take(taken),
+        Answer::Take(Err(TakeFault::TooMany)) => ("too many leases", 0),
         Answer::Fetch(Ok(fetched)) => told_of_fetch(fetched),
         Answer::Release(ReleaseAnswer::NoReader) => ("no reader", 0),
         Answer::Release(ReleaseAnswer::NoLease) => ("no lease", 0),
@@ -139,6 +140,7 @@ fn told(answer: &Answer) -> Told {
         Answer::Retire(RetireAnswer::Retired(log)) => ("retired", u64::from(*log)),
         Answer::Retire(RetireAnswer::StillNamed(keys)) => ("still named", *keys),
         Answer::Rebuild(Ok(keys)) => ("rebuilt", *keys),
+        Answer::Close(closed) => told_of_close(closed),
         _ => ("another fault", 0),
     }
 }
@@ -161,6 +163,15 @@ fn told_of_take(taken: &TakeAnswer) -> Told {
         TakeAnswer::NotHeld => ("not held", 0),
         TakeAnswer::Cached(payload) => ("cached", payload.len() as u64),
         TakeAnswer::Leased(location) => ("leased", location.value()),
+    }
+}
+
+fn told_of_close(closed: &CloseAnswer) -> Told {
+    match closed {
+        CloseAnswer::NoLog => ("no log", 0),
+        CloseAnswer::NotRetired => ("not retired", 0),
+        CloseAnswer::Closed => ("closed", 0),
+        CloseAnswer::Leased(leases) => ("leases", *leases),
     }
 }
 

@@ -1,5 +1,5 @@
-use Rattle.bk_drive.specs.Machine.WorkTurn.{swapped, wrote, published, rolled, retired, rebuilt}
-use Rattle.bk_drive.proofs.Working.{step_stays, roll_stays, retire_stays, rebuild_stays, retire_failures, rebuild_failures, uncaused, publish_settings, agrees_still, publish_agrees}
+use Rattle.bk_drive.specs.Machine.WorkTurn.{swapped, wrote, published, rolled, retired, rebuilt, closed}
+use Rattle.bk_drive.proofs.Working.{step_stays, roll_stays, retire_stays, rebuild_stays, retire_failures, rebuild_failures, close_beside, uncaused, publish_settings, agrees_still, close_agrees, publish_agrees}
 use Rattle.bk_drive.proofs.Runs.{swapped_plain, swap_settings}
 use Rattle.bk_drive.proofs.run.apply.Goals as goal
 
@@ -21,6 +21,9 @@ returns-in-Retire-clause-turn g c = rw c.in-Retire.is (retired c.retire.ensures.
 pub returns-in-Rebuild-clause-turn : goal.returns-in-Rebuild-clause-turn
 returns-in-Rebuild-clause-turn g c = rw c.in-Rebuild.is (rebuilt c.rebuild.ensures.turn)
 
+pub returns-in-Close-clause-turn : goal.returns-in-Close-clause-turn
+returns-in-Close-clause-turn g c = rw c.in-Close.is (closed c.close.ensures.turn)
+
 pub returns-in-Swap-clause-settings : goal.returns-in-Swap-clause-settings
 returns-in-Swap-clause-settings g c = swap_settings _ _ _ c.swap.ensures
 
@@ -38,6 +41,12 @@ returns-in-Retire-clause-settings g c = (retire_stays _ _ _ _ c.retire.ensures.t
 
 pub returns-in-Rebuild-clause-settings : goal.returns-in-Rebuild-clause-settings
 returns-in-Rebuild-clause-settings g c = (rebuild_stays _ _ _ c.rebuild.ensures.turn).settings
+
+pub returns-in-Close-clause-settings : goal.returns-in-Close-clause-settings
+returns-in-Close-clause-settings g c = (close_beside _ _ _ _ c.close.ensures.turn).settings
+
+pub returns-in-Close-clause-cause : goal.returns-in-Close-clause-cause
+returns-in-Close-clause-cause g c = uncaused _ _ _ (close_beside _ _ _ _ c.close.ensures.turn).failures (λ never. never)
 
 pub returns-in-Retire-clause-cause : goal.returns-in-Retire-clause-cause
 returns-in-Retire-clause-cause g c = uncaused _ _ _ (retire_failures _ _ _ _ c.retire.ensures.turn) (λ never. never)
@@ -62,3 +71,6 @@ returns-in-Retire-clause-plain g c = λ honest p agrees. agrees_still _ _ p agre
 
 pub returns-in-Rebuild-clause-plain : goal.returns-in-Rebuild-clause-plain
 returns-in-Rebuild-clause-plain g c = λ honest p agrees. agrees_still _ _ p agrees (c.rebuild.ensures.meaning honest) (rebuild_stays _ _ _ c.rebuild.ensures.turn)
+
+pub returns-in-Close-clause-plain : goal.returns-in-Close-clause-plain
+returns-in-Close-clause-plain g c = λ honest p agrees. close_agrees _ _ p agrees (c.close.ensures.meaning honest) (close_beside _ _ _ _ c.close.ensures.turn)

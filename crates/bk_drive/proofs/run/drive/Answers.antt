@@ -1,9 +1,12 @@
-use Rattle.std.proofs.Common.{IsTrue, IfErr, Err, arith, refl, sym, ap, subst, ◌∙◌}
+use Rattle.std.proofs.Common.{IsTrue, IfErr, Err, length, arith, refl, sym, ap, subst, ◌∙◌}
 use Rattle.std.proofs.lemmas.Result.{err_from_is_err_and}
 use Rattle.bk_store.specs.Opening.{OpenFails}
 use Rattle.std.proofs.lemmas.List.{take_all}
 use Rattle.std.proofs.lemmas.Grind.{common_steps}
-use Rattle.bk_drive.proofs.Driving.{driven_first, driven_on, driven_last, one_more, counted_none, counted_on, counted_never}
+use Rattle.bk_drive.proofs.Driving.{driven_first, driven_on, driven_last, one_more, counted_none, counted_on, counted_never, even_on, closed_on}
+use Rattle.bk_drive.proofs.Leases.{leases_first}
+use Rattle.bk_drive.specs.Leased.{AreOpenLeases}
+use Rattle.bk_drive.specs.Headline.{reader_count}
 use Rattle.bk_drive.proofs.run.drive.Goals as goal
 
 pub loop-step-init : goal.loop-step-init
@@ -11,23 +14,30 @@ loop-step-init g c = record {
   counted = c.in-Ok.ensures.len;
   room = c.in-Ok.ensures.capacity;
   counted_faults = λ sound. counted_none _ _ c.in-Ok.ensures.items;
+  even = sym (ap length c.in-Ok.ensures.items);
+  leases = subst (λ rs. AreOpenLeases _ rs) (sym c.new-readers.ensures) (leases_first _ reader_count);
+  closed = λ log was. absurd was;
   driven = λ honest. driven_first _ _ _ _ _ _ _ _ honest c.in_ok-store.ensures.honest c.in_ok-store.ensures.opened c.new-readers.ensures refl c.in-Ok.ensures.items;
 }
 
 pub loop-step-preserved : goal.loop-step-preserved
 loop-step-preserved g c =
     let items = rw c.unwrap.ensures at c.push.ensures.items in
+    let more = one_more _ _ _ c.loop-step-test.true c.step-item.is in
     record {
       counted = grind (arith, common_steps);
       room = grind (arith, common_steps);
       counted_faults = λ sound. counted_on _ _ _ _ c.turn.result (c.loop-step.invariant.counted_faults sound) c.turn.ensures.later (c.turn.ensures.disk sound) items;
+      even = even_on _ _ _ _ c.step-item.result c.turn.result c.loop-step.invariant.even more items;
+      leases = c.turn.ensures.leases;
+      closed = closed_on _ _ _ _ c.step-item.result c.turn.result c.loop-step.invariant.even more items _ _ c.loop-step.invariant.closed c.turn.ensures.closes c.turn.ensures.closed;
       driven = λ honest. driven_on _ _ _ _ _ _ _ _ _ _ _ c.step-item.result c.turn.result (c.loop-step.invariant.driven honest) c.turn.ensures.honest
-          c.turn.ensures.settings c.turn.ensures.turn c.turn.ensures.plain (one_more _ _ _ c.loop-step-test.true c.step-item.is) items;
+          c.turn.ensures.settings c.turn.ensures.turn c.turn.ensures.plain more items;
     }
 
 pub returns-clause-headline : goal.returns-clause-headline
 returns-clause-headline g c = λ honest.
-    driven_last _ _ _ _ _ _ _ _ (c.loop-step.invariant.driven honest) (sym (take_all _ _ c.loop-step-test.false))
+    driven_last _ _ _ _ _ _ _ _ (c.loop-step.invariant.driven honest) c.promise-2.ensures c.loop-step.invariant.leases c.loop-step.invariant.closed (sym (take_all _ _ c.loop-step-test.false))
 
 pub returns-clause-unfailing : goal.returns-clause-unfailing
 returns-clause-unfailing g c = λ never sound.

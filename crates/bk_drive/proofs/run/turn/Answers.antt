@@ -1,11 +1,13 @@
 use Rattle.std.proofs.Common.{subst}
 use Rattle.bk_store.specs.Turns.{AddTurn}
-use Rattle.bk_drive.specs.Machine.Turn.{worked, added, deleted, taken, fetched, released}
-use Rattle.bk_drive.proofs.PlainTurns.{goes_worked, goes_added, goes_deleted, goes_taken, goes_fetched, goes_released}
+use Rattle.bk_drive.specs.Machine.Turn.{added, deleted, taken, fetched, released}
+use Rattle.bk_drive.proofs.Leases.{leases_same, closed_same, take_leases, take_closed, release_leases}
+use Rattle.bk_drive.proofs.Runs.{add_keeper, delete_keeper}
+use Rattle.bk_drive.proofs.PlainTurns.{turn_worked, goes_worked, goes_added, goes_deleted, goes_taken, goes_fetched, goes_released}
 use Rattle.bk_drive.proofs.run.turn.Goals as goal
 
 pub returns-in-Work-clause-turn : goal.returns-in-Work-clause-turn
-returns-in-Work-clause-turn g c = rw c.in-Work.is (worked c.apply.ensures.turn)
+returns-in-Work-clause-turn g c = rw c.in-Work.is (turn_worked _ _ _ _ _ _ c.work_on.ensures.readers c.work_on.ensures.turn)
 
 pub returns-in-Add-clause-turn : goal.returns-in-Add-clause-turn
 returns-in-Add-clause-turn g c =
@@ -23,22 +25,50 @@ returns-in-Fetch-clause-turn g c = rw c.in-Fetch.is (fetched c.fetch_by.ensures.
 pub returns-in-Release-clause-turn : goal.returns-in-Release-clause-turn
 returns-in-Release-clause-turn g c = rw c.in-Release.is (released c.release.ensures)
 
+pub returns-in-Add-clause-leases : goal.returns-in-Add-clause-leases
+returns-in-Add-clause-leases g c = leases_same _ _ (add_keeper _ _ _ _ c.add.ensures) _ c.requires
+
+pub returns-in-Delete-clause-leases : goal.returns-in-Delete-clause-leases
+returns-in-Delete-clause-leases g c = leases_same _ _ (delete_keeper _ _ _ _ c.delete.ensures) _ c.requires
+
+pub returns-in-Take-clause-leases : goal.returns-in-Take-clause-leases
+returns-in-Take-clause-leases g c = take_leases _ _ _ _ _ c.promise.ensures c.take.ensures c.requires
+
+pub returns-in-Release-clause-leases : goal.returns-in-Release-clause-leases
+returns-in-Release-clause-leases g c = release_leases _ _ _ _ _ c.release.ensures c.requires
+
+pub returns-in-Add-clause-closed : goal.returns-in-Add-clause-closed
+returns-in-Add-clause-closed g c = closed_same _ _ (add_keeper _ _ _ _ c.add.ensures)
+
+pub returns-in-Delete-clause-closed : goal.returns-in-Delete-clause-closed
+returns-in-Delete-clause-closed g c = closed_same _ _ (delete_keeper _ _ _ _ c.delete.ensures)
+
+pub returns-in-Take-clause-closed : goal.returns-in-Take-clause-closed
+returns-in-Take-clause-closed g c = take_closed _ _ _ _ _ c.take.ensures
+
+pub returns-in-Work-clause-closes : goal.returns-in-Work-clause-closes
+returns-in-Work-clause-closes g c = rw c.in-Work.is c.work_on.ensures.closes
+
 pub returns-in-Work-clause-plain : goal.returns-in-Work-clause-plain
-returns-in-Work-clause-plain g c = λ honest. rw c.in-Work.is (goes_worked _ _ _ _ _ c.apply.ensures.turn (c.apply.ensures.plain honest))
+returns-in-Work-clause-plain g c = λ honest.
+    rw c.in-Work.is (goes_worked _ _ _ _ _ _ c.work_on.ensures.readers c.work_on.ensures.turn (c.work_on.ensures.plain honest) c.work_on.ensures.leases)
 
 pub returns-in-Add-clause-plain : goal.returns-in-Add-clause-plain
 returns-in-Add-clause-plain g c = λ honest.
-    rw c.in-Add.is (goes_added _ _ c.promise.ensures honest _ _ _
+    rw c.in-Add.is (goes_added _ _ c.promise.ensures honest _ (leases_same _ _ (add_keeper _ _ _ _ c.add.ensures) _ c.requires) _ _
     (subst (λ payload. AddTurn c.args.store.now payload c.add.result c.add.new.self) c.deref.ensures.value c.add.ensures))
 
 pub returns-in-Delete-clause-plain : goal.returns-in-Delete-clause-plain
-returns-in-Delete-clause-plain g c = λ honest. rw c.in-Delete.is (goes_deleted _ _ c.promise.ensures honest _ _ _ c.delete.ensures)
+returns-in-Delete-clause-plain g c = λ honest.
+    rw c.in-Delete.is (goes_deleted _ _ c.promise.ensures honest _ (leases_same _ _ (delete_keeper _ _ _ _ c.delete.ensures) _ c.requires) _ _ c.delete.ensures)
 
 pub returns-in-Take-clause-plain : goal.returns-in-Take-clause-plain
-returns-in-Take-clause-plain g c = λ honest. rw c.in-Take.is (goes_taken _ _ _ _ _ _ c.promise.ensures honest c.take.ensures)
+returns-in-Take-clause-plain g c = λ honest.
+    rw c.in-Take.is (goes_taken _ _ _ _ _ _ _ c.promise.ensures honest c.take.ensures (take_leases _ _ _ _ _ c.promise.ensures c.take.ensures c.requires))
 
 pub returns-in-Fetch-clause-plain : goal.returns-in-Fetch-clause-plain
 returns-in-Fetch-clause-plain g c = λ honest. rw c.in-Fetch.is (goes_fetched _ _ _ _ c.fetch_by.ensures.turn)
 
 pub returns-in-Release-clause-plain : goal.returns-in-Release-clause-plain
-returns-in-Release-clause-plain g c = λ honest. rw c.in-Release.is (goes_released _ _ _ _ _ c.release.ensures)
+returns-in-Release-clause-plain g c = λ honest.
+    rw c.in-Release.is (goes_released _ _ _ _ _ c.release.ensures (release_leases _ _ _ _ _ c.release.ensures c.requires))

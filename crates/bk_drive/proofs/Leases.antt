@@ -1,0 +1,276 @@
+-- The leases of the readers stand open in the store's table through each step.
+use Rattle.std.proofs.Common.{◌≡◌, ◌≢◌, ◌⊎◌, inl, inr, ℕ, zero, suc, List, [], ◌∷◌, set, replicate, Option, Some, None, Result, Ok, Err, true, refl, sym, ap, subst, ◌∙◌, slice_get, slice_set}
+use Rattle.std.specs.FinMap as finite
+use Rattle.bk_record.specs.Key.{EntryKey}
+use Rattle.bk_lease.specs.declared.slot.Slot.{Slot}
+use Rattle.bk_lease.specs.declared.slot.Slot.TheVariants.{Free, Open, Closed}
+use Rattle.bk_lease.specs.Leases.{state_at, IsClosed, log_of}
+use Rattle.bk_lease.specs.Values.{SlotTable, Ticket, with_given, with_state}
+use Rattle.bk_lease.proofs.Slots.{inside_slots, state_at-set_here, state_at-set_else}
+use Rattle.bk_store.specs.Logs.{View, Log, Logs, is_open}
+use Rattle.bk_store.specs.State.{State}
+use Rattle.bk_store.specs.Kept.{Keeps}
+use Rattle.bk_store.specs.Seated.{AreSeated, slot_state}
+use Rattle.bk_store.specs.Leasing.{IsLeaseOf}
+use Rattle.bk_store.specs.Doors.{IsIn}
+use Rattle.bk_store.specs.Plain.{IsKept}
+use Rattle.bk_store.specs.declared.log.LogState.{LogState}
+use Rattle.bk_store.specs.declared.log.LogState.TheVariants as states
+use Rattle.bk_store.specs.declared.answer.TakeFault.{TakeFault}
+use Rattle.bk_store.specs.declared.answer.TakeFault.TheVariants as take_faults
+use Rattle.bk_collect.specs.Collecting.{CloseTurn}
+use Rattle.bk_collect.specs.declared.answer.CloseAnswer.TheVariants as closes
+use Rattle.bk_drive.specs.Plain.{HasAt}
+use Rattle.bk_drive.specs.Machine.{Desk, Hold, hold_on, ReaderTake, ReaderRelease}
+use Rattle.bk_drive.specs.declared.step.TakeAnswer.{TakeAnswer}
+use Rattle.bk_drive.specs.declared.step.TakeAnswer.TheVariants as takes
+use Rattle.bk_drive.specs.declared.step.ReleaseAnswer.{ReleaseAnswer}
+use Rattle.bk_drive.specs.declared.step.ReleaseAnswer.TheVariants as releases
+use Rattle.bk_drive.specs.Leased.{IsOpenLease, AreOpenLeases, StandsClosed, IsUnread}
+use Rattle.bk_drive.proofs.Slots.{HasSeat, seat_of}
+
+-- the logs of a store are seated in its table
+pub seats_kept : (s : State) → IsKept s → AreSeated s.keeper s.logs
+seats_kept s kept = subst (λ (x : State). AreSeated x.keeper x.logs) kept.seen kept.keeps.fits.seated.seats
+
+-- ---- slots that are taken stay as they are
+
+pub record SlotsStay (old new : SlotTable) : Type 0 where
+  pub table : new.table ≡ old.table
+  pub stay : (slot : ℕ) → state_at old.slots slot ≢ Free → state_at new.slots slot ≡ state_at old.slots slot
+
+pub slots_same : (old new : SlotTable) → new ≡ old → SlotsStay old new
+slots_same old new same = record { table = ap (λ (k : SlotTable). k.table) same; stay = λ slot _. ap (λ (k : SlotTable). state_at k.slots slot) same }
+
+pub slots_then : {a b c : SlotTable} → SlotsStay a b → SlotsStay b c → SlotsStay a c
+slots_then {a = a} {b = b} first second = record {
+  table = second.table ∙ first.table;
+  stay = λ slot full. second.stay slot (λ free. full (sym (first.stay slot full) ∙ free)) ∙ first.stay slot full;
+}
+
+-- a log comes into a slot that was free
+pub slots_opened : (keeper : SlotTable) (slot : ℕ) (state : Slot) → state_at keeper.slots slot ≡ Free → SlotsStay keeper (with_state keeper slot state)
+slots_opened keeper slot state free = record {
+  table = refl;
+  stay = λ other full. state_at-set_else keeper.slots slot other state (λ same. full (ap (state_at keeper.slots) same ∙ free));
+}
+
+open-free : (id : ℕ) → Open id ≢ Free
+open-free id same = cc
+
+closed-free : (id : ℕ) → Closed id ≢ Free
+closed-free id same = cc
+
+open-closed : (id other : ℕ) → Open id ≡ Closed other → ⊥
+open-closed id other same = cc
+
+module _ (old new : SlotTable) (stays : SlotsStay old new) where
+  pub leases_stay : (readers : List (Option Hold)) → AreOpenLeases old readers → AreOpenLeases new readers
+  leases_stay readers leases = λ reader hold has.
+      let was = leases reader hold has in
+      record {
+        table = was.table ∙ sym stays.table;
+        held = was.held;
+        opened = stays.stay hold.ticket.slot (λ free. open-free hold.ticket.log (sym was.opened ∙ free)) ∙ was.opened;
+      }
+
+  pub closed_stays : (log : ℕ) → StandsClosed old log → StandsClosed new log
+  closed_stays log (slot, is) = (slot, stays.stay slot (λ free. closed-free log (sym is ∙ free)) ∙ is)
+
+module _ (old new : SlotTable) (same : new ≡ old) where
+  pub leases_same : (readers : List (Option Hold)) → AreOpenLeases old readers → AreOpenLeases new readers
+  leases_same = leases_stay old new (slots_same old new same)
+
+  pub closed_same : (log : ℕ) → StandsClosed old log → StandsClosed new log
+  closed_same = closed_stays old new (slots_same old new same)
+
+-- ---- what readers hold
+
+pub none_at : (n reader : ℕ) (hold : Hold) → HasAt (replicate n None) reader hold → ⊥
+none_at zero reader hold has = cc
+none_at (suc n) zero hold has = cc
+none_at (suc n) (suc reader) hold has = none_at n reader hold has
+
+set_at : (hs : List (Option Hold)) (i : ℕ) (o : Option Hold) (reader : ℕ) (hold : Hold) → HasAt (slice_set hs i o) reader hold
+    → (o ≡ Some hold) ⊎ HasAt hs reader hold
+set_at [] i o reader hold has = inr has
+set_at (h ∷ hs) zero o zero hold has = inl cc
+set_at (h ∷ hs) zero o (suc reader) hold has = inr has
+set_at (h ∷ hs) (suc i) o zero hold has = inr has
+set_at (h ∷ hs) (suc i) o (suc reader) hold has = set_at hs i o reader hold has
+
+pub leases_first : (keeper : SlotTable) (n : ℕ) → AreOpenLeases keeper (replicate n None)
+leases_first keeper n = λ reader hold has. absurd (none_at n reader hold has)
+
+-- one lease less
+pub leases_less : (keeper : SlotTable) (hs : List (Option Hold)) (i : ℕ) → AreOpenLeases keeper hs → AreOpenLeases keeper (slice_set hs i None)
+leases_less keeper hs i leases = λ reader hold has. elim (set_at hs i None reader hold has) [
+  | inl never ↦ absurd (let e = never in cc)
+  | inr there ↦ leases reader hold there
+]
+
+-- one lease more
+pub leases_more : (keeper : SlotTable) (hs : List (Option Hold)) (i : ℕ) (hold : Hold) → AreOpenLeases keeper hs → IsOpenLease keeper hold
+    → AreOpenLeases keeper (slice_set hs i (Some hold))
+leases_more keeper hs i more leases is = λ reader hold has. elim (set_at hs i (Some more) reader hold has) [
+  | inl here ↦ let same : more ≡ hold = cc in subst (IsOpenLease keeper) same is
+  | inr there ↦ leases reader hold there
+]
+
+-- ---- a take
+
+-- a log that keys may be sent to stands open in its slot
+open_state : (id : ℕ) (state : LogState) → is_open state ≡ true → slot_state id state ≡ Open id
+open_state id states.Writing is = refl
+open_state id states.Filled is = refl
+open_state id states.Copying is = refl
+open_state id states.Readable is = refl
+open_state id states.Retired is = cc
+open_state id states.Closed is = cc
+
+pub lease_open : (keeper : SlotTable) (logs : Logs) (hold : Hold) (id : ℕ) → AreSeated keeper logs → IsLeaseOf keeper logs id hold.ticket hold.view
+    → IsOpenLease (with_given keeper) hold
+lease_open keeper logs hold id seats lease =
+    let ticket = lease.ticket_is in
+    record {
+      table = ap (λ (t : Ticket). t.table) ticket;
+      held = ap (λ (t : Ticket). t.is_held) ticket;
+      opened = ap (λ (t : Ticket). state_at keeper.slots t.slot) ticket ∙ seats.stands id lease.log lease.held
+          ∙ open_state id lease.log.state lease.opened ∙ ap (λ (t : Ticket). Open t.log) (sym ticket);
+    }
+
+-- ---- a log is closed
+
+-- two that are held by one id are one
+one_log : (logs : Logs) (id : ℕ) (a b : Log) → finite.get logs id ≡ Some a → finite.get logs id ≡ Some b → a ≡ b
+one_log logs id a b first second = cc
+
+module _ (s t : State) (id : ℕ) (seats : AreSeated s.keeper s.logs) (turn : CloseTurn s id closes.Closed t) where
+  -- a slot that stands open for the log is the log's
+  mine : (slot : ℕ) (log : Log) → state_at s.keeper.slots slot ≡ Open id → finite.get s.logs id ≡ Some log
+      → (log.slot ≡ slot) × (slot_state id log.state ≡ Open id)
+  mine slot log is held =
+      let seat = seat_of s.keeper s.logs seats slot id (Open id) is refl refl in
+      let same = one_log s.logs id seat.log log seat.held held in
+      (ap (λ (l : Log). l.slot) (sym same) ∙ seat.slot_is, ap (λ (l : Log). slot_state id l.state) (sym same) ∙ sym seat.stands ∙ is)
+
+  retired_open : (log : Log) → finite.get s.logs id ≡ Some log → IsIn s id states.Retired → state_at s.keeper.slots log.slot ≡ Open id
+  retired_open log held retired =
+      seats.stands id log held ∙ ap (slot_state id) (ap (λ (l : Log). l.state) (one_log s.logs id log retired.log held retired.held) ∙ retired.state_is)
+
+  now_closed : (log : Log) → state_at s.keeper.slots log.slot ≡ Open id → t.keeper ≡ with_state s.keeper log.slot (Closed id)
+      → state_at t.keeper.slots log.slot ≡ Closed id
+  now_closed log is after =
+      ap (λ (k : SlotTable). state_at k.slots log.slot) after
+      ∙ state_at-set_here s.keeper.slots log.slot (Closed id) (inside_slots s.keeper.slots log.slot (Open id) is (open-free id))
+
+  other_as : (log : Log) (slot : ℕ) → slot ≢ log.slot → t.keeper ≡ with_state s.keeper log.slot (Closed id)
+      → state_at t.keeper.slots slot ≡ state_at s.keeper.slots slot
+  other_as log slot apart after = ap (λ (k : SlotTable). state_at k.slots slot) after ∙ state_at-set_else s.keeper.slots log.slot slot (Closed id) apart
+
+  pub closing_table : t.keeper.table ≡ s.keeper.table
+  closing_table = elim turn [
+    | inl was ↦ ap (λ (x : State). x.keeper.table) was.1
+    | inr now ↦ ap (λ (x : State). x.keeper.table) now.1.1.2
+  ]
+
+  -- the slot of a lease of the log is closed now
+  pub closing_meets : (slot : ℕ) → state_at s.keeper.slots slot ≡ Open id → IsClosed t.keeper.slots slot
+  closing_meets slot is = elim turn [
+    | inl was ↦ absurd (open-closed id id (sym (mine slot was.0.log is was.0.held).1 ∙ ap (slot_state id) was.0.state_is))
+    | inr now ↦
+        let log : Log = now.1.1.0 in
+        let here = mine slot log is now.1.1.1 in
+        let closed = now_closed log (retired_open log now.1.1.1 now.0) (ap (λ (x : State). x.keeper) now.1.1.2) in
+        let there : state_at t.keeper.slots slot ≡ Closed id = ap (state_at t.keeper.slots) (sym here.0) ∙ closed in
+        there ∙ ap (λ (x : Slot). Closed (log_of x)) (sym there)
+  ]
+
+  -- leases of other logs stand open as before
+  pub closing_leaves : (readers : List (Option Hold)) → AreOpenLeases s.keeper readers → IsUnread readers id → AreOpenLeases t.keeper readers
+  closing_leaves readers leases unread = elim turn [
+    | inl was ↦ subst (λ (x : State). AreOpenLeases x.keeper readers) (sym was.1) leases
+    | inr now ↦ λ reader hold has.
+        let log : Log = now.1.1.0 in
+        let lease = leases reader hold has in
+        let apart : hold.ticket.slot ≢ log.slot = λ same.
+        let e : Open hold.ticket.log ≡ Open id = sym lease.opened ∙ ap (state_at s.keeper.slots) same ∙ retired_open log now.1.1.1 now.0 in
+        unread reader hold has (ap log_of e) in
+        record {
+          table = lease.table ∙ sym closing_table;
+          held = lease.held;
+          opened = other_as log hold.ticket.slot apart (ap (λ (x : State). x.keeper) now.1.1.2) ∙ lease.opened;
+        }
+  ]
+
+  pub closing_closes : StandsClosed t.keeper id
+  closing_closes = elim turn [
+    | inl was ↦ (was.0.log.slot, ap (λ (x : State). state_at x.keeper.slots was.0.log.slot) was.1 ∙ seats.stands id was.0.log was.0.held ∙ ap (slot_state id) was.0.state_is)
+    | inr now ↦ let log : Log = now.1.1.0 in (log.slot, now_closed log (retired_open log now.1.1.1 now.0) (ap (λ (x : State). x.keeper) now.1.1.2))
+  ]
+
+  pub closing_stays : (other : ℕ) → StandsClosed s.keeper other → StandsClosed t.keeper other
+  closing_stays other (slot, is) = elim turn [
+    | inl was ↦ (slot, ap (λ (x : State). state_at x.keeper.slots slot) was.1 ∙ is)
+    | inr now ↦
+        let log : Log = now.1.1.0 in
+        let apart : slot ≢ log.slot = λ same.
+        open-closed id other (sym (retired_open log now.1.1.1 now.0) ∙ ap (state_at s.keeper.slots) (sym same) ∙ is) in
+        (slot, other_as log slot apart (ap (λ (x : State). x.keeper) now.1.1.2) ∙ is)
+  ]
+
+-- no reader holds a lease of a log that stands closed
+pub closed_unread : (s : State) (readers : List (Option Hold)) (log : ℕ) → IsKept s → AreOpenLeases s.keeper readers → StandsClosed s.keeper log → IsUnread readers log
+closed_unread s readers log kept leases (slot, is) = λ reader hold has same.
+    let seats = seats_kept s kept in
+    let lease = leases reader hold has in
+    let opened : state_at s.keeper.slots hold.ticket.slot ≡ Open log = lease.opened ∙ ap Open same in
+    let a = seat_of s.keeper s.logs seats hold.ticket.slot log (Open log) opened refl refl in
+    let b = seat_of s.keeper s.logs seats slot log (Closed log) is refl refl in
+    let one = one_log s.logs log a.log b.log a.held b.held in
+    open-closed log log (sym opened ∙ a.stands ∙ ap (λ (l : Log). slot_state log l.state) one ∙ sym b.stands ∙ is)
+
+-- ---- a step of a reader
+
+same_leases : (d e : Desk) → e ≡ d → AreOpenLeases d.store.keeper d.readers → AreOpenLeases e.store.keeper e.readers
+same_leases d e same leases = subst (λ (x : Desk). AreOpenLeases x.store.keeper x.readers) (sym same) leases
+
+pub take_leases : (d e : Desk) (reader : ℕ) (key : EntryKey) (r : Result TakeAnswer TakeFault) → IsKept d.store → ReaderTake d reader key r e
+    → AreOpenLeases d.store.keeper d.readers → AreOpenLeases e.store.keeper e.readers
+take_leases d e reader key (Ok takes.NoReader) kept turn leases = same_leases d e turn.1 leases
+take_leases d e reader key (Ok takes.ReaderBusy) kept turn leases = same_leases d e turn.1 leases
+take_leases d e reader key (Ok takes.Deleted) kept turn leases = same_leases d e turn.2 leases
+take_leases d e reader key (Ok (takes.Cached payload)) kept turn leases = same_leases d e turn.2 leases
+take_leases d e reader key (Ok takes.NotHeld) kept turn leases = same_leases d e turn.3 leases
+take_leases d e reader key (Ok (takes.Leased place)) kept turn leases =
+    let ticket : Ticket = turn.1.0 in
+    let view : View = turn.1.1.0 in
+    let given : SlotTable = with_given d.store.keeper in
+    let hold : Hold = hold_on ticket place key view in
+    let stays : SlotsStay d.store.keeper given = record { table = refl; stay = λ slot _. refl } in
+    subst (λ (x : Desk). AreOpenLeases x.store.keeper x.readers) (sym turn.1.1.2)
+    (leases_more given d.readers reader hold (leases_stay d.store.keeper given stays d.readers leases)
+    (lease_open d.store.keeper d.store.logs hold place.log (seats_kept d.store kept) turn.1.1.1))
+take_leases d e reader key (Err take_faults.NoSeat) kept turn leases = same_leases d e turn.2 leases
+take_leases d e reader key (Err take_faults.TooMany) kept turn leases = same_leases d e turn.3 leases
+take_leases d e reader key (Err take_faults.Memory) kept turn leases = same_leases d e turn.2 leases
+
+-- a log that stands closed does so after a take
+pub take_closed : (d e : Desk) (reader : ℕ) (key : EntryKey) (r : Result TakeAnswer TakeFault) → ReaderTake d reader key r e
+    → (log : ℕ) → StandsClosed d.store.keeper log → StandsClosed e.store.keeper log
+take_closed d e reader key (Ok takes.NoReader) turn log is = subst (λ (x : Desk). StandsClosed x.store.keeper log) (sym turn.1) is
+take_closed d e reader key (Ok takes.ReaderBusy) turn log is = subst (λ (x : Desk). StandsClosed x.store.keeper log) (sym turn.1) is
+take_closed d e reader key (Ok takes.Deleted) turn log is = subst (λ (x : Desk). StandsClosed x.store.keeper log) (sym turn.2) is
+take_closed d e reader key (Ok (takes.Cached payload)) turn log is = subst (λ (x : Desk). StandsClosed x.store.keeper log) (sym turn.2) is
+take_closed d e reader key (Ok takes.NotHeld) turn log is = subst (λ (x : Desk). StandsClosed x.store.keeper log) (sym turn.3) is
+take_closed d e reader key (Ok (takes.Leased place)) turn log is = subst (λ (x : Desk). StandsClosed x.store.keeper log) (sym turn.1.1.2) (is.0, is.1)
+take_closed d e reader key (Err take_faults.NoSeat) turn log is = subst (λ (x : Desk). StandsClosed x.store.keeper log) (sym turn.2) is
+take_closed d e reader key (Err take_faults.TooMany) turn log is = subst (λ (x : Desk). StandsClosed x.store.keeper log) (sym turn.3) is
+take_closed d e reader key (Err take_faults.Memory) turn log is = subst (λ (x : Desk). StandsClosed x.store.keeper log) (sym turn.2) is
+
+pub release_leases : (keeper : SlotTable) (readers readers' : List (Option Hold)) (reader : ℕ) (r : ReleaseAnswer) → ReaderRelease readers reader r readers'
+    → AreOpenLeases keeper readers → AreOpenLeases keeper readers'
+release_leases keeper readers readers' reader releases.NoReader turn leases = subst (AreOpenLeases keeper) (sym turn.1) leases
+release_leases keeper readers readers' reader releases.NoLease turn leases = subst (AreOpenLeases keeper) (sym turn.1) leases
+release_leases keeper readers readers' reader releases.Released turn leases =
+    subst (AreOpenLeases keeper) (sym turn.1) (leases_less keeper readers reader leases)
