@@ -15,7 +15,7 @@ use Rattle.std.proofs.lemmas.List.Sums.{AllPass-from_list_all}
 use Rattle.std.proofs.lemmas.Bool.Decides.{nat_tests}
 use Rattle.bk_drive.specs.declared.step.Step.{Step}
 use Rattle.bk_drive.specs.declared.step.Work.{Work}
-use Rattle.bk_drive.specs.declared.step.Work.TheVariants.{Swap, WriteOne, Publish, Roll, Retire, Rebuild}
+use Rattle.bk_drive.specs.declared.step.Work.TheVariants.{Swap, WriteOne, Publish, Roll, Retire, Rebuild, Close}
 use Rattle.bk_script.specs.Line.{IsPrintable, word_of, words, Spells, work, add, add_text, pad, take, fetch, release, delete, retire}
 
 pub printable_behind : (name rest : List ℕ) → All IsPrintable (name ++ 32 ∷ rest) → All IsPrintable rest
@@ -47,6 +47,7 @@ printable_word Publish = printable_test (word_of Publish) refl
 printable_word Roll = printable_test (word_of Roll) refl
 printable_word (Retire log) = printable_test (word_of (Retire log)) refl
 printable_word Rebuild = printable_test (word_of Rebuild) refl
+printable_word (Close log) = printable_test (word_of (Close log)) refl
 
 followed_by : (word rest : List ℕ) → All IsPrintable word → All IsPrintable rest → All IsPrintable (word ++ 32 ∷ rest)
 followed_by word rest h k = All-append IsPrintable word (32 ∷ rest) h (All-cons IsPrintable 32 rest (omega arith, omega arith) k)

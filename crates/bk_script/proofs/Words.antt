@@ -10,7 +10,7 @@ use Rattle.std.proofs.Math.Dec.{eqb-suc-zero}
 use Rattle.std.proofs.lemmas.List.Sums.{AllPass-from_list_all}
 use Rattle.std.proofs.lemmas.Bool.{ne_eqb, false≢true}
 use Rattle.bk_drive.specs.declared.step.Work.{Work}
-use Rattle.bk_drive.specs.declared.step.Work.TheVariants.{Swap, WriteOne, Publish, Roll, Retire, Rebuild}
+use Rattle.bk_drive.specs.declared.step.Work.TheVariants.{Swap, WriteOne, Publish, Roll, Retire, Rebuild, Close}
 use Rattle.bk_script.specs.Line.{IsWord, followed, word_of}
 use Rattle.bk_script.proofs.Numbers.{own}
 
@@ -49,6 +49,7 @@ IsWord-word_of Publish = IsWord-from_test (word_of Publish) refl
 IsWord-word_of Roll = IsWord-from_test (word_of Roll) refl
 IsWord-word_of (Retire log) = IsWord-from_test (word_of (Retire log)) refl
 IsWord-word_of Rebuild = IsWord-from_test (word_of Rebuild) refl
+IsWord-word_of (Close log) = IsWord-from_test (word_of (Close log)) refl
 
 -- and numbers too are read in one way
 pub numbers-injective : (m n : ℕ) (x y : Option (List ℕ)) → m < 2 ^ 64 → n < 2 ^ 64

@@ -7,7 +7,7 @@ use Rattle.std.specs.Global.{Vec}
 use Rattle.bk_drive.specs.declared.step.Step.{Step}
 use Rattle.bk_drive.specs.declared.step.Step.TheVariants as steps
 use Rattle.bk_drive.specs.declared.step.Work.{Work}
-use Rattle.bk_drive.specs.declared.step.Work.TheVariants.{Swap, WriteOne, Publish, Roll, Retire, Rebuild}
+use Rattle.bk_drive.specs.declared.step.Work.TheVariants.{Swap, WriteOne, Publish, Roll, Retire, Rebuild, Close}
 
 -- words with one space between
 abbrev pub words : List (List ℕ) → List ℕ
@@ -42,6 +42,7 @@ word_of Publish = codes "publish"
 word_of Roll = codes "roll"
 word_of (Retire log) = codes "retire"
 word_of Rebuild = codes "rebuild"
+word_of (Close log) = codes "close"
 
 -- that word is the whole line
 abbrev pub IsAlone : Work → Type 0
@@ -51,6 +52,7 @@ IsAlone Publish = Unit {0}
 IsAlone Roll = Unit {0}
 IsAlone (Retire log) = ⊥
 IsAlone Rebuild = Unit {0}
+IsAlone (Close log) = ⊥
 
 -- The line spells the step (this project's rule). Ids are below 2 ^ 63, those of logs below 2 ^ 31, readers are numbered
 -- from 0 to 3, and a pad has up to 2097152 zero bytes.

@@ -31,6 +31,8 @@ use Rattle.bk_flush.specs.declared.answer.FlushFault.{FlushFault}
 use Rattle.bk_flush.specs.declared.answer.FlushFault.TheVariants as flush_faults
 use Rattle.bk_collect.specs.declared.answer.RetireAnswer.{RetireAnswer}
 use Rattle.bk_collect.specs.declared.answer.RetireAnswer.TheVariants as retires
+use Rattle.bk_collect.specs.declared.answer.CloseAnswer.{CloseAnswer}
+use Rattle.bk_collect.specs.declared.answer.CloseAnswer.TheVariants as closings
 use Rattle.bk_collect.specs.declared.answer.CollectFault.{CollectFault}
 use Rattle.bk_collect.specs.declared.answer.CollectFault.TheVariants as collect_faults
 use Rattle.bk_drive.specs.declared.step.TakeAnswer.{TakeAnswer}
@@ -82,6 +84,8 @@ take_text (Ok takes.Deleted) = codes "deleted"
 take_text (Ok takes.NotHeld) = codes "not held"
 take_text (Ok (takes.Cached payload)) = codes "cached " ++ shown_data payload.value.items
 take_text (Ok (takes.Leased place)) = codes "leased " ++ decimal (packed place)
+take_text (Err take_faults.NoSeat) = codes "fault no seat"
+take_text (Err take_faults.TooMany) = codes "fault too many leases"
 take_text (Err take_faults.Memory) = codes "fault memory"
 
 abbrev pub fetch_fault_text : FetchFault → List ℕ
@@ -169,6 +173,12 @@ abbrev pub rebuild_text : Result ℕ CollectFault → List ℕ
 rebuild_text (Ok n) = codes "rebuilt " ++ decimal n
 rebuild_text (Err fault) = codes "fault " ++ collect_fault_text fault
 
+abbrev pub close_text : CloseAnswer → List ℕ
+close_text closings.NoLog = codes "no log"
+close_text closings.NotRetired = codes "not retired"
+close_text closings.Closed = codes "closed"
+close_text (closings.Leased n) = codes "leased " ++ decimal n
+
 -- the text of an answer
 abbrev pub text_of : Answer → List ℕ
 text_of (answers.Add answer) = add_text answer
@@ -182,6 +192,7 @@ text_of (answers.Publish answer) = publish_text answer
 text_of (answers.Roll answer) = roll_text answer
 text_of (answers.Retire answer) = retire_text answer
 text_of (answers.Rebuild answer) = rebuild_text answer
+text_of (answers.Close answer) = close_text answer
 
 -- one line for each answer
 abbrev pub lines_of : List Answer → List ℕ

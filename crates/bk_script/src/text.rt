@@ -3,14 +3,14 @@
 ghost use Rattle.std.specs.Prelude.{◌≡◌, ◌<◌, false, [], ◌∷◌, Some, drop};
 ghost use Rattle.std.specs.Fmt.{WritesOnOk, digit_glyph};
 ghost use Rattle.bk_script.specs.Text.{add_text, data_text, delete_text, digit_pair, fetch_text, publish_text};
-ghost use Rattle.bk_script.specs.Text.{rebuild_text, release_text, retire_text, roll_text, swap_text, take_text};
-ghost use Rattle.bk_script.specs.Text.{text_of, write_text};
+ghost use Rattle.bk_script.specs.Text.{release_text, roll_text, swap_text, take_text, text_of, write_text};
 
+mod collecting;
 mod faults;
 
 use bk_drive::{
-    AddFault, Added, Answer, CollectFault, DeleteFault, FetchAnswer, FlushFault, PublishAnswer,
-    ReleaseAnswer, RetireAnswer, RollAnswer, SwapAnswer, TakeAnswer, TakeFault, WriteAnswer,
+    AddFault, Added, Answer, DeleteFault, FetchAnswer, FlushFault, PublishAnswer, ReleaseAnswer,
+    RollAnswer, SwapAnswer, TakeAnswer, TakeFault, WriteAnswer,
 };
 use bk_log::FetchFault;
 use std::fmt;
@@ -36,6 +36,7 @@ impl Display for Text<'_, Answer> {
             Answer::Roll(answer) => write!(f, "{}", Text(answer)),
             Answer::Retire(answer) => write!(f, "{}", Text(answer)),
             Answer::Rebuild(answer) => write!(f, "{}", Text(answer)),
+            Answer::Close(answer) => write!(f, "{}", Text(answer)),
         }
     }
 }
@@ -66,6 +67,8 @@ impl Display for Text<'_, Result<TakeAnswer, TakeFault>> {
                 write_data(f, data_of(payload))
             }
             Ok(TakeAnswer::Leased(location)) => write!(f, "leased {}", location.value()),
+            Err(TakeFault::NoSeat) => write!(f, "fault no seat"),
+            Err(TakeFault::TooMany) => write!(f, "fault too many leases"),
             Err(TakeFault::Memory) => write!(f, "fault memory"),
         }
     }
@@ -156,30 +159,6 @@ impl Display for Text<'_, Result<RollAnswer, FlushFault>> {
             Ok(RollAnswer::FlushRunning) => write!(f, "flush running"),
             Ok(RollAnswer::NothingOpen) => write!(f, "nothing open"),
             Ok(RollAnswer::Sealed(log)) => write!(f, "sealed {log}"),
-            Err(fault) => write!(f, "fault {}", Text(fault)),
-        }
-    }
-}
-
-impl Display for Text<'_, RetireAnswer> {
-    ghost output = { λ text. Some (retire_text text.0.now) };
-
-    fn fmt<W: fmt::Write>(&self, f: &mut Formatter<W>) -> fmt::Result {
-        match self.0 {
-            RetireAnswer::NoLog => write!(f, "no log"),
-            RetireAnswer::InUse => write!(f, "in use"),
-            RetireAnswer::Retired(log) => write!(f, "retired {log}"),
-            RetireAnswer::StillNamed(count) => write!(f, "still named {count}"),
-        }
-    }
-}
-
-impl Display for Text<'_, Result<u64, CollectFault>> {
-    ghost output = { λ text. Some (rebuild_text text.0.now) };
-
-    fn fmt<W: fmt::Write>(&self, f: &mut Formatter<W>) -> fmt::Result {
-        match self.0 {
-            Ok(count) => write!(f, "rebuilt {count}"),
             Err(fault) => write!(f, "fault {}", Text(fault)),
         }
     }
