@@ -26,6 +26,7 @@ use Rattle.bk_drive.specs.declared.step.TakeAnswer.{TakeAnswer}
 use Rattle.bk_drive.specs.declared.step.TakeAnswer.TheVariants as takes
 use Rattle.bk_drive.specs.declared.step.ReleaseAnswer.{ReleaseAnswer}
 use Rattle.bk_drive.specs.declared.step.ReleaseAnswer.TheVariants as releases
+use Rattle.bk_drive.specs.Headline.{reader_count}
 use Rattle.bk_drive.specs.Leased.{IsOpenLease, AreOpenLeases, StandsClosed, IsUnread}
 use Rattle.bk_drive.proofs.Slots.{HasSeat, seat_of}
 
@@ -101,6 +102,9 @@ set_at (h ∷ hs) (suc i) o (suc reader) hold has = set_at hs i o reader hold ha
 
 pub leases_first : (keeper : SlotTable) (n : ℕ) → AreOpenLeases keeper (replicate n None)
 leases_first keeper n = λ reader hold has. absurd (none_at n reader hold has)
+
+pub leases_at : (keeper : SlotTable) (readers : List (Option Hold)) → readers ≡ replicate reader_count None → AreOpenLeases keeper readers
+leases_at keeper readers free = subst (AreOpenLeases keeper) (sym free) (leases_first keeper reader_count)
 
 -- one lease less
 pub leases_less : (keeper : SlotTable) (hs : List (Option Hold)) (i : ℕ) → AreOpenLeases keeper hs → AreOpenLeases keeper (slice_set hs i None)

@@ -4,9 +4,7 @@ use Rattle.bk_store.specs.Opening.{OpenFails}
 use Rattle.std.proofs.lemmas.List.{take_all}
 use Rattle.std.proofs.lemmas.Grind.{common_steps}
 use Rattle.bk_drive.proofs.Driving.{driven_first, driven_on, driven_last, one_more, counted_none, counted_on, counted_never, even_on, closed_on}
-use Rattle.bk_drive.proofs.Leases.{leases_first}
-use Rattle.bk_drive.specs.Leased.{AreOpenLeases}
-use Rattle.bk_drive.specs.Headline.{reader_count}
+use Rattle.bk_drive.proofs.Leases.{leases_at}
 use Rattle.bk_drive.proofs.run.drive.Goals as goal
 
 pub loop-step-init : goal.loop-step-init
@@ -15,7 +13,7 @@ loop-step-init g c = record {
   room = c.in-Ok.ensures.capacity;
   counted_faults = λ sound. counted_none _ _ c.in-Ok.ensures.items;
   even = sym (ap length c.in-Ok.ensures.items);
-  leases = subst (λ rs. AreOpenLeases _ rs) (sym c.new-readers.ensures) (leases_first _ reader_count);
+  leases = leases_at _ _ c.new-readers.ensures;
   closed = λ log was. absurd was;
   driven = λ honest. driven_first _ _ _ _ _ _ _ _ honest c.in_ok-store.ensures.honest c.in_ok-store.ensures.opened c.new-readers.ensures refl c.in-Ok.ensures.items;
 }
@@ -30,7 +28,8 @@ loop-step-preserved g c =
       counted_faults = λ sound. counted_on _ _ _ _ c.turn.result (c.loop-step.invariant.counted_faults sound) c.turn.ensures.later (c.turn.ensures.disk sound) items;
       even = even_on _ _ _ _ c.step-item.result c.turn.result c.loop-step.invariant.even more items;
       leases = c.turn.ensures.leases;
-      closed = closed_on _ _ _ _ c.step-item.result c.turn.result c.loop-step.invariant.even more items _ _ c.loop-step.invariant.closed c.turn.ensures.closes c.turn.ensures.closed;
+      closed = closed_on _ _ _ _ c.step-item.result c.turn.result c.loop-step.invariant.even more items c.loop-step.store.keeper c.turn.new.store.keeper
+          c.loop-step.invariant.closed c.turn.ensures.closes c.turn.ensures.closed;
       driven = λ honest. driven_on _ _ _ _ _ _ _ _ _ _ _ c.step-item.result c.turn.result (c.loop-step.invariant.driven honest) c.turn.ensures.honest
           c.turn.ensures.settings c.turn.ensures.turn c.turn.ensures.plain more items;
     }

@@ -26,10 +26,10 @@ pub returns-in-Release-clause-turn : goal.returns-in-Release-clause-turn
 returns-in-Release-clause-turn g c = rw c.in-Release.is (released c.release.ensures)
 
 pub returns-in-Add-clause-leases : goal.returns-in-Add-clause-leases
-returns-in-Add-clause-leases g c = leases_same _ _ (add_keeper _ _ _ _ c.add.ensures) _ c.requires
+returns-in-Add-clause-leases g c = leases_same _ _ (add_keeper c.args.store.now c.add.new.self _ _ c.add.ensures) _ c.requires
 
 pub returns-in-Delete-clause-leases : goal.returns-in-Delete-clause-leases
-returns-in-Delete-clause-leases g c = leases_same _ _ (delete_keeper _ _ _ _ c.delete.ensures) _ c.requires
+returns-in-Delete-clause-leases g c = leases_same _ _ (delete_keeper c.args.store.now c.delete.new.self _ _ c.delete.ensures) _ c.requires
 
 pub returns-in-Take-clause-leases : goal.returns-in-Take-clause-leases
 returns-in-Take-clause-leases g c = take_leases _ _ _ _ _ c.promise.ensures c.take.ensures c.requires
@@ -38,10 +38,10 @@ pub returns-in-Release-clause-leases : goal.returns-in-Release-clause-leases
 returns-in-Release-clause-leases g c = release_leases _ _ _ _ _ c.release.ensures c.requires
 
 pub returns-in-Add-clause-closed : goal.returns-in-Add-clause-closed
-returns-in-Add-clause-closed g c = closed_same _ _ (add_keeper _ _ _ _ c.add.ensures)
+returns-in-Add-clause-closed g c = closed_same c.args.store.now.keeper c.add.new.self.keeper (add_keeper c.args.store.now c.add.new.self _ _ c.add.ensures)
 
 pub returns-in-Delete-clause-closed : goal.returns-in-Delete-clause-closed
-returns-in-Delete-clause-closed g c = closed_same _ _ (delete_keeper _ _ _ _ c.delete.ensures)
+returns-in-Delete-clause-closed g c = closed_same c.args.store.now.keeper c.delete.new.self.keeper (delete_keeper c.args.store.now c.delete.new.self _ _ c.delete.ensures)
 
 pub returns-in-Take-clause-closed : goal.returns-in-Take-clause-closed
 returns-in-Take-clause-closed g c = take_closed _ _ _ _ _ c.take.ensures
@@ -55,12 +55,12 @@ returns-in-Work-clause-plain g c = λ honest.
 
 pub returns-in-Add-clause-plain : goal.returns-in-Add-clause-plain
 returns-in-Add-clause-plain g c = λ honest.
-    rw c.in-Add.is (goes_added _ _ c.promise.ensures honest _ (leases_same _ _ (add_keeper _ _ _ _ c.add.ensures) _ c.requires) _ _
+    rw c.in-Add.is (goes_added _ _ c.promise.ensures honest _ (leases_same _ _ (add_keeper c.args.store.now c.add.new.self _ _ c.add.ensures) _ c.requires) _ _
     (subst (λ payload. AddTurn c.args.store.now payload c.add.result c.add.new.self) c.deref.ensures.value c.add.ensures))
 
 pub returns-in-Delete-clause-plain : goal.returns-in-Delete-clause-plain
 returns-in-Delete-clause-plain g c = λ honest.
-    rw c.in-Delete.is (goes_deleted _ _ c.promise.ensures honest _ (leases_same _ _ (delete_keeper _ _ _ _ c.delete.ensures) _ c.requires) _ _ c.delete.ensures)
+    rw c.in-Delete.is (goes_deleted _ _ c.promise.ensures honest _ (leases_same _ _ (delete_keeper c.args.store.now c.delete.new.self _ _ c.delete.ensures) _ c.requires) _ _ c.delete.ensures)
 
 pub returns-in-Take-clause-plain : goal.returns-in-Take-clause-plain
 returns-in-Take-clause-plain g c = λ honest.
