@@ -1,7 +1,7 @@
 -- What a step of the store alone does to the leases of the readers: all but a close leave the slots that are taken; and where a
 -- log was closed, a reader with a lease of it would be met.
 use Rattle.std.proofs.Common.{◌≡◌, ℕ, List, Option, refl, sym, ap, subst, ◌∙◌}
-use Rattle.bk_lease.specs.Leases.{state_at, IsClosed}
+use Rattle.bk_lease.specs.Leases.{IsClosed}
 use Rattle.bk_lease.specs.declared.slot.Slot.TheVariants.{Open}
 use Rattle.bk_store.specs.State.{State}
 use Rattle.bk_store.specs.Plain.{IsKept}

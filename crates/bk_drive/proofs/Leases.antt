@@ -1,5 +1,5 @@
 -- The leases of the readers stand open in the store's table through each step.
-use Rattle.std.proofs.Common.{◌≡◌, ◌≢◌, ◌⊎◌, inl, inr, ℕ, zero, suc, List, [], ◌∷◌, set, replicate, Option, Some, None, Result, Ok, Err, true, refl, sym, ap, subst, ◌∙◌, slice_get, slice_set}
+use Rattle.std.proofs.Common.{◌≡◌, ◌≢◌, ◌⊎◌, inl, inr, ℕ, zero, suc, List, [], ◌∷◌, replicate, Option, Some, None, Result, Ok, Err, true, refl, sym, ap, subst, ◌∙◌, slice_set}
 use Rattle.std.specs.FinMap as finite
 use Rattle.bk_record.specs.Key.{EntryKey}
 use Rattle.bk_lease.specs.declared.slot.Slot.{Slot}
@@ -9,7 +9,6 @@ use Rattle.bk_lease.specs.Values.{SlotTable, Ticket, with_given, with_state}
 use Rattle.bk_lease.proofs.Slots.{inside_slots, state_at-set_here, state_at-set_else}
 use Rattle.bk_store.specs.Logs.{View, Log, Logs, is_open}
 use Rattle.bk_store.specs.State.{State}
-use Rattle.bk_store.specs.Kept.{Keeps}
 use Rattle.bk_store.specs.Seated.{AreSeated, slot_state}
 use Rattle.bk_store.specs.Leasing.{IsLeaseOf}
 use Rattle.bk_store.specs.Doors.{IsIn}
@@ -28,7 +27,7 @@ use Rattle.bk_drive.specs.declared.step.ReleaseAnswer.{ReleaseAnswer}
 use Rattle.bk_drive.specs.declared.step.ReleaseAnswer.TheVariants as releases
 use Rattle.bk_drive.specs.Headline.{reader_count}
 use Rattle.bk_drive.specs.Leased.{IsOpenLease, AreOpenLeases, StandsClosed, IsUnread}
-use Rattle.bk_drive.proofs.Slots.{HasSeat, seat_of}
+use Rattle.bk_drive.proofs.Slots.{seat_of}
 
 -- the logs of a store are seated in its table
 pub seats_kept : (s : State) → IsKept s → AreSeated s.keeper s.logs

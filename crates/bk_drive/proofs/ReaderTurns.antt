@@ -7,7 +7,7 @@ use Rattle.bk_log.specs.declared.fault.FetchFault.TheVariants as fetch_faults
 use Rattle.bk_log.proofs.OneRecord.{stands_once}
 use Rattle.bk_store.specs.Logs.{View}
 use Rattle.bk_store.specs.State.{State}
-use Rattle.bk_store.specs.Turns.{TakeTurn, IsInLog}
+use Rattle.bk_store.specs.Turns.{TakeTurn}
 use Rattle.bk_store.specs.Leasing.{IsLeaseOf}
 use Rattle.bk_store.specs.Plain.{Plain, PlainTake, IsKept}
 use Rattle.bk_store.specs.Plain as plain

@@ -1,5 +1,5 @@
 -- What a call of a flush leaves: the dead ledgers, the pairs that are only cached, and so an agreement with the plain map.
-use Rattle.std.proofs.Common.{◌≡◌, inl, inr, ℕ, List, Bool, true, false, Option, Some, None, Result, Ok, Err, cond, refl, sym, ap, subst, ◌∙◌, unwrap_or, ◌<◌, ◌≤◌, arith}
+use Rattle.std.proofs.Common.{◌≡◌, inl, inr, ℕ, List, Bool, true, false, Option, Some, None, Result, Ok, Err, cond, refl, sym, ap, subst, ◌∙◌, unwrap_or, arith}
 use Rattle.std.specs.Option.{option_or}
 use Rattle.std.specs.FinMap as finite
 use Rattle.std.specs.FinSet as set

@@ -1,4 +1,4 @@
-use Rattle.std.proofs.Common.{◌≡◌, inl, inr, ℕ, Some, sym, ap, subst, ◌∙◌, arith, option_map}
+use Rattle.std.proofs.Common.{◌≡◌, inl, inr, Some, sym, ap, subst, ◌∙◌, arith, option_map}
 use Rattle.bk_store.proofs.Cases.{same_or_apart}
 use Rattle.bk_drive.specs.Plain.{HasAt}
 use Rattle.bk_drive.specs.Held.{seen_hold}
