@@ -4,7 +4,7 @@ use Rattle.std.proofs.lemmas.Bool.{false≢true}
 use Rattle.std.specs.Fmt.{decimal}
 use Rattle.bk_drive.specs.declared.step.Step.{Step}
 use Rattle.bk_drive.specs.declared.step.Work.{Work}
-use Rattle.bk_script.specs.Line.{IsWord, words, followed, IsAlone, word_of, Spells, work, add, add_text, pad, take, fetch, release, delete, retire}
+use Rattle.bk_script.specs.Line.{IsWord, words, followed, IsAlone, word_of, Spells, work, add, add_text, pad, take, fetch, release, delete, retire, close}
 use Rattle.bk_script.proofs.Words.{IsWord-from_test, IsWord-word_of, followed-injective}
 
 -- what stands behind `add` and a space
@@ -49,7 +49,7 @@ pub record IsLedger (text : List ℕ) : Type 0 where
   pub fits : ledger < 2 ^ 63
   pub is : text ≡ decimal ledger
 
--- a log: what stands behind `retire` and a space
+-- a log: what stands behind `retire` or `close` and a space
 pub record IsLog (text : List ℕ) : Type 0 where
   pub log : ℕ
   pub fits : log < 2 ^ 31
@@ -65,6 +65,7 @@ pub data Parts : List ℕ → Option (List ℕ) → Type 0 where
   releases : {text : List ℕ} → IsReader text → Parts (codes "release") (Some text)
   deletes : {text : List ℕ} → IsLedger text → Parts (codes "delete") (Some text)
   retires : {text : List ℕ} → IsLog text → Parts (codes "retire") (Some text)
+  closes : {text : List ℕ} → IsLog text → Parts (codes "close") (Some text)
 
 record HasParts (line : List ℕ) : Type 0 where
   name : List ℕ
@@ -131,6 +132,13 @@ parted (retire {log = log} low) = record {
   whole = refl;
   parts = retires (record { log = log; fits = low; is = refl });
 }
+parted (close {log = log} low) = record {
+  name = codes "close";
+  rest = _;
+  word = IsWord-from_test (codes "close") refl;
+  whole = refl;
+  parts = closes (record { log = log; fits = low; is = refl });
+}
 
 parts_of : {line : List ℕ} {step : Step} (name : List ℕ) (rest : Option (List ℕ)) → IsWord name → line ≡ followed name rest
     → Spells line step → Parts name rest
@@ -159,6 +167,7 @@ adds_of (fetches h) text e f = absurd (apart (codes "fetch") (codes "add") refl 
 adds_of (releases h) text e f = absurd (apart (codes "release") (codes "add") refl e)
 adds_of (deletes h) text e f = absurd (apart (codes "delete") (codes "add") refl e)
 adds_of (retires h) text e f = absurd (apart (codes "retire") (codes "add") refl e)
+adds_of (closes h) text e f = absurd (apart (codes "close") (codes "add") refl e)
 
 pads_of : {name : List ℕ} {rest : Option (List ℕ)} → Parts name rest → (text : List ℕ) → name ≡ codes "pad" → rest ≡ Some text → IsPadText text
 pads_of (alone call is) text e f = cc
@@ -169,6 +178,7 @@ pads_of (fetches h) text e f = absurd (apart (codes "fetch") (codes "pad") refl 
 pads_of (releases h) text e f = absurd (apart (codes "release") (codes "pad") refl e)
 pads_of (deletes h) text e f = absurd (apart (codes "delete") (codes "pad") refl e)
 pads_of (retires h) text e f = absurd (apart (codes "retire") (codes "pad") refl e)
+pads_of (closes h) text e f = absurd (apart (codes "close") (codes "pad") refl e)
 
 takes_of : {name : List ℕ} {rest : Option (List ℕ)} → Parts name rest → (text : List ℕ) → name ≡ codes "take" → rest ≡ Some text → IsTakeText text
 takes_of (alone call is) text e f = cc
@@ -179,6 +189,7 @@ takes_of (fetches h) text e f = absurd (apart (codes "fetch") (codes "take") ref
 takes_of (releases h) text e f = absurd (apart (codes "release") (codes "take") refl e)
 takes_of (deletes h) text e f = absurd (apart (codes "delete") (codes "take") refl e)
 takes_of (retires h) text e f = absurd (apart (codes "retire") (codes "take") refl e)
+takes_of (closes h) text e f = absurd (apart (codes "close") (codes "take") refl e)
 
 fetches_of : {name : List ℕ} {rest : Option (List ℕ)} → Parts name rest → (text : List ℕ) → name ≡ codes "fetch" → rest ≡ Some text → IsReader text
 fetches_of (alone call is) text e f = cc
@@ -189,6 +200,7 @@ fetches_of (fetches {text = t} h) text e f = let same : t ≡ text = cc in subst
 fetches_of (releases h) text e f = absurd (apart (codes "release") (codes "fetch") refl e)
 fetches_of (deletes h) text e f = absurd (apart (codes "delete") (codes "fetch") refl e)
 fetches_of (retires h) text e f = absurd (apart (codes "retire") (codes "fetch") refl e)
+fetches_of (closes h) text e f = absurd (apart (codes "close") (codes "fetch") refl e)
 
 releases_of : {name : List ℕ} {rest : Option (List ℕ)} → Parts name rest → (text : List ℕ) → name ≡ codes "release" → rest ≡ Some text → IsReader text
 releases_of (alone call is) text e f = cc
@@ -199,6 +211,7 @@ releases_of (fetches h) text e f = absurd (apart (codes "fetch") (codes "release
 releases_of (releases {text = t} h) text e f = let same : t ≡ text = cc in subst IsReader same h
 releases_of (deletes h) text e f = absurd (apart (codes "delete") (codes "release") refl e)
 releases_of (retires h) text e f = absurd (apart_third (codes "retire") (codes "release") refl e)
+releases_of (closes h) text e f = absurd (apart (codes "close") (codes "release") refl e)
 
 deletes_of : {name : List ℕ} {rest : Option (List ℕ)} → Parts name rest → (text : List ℕ) → name ≡ codes "delete" → rest ≡ Some text → IsLedger text
 deletes_of (alone call is) text e f = cc
@@ -209,6 +222,7 @@ deletes_of (fetches h) text e f = absurd (apart (codes "fetch") (codes "delete")
 deletes_of (releases h) text e f = absurd (apart (codes "release") (codes "delete") refl e)
 deletes_of (deletes {text = t} h) text e f = let same : t ≡ text = cc in subst IsLedger same h
 deletes_of (retires h) text e f = absurd (apart (codes "retire") (codes "delete") refl e)
+deletes_of (closes h) text e f = absurd (apart (codes "close") (codes "delete") refl e)
 
 retires_of : {name : List ℕ} {rest : Option (List ℕ)} → Parts name rest → (text : List ℕ) → name ≡ codes "retire" → rest ≡ Some text → IsLog text
 retires_of (alone call is) text e f = cc
@@ -219,6 +233,18 @@ retires_of (fetches h) text e f = absurd (apart (codes "fetch") (codes "retire")
 retires_of (releases h) text e f = absurd (apart_third (codes "release") (codes "retire") refl e)
 retires_of (deletes h) text e f = absurd (apart (codes "delete") (codes "retire") refl e)
 retires_of (retires {text = t} h) text e f = let same : t ≡ text = cc in subst IsLog same h
+retires_of (closes h) text e f = absurd (apart (codes "close") (codes "retire") refl e)
+
+closes_of : {name : List ℕ} {rest : Option (List ℕ)} → Parts name rest → (text : List ℕ) → name ≡ codes "close" → rest ≡ Some text → IsLog text
+closes_of (alone call is) text e f = cc
+closes_of (adds h) text e f = absurd (apart (codes "add") (codes "close") refl e)
+closes_of (pads h) text e f = absurd (apart (codes "pad") (codes "close") refl e)
+closes_of (takes h) text e f = absurd (apart (codes "take") (codes "close") refl e)
+closes_of (fetches h) text e f = absurd (apart (codes "fetch") (codes "close") refl e)
+closes_of (releases h) text e f = absurd (apart (codes "release") (codes "close") refl e)
+closes_of (deletes h) text e f = absurd (apart (codes "delete") (codes "close") refl e)
+closes_of (retires h) text e f = absurd (apart (codes "retire") (codes "close") refl e)
+closes_of (closes {text = t} h) text e f = let same : t ≡ text = cc in subst IsLog same h
 
 alone_of : {name : List ℕ} {rest : Option (List ℕ)} → Parts name rest → rest ≡ None → (call : Work) × IsAlone call × (name ≡ word_of call)
 alone_of (alone call is) f = (call, is, refl)
@@ -229,11 +255,12 @@ alone_of (fetches h) f = cc
 alone_of (releases h) f = cc
 alone_of (deletes h) f = cc
 alone_of (retires h) f = cc
+alone_of (closes h) f = cc
 
 -- the words that go on
 abbrev pub IsCalled : List ℕ → Type 0
 IsCalled name = (name ≡ codes "add") ⊎ ((name ≡ codes "pad") ⊎ ((name ≡ codes "take") ⊎ ((name ≡ codes "fetch")
-    ⊎ ((name ≡ codes "release") ⊎ ((name ≡ codes "delete") ⊎ (name ≡ codes "retire"))))))
+    ⊎ ((name ≡ codes "release") ⊎ ((name ≡ codes "delete") ⊎ ((name ≡ codes "retire") ⊎ (name ≡ codes "close")))))))
 
 named_of : {name : List ℕ} {rest : Option (List ℕ)} → Parts name rest → (text : List ℕ) → rest ≡ Some text → IsCalled name
 named_of (alone call is) text f = cc
@@ -243,7 +270,8 @@ named_of (takes h) text f = inr (inr (inl refl))
 named_of (fetches h) text f = inr (inr (inr (inl refl)))
 named_of (releases h) text f = inr (inr (inr (inr (inl refl))))
 named_of (deletes h) text f = inr (inr (inr (inr (inr (inl refl)))))
-named_of (retires h) text f = inr (inr (inr (inr (inr (inr refl)))))
+named_of (retires h) text f = inr (inr (inr (inr (inr (inr (inl refl))))))
+named_of (closes h) text f = inr (inr (inr (inr (inr (inr (inr refl))))))
 
 pub add_text_of : (text : List ℕ) (step : Step) → Spells (codes "add" ++ 32 ∷ text) step → IsAddText text
 add_text_of text step h = adds_of (parts_of (codes "add") (Some text) (IsWord-from_test (codes "add") refl) refl h) text refl refl
@@ -265,6 +293,9 @@ delete_text_of text step h = deletes_of (parts_of (codes "delete") (Some text) (
 
 pub retire_text_of : (text : List ℕ) (step : Step) → Spells (codes "retire" ++ 32 ∷ text) step → IsLog text
 retire_text_of text step h = retires_of (parts_of (codes "retire") (Some text) (IsWord-from_test (codes "retire") refl) refl h) text refl refl
+
+pub close_text_of : (text : List ℕ) (step : Step) → Spells (codes "close" ++ 32 ∷ text) step → IsLog text
+close_text_of text step h = closes_of (parts_of (codes "close") (Some text) (IsWord-from_test (codes "close") refl) refl h) text refl refl
 
 -- a line without a space that spells a step is the word of a call
 pub call_of : (line : List ℕ) (step : Step) → IsWord line → Spells line step → (call : Work) × IsAlone call × (line ≡ word_of call)

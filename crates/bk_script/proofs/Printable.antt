@@ -16,7 +16,7 @@ use Rattle.std.proofs.lemmas.Bool.Decides.{nat_tests}
 use Rattle.bk_drive.specs.declared.step.Step.{Step}
 use Rattle.bk_drive.specs.declared.step.Work.{Work}
 use Rattle.bk_drive.specs.declared.step.Work.TheVariants.{Swap, WriteOne, Publish, Roll, Retire, Rebuild, Close}
-use Rattle.bk_script.specs.Line.{IsPrintable, word_of, words, Spells, work, add, add_text, pad, take, fetch, release, delete, retire}
+use Rattle.bk_script.specs.Line.{IsPrintable, word_of, words, Spells, work, add, add_text, pad, take, fetch, release, delete, retire, close}
 
 pub printable_behind : (name rest : List ℕ) → All IsPrintable (name ++ 32 ∷ rest) → All IsPrintable rest
 printable_behind [] rest h = All-tail IsPrintable 32 rest h
@@ -73,3 +73,5 @@ printable_line (delete {ledger = ledger} low) =
     followed_by (codes "delete") _ (printable_test (codes "delete") refl) (printable_decimal ledger low)
 printable_line (retire {log = log} low) =
     followed_by (codes "retire") _ (printable_test (codes "retire") refl) (printable_decimal log (omega (arith, low)))
+printable_line (close {log = log} low) =
+    followed_by (codes "close") _ (printable_test (codes "close") refl) (printable_decimal log (omega (arith, low)))

@@ -73,3 +73,4 @@ pub data Spells : List ℕ → Step → Type 0 where
   release : {reader : ℕ} → reader ≤ 3 → Spells (words (codes "release" ∷ decimal reader ∷ [])) (steps.Release reader)
   delete : {ledger : ℕ} → ledger < 2 ^ 63 → Spells (words (codes "delete" ∷ decimal ledger ∷ [])) (steps.Delete ledger)
   retire : {log : ℕ} → log < 2 ^ 31 → Spells (words (codes "retire" ∷ decimal log ∷ [])) (steps.Work (Retire log))
+  close : {log : ℕ} → log < 2 ^ 31 → Spells (words (codes "close" ∷ decimal log ∷ [])) (steps.Work (Close log))

@@ -8,7 +8,9 @@ mod payload;
 mod words;
 
 use bk_drive::{Step, Work};
-use calls::{read_add, read_delete, read_fetch, read_pad, read_release, read_retire, read_take};
+use calls::{
+    read_add, read_close, read_delete, read_fetch, read_pad, read_release, read_retire, read_take,
+};
 use std::alloc::Global;
 use words::split_word;
 
@@ -69,6 +71,7 @@ fn read_call(alloc: Global, name: &str, rest: &str) -> Result<Step, LineFault>
         "release" => read_release(rest),
         "delete" => read_delete(rest),
         "retire" => read_retire(rest),
+        "close" => read_close(rest),
         _ => Err(LineFault::Bad),
     }
 }

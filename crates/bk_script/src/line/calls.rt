@@ -112,3 +112,14 @@ pub(crate) fn read_retire(text: &str) -> Result<Step, LineFault>
         None => Err(LineFault::Bad),
     }
 }
+
+/// The closing of what follows `close` and a space.
+pub(crate) fn read_close(text: &str) -> Result<Step, LineFault>
+    ensures ok { IfOk result (Spells (codes "close" ++ 32 ∷ text.now)) }
+    ensures err { OnErr result ((step : _) → ¬ (Spells (codes "close" ++ 32 ∷ text.now) step)) }
+{
+    match number(text, MAX_LOG) {
+        Some(log) => Ok(Step::Work(Work::Close(log as u32))),
+        None => Err(LineFault::Bad),
+    }
+}

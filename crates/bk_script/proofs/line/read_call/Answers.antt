@@ -10,5 +10,6 @@ returns-in_default-clause-bad c = λ _ step spells. elim (name_of _ _ step c.req
   | inr (inr (inr (inl fetches))) ↦ c.in_default.not-fetch fetches
   | inr (inr (inr (inr (inl releases)))) ↦ c.in_default.not-release releases
   | inr (inr (inr (inr (inr (inl deletes))))) ↦ c.in_default.not-delete deletes
-  | inr (inr (inr (inr (inr (inr retires))))) ↦ c.in_default.not-retire retires
+  | inr (inr (inr (inr (inr (inr (inl retires)))))) ↦ c.in_default.not-retire retires
+  | inr (inr (inr (inr (inr (inr (inr closes)))))) ↦ c.in_default.not-close closes
 ]

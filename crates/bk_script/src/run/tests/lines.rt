@@ -38,7 +38,7 @@ fn lines_are_read_to_the_letter(rt: HostRuntime) {
 }
 
 /// Lines that spell no step.
-const NO_STEPS: [&str; 78] = [
+const NO_STEPS: [&str; 81] = [
     "add 1 0 ",
     "add 1",
     "add",
@@ -100,6 +100,9 @@ const NO_STEPS: [&str; 78] = [
     "retire 0 0",
     "retire 2147483648",
     "retire 4294967296",
+    "close",
+    "close 01",
+    "close 2147483648",
     "rebuild ",
     "rebuild 1",
     "roll ",

@@ -241,6 +241,43 @@ const REBUILT: Worked = &[
     ("fetch 0", "bytes 62"),
 ];
 
+/// A log that is read under a lease is not closed, and one that is closed stays so.
+const CLOSED: Worked = &[
+    ("add 1 0 hello", "accepted"),
+    ("swap", "swapped 1"),
+    ("write", "wrote 1028"),
+    ("publish", "published 1"),
+    ("take 0 1 0", "leased 1028"),
+    ("take 1 1 0", "leased 1028"),
+    ("roll", "sealed 0"),
+    ("close 0", "not retired"),
+    ("close 1", "no log"),
+    ("delete 1", "dropped 1"),
+    ("retire 0", "retired 0"),
+    ("close 0", "leased 2"),
+    ("release 1", "released"),
+    ("close 0", "leased 1"),
+    ("fetch 0", "bytes 68656c6c6f"),
+    ("release 0", "released"),
+    ("close 0", "closed"),
+    ("close 0", "closed"),
+    ("retire 0", "retired 0"),
+    ("rebuild", "rebuilt 0"),
+];
+
+/// One lease of the log is out at once.
+const LEASED_ONCE: Worked = &[
+    ("add 1 0 hello", "accepted"),
+    ("swap", "swapped 1"),
+    ("write", "wrote 1028"),
+    ("publish", "published 1"),
+    ("take 0 1 0", "leased 1028"),
+    ("take 1 1 0", "fault too many leases"),
+    ("take 1 9 9", "not held"),
+    ("release 0", "released"),
+    ("take 1 1 0", "leased 1028"),
+];
+
 /// A log may be as long as the log limit and no longer. The first record takes its log to 1524 bytes, the second to 2048;
 /// the third is past the limit alone.
 const FULL_LOG: Worked = &[
@@ -296,6 +333,12 @@ const SMALL_CACHE: Settings = Settings {
     ..DEFAULTS
 };
 
+/// One lease of a log is out at once.
+const ONE_LEASE: Settings = Settings {
+    leases: 1,
+    ..DEFAULTS
+};
+
 /// The entry that was flushed last is kept in memory.
 const ONE_RECENT: Settings = Settings {
     recent: 1,
@@ -303,7 +346,7 @@ const ONE_RECENT: Settings = Settings {
 };
 
 /// Scripts, with the settings of their stores and the ledgers that were deleted before.
-const SCRIPTS: [(Settings, &[u64], Worked); 18] = [
+const SCRIPTS: [(Settings, &[u64], Worked); 20] = [
     (DEFAULTS, &[], READ),
     (DEFAULTS, &[], HELD),
     (DEFAULTS, &[], FLUSHING),
@@ -315,6 +358,8 @@ const SCRIPTS: [(Settings, &[u64], Worked); 18] = [
     (DEFAULTS, &[], DELETED_EVERYWHERE),
     (DEFAULTS, &[], NO_FLUSH),
     (DEFAULTS, &[], REBUILT),
+    (DEFAULTS, &[], CLOSED),
+    (ONE_LEASE, &[], LEASED_ONCE),
     (ONE_SLOT, &[], NO_SECOND_LOG),
     (SHORT_LOGS, &[], NEXT_LOG),
     (SHORT_LOGS, &[], FULL_LOG),
