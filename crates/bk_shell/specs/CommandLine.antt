@@ -19,9 +19,9 @@ words_rule name = record (new_rule name) { action = Some Append; value_names = 1
 
 -- the command `script`, with its options and the words beside them
 abbrev pub script : App
-script = with_rule (with_rule (with_rule (with_rule (with_rule (new_app (codes "script"))
+script = with_rule (with_rule (with_rule (with_rule (with_rule (with_rule (new_app (codes "script"))
     (option_rule (codes "log-limit"))) (option_rule (codes "cache-limit"))) (option_rule (codes "recent"))) (option_rule (codes "slots")))
-    (words_rule (codes "LEDGER"))
+    (option_rule (codes "leases"))) (words_rule (codes "LEDGER"))
 
 -- the program, which is called with a command
 abbrev pub program : App
@@ -51,7 +51,7 @@ pub record AsksSettings (rows : List Row) (settings : Settings) : Type 0 where
   pub cache_limit : AsksNumber (2 ^ 24) 16 (2 ^ 30) (first_of (codes "cache-limit") rows) settings.cache_limit
   pub recent : AsksNumber 0 0 65536 (first_of (codes "recent") rows) settings.recent
   pub slots : AsksNumber 1024 1 65536 (first_of (codes "slots") rows) settings.slots
-  pub leases : settings.leases ≡ 1024
+  pub leases : AsksNumber 1024 1 65535 (first_of (codes "leases") rows) settings.leases
   pub minor : settings.minor ≡ 200
   pub major : settings.major ≡ 800
 

@@ -81,6 +81,15 @@ const SLOTS: NumberOption = NumberOption {
     help: "Holds at most this many logs at once: 1 to 65536 [default: 1024]",
 };
 
+/// How many leases of one log are out at once.
+const LEASES: NumberOption = NumberOption {
+    name: "leases",
+    least: 1,
+    most: 65_535,
+    default: DEFAULTS.leases,
+    help: "Gives out at most this many leases of one log at once: 1 to 65535 [default: 1024]",
+};
+
 /// The call of `script` that a command line is, its first word being the program's name. An error is a wrong command
 /// line, help that was asked for, or want of memory, as its kind says.
 pub(crate) fn script_call<'a, S: AsStr>(alloc: Global, words: &'a [S]) -> Result<ScriptCall, Error>
@@ -119,11 +128,13 @@ fn read_options<'a>(script: &ArgMatches<'a>) -> Result<Settings, BadValue<'a>>
     let cache_limit = CACHE_LIMIT.read(script)?;
     let recent = RECENT.read(script)?;
     let slots = SLOTS.read(script)?;
+    let leases = LEASES.read(script)?;
     Ok(Settings {
         log_limit,
         cache_limit,
         recent,
         slots,
+        leases,
         ..DEFAULTS
     })
 }
@@ -155,7 +166,7 @@ fn unknown_word<'t>(error: &Error, text: &'t str) -> Option<&'t str> {
 
 /// The option of `script` that is this word but for one slip: a letter too many, too few, another, or two exchanged.
 fn near_option(alloc: Global, word: &str) -> Result<Option<&'static str>, AllocError> {
-    for option in [LOG_LIMIT, CACHE_LIMIT, RECENT, SLOTS] {
+    for option in [LOG_LIMIT, CACHE_LIMIT, RECENT, SLOTS, LEASES] {
         if osa_distance(alloc, word.trim_start_matches('-'), option.name)? <= 1 {
             return Ok(Some(option.name));
         }
@@ -184,6 +195,7 @@ fn command<'a>(alloc: Global) -> Result<Command<'a>, AllocError>
         .arg(CACHE_LIMIT.arg(alloc))?
         .arg(RECENT.arg(alloc))?
         .arg(SLOTS.arg(alloc))?
+        .arg(LEASES.arg(alloc))?
         .arg(ledgers_arg(alloc))?;
     Command::new(alloc, "bk_shell")
         .about("Entry log storage of a bookie")

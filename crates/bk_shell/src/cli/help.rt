@@ -44,10 +44,14 @@ pub(crate) const SCRIPT_HELP: &str = "\
                             ends the flush
   roll                      sealed LOG | nothing open | flush running
                             ends the log that is written, with a map of its ledgers
+  retire LOG                retired LOG | still named N | in use | no log
+                            keeps a log that no key is read from out of the index
+  rebuild                   rebuilt N
+                            makes the index of N keys anew from what the logs show
 A step that is refused answers `fault TEXT`.
 
-LEDGER and ENTRY are 0 to 9223372036854775807, READER is 0 to 3. DATA is in hexadecimal, `-` where there is none. A
-LOCATION is the log's id times 2^32, and the position in it. Empty lines are passed over.
+LEDGER and ENTRY are 0 to 9223372036854775807, READER is 0 to 3, LOG is 0 to 2147483647. DATA is in hexadecimal, `-`
+where there is none. A LOCATION is the log's id times 2^32, and the position in it. Empty lines are passed over.
 
 A ledger behind the options was deleted before the first step. An entry of a deleted ledger is refused with `fault
 deleted`, and a second deletion with `fault already deleted`. An entry that would take the cache past --cache-limit is

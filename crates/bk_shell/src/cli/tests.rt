@@ -7,7 +7,7 @@ use std::test::Fail;
 
 #[test]
 fn a_wrong_command_line_has_status_2_and_help_has_0(rt: HostRuntime) {
-    let lines: [(&[&str], i32); 41] = [
+    let lines: [(&[&str], i32); 42] = [
         (&["bk_shell"], 2),
         (&["bk_shell", "frob"], 2),
         (&["bk_shell", "--slots", "5"], 2),
@@ -23,7 +23,6 @@ fn a_wrong_command_line_has_status_2_and_help_has_0(rt: HostRuntime) {
         (&["bk_shell", "script", "--slots", "5", "--", "--slots"], 2),
         (&["bk_shell", "script", "--slot", "5"], 2),
         (&["bk_shell", "script", "-s", "5"], 2),
-        (&["bk_shell", "script", "--leases", "5"], 2),
         (&["bk_shell", "script", "--minor", "100"], 2),
         (&["bk_shell", "script", "--major=100"], 2),
         (&["bk_shell", "script", "--slots"], 2),
@@ -31,6 +30,8 @@ fn a_wrong_command_line_has_status_2_and_help_has_0(rt: HostRuntime) {
         (&["bk_shell", "script", "--slots", ""], 2),
         (&["bk_shell", "script", "--slots", "0"], 2),
         (&["bk_shell", "script", "--slots", "65537"], 2),
+        (&["bk_shell", "script", "--leases", "0"], 2),
+        (&["bk_shell", "script", "--leases", "65536"], 2),
         (
             &["bk_shell", "script", "--slots", "18446744073709551617"],
             2,
@@ -179,9 +180,15 @@ const CALLS: [(&[&str], Settings, &[u64]); 10] = [
         &[],
     ),
     (
-        &["script", "--slots=65536", "--recent=65536"],
+        &[
+            "script",
+            "--slots=65536",
+            "--recent=65536",
+            "--leases=65535",
+        ],
         Settings {
             slots: 65_536,
+            leases: 65_535,
             recent: 65_536,
             ..DEFAULTS
         },
@@ -323,7 +330,7 @@ fn a_wrong_word_is_told_and_no_other_option_is_named(rt: HostRuntime) {
 }
 
 /// Parts of the help: each step and option, the largest payload of a pad, each way to status 1.
-const SHOWN: [&str; 22] = [
+const SHOWN: [&str; 25] = [
     "add LEDGER ENTRY [TEXT]",
     "pad LEDGER ENTRY SIZE",
     "1048560",
@@ -335,10 +342,13 @@ const SHOWN: [&str; 22] = [
     "write ",
     "publish ",
     "roll ",
+    "retire LOG",
+    "rebuild ",
     "--log-limit <NUMBER>",
     "--cache-limit <NUMBER>",
     "--recent <NUMBER>",
     "--slots <NUMBER>",
+    "--leases <NUMBER>",
     "[LEDGER]...",
     "a read fails",
     "16777216 bytes",
