@@ -46,6 +46,8 @@ pub(crate) const SCRIPT_HELP: &str = "\
                             ends the log that is written, with a map of its ledgers
   retire LOG                retired LOG | still named N | in use | no log
                             keeps a log that no key is read from out of the index
+  close LOG                 closed | leased N | not retired | no log
+                            closes a retired log that no lease is on
   rebuild                   rebuilt N
                             makes the index of N keys anew from what the logs show
 A step that is refused answers `fault TEXT`.
@@ -59,7 +61,8 @@ refused with `fault full USED LIMIT`, in bytes.
 
 A flush goes on in the log that is written. A record that would take that log past --log-limit goes to the next log; a
 log's first record goes in whatever its length. With as many logs as --slots says, a write that needs a new log answers
-`fault logs full`.
+`fault logs full`. With as many leases of a log as --leases says, a take that needs one more answers `fault too many
+leases`.
 
 The status is 0 where every step was answered. It is 1 where a read fails, the input has more than 16777216 bytes or
 takes more than 1048576 reads, or a line spells no step; where the store is not opened; where no memory is to be had

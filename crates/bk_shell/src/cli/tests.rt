@@ -330,7 +330,7 @@ fn a_wrong_word_is_told_and_no_other_option_is_named(rt: HostRuntime) {
 }
 
 /// Parts of the help: each step and option, the largest payload of a pad, each way to status 1.
-const SHOWN: [&str; 25] = [
+const SHOWN: [&str; 26] = [
     "add LEDGER ENTRY [TEXT]",
     "pad LEDGER ENTRY SIZE",
     "1048560",
@@ -343,6 +343,7 @@ const SHOWN: [&str; 25] = [
     "publish ",
     "roll ",
     "retire LOG",
+    "close LOG",
     "rebuild ",
     "--log-limit <NUMBER>",
     "--cache-limit <NUMBER>",
