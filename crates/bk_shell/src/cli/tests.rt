@@ -299,8 +299,8 @@ const TOLD: [(&[&str], &str, &str); 8] = [
         "tip",
     ),
     (
-        &["bk_shell", "script", "--leases", "100"],
-        "unexpected argument '--leases' found\n\nUsage: bk_shell script [OPTIONS] [LEDGER]...\n",
+        &["bk_shell", "script", "--minor", "100"],
+        "unexpected argument '--minor' found\n\nUsage: bk_shell script [OPTIONS] [LEDGER]...\n",
         "--log-limit",
     ),
     (
