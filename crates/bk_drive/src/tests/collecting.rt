@@ -1,5 +1,7 @@
 //! Logs that no key names any more, which are closed when nobody reads them, and an index that is made anew.
 
+ghost use Rattle.std.specs.Prelude.{◌<◌, ◌^◌};
+
 use super::{
     PUBLISH, Plan, ROLL, SETTINGS, SWAP, Told, WRITE, Worked, first_other, first_wrong, steps_of,
 };
@@ -59,7 +61,9 @@ const THIRD: [u8; 20] = *b"\0\0\0\x11\0\0\0\0\0\0\0\x03\0\0\0\0\0\0\0\0";
 const FOURTH: [u8; 20] = *b"\0\0\0\x60\0\0\0\0\0\0\0\x04\0\0\0\0\0\0\0\0";
 
 /// A log with these bytes behind a new header.
-fn hold(alloc: Global, disk: &mut MemDisk, log: u32, records: &[u8]) -> Result<(), Fail> {
+fn hold(alloc: Global, disk: &mut MemDisk, log: u32, records: &[u8]) -> Result<(), Fail>
+    requires { log < 2 ^ 31 }
+{
     let mut file = Vec::new(alloc);
     file.extend_from_slice(b"BKLO\0\0\0\x01")?;
     file.resize(1024, 0)?;
