@@ -1,6 +1,6 @@
 -- The turns by which the crates above change a store: a log is made, written, sealed, shown; a key is named; a flush goes
 -- on, starts again, ends.
-use Rattle.std.specs.Prelude.{◌≡◌, ◌⊎◌, ℕ, ◌+◌, ◌<◌, ◌≤◌, ◌^◌, Bool, true, false, if◌then◌else◌, IsTrue, List, length, take, Option, Some, None, IsSome, Result, Ok, Err}
+use Rattle.std.specs.Prelude.{◌≡◌, ◌≢◌, ◌⊎◌, ℕ, ◌+◌, ◌<◌, ◌≤◌, ◌^◌, Bool, true, false, if◌then◌else◌, IsTrue, List, length, take, Option, Some, None, IsSome, option_map, Result, Ok, Err}
 use Rattle.std.specs.Option.{option_and_then}
 use Rattle.std.specs.FinMap as finite
 use Rattle.std.specs.declared.cmp.Ordering.TheVariants.{Less}
@@ -23,6 +23,7 @@ use Rattle.bk_lease.specs.Slots.{IsFree}
 use Rattle.bk_lease.specs.Values.{SlotTable, with_state}
 use Rattle.bk_store.specs.Entries.{IsIndexOf, Places}
 use Rattle.bk_store.specs.Logs.{View, Log, Logs, made_log, unmade_log, closed_log, halted_log, with_view, settled_as, unfilled_as, AllChanged, is_open, open_parts, HasOpenView}
+use Rattle.bk_store.specs.Jobs.{Job, with_rebuild}
 use Rattle.bk_store.specs.Putting.{next_place, grown_log}
 use Rattle.bk_store.specs.State.{State}
 use Rattle.bk_store.specs.declared.log.LogState.{LogState}
@@ -155,10 +156,14 @@ failed_in (Err log_faults.Failed) = 0
 failed_in (Err log_faults.Memory) = 0
 failed_in (Err log_faults.Odd) = 0
 
+-- no job of a compaction has the log
+abbrev pub IsIdle : State → ℕ → Type 0
+IsIdle s id = (job : Job) → s.job ≡ Some job → (job.source ≢ id) × (job.copy ≢ id)
+
 -- A log may be sealed into this state: the flush's into Filled, or into Readable where no flush runs; a copy into Readable.
 abbrev pub MaySeal : State → ℕ → LogState → Type 0
 MaySeal s id Filled = IsIn s id Writing
-MaySeal s id Readable = IsIn s id Copying ⊎ (IsIn s id Writing × (s.caches.flush ≡ None))
+MaySeal s id Readable = (IsIn s id Copying × IsIdle s id) ⊎ (IsIn s id Writing × (s.caches.flush ≡ None))
 MaySeal s id Writing = ⊥
 MaySeal s id Copying = ⊥
 MaySeal s id Retired = ⊥
@@ -181,6 +186,11 @@ pub record IsOpenLog (s : State) (id : ℕ) : Type 0 where
   pub log : Log
   pub held : finite.get s.logs id ≡ Some log
   pub opened : is_open log.state ≡ true
+
+-- a log may be shown that keys may be sent to, and that no job has
+pub record MayShow (s : State) (id : ℕ) : Type 0 where
+  pub open_is : IsOpenLog s id
+  pub idle : IsIdle s id
 
 -- A log is synced, and its last view shows its whole file from then on.
 abbrev pub ShowTurn : State → ℕ → Result (Unit {0}) LogFault → State → Type 0
@@ -267,10 +277,10 @@ pub record Ends (s t : State) : Type 0 where
 
 -- ---- the other logs, and the index
 
--- A log may come into this state: a copy becomes Readable, a Readable log that no key names Retired.
+-- A log that no job has may come into this state: a copy becomes Readable, a Readable log that no key names Retired.
 abbrev pub MaySet : State → ℕ → LogState → Type 0
-MaySet s id Readable = IsIn s id Copying
-MaySet s id Retired = IsIn s id Readable × (log_count s.index id ≡ 0)
+MaySet s id Readable = IsIn s id Copying × IsIdle s id
+MaySet s id Retired = IsIn s id Readable × (log_count s.index id ≡ 0) × IsIdle s id
 MaySet s id Closed = ⊥
 MaySet s id Writing = ⊥
 MaySet s id Filled = ⊥
@@ -286,6 +296,6 @@ pub record MayReplace (s : State) (index : Places) : Type 0 where
   pub made : IsTrue s.honest → IsIndexOf (open_parts s.logs) s.dead index
   pub sent : (key : EntryKey) (place : Place) → finite.get index key ≡ Some place → HasOpenView s.logs place.log
 
--- The index is this one from then on.
+-- The index is this one from then on, and a job that runs knows it.
 abbrev pub Replaces : State → Places → State → Type 0
-Replaces s index t = t ≡ record s { index = index }
+Replaces s index t = t ≡ record s { index = index; job = option_map with_rebuild s.job }

@@ -18,6 +18,8 @@ use Rattle.bk_accounts.specs.Sums.{Measure, AreSums}
 use Rattle.bk_store.specs.Entries.{HasEntry}
 use Rattle.bk_store.specs.Carried.{Carries}
 use Rattle.bk_store.specs.Shown.{Shows}
+use Rattle.bk_store.specs.Jobs.{Job}
+use Rattle.bk_store.specs.JobKept.{IsJob}
 use Rattle.bk_store.specs.Logs.{View, Log, Logs, HasOpenView, IsFlushLog, is_written, open_parts, acknowledged_part}
 use Rattle.bk_store.specs.State.{State, Parts}
 use Rattle.bk_store.specs.Meaning.{written_at}
@@ -102,7 +104,8 @@ pub record Promises (p : Parts) : Type 0 where
   pub fresh : (id : ℕ) → p.state.next ≤ id → finite.get p.state.files id ≡ None
   pub placed : (key : EntryKey) (place : Place) → finite.get p.state.places key ≡ Some place → IsWrittenAt p.state key place
 
--- a store's parts keep both
+-- a store's parts keep both, and so does the job of a compaction that runs
 pub record Keeps (p : Parts) : Type 0 where
   pub fits : Fits p
+  pub job : (job : Job) → p.state.job ≡ Some job → IsJob p.state job
   pub promises : IsTrue p.state.honest → Promises p

@@ -2,14 +2,17 @@ pub mod Entries
 pub mod Carried
 pub mod Shown
 pub mod Logs
+pub mod Jobs
 pub mod State
 pub mod Meaning
 pub mod Limits
 pub mod Seated
 pub mod Leasing
+pub mod JobKept
 pub mod Kept
 pub mod Turns
 pub mod Doors
+pub mod Copying
 pub mod Placed
 pub mod Plain
 pub mod Deletion

@@ -101,4 +101,5 @@ pub record IsOpened (honest : Bool) (files : Files) (settings : Settings) (dead 
   pub caches_are : s.caches ≡ caches.new_caches settings.cache_limit settings.recent
   pub places_are : s.places ≡ finite.empty
   pub dead_are : s.dead ≡ ledgers_of dead
+  pub idle : s.job ≡ None
   pub holds : IsTrue honest → HoldsFiles files s

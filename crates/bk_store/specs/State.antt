@@ -13,6 +13,7 @@ use Rattle.bk_accounts.specs.Book.{Book, book_code}
 use Rattle.bk_lease.specs.Values.{SlotTable}
 use Rattle.bk_lease.specs.Codes.{slot_table_code}
 use Rattle.bk_store.specs.Entries.{Places}
+use Rattle.bk_store.specs.Jobs.{Job, job_code}
 use Rattle.bk_store.specs.Logs.{View, Log, Logs}
 use Rattle.bk_store.specs.declared.log.LogState.{LogState}
 use Rattle.bk_store.specs.declared.log.LogState.TheVariants.{Writing, Filled, Copying, Readable, Retired, Closed}
@@ -20,7 +21,7 @@ use Rattle.bk_store.specs.declared.settings.Settings.{Settings}
 
 -- What is to be seen of a store: its limits; the disk's files, whether it is honest, and how often it has failed; the
 -- caches; the places of the running flush's entries, by key; the index; the logs that it holds; the table of the slots in
--- which they stand; the id of the next log; the ledgers that are dead.
+-- which they stand; the id of the next log; the ledgers that are dead; the compaction that runs.
 pub record State : Type 0 where
   pub settings : Settings
   pub files : Files
@@ -33,6 +34,7 @@ pub record State : Type 0 where
   pub keeper : SlotTable
   pub next : ℕ
   pub dead : Ledgers
+  pub job : Option Job
 
 -- A store's parts: the visible state, and what is kept beside it so that no call has to look for it. These are the accounts
 -- of the logs, the log that flushes write, and the logs that are Writing or Filled, possibly with others.
@@ -100,10 +102,10 @@ places_code = finite.code key_code place_code
 -- a state is stored as the tuple of its fields
 abbrev pub state_code : Coded State
 state_code = code_by
-    (Settings × (Files × (Bool × (ℕ × (CacheState × (Places × (Places × (Logs × (SlotTable × (ℕ × Ledgers))))))))))
+    (Settings × (Files × (Bool × (ℕ × (CacheState × (Places × (Places × (Logs × (SlotTable × (ℕ × (Ledgers × Option Job)))))))))))
     (coded× settings_code (coded× files_code (coded× coded_bool (coded× coded_ℕ (coded× cache_code (coded× places_code
-    (coded× places_code (coded× logs_code (coded× slot_table_code (coded× coded_ℕ (set.code coded_ℕ)))))))))))
-    (λ s. (s.settings, (s.files, (s.honest, (s.failures, (s.caches, (s.places, (s.index, (s.logs, (s.keeper, (s.next, s.dead)))))))))))
+    (coded× places_code (coded× logs_code (coded× slot_table_code (coded× coded_ℕ (coded× (set.code coded_ℕ) (coded_option job_code))))))))))))
+    (λ s. (s.settings, (s.files, (s.honest, (s.failures, (s.caches, (s.places, (s.index, (s.logs, (s.keeper, (s.next, (s.dead, s.job))))))))))))
     (λ p. record {
       settings = p.0;
       files = p.1.0;
@@ -115,7 +117,8 @@ state_code = code_by
       logs = p.1.1.1.1.1.1.1.0;
       keeper = p.1.1.1.1.1.1.1.1.0;
       next = p.1.1.1.1.1.1.1.1.1.0;
-      dead = p.1.1.1.1.1.1.1.1.1.1;
+      dead = p.1.1.1.1.1.1.1.1.1.1.0;
+      job = p.1.1.1.1.1.1.1.1.1.1.1;
     })
     (λ _. refl)
 

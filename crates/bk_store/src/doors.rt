@@ -10,7 +10,7 @@ ghost use Rattle.bk_store.specs.Meaning.{MeansTheSame};
 ghost use Rattle.bk_store.specs.declared.log.LogState.TheVariants.{Writing, Retired};
 ghost use Rattle.bk_lease.specs.Leases.{IsClosed};
 ghost use Rattle.bk_store.specs.Leasing.{CloseTurn};
-ghost use Rattle.bk_store.specs.Doors.{MakeTurn, HasNoWriting, IsIn, MayWrite, WriteTurn, MaySeal, Seals, IsOpenLog, ShowTurn, MayName, NameTurn, AllNamed, Restarts, Ends, MaySet, SetTurn, MayReplace, Replaces};
+ghost use Rattle.bk_store.specs.Doors.{MakeTurn, HasNoWriting, IsIn, MayWrite, WriteTurn, MaySeal, Seals, MayShow, ShowTurn, MayName, NameTurn, AllNamed, Restarts, Ends, MaySet, SetTurn, MayReplace, Replaces};
 
 use crate::{LogState, MakeFault, Store};
 use bk_disk::LogDisk;
@@ -63,11 +63,11 @@ impl<D: LogDisk> Store<D> {
         self.fields.seal(log, state)
     }
 
-    /// Syncs a log and shows its whole file from then on.
+    /// Syncs a log that no job has, and shows its whole file from then on.
     ///
     /// Faults: `Memory`, `Disk`, `Odd`. The log shows what it showed. `Failed` never comes.
     pub fn show(&mut self, log: u32) -> Result<(), LogFault>
-        requires { IsOpenLog self.old log }
+        requires { MayShow self.old log }
         ensures turn { ShowTurn self.old log result self.new }
         ensures meaning { IsTrue self.old.honest → MeansTheSame self.old self.new }
     {

@@ -4,10 +4,10 @@
 
 ghost use Rattle.std.specs.Prelude.{◌≡◌};
 
-use crate::Settings;
 use crate::dead::DeadLedgers;
 use crate::logs::LogTable;
 use crate::places::FlushPlaces;
+use crate::{Job, Settings};
 use bk_accounts::Accounts;
 use bk_cache::Caches;
 use bk_disk::LogDisk;
@@ -34,6 +34,7 @@ pub(crate) struct Fields<D: LogDisk> {
     pub filled: Vec<u32>,
     pub next: u32,
     pub dead: DeadLedgers,
+    pub job: Option<Job>,
 }
 
 impl<D: LogDisk> Model for Fields<D> {
@@ -56,6 +57,7 @@ impl<D: LogDisk> Model for Fields<D> {
         keeper = f.keeper;
         next = f.next;
         dead = f.dead;
+        job = f.job;
       };
       accounts = f.accounts;
       writing = f.writing;

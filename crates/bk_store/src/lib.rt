@@ -3,11 +3,13 @@
 
 mod adding;
 mod answer;
+mod copying;
 mod dead;
 mod deleting;
 mod doors;
 mod fields;
 mod flushing;
+mod job;
 mod laws;
 mod leasing;
 mod log;
@@ -29,6 +31,7 @@ mod writing;
 pub use answer::{
     AddFault, Added, DeleteFault, LogCause, MakeFault, OpenFault, SwapAnswer, TakeFault, Taken,
 };
+pub use job::{Job, Move, Phase};
 pub use laws::{
     add_is_plain, carried_is_held, carried_is_meaning, carried_is_one_map, delete_is_plain,
     deleted_ledger_leaves, files_have_an_index, index_is_one, opened_index_carries,

@@ -86,6 +86,7 @@ impl<D: LogDisk> Fields<D> {
             filled: Vec::new(alloc),
             next,
             dead,
+            job: None,
         })
     }
 }

@@ -25,6 +25,9 @@ impl<D: LogDisk> Fields<D> {
         unname_each(&self.index, &mut self.accounts);
         name_each(&index, &mut self.accounts);
         self.index = index;
+        if let Some(job) = &mut self.job {
+            job.note_rebuild();
+        }
     }
 }
 

@@ -4,7 +4,7 @@ ghost use Rattle.std.specs.Prelude.{◌≡◌, IsTrue};
 ghost use Rattle.bk_disk.specs.Disk.{HasCause, Views};
 ghost use Rattle.bk_log.specs.Faults.{told};
 ghost use Rattle.bk_store.specs.Kept.{Keeps};
-ghost use Rattle.bk_store.specs.Doors.{IsOpenLog, ShowTurn};
+ghost use Rattle.bk_store.specs.Doors.{MayShow, ShowTurn};
 
 use crate::fields::Fields;
 use bk_disk::{DiskFault, LogDisk};
@@ -16,7 +16,7 @@ impl<D: LogDisk> Fields<D> {
     /// Syncs a log, and gives it a view of its whole file.
     pub fn show(&mut self, log: u32) -> Result<(), LogFault>
         requires keeps { Keeps self.old }
-        requires open { IsOpenLog self.old.state log }
+        requires may { MayShow self.old.state log }
         ensures turn { ShowTurn self.old.state log result self.new.state }
         ensures beside { self.new ≡ record self.old { state = self.new.state } }
     {
