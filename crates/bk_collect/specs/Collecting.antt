@@ -1,13 +1,16 @@
--- The calls of a collection, each a turn of the store: a log is retired, then closed; the index is rebuilt of what the logs
--- show.
+-- The calls of a collection, each a turn of the store: a log is retired, then closed, then removed; the index is rebuilt of
+-- what the logs show.
 use Rattle.std.specs.Prelude.{◌≡◌, ◌⊎◌, ℕ, ◌≤◌, Bool, false, if◌then◌else◌, IsTrue, Option, Some, None, Result, Ok, Err}
 use Rattle.std.specs.Option.{option_and_then}
 use Rattle.std.specs.FinMap as finite
 use Rattle.bk_record.specs.Keyed.{log_count}
+use Rattle.bk_log.specs.declared.fault.LogFault.TheVariants as log_faults
 use Rattle.bk_store.specs.Entries.{Places}
 use Rattle.bk_store.specs.Logs.{View, Logs, is_open}
 use Rattle.bk_store.specs.State.{State}
-use Rattle.bk_store.specs.Doors.{IsIn, IsOpenLog, MayReplace, Replaces, SetTurn}
+use Rattle.bk_store.specs.Copying as copying
+use Rattle.bk_store.specs.Doors.{IsIdle, IsIn, IsOpenLog, MayReplace, Replaces, SetTurn}
+use Rattle.bk_store.specs.Jobs.{Job}
 use Rattle.bk_store.specs.Leasing as leasing
 use Rattle.bk_store.specs.Leasing.{IsLeased}
 use Rattle.bk_store.specs.declared.log.LogState.TheVariants.{Writing, Filled, Copying, Readable, Retired, Closed}
@@ -15,27 +18,37 @@ use Rattle.bk_collect.specs.declared.answer.RetireAnswer.{RetireAnswer}
 use Rattle.bk_collect.specs.declared.answer.RetireAnswer.TheVariants as retires
 use Rattle.bk_collect.specs.declared.answer.CloseAnswer.{CloseAnswer}
 use Rattle.bk_collect.specs.declared.answer.CloseAnswer.TheVariants as closes
+use Rattle.bk_collect.specs.declared.answer.RemoveAnswer.{RemoveAnswer}
+use Rattle.bk_collect.specs.declared.answer.RemoveAnswer.TheVariants as removes
 use Rattle.bk_collect.specs.declared.answer.CollectFault.{CollectFault}
 use Rattle.bk_collect.specs.declared.answer.CollectFault.TheVariants as faults
 
 -- ---- retiring
 
--- a flush or a compaction writes the log, or will show it
+-- the compaction that runs has the log, as its source or as its copy
+abbrev pub IsCompacted : State → ℕ → Type 0
+IsCompacted s id = (job : Job) × (s.job ≡ Some job) × ((job.source ≡ id) ⊎ (job.copy ≡ id))
+
+-- a flush or a compaction writes the log, or will show it, or the compaction that runs has it
 abbrev pub IsInUse : State → ℕ → Type 0
-IsInUse s id = IsIn s id Writing ⊎ (IsIn s id Filled ⊎ IsIn s id Copying)
+IsInUse s id = IsIn s id Writing ⊎ (IsIn s id Filled ⊎ (IsIn s id Copying ⊎ (IsIn s id Readable × IsCompacted s id)))
 
 -- keys may no longer be sent to the log
 abbrev pub IsPast : State → ℕ → Type 0
 IsPast s id = IsIn s id Retired ⊎ IsIn s id Closed
+
+-- the log is written no more, and no compaction has it
+abbrev pub IsAtRest : State → ℕ → Type 0
+IsAtRest s id = IsIn s id Readable × IsIdle s id
 
 -- A log that no key names is Retired from then on. One that is so already, or closed, stays as it is, and so does one that
 -- is in use or still named: at least one key is sent to it.
 abbrev pub RetireTurn : State → ℕ → RetireAnswer → State → Type 0
 RetireTurn s id retires.NoLog t = (finite.get s.logs id ≡ None) × (t ≡ s)
 RetireTurn s id retires.InUse t = IsInUse s id × (t ≡ s)
-RetireTurn s id (retires.StillNamed n) t = IsIn s id Readable × (n ≡ log_count s.index id) × (1 ≤ n) × (t ≡ s)
+RetireTurn s id (retires.StillNamed n) t = IsAtRest s id × (n ≡ log_count s.index id) × (1 ≤ n) × (t ≡ s)
 RetireTurn s id (retires.Retired log) t = (log ≡ id)
-    × ((IsPast s id × (t ≡ s)) ⊎ (IsIn s id Readable × (log_count s.index id ≡ 0) × SetTurn s id Retired t))
+    × ((IsPast s id × (t ≡ s)) ⊎ (IsAtRest s id × (log_count s.index id ≡ 0) × SetTurn s id Retired t))
 
 -- ---- closing
 
@@ -46,6 +59,22 @@ CloseTurn s id closes.NoLog t = (finite.get s.logs id ≡ None) × (t ≡ s)
 CloseTurn s id closes.NotRetired t = IsOpenLog s id × (t ≡ s)
 CloseTurn s id (closes.Leased n) t = IsIn s id Retired × IsLeased s.keeper s.logs id n × (t ≡ s)
 CloseTurn s id closes.Closed t = (IsIn s id Closed × (t ≡ s)) ⊎ (IsIn s id Retired × leasing.CloseTurn s id (Ok tt) t)
+
+-- ---- removing
+
+-- the log is held, and not closed to leases
+abbrev pub IsUnclosed : State → ℕ → Type 0
+IsUnclosed s id = IsOpenLog s id ⊎ IsIn s id Retired
+
+-- A log that is Closed goes, with its file; no other does. A refusal leaves it as it was, and its file.
+abbrev pub RemoveTurn : State → ℕ → Result RemoveAnswer CollectFault → State → Type 0
+RemoveTurn s id (Ok removes.NoLog) t = (finite.get s.logs id ≡ None) × (t ≡ s)
+RemoveTurn s id (Ok removes.NotClosed) t = IsUnclosed s id × (t ≡ s)
+RemoveTurn s id (Ok removes.Removed) t = IsIn s id Closed × copying.RemoveTurn s id (Ok tt) t
+RemoveTurn s id (Err faults.Disk) t = IsIn s id Closed × copying.RemoveTurn s id (Err log_faults.Disk) t
+RemoveTurn s id (Err faults.Memory) t = IsIn s id Closed × copying.RemoveTurn s id (Err log_faults.Memory) t
+RemoveTurn s id (Err (faults.Log log cause)) t = ⊥
+RemoveTurn s id (Err faults.Odd) t = IsIn s id Closed × copying.RemoveTurn s id (Err log_faults.Odd) t
 
 -- ---- rebuilding
 

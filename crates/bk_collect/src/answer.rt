@@ -8,7 +8,7 @@ use thiserror::Error;
 pub enum RetireAnswer {
     /// No such log is held.
     NoLog,
-    /// A flush or a compaction writes the log, or will show it.
+    /// A flush or a compaction writes the log, or will show it, or the compaction that runs copies its entries.
     InUse,
     /// The log of this id is retired: no key names it, and none will again. Its file stays.
     Retired(u32),
@@ -29,10 +29,21 @@ pub enum CloseAnswer {
     Leased(u64),
 }
 
-/// Why a call of a collection was refused. The store is as it was.
+/// What became of a removal.
+#[derive(Clone, Copy, Debug, PartialEq, Eq)]
+pub enum RemoveAnswer {
+    /// No such log is held.
+    NoLog,
+    /// The log is not closed: a lease of it may be out, or may still be given.
+    NotClosed,
+    /// The log is held no more, its file is gone, and its slot is free for another log. Its id is never given again.
+    Removed,
+}
+
+/// Why a call of a collection was refused. The store's logs and its index are as they were.
 #[derive(Clone, Copy, Debug, PartialEq, Eq, Error)]
 pub enum CollectFault {
-    /// A view could not be read: its device failed.
+    /// The device failed: a view could not be read, or a file not be removed.
     #[error("disk")]
     Disk,
     /// No memory was to be had.

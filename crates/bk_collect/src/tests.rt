@@ -1,13 +1,16 @@
 //! Worked runs: the calls of a collection on logs that were found, with their answers written by hand.
 
-use crate::{CollectFault, RetireAnswer, rebuild, retire};
-use bk_disk::{FaultDisk, LogDisk, MemDisk};
+use crate::{
+    CloseAnswer, CollectFault, RemoveAnswer, RetireAnswer, close, rebuild, remove, retire,
+};
+use bk_disk::{DiskFault, FaultDisk, LogDisk, MemDisk};
 use bk_record::Key;
-use bk_store::{LogState, Settings, Store, Taken};
+use bk_store::{LogState, MakeFault, Settings, Store, Taken};
 use std::alloc::{AllocError, Global};
 use std::test::Fail;
 
 mod found;
+mod removed;
 mod states;
 
 /// Settings that nothing in a test comes near, and no recent entries.
@@ -28,6 +31,8 @@ const LOG: u64 = 1 << 32;
 #[derive(Clone, Copy, Debug)]
 enum Call {
     Retire(u32),
+    Close(u32),
+    Remove(u32),
     Rebuild,
     /// A take of entry 0 of a ledger.
     Take(u8),
@@ -42,6 +47,8 @@ type Told = (&'static str, u64);
 fn told<D: LogDisk>(store: &mut Store<D>, call: Call) -> Result<Told, Fail> {
     Ok(match call {
         Call::Retire(log) => told_of_retire(retire(store, log)),
+        Call::Close(log) => told_of_close(close(store, log)),
+        Call::Remove(log) => told_of_remove(remove(store, log)),
         Call::Rebuild => told_of_rebuild(rebuild(store)),
         Call::Take(ledger) => told_of_take(store, ledger)?,
         Call::Delete(ledger) => ("dropped", store.delete(u64::from(ledger))?),
@@ -58,13 +65,37 @@ fn told_of_retire(answer: RetireAnswer) -> Told {
     }
 }
 
+fn told_of_close(answer: CloseAnswer) -> Told {
+    match answer {
+        CloseAnswer::NoLog => ("no log", 0),
+        CloseAnswer::NotRetired => ("not retired", 0),
+        CloseAnswer::Closed => ("closed", 0),
+        CloseAnswer::Leased(leases) => ("leased", leases),
+    }
+}
+
+fn told_of_remove(answer: Result<RemoveAnswer, CollectFault>) -> Told {
+    match answer {
+        Ok(RemoveAnswer::NoLog) => ("no log", 0),
+        Ok(RemoveAnswer::NotClosed) => ("not closed", 0),
+        Ok(RemoveAnswer::Removed) => ("removed", 0),
+        Err(fault) => told_of_fault(fault),
+    }
+}
+
 fn told_of_rebuild(answer: Result<u64, CollectFault>) -> Told {
     match answer {
         Ok(count) => ("rebuilt", count),
-        Err(CollectFault::Disk) => ("disk", 0),
-        Err(CollectFault::Memory) => ("memory", 0),
-        Err(CollectFault::Log { id, .. }) => ("log", u64::from(id)),
-        Err(CollectFault::Odd) => ("odd", 0),
+        Err(fault) => told_of_fault(fault),
+    }
+}
+
+fn told_of_fault(fault: CollectFault) -> Told {
+    match fault {
+        CollectFault::Disk => ("disk", 0),
+        CollectFault::Memory => ("memory", 0),
+        CollectFault::Log { id, .. } => ("log", u64::from(id)),
+        CollectFault::Odd => ("odd", 0),
     }
 }
 
