@@ -1,0 +1,104 @@
+//! What the calls of a compaction answer: an enum for each call, and why a call is refused.
+
+use thiserror::Error;
+
+/// The two kinds of compaction: they differ in the threshold below which a log is compacted.
+#[derive(Clone, Copy, Debug, PartialEq, Eq)]
+pub enum Kind {
+    /// By the threshold `minor` of the store's settings.
+    Minor,
+    /// By the threshold `major`.
+    Major,
+}
+
+/// What became of the begin of a compaction.
+#[derive(Clone, Copy, Debug, PartialEq, Eq)]
+pub enum BeginAnswer {
+    /// A compaction runs already.
+    JobRunning,
+    /// No log is to be compacted.
+    NothingToDo,
+    /// The log of this id was chosen: its entries will be copied to a new log.
+    Chosen(u32),
+}
+
+/// What became of a step of copying.
+#[derive(Clone, Copy, Debug, PartialEq, Eq)]
+pub enum CopyAnswer {
+    /// No compaction runs.
+    NoJob,
+    /// All entries were copied, and the copy is sealed.
+    NotNow,
+    /// No entry of the source is left to examine.
+    AtEnd,
+    /// So many of the entries that were examined were copied.
+    Copied(u64),
+}
+
+/// What became of the end of copying.
+#[derive(Clone, Copy, Debug, PartialEq, Eq)]
+pub enum EndAnswer {
+    /// No compaction runs.
+    NoJob,
+    /// The copy is sealed already.
+    NotNow,
+    /// An entry of the source was not examined yet.
+    NotAtEnd,
+    /// The copy is sealed and shown; so many moves wait.
+    Ended(u64),
+}
+
+/// What became of a step of switching.
+#[derive(Clone, Copy, Debug, PartialEq, Eq)]
+pub enum SwitchAnswer {
+    /// No compaction runs.
+    NoJob,
+    /// The entries are still copied.
+    NotNow,
+    /// So many keys were sent to their copies, since the index still sent them to the source; and so many moves wait.
+    Moved(u64, u64),
+}
+
+/// What became of the finish of a compaction.
+#[derive(Clone, Copy, Debug, PartialEq, Eq)]
+pub enum FinishAnswer {
+    /// No compaction runs.
+    NoJob,
+    /// The entries are still copied.
+    NotNow,
+    /// So many moves, at least one, wait.
+    Left(u64),
+    /// The compaction is over, and so many keys, at least one, are still sent to its source, which stays as it was.
+    StillNamed(u64),
+    /// The compaction is over, and its source, of this id, is retired: no key names it, and none will again.
+    Retired(u32),
+}
+
+/// What became of giving a compaction up.
+#[derive(Clone, Copy, Debug, PartialEq, Eq)]
+pub enum GiveUpAnswer {
+    /// No compaction runs.
+    NoJob,
+    /// The compaction is over. What was copied stays in the copy, and keys that were sent there stay so.
+    GivenUp,
+}
+
+/// Why a call of a compaction was refused.
+#[derive(Clone, Copy, Debug, PartialEq, Eq, Error)]
+pub enum CompactFault {
+    /// The device failed.
+    #[error("disk")]
+    Disk,
+    /// No memory was to be had; `done` entries were copied before.
+    #[error("memory after {done}")]
+    Memory { done: u64 },
+    /// As many logs as there are slots are held.
+    #[error("logs full")]
+    LogsFull,
+    /// The next log's id is past 2^31 - 1.
+    #[error("no more ids")]
+    NoMoreIds,
+    /// The disk answered what an honest disk cannot.
+    #[error("odd disk")]
+    Odd,
+}

@@ -1,0 +1,89 @@
+//! The begin of a compaction: a log is chosen, and the log that its entries are copied to is made.
+
+ghost use Rattle.std.specs.Prelude.{◌≡◌, IsTrue, IfSome};
+ghost use Rattle.bk_store.specs.Meaning.{MeansTheSame};
+ghost use Rattle.bk_compact.specs.Compacting.{BeginTurn, Chooses, IsCandidate, IsCaused, threshold_of};
+
+use crate::faults::making_fault;
+use crate::{BeginAnswer, CompactFault, Kind};
+use bk_disk::LogDisk;
+use bk_store::{Job, LogState, Store};
+
+/// Begins a compaction, unless one runs: chooses the log to compact, and makes the log that its entries will be copied to.
+///
+/// The choice is among the logs that are Readable and that the index sends keys to. Of those of which less than the kind's
+/// threshold, in thousandths, is of ledgers that live, it is the one of which the least part is; of several such the lowest
+/// id (this project's rule).
+///
+/// # Errors
+/// `LogsFull` where no slot is free, then `NoMoreIds` where the last id is used up: nothing is changed. `Memory`, with
+/// `done` 0, where an allocation was refused, `Disk` where the device failed, and `Odd` where it behaved as no honest one
+/// does: no compaction runs, and a log whose file stands is held as a Readable one without records.
+pub fn begin<D: LogDisk>(store: &mut Store<D>, kind: Kind) -> Result<BeginAnswer, CompactFault>
+    ensures turn { BeginTurn store.old kind result store.new }
+    ensures cause { IsCaused store.old result store.new }
+    ensures honest { store.new.honest ≡ store.old.honest }
+    ensures meaning { IsTrue store.old.honest → MeansTheSame store.old store.new }
+{
+    store.promise();
+    if store.job().is_some() {
+        return Ok(BeginAnswer::JobRunning);
+    }
+    let Some(source) = chosen(store, threshold(store, kind)) else {
+        return Ok(BeginAnswer::NothingToDo);
+    };
+    match store.make_log(LogState::Copying) {
+        Ok(copy) => {
+            let job = Job::new(store.alloc(), source, copy);
+            store.set_job(job);
+            Ok(BeginAnswer::Chosen(source))
+        }
+        Err(fault) => Err(making_fault(fault)),
+    }
+}
+
+/// The threshold of a kind of compaction, in thousandths.
+fn threshold<D: LogDisk>(store: &Store<D>, kind: Kind) -> u32
+    ensures { result ≡ threshold_of store.now.settings kind }
+{
+    let settings = store.settings();
+    match kind {
+        Kind::Minor => settings.minor,
+        Kind::Major => settings.major,
+    }
+}
+
+/// The log to compact, `None` where there is none: a walk over all logs by rising ids, which takes no memory.
+fn chosen<D: LogDisk>(store: &Store<D>, threshold: u32) -> Option<u32>
+    ensures candidate { IfSome result (IsCandidate store.now) }
+    ensures choice { IsTrue store.now.honest → Chooses store.now threshold result }
+{
+    let mut best = None;
+    let mut from = 0;
+    while let Some(log) = store.log_from(from) {
+        if is_candidate(store, log) && is_better(store, threshold, best, log) {
+            best = Some(log);
+        }
+        from = log + 1;
+    }
+    best
+}
+
+/// Whether the log may be compacted: it is Readable, and the index sends a key to it.
+fn is_candidate<D: LogDisk>(store: &Store<D>, log: u32) -> bool
+    ensures { IsTrue result ↔ IsCandidate store.now log }
+{
+    let (Some(state), Some(named)) = (store.log_state(log), store.named(log)) else {
+        return false;
+    };
+    matches!(state, LogState::Readable) && named > 0
+}
+
+/// Whether the log is to be chosen rather than the best one so far.
+fn is_better<D: LogDisk>(store: &Store<D>, threshold: u32, best: Option<u32>, log: u32) -> bool {
+    let first = match best {
+        None => store.least_used(threshold, &[log]),
+        Some(best) => store.least_used(threshold, &[best, log]),
+    };
+    first == Some(log)
+}

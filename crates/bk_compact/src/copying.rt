@@ -1,0 +1,85 @@
+//! Copying: entries of the source are examined one after another, and those that the index names there are copied.
+//!
+//! The job is out of the store while this goes on. It is given back unless the device failed while an entry was put in the
+//! copy, or the disk is odd: then the compaction is over, and the copy is read as it is.
+
+ghost use Rattle.std.specs.Prelude.{◌≡◌, IsTrue, IsErrOf};
+ghost use Rattle.bk_store.specs.Meaning.{MeansTheSame};
+ghost use Rattle.bk_compact.specs.Compacting.{AreSound, CopyTurn, IsCaused, TellsFailures};
+
+use crate::entries::{Stopped, copy_entries};
+use crate::scanning::is_at_end;
+use crate::{CompactFault, CopyAnswer};
+use bk_disk::LogDisk;
+use bk_store::{LogState, Phase, Store};
+
+/// Examines the next `count` entries of what the source shows, or those that are left, and copies each that the index sends
+/// its key to; the answer tells how many were copied. Foreign records are passed over.
+///
+/// # Errors
+/// `Memory` where an allocation was refused, and then `done` entries were copied: they stay so, and the next call goes on
+/// with the entry that was refused. `Disk` where the source can't be read: the same. `Disk` where the copy could not be
+/// written, and `Odd` where the disk behaved as no honest one does: the compaction is over, and the copy is Readable as it
+/// is.
+pub fn copy<D: LogDisk>(store: &mut Store<D>, count: u64) -> Result<CopyAnswer, CompactFault>
+    ensures turn { CopyTurn store.old count result store.new }
+    ensures cause { TellsFailures store.old result store.new }
+    ensures sound { AreSound D.View.sound → IsCaused store.old result store.new }
+    ensures honest { store.new.honest ≡ store.old.honest }
+    ensures meaning { IsTrue store.old.honest → MeansTheSame store.old store.new }
+{
+    store.promise();
+    let Some(job) = store.job() else {
+        return Ok(CopyAnswer::NoJob);
+    };
+    if matches!(job.phase(), Phase::Switch) {
+        return Ok(CopyAnswer::NotNow);
+    }
+    match is_at_end(store, job) {
+        Ok(true) => Ok(CopyAnswer::AtEnd),
+        Ok(false) => go_on(store, count),
+        Err(CompactFault::Odd) => Err(stop(store)),
+        Err(fault) => Err(fault),
+    }
+}
+
+/// Takes the job out, copies, and gives the job back where it goes on.
+fn go_on<D: LogDisk>(store: &mut Store<D>, count: u64) -> Result<CopyAnswer, CompactFault> {
+    let Some(job) = store.job() else {
+        unreachable!();
+    };
+    let Some(view) = store.log_view(job.source()) else {
+        unreachable!();
+    };
+    let Ok(view) = view.clone() else {
+        return Err(CompactFault::Memory { done: 0 });
+    };
+    let Some(mut job) = store.take_job() else {
+        unreachable!();
+    };
+    match copy_entries(store, &*view, &mut job, count) {
+        Ok(copied) => {
+            store.set_job(job);
+            Ok(CopyAnswer::Copied(copied))
+        }
+        Err(Stopped::Memory(done)) => {
+            store.set_job(job);
+            Err(CompactFault::Memory { done })
+        }
+        Err(Stopped::Unread) => {
+            store.set_job(job);
+            Err(CompactFault::Disk)
+        }
+        Err(Stopped::Failed) => Err(CompactFault::Disk),
+        Err(Stopped::Odd) => Err(CompactFault::Odd),
+    }
+}
+
+/// The compaction is over, since the disk is odd; the copy is read as it is.
+fn stop<D: LogDisk>(store: &mut Store<D>) -> CompactFault {
+    let Some(job) = store.take_job() else {
+        unreachable!();
+    };
+    store.set_log_state(job.copy(), LogState::Readable);
+    CompactFault::Odd
+}

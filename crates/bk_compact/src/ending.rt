@@ -1,0 +1,63 @@
+//! The end of copying: the copy is sealed and shown, so that keys may be sent to it.
+
+ghost use Rattle.std.specs.Prelude.{◌≡◌, IsTrue};
+ghost use Rattle.bk_store.specs.Meaning.{MeansTheSame};
+ghost use Rattle.bk_compact.specs.Compacting.{AreSound, EndTurn, IsCaused, TellsFailures};
+
+use crate::faults::fault_of_log;
+use crate::scanning::is_at_end;
+use crate::{CompactFault, EndAnswer};
+use bk_disk::LogDisk;
+use bk_store::{LogState, Phase, Store};
+
+/// Ends the copying, once every entry of what the source shows was examined: the copy is sealed and shown, and from now on
+/// the index is sent there. The answer tells how many moves wait.
+///
+/// # Errors
+/// `Disk` where the source can't be read, or the device failed, `Memory`, with `done` 0, where an allocation was refused,
+/// and `Odd` where the disk behaved as no honest one does. After each the compaction is over, and the copy is Readable as it
+/// is.
+pub fn end_copy<D: LogDisk>(store: &mut Store<D>) -> Result<EndAnswer, CompactFault>
+    ensures turn { EndTurn store.old result store.new }
+    ensures cause { TellsFailures store.old result store.new }
+    ensures sound { AreSound D.View.sound → IsCaused store.old result store.new }
+    ensures honest { store.new.honest ≡ store.old.honest }
+    ensures meaning { IsTrue store.old.honest → MeansTheSame store.old store.new }
+{
+    store.promise();
+    let Some(job) = store.job() else {
+        return Ok(EndAnswer::NoJob);
+    };
+    if matches!(job.phase(), Phase::Switch) {
+        return Ok(EndAnswer::NotNow);
+    }
+    match is_at_end(store, job) {
+        Ok(false) => Ok(EndAnswer::NotAtEnd),
+        Ok(true) => seal_copy(store),
+        Err(fault) => {
+            let Some(job) = store.take_job() else {
+                unreachable!();
+            };
+            store.set_log_state(job.copy(), LogState::Readable);
+            Err(fault)
+        }
+    }
+}
+
+/// Seals and shows the copy, all entries being examined.
+fn seal_copy<D: LogDisk>(store: &mut Store<D>) -> Result<EndAnswer, CompactFault> {
+    let Some(mut job) = store.take_job() else {
+        unreachable!();
+    };
+    let copy = job.copy();
+    if let Err(fault) = store.seal(copy, LogState::Readable) {
+        return Err(fault_of_log(fault));
+    }
+    if let Err(fault) = store.show(copy) {
+        return Err(fault_of_log(fault));
+    }
+    job.begin_switch();
+    let left = job.left();
+    store.set_job(job);
+    Ok(EndAnswer::Ended(left))
+}

@@ -1,0 +1,125 @@
+//! The entries of a source are examined one by one, and copied.
+
+ghost use Rattle.std.specs.Prelude.{◌≡◌, IsTrue};
+
+use crate::scanning::scan_from;
+use bk_disk::LogDisk;
+use bk_log::{FetchFault, Found, LogFault, ScanFault, fetch};
+use bk_record::{Key, Location, key_of};
+use bk_store::{Job, LogState, Move, Store};
+
+/// Why entries were examined no further.
+#[derive(Clone, Copy)]
+pub(crate) enum Stopped {
+    /// No memory was to be had; so many were copied before.
+    Memory(u64),
+    /// The source could not be read: its device failed.
+    Unread,
+    /// The device failed while an entry was put in the copy, which is Readable.
+    Failed,
+    /// The disk answered what an honest disk cannot; the copy is Readable.
+    Odd,
+}
+
+/// Examines so many entries of what a view of the source shows, from the job's position on, or those that are left, and
+/// answers how many were copied.
+pub(crate) fn copy_entries<D: LogDisk>(
+    store: &mut Store<D>,
+    view: &D::View,
+    job: &mut Job,
+    count: u64,
+) -> Result<u64, Stopped> {
+    let Some(mut scanner) = scan_from(view, store.alloc(), job.at()) else {
+        return Err(odd(store, job));
+    };
+    let mut copied = 0;
+    for _ in 0..count {
+        match scanner.next() {
+            Ok(None) => break,
+            Ok(Some(found)) => match examine(store, view, job, &found) {
+                Ok(true) => copied += 1,
+                Ok(false) => {}
+                Err(Stopped::Memory(_)) => return Err(Stopped::Memory(copied)),
+                Err(stopped) => return Err(stopped),
+            },
+            Err(ScanFault::Memory) => return Err(Stopped::Memory(copied)),
+            Err(ScanFault::Disk) => return Err(Stopped::Unread),
+            Err(ScanFault::BadLength { .. } | ScanFault::Odd) => return Err(odd(store, job)),
+        }
+    }
+    Ok(copied)
+}
+
+/// Copies an entry of the source where the index sends its key there, and answers whether it did. The job has come behind
+/// the entry then.
+fn examine<D: LogDisk>(
+    store: &mut Store<D>,
+    view: &D::View,
+    job: &mut Job,
+    found: &Found,
+) -> Result<bool, Stopped> {
+    let behind = found.at + u64::from(found.size - 4);
+    if behind > u64::from(u32::MAX) {
+        return Err(odd(store, job));
+    }
+    let from = Location::pack(job.source(), found.at as u32).unwrap();
+    let named = store.index().get(&found.key) == Some(from);
+    if named {
+        copy_entry(store, view, job, found, from)?;
+    }
+    job.go_to(behind);
+    Ok(named)
+}
+
+/// Copies an entry of the source, and notes its move.
+fn copy_entry<D: LogDisk>(
+    store: &mut Store<D>,
+    view: &D::View,
+    job: &mut Job,
+    found: &Found,
+    from: Location,
+) -> Result<(), Stopped> {
+    let payload = match fetch(view, store.alloc(), from, found.key) {
+        Ok(payload) => payload,
+        Err(FetchFault::Memory) => return Err(Stopped::Memory(0)),
+        Err(FetchFault::Disk) => return Err(Stopped::Unread),
+        Err(FetchFault::NotThere | FetchFault::Odd) => return Err(odd(store, job)),
+    };
+    if !is_entry(&payload, found) {
+        return Err(odd(store, job));
+    }
+    let to = next_place(store, job);
+    let key = found.key;
+    let Ok(()) = job.note(Move { key, from, to }) else {
+        return Err(Stopped::Memory(0));
+    };
+    let Err(fault) = store.put(job.copy(), key, &payload) else {
+        return Ok(());
+    };
+    job.take_back();
+    Err(match fault {
+        LogFault::Memory => Stopped::Memory(0),
+        LogFault::Disk => Stopped::Failed,
+        LogFault::Failed | LogFault::Odd => Stopped::Odd,
+    })
+}
+
+/// Whether these bytes are a payload of the entry's key and size, as they are beside an honest disk.
+fn is_entry(payload: &[u8], found: &Found) -> bool {
+    let size = payload.len() as u64;
+    size + 4 == u64::from(found.size) && size <= i32::MAX as u64 && key_of(payload) == Ok(found.key)
+}
+
+/// Where the next payload that is put in the copy will stand.
+fn next_place<D: LogDisk>(store: &Store<D>, job: &Job) -> Location {
+    let Some(writer) = store.writer(job.copy()) else {
+        unreachable!();
+    };
+    Location::pack(job.copy(), (writer.length() + 4) as u32).unwrap()
+}
+
+/// The disk is odd, so the copy is read as it is.
+fn odd<D: LogDisk>(store: &mut Store<D>, job: &Job) -> Stopped {
+    store.set_log_state(job.copy(), LogState::Readable);
+    Stopped::Odd
+}

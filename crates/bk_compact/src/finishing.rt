@@ -1,0 +1,60 @@
+//! A compaction ends: its source is retired where no key names it any more, or the compaction is given up.
+
+ghost use Rattle.std.specs.Prelude.{◌≡◌, IsTrue, []};
+ghost use Rattle.bk_store.specs.Jobs.{Job};
+ghost use Rattle.bk_store.specs.Meaning.{MeansTheSame};
+ghost use Rattle.bk_store.specs.declared.job.Phase.TheVariants.{Switch};
+ghost use Rattle.bk_compact.specs.Compacting.{FinishTurn, GiveUpTurn, IsUndisturbed};
+
+use crate::{FinishAnswer, GiveUpAnswer};
+use bk_disk::LogDisk;
+use bk_store::{LogState, Phase, Store};
+
+/// Finishes a compaction of which no move waits: its source is retired where no key is sent to it. Where one is, since the
+/// index was made anew after the entries were copied, the source stays as it was. It takes no memory, and asks no device.
+pub fn finish<D: LogDisk>(store: &mut Store<D>) -> FinishAnswer
+    ensures turn { FinishTurn store.old result store.new }
+    ensures retires { IsTrue store.old.honest → (source : ℕ) → IsUndisturbed store.old source → result ≡ FinishAnswer.Retired source }
+    ensures honest { store.new.honest ≡ store.old.honest }
+    ensures meaning { IsTrue store.old.honest → MeansTheSame store.old store.new }
+{
+    store.promise();
+    let Some(job) = store.job() else {
+        return FinishAnswer::NoJob;
+    };
+    if matches!(job.phase(), Phase::Copy) {
+        return FinishAnswer::NotNow;
+    }
+    let left = job.left();
+    if left > 0 {
+        return FinishAnswer::Left(left);
+    }
+    let source = job.source();
+    let Some(named) = store.named(source) else {
+        unreachable!();
+    };
+    // The job is over.
+    let _ = store.take_job();
+    if named > 0 {
+        return FinishAnswer::StillNamed(named);
+    }
+    store.set_log_state(source, LogState::Retired);
+    FinishAnswer::Retired(source)
+}
+
+/// Gives up the compaction that runs, in whichever phase: a copy that is written becomes Readable as it is. Keys that were
+/// sent to it stay so. It takes no memory, and asks no device.
+pub fn give_up<D: LogDisk>(store: &mut Store<D>) -> GiveUpAnswer
+    ensures turn { GiveUpTurn store.old result store.new }
+    ensures honest { store.new.honest ≡ store.old.honest }
+    ensures meaning { IsTrue store.old.honest → MeansTheSame store.old store.new }
+{
+    store.promise();
+    let Some(job) = store.take_job() else {
+        return GiveUpAnswer::NoJob;
+    };
+    if matches!(job.phase(), Phase::Copy) {
+        store.set_log_state(job.copy(), LogState::Readable);
+    }
+    GiveUpAnswer::GivenUp
+}
