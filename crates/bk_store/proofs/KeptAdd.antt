@@ -22,6 +22,7 @@ use Rattle.bk_store.proofs.KeyMaps.{get-insert_other, inserted_here}
 use Rattle.bk_store.proofs.Meaning.{unheld_unmapped}
 use Rattle.bk_store.proofs.CachedMoves.{carries_added}
 use Rattle.bk_store.proofs.KeptParts.{with_state, keeps_same}
+use Rattle.bk_store.proofs.JobStays.{job_stays, stays_same}
 
 not_held : (s : State) (key : EntryKey) → holds s key ≡ false → (written_at s key ≡ None) × (finite.get s.index key ≡ None)
 not_held s key is =
@@ -99,6 +100,7 @@ module _ (p : Parts) (payload : List ℕ) (key : EntryKey) (reads : read_added p
           named = fits.named;
           total = fits.total;
         };
+        job = λ job is. job_stays p.state added.state job (stays_same p.state added.state job refl refl refl (λ _. refl)) (keeps.job job is);
         promises = λ honest. promised (keeps.promises honest);
       }
 

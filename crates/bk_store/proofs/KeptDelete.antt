@@ -30,6 +30,7 @@ use Rattle.bk_store.proofs.KeyMaps.{left_cases, left_same}
 use Rattle.bk_store.proofs.LedgerLeaves.{carries_without_ledger}
 use Rattle.bk_store.proofs.ShownMoves.{shows_without_ledger}
 use Rattle.bk_store.proofs.KeptParts.{keeps_same}
+use Rattle.bk_store.proofs.JobStays.{job_stays}
 
 module _ {X : Type 0} where
   -- a ledger's key is not left
@@ -186,6 +187,13 @@ module _ (p : Parts) (ledger : ℕ) (keeps : Keeps p) (book : Book) (left : AreL
           named = λ id. named_left (without_ledger p.state.index ledger) ledger p.accounts book id (log_count p.state.index id) (finite.get p.state.logs id) left (fits.named id);
           total = λ id log is. subst (λ n. n + header_length ≤ log.acknowledged) (sym (total_left (without_ledger p.state.index ledger) ledger p.accounts book id left)) (fits.total id log is);
         };
+        job = λ job is. job_stays p.state gone.state job (record {
+          honest = refl;
+          source = refl;
+          copy = refl;
+          named = λ _ key place now own. (left_cases p.state.index ledger key place now).1;
+          stands = λ _ place key payload own entry. entry;
+        }) (keeps.job job is);
         promises = λ honest. promised (keeps.promises honest);
       }
 

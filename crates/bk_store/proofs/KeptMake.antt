@@ -45,6 +45,7 @@ use Rattle.bk_store.proofs.Seats.{seated_new, slot_state-written}
 use Rattle.bk_store.proofs.Growing.{Grows, grows_behind, carries_grown}
 use Rattle.bk_store.proofs.ShownMoves.{shows_grown}
 use Rattle.bk_store.proofs.LogMaps.{log-inserted, log-insert_else, log-insert_cases}
+use Rattle.bk_store.proofs.JobStays.{job_stays, stays_same, stays_else}
 
 -- a file that is no longer than a header has no entry
 no_entries : (file : List ℕ) → length file ≤ header_length → entries_of file ≡ []
@@ -104,6 +105,7 @@ module _ (p : Parts) (keeps : Keeps p) where
           named = fits.named;
           total = fits.total;
         };
+        job = keeps.job;
         promises = λ honest.
             let promise = keeps.promises honest in
             record {
@@ -143,6 +145,9 @@ module _ (p : Parts) (keeps : Keeps p) where
           named = fits.named;
           total = fits.total;
         };
+        job = λ job is.
+            let used = with_next p.state files failures p.state.logs p.state.keeper in
+            job_stays p.state used job (stays_same p.state used job refl refl refl same) (keeps.job job is);
         promises = λ honest.
             let promise = keeps.promises honest in
             subst (λ f. Promises (record p { state = with_next p.state f failures p.state.logs p.state.keeper; filled = filled })) (sym (same honest)) (record {
@@ -319,6 +324,11 @@ module _ (p : Parts) (keeps : Keeps p) where
         })
     kept_new may held writes goes listed made = record {
       fits = new_fits may held writes goes listed;
+      job = λ job is.
+          let kept = keeps.job job is in
+          let t : State = with_next p.state files failures (finite.insert p.state.logs next new) (with_seat p.state slot) in
+          let others : (job.source ≢ next) × (job.copy ≢ next) = (apart job.source kept.source.log kept.source.held, apart job.copy kept.copy.log kept.copy.held) in
+          job_stays p.state t job (stays_else p.state t job next new others refl refl refl (λ honest. (made honest).0.only)) kept;
       promises = λ honest. let m = made honest in new_promises (keeps.promises honest) m.0 m.1 m.2;
     }
 

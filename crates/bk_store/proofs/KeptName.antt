@@ -28,6 +28,7 @@ use Rattle.bk_store.proofs.Growing.{entry_same}
 use Rattle.bk_store.proofs.IndexMoves.{carries_sent}
 use Rattle.bk_store.proofs.ShownMoves.{shows_sent}
 use Rattle.bk_store.proofs.KeptWrite.{flush_written}
+use Rattle.bk_store.proofs.JobStays.{job_stays, job_unflushed}
 
 -- ---- the accounts
 
@@ -176,7 +177,23 @@ module _ (p : Parts) (keeps : Keeps p) (key : EntryKey) (place : Place) (may : M
       }
 
   pub named_kept : Keeps named
-  named_kept = record { fits = named_fits; promises = λ honest. named_promises honest (keeps.promises honest) }
+  named_kept = record {
+    fits = named_fits;
+    job = λ job is.
+        let of = keeps.fits.placed.logs key place may.placed in
+        let apart = job_unflushed p.state job (keeps.job job is) place.log of.log of.held of.flushed in
+        job_stays p.state named.state job (record {
+          honest = refl;
+          source = refl;
+          copy = refl;
+          named = λ _ k pl now own. elim (inserted_cases p.state.index key place k pl now) [
+            | inl here ↦ absurd (apart.0 (sym own ∙ ap (λ (x : Place). x.log) (sym here.1)))
+            | inr old ↦ old.1
+          ];
+          stands = λ _ pl k b own entry. entry;
+        }) (keeps.job job is);
+    promises = λ honest. named_promises honest (keeps.promises honest);
+  }
 
 pub keeps_name : {E : Type 0} (p q : Parts) (key : EntryKey) (place : Place) (result : Result (Unit {0}) E) → Keeps p → MayName p.state key place
     → NameTurn p.state key place result q.state → NamesBeside p key place result q → Keeps q

@@ -1,5 +1,5 @@
 -- One log changes, and its file with it: what is still owed so that a store keeps its promise.
-use Rattle.std.proofs.Common.{◌≡◌, ◌≢◌, inl, inr, ℕ, ◌+◌, ◌≤◌, ◌↔◌, false, IsTrue, List, [], Option, Some, is_some, unwrap_or, sym, ap, subst, ◌∙◌, arith}
+use Rattle.std.proofs.Common.{◌≡◌, ◌≢◌, inl, inr, ℕ, ◌+◌, ◌≤◌, ◌↔◌, false, IsTrue, List, [], Option, Some, is_some, unwrap_or, refl, sym, ap, subst, ◌∙◌, arith}
 use Rattle.std.specs.FinMap as finite
 use Rattle.std.specs.FinSet as set
 use Rattle.bk_record.specs.Key.{EntryKey}
@@ -15,13 +15,17 @@ use Rattle.bk_store.specs.Shown.{Shows}
 use Rattle.bk_store.specs.Logs.{Log, Logs, HasOpenView, IsFlushLog, open_parts}
 use Rattle.bk_lease.specs.Values.{SlotTable}
 use Rattle.bk_store.specs.Seated.{IsSeated, slot_state}
+use Rattle.bk_store.specs.Jobs.{Job}
+use Rattle.bk_store.specs.JobKept.{IsJob}
 use Rattle.bk_store.specs.State.{Parts}
 use Rattle.bk_store.specs.Kept.{Keeps, Fits, Promises, IsHeld, IsBacked, entry_measure, acknowledged_entries}
+use Rattle.bk_store.specs.Doors.{IsIdle}
 use Rattle.bk_store.specs.declared.log.LogState.TheVariants.{Writing}
 use Rattle.bk_store.proofs.Cases.{same_or_apart}
 use Rattle.bk_store.proofs.Growing.{EntriesStay, OnlyIn, Grows, grows_behind, carries_grown}
 use Rattle.bk_store.proofs.OneLog.{IsFlushed, each_log, names_stay}
 use Rattle.bk_store.proofs.Seats.{seated_one}
+use Rattle.bk_store.proofs.JobStays.{job_stays, stays_same, stays_else}
 
 -- the parts with one log changed, and the table of the slots
 abbrev pub with_one_in : SlotTable → Parts → ℕ → Log → Files → ℕ → Book → Option ℕ → Parts
@@ -145,6 +149,16 @@ module _ (p : Parts) (id : ℕ) (log new : Log) (held : finite.get p.state.logs 
       → Promises (with_one p id new files failures accounts writing)
   promises_one = promises_in p.state.keeper
 
+-- ---- the job of a compaction, which does not have the log
+
+-- the log is none of the job's that the store has
+pub job_in : (keeper : SlotTable) (p : Parts) (id : ℕ) (new : Log) (files : Files) (failures : ℕ) (accounts : Book) (writing : Option ℕ) → Keeps p → IsIdle p.state id
+    → (IsTrue p.state.honest → (q : ℕ) → q ≢ id → finite.get files q ≡ finite.get p.state.files q)
+    → (job : Job) → p.state.job ≡ Some job → IsJob (with_one_in keeper p id new files failures accounts writing).state job
+job_in keeper p id new files failures accounts writing keeps idle only job is =
+    let t = (with_one_in keeper p id new files failures accounts writing).state in
+    job_stays p.state t job (stays_else p.state t job id new (idle job is) refl refl refl only) (keeps.job job is)
+
 -- ---- the files as they were, as far as an honest disk says, and the failures counted
 
 pub keeps_failures : (p : Parts) (files : Files) (failures : ℕ) → Keeps p → (IsTrue p.state.honest → files ≡ p.state.files)
@@ -172,6 +186,9 @@ keeps_failures p files failures keeps same =
         named = fits.named;
         total = fits.total;
       };
+      job = λ job is.
+          let now = record p.state { files = files; failures = failures } in
+          job_stays p.state now job (stays_same p.state now job refl refl refl same) (keeps.job job is);
       promises = λ honest.
           let promise = keeps.promises honest in
           subst (λ f. Promises (record p { state = record p.state { files = f; failures = failures } })) (sym (same honest)) (record {

@@ -17,12 +17,15 @@ use Rattle.bk_accounts.specs.Sums.{AreSums}
 use Rattle.bk_accounts.proofs.Books.{get-changed}
 use Rattle.bk_store.specs.Entries.{Places}
 use Rattle.bk_store.specs.Logs.{Log, open_parts}
+use Rattle.bk_store.specs.Jobs.{Job, with_rebuild}
+use Rattle.bk_store.specs.JobKept.{IsJob}
 use Rattle.bk_store.specs.State.{State, Parts}
 use Rattle.bk_store.specs.Kept.{Keeps, Fits, Promises, entry_measure, acknowledged_entries}
 use Rattle.bk_store.specs.Doors.{MayReplace, Replaces}
 use Rattle.bk_store.specs.Beside.{ReplacesBeside}
 use Rattle.bk_store.specs.Deletion.{AreNamedBy}
 use Rattle.bk_store.specs.Found.{AreUnnamed, named_by}
+use Rattle.bk_store.proofs.JobStays.{job_rebuilt}
 use Rattle.bk_store.proofs.KeptParts.{none_placed}
 use Rattle.bk_store.proofs.OpenedSums.{names_in, name_counted, plus_none}
 use Rattle.bk_store.proofs.Rebuilding.{carries_rebuilt, shows_rebuilt}
@@ -102,7 +105,7 @@ unnamed_same f n same (Some account) = ap Some (same account)
 
 module _ (p : Parts) (keeps : Keeps p) (index : Places) (may : MayReplace p.state index) (book : Book) (named : AreNamedBy index p.accounts book) where
   abbrev new : Parts
-  new = record p { state = record p.state { index = index }; accounts = book }
+  new = record p { state = record p.state { index = index; job = option_map with_rebuild p.state.job }; accounts = book }
 
   still : {X : Type 0} (f : Account → X) → ((n : ℕ) (account : Account) → f (with_names n account) ≡ f account) → (log : ℕ)
       → option_map f (finite.get book log) ≡ option_map f (finite.get p.accounts log)
@@ -165,7 +168,17 @@ module _ (p : Parts) (keeps : Keeps p) (index : Places) (may : MayReplace p.stat
       }
 
   pub replaced_kept : Keeps new
-  replaced_kept = record { fits = replaced_fits; promises = λ honest. replaced_promises honest (keeps.promises honest) }
+  replaced_kept = record {
+    fits = replaced_fits;
+    job = rebuilt_job p.state.job keeps.job;
+    promises = λ honest. replaced_promises honest (keeps.promises honest);
+  }
+    where
+      rebuilt_job : (o : Option Job) → ((job : Job) → o ≡ Some job → IsJob p.state job) → (job : Job) → option_map with_rebuild o ≡ Some job → IsJob new.state job
+      rebuilt_job None kept job is = cc
+      rebuilt_job (Some old) kept job is =
+          let one : with_rebuild old ≡ job = cc in
+          subst (λ x. IsJob new.state x) one (job_rebuilt p.state new.state old refl refl refl (kept old refl))
 
 pub keeps_replace : (p q : Parts) (index : Places) → Keeps p → MayReplace p.state index → Replaces p.state index q.state → ReplacesBeside p q → Keeps q
 keeps_replace p q index keeps may turn beside =

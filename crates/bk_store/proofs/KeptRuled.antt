@@ -17,18 +17,23 @@ use Rattle.bk_accounts.specs.Sums.{AreSums}
 use Rattle.bk_store.specs.Shown.{Shows}
 use Rattle.bk_store.specs.Carried.{Carries}
 use Rattle.bk_store.specs.Logs.{Log, Logs, HasOpenView, AllChanged, is_open, settled_as, unfilled_as, open_parts, published_part}
+use Rattle.bk_store.specs.Jobs.{Job}
+use Rattle.bk_store.specs.JobKept.{IsJob, copy_state}
 use Rattle.bk_store.specs.State.{State, Parts}
 use Rattle.bk_store.specs.Meaning.{written_at}
 use Rattle.bk_store.specs.Kept.{Keeps, Fits, Promises, IsHeld, IsBacked, entry_measure, acknowledged_entries}
-use Rattle.bk_store.specs.Doors.{Restarts, Ends, AllNamed}
+use Rattle.bk_store.specs.Doors.{Restarts, Ends, AllNamed, IsIn}
 use Rattle.bk_store.specs.Beside.{RestartsBeside, EndsBeside}
 use Rattle.bk_store.specs.declared.log.LogState.{LogState}
-use Rattle.bk_store.specs.declared.log.LogState.TheVariants.{Writing, Filled}
+use Rattle.bk_store.specs.declared.log.LogState.TheVariants.{Writing, Filled, Copying, Readable, Retired, Closed}
+use Rattle.bk_store.specs.declared.job.Phase.{Phase}
+use Rattle.bk_store.specs.declared.job.Phase.TheVariants.{Copy, Switch}
 use Rattle.bk_store.proofs.Cases.{some_or_none}
 use Rattle.bk_store.proofs.KeptParts.{none_placed}
 use Rattle.bk_store.proofs.CachedMoves.{carries_let_go}
 use Rattle.bk_store.proofs.Seats.{seated_ruled}
 use Rattle.bk_store.proofs.AllChanged.{IsMild, changed_len, settled_mild, settled_unflushed, unfilled_mild}
+use Rattle.bk_store.proofs.JobStays.{job_stays}
 
 -- the parts with all logs changed, and no entry placed
 abbrev ruled : Parts → Logs → CacheState → Option ℕ → List ℕ → Parts
@@ -143,6 +148,51 @@ module _ (p : Parts) (keeps : Keeps p) (rule : LogState → Log → Log) (mild :
     placed = λ key place is. absurd (no_place key place is);
   }
 
+-- a log that is neither the flush's nor retired stays by either rule
+abbrev Rests : (LogState → Log → Log) → Type 0
+Rests rule = (state : LogState) (log : Log) → (state ≡ Readable) ⊎ (state ≡ Copying) → rule state log ≡ log
+
+settled_rests : Rests settled_as
+settled_rests Copying log own = refl
+settled_rests Readable log own = refl
+settled_rests Retired log own = refl
+settled_rests Closed log own = refl
+settled_rests Writing log (inl wrong) = cc
+settled_rests Writing log (inr wrong) = cc
+settled_rests Filled log (inl wrong) = cc
+settled_rests Filled log (inr wrong) = cc
+
+unfilled_rests : Rests unfilled_as
+unfilled_rests Writing log own = refl
+unfilled_rests Copying log own = refl
+unfilled_rests Readable log own = refl
+unfilled_rests Retired log own = refl
+unfilled_rests Closed log own = refl
+unfilled_rests Filled log (inl wrong) = cc
+unfilled_rests Filled log (inr wrong) = cc
+
+-- the logs of a job are such
+job_ruled : (p : Parts) (keeps : Keeps p) (rule : LogState → Log → Log) → Rests rule → (logs : Logs) → AllChanged rule p.state.logs logs
+    → (held : CacheState) (writing : Option ℕ) (filled : List ℕ) (job : Job) → p.state.job ≡ Some job → IsJob (ruled p logs held writing filled).state job
+job_ruled p keeps rule rests logs changed held writing filled job is =
+    let kept = keeps.job job is in
+    job_stays p.state (ruled p logs held writing filled).state job (record {
+      honest = refl;
+      source = still job.source Readable kept.source (inl refl);
+      copy = still job.copy (copy_state job.phase) kept.copy (of_copy job.phase);
+      named = λ _ key place now own. now;
+      stands = λ _ place key payload own entry. entry;
+    }) kept
+  where
+    still : (id : ℕ) (state : LogState) → IsIn p.state id state → (state ≡ Readable) ⊎ (state ≡ Copying) → finite.get logs id ≡ finite.get p.state.logs id
+    still id state known own =
+        changed id ∙ ap (option_map (λ (l : Log). rule l.state l)) known.held
+        ∙ ap (λ (l : Log). Some l) (rests known.log.state known.log (subst (λ x. (x ≡ Readable) ⊎ (x ≡ Copying)) (sym known.state_is) own)) ∙ sym known.held
+
+    of_copy : (phase : Phase) → (copy_state phase ≡ Readable) ⊎ (copy_state phase ≡ Copying)
+    of_copy Copy = inr refl
+    of_copy Switch = inl refl
+
 pub keeps_restart : (p q : Parts) → Keeps p → Restarts p.state q.state → RestartsBeside p q → Keeps q
 keeps_restart p q keeps turn beside =
     let none = λ (id : ℕ) (log : Log) (is : finite.get q.state.logs id ≡ Some log) (flushed : (log.state ≡ Writing) ⊎ (log.state ≡ Filled)).
@@ -152,6 +202,7 @@ keeps_restart p q keeps turn beside =
       fits = ruled_fits p keeps settled_as settled_mild q.state.logs turn.logs p.state.caches None [] keeps.fits.limit
           (λ id. ((λ wrong. absurd (cc)), (λ now. absurd (none id now.0 now.1 (inl now.2)))))
           (λ id log is flushed. absurd (none id log is flushed));
+      job = job_ruled p keeps settled_as settled_rests q.state.logs turn.logs p.state.caches None [];
       promises = λ honest.
           let promise = keeps.promises honest in
           ruled_promises p keeps settled_as settled_mild q.state.logs turn.logs p.state.caches None [] promise promise.carries refl;
@@ -205,6 +256,7 @@ keeps_end p q keeps named turn beside =
                 let w = was unfilled_as unfilled_mild p.state.logs q.state.logs turn.logs id log is in
                 absurd (unfilled_mild.filled w.0 (ap (λ (l : Log). l.state) w.2 ∙ wrong))
           ]);
+      job = job_ruled p keeps unfilled_as unfilled_rests q.state.logs turn.logs held p.writing q.filled;
       promises = λ honest.
           let promise = keeps.promises honest in
           ruled_promises p keeps unfilled_as unfilled_mild q.state.logs turn.logs held p.writing q.filled promise

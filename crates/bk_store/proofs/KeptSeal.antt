@@ -1,5 +1,5 @@
 -- A log that is sealed keeps what a store keeps.
-use Rattle.std.proofs.Common.{◌≡◌, ◌⊎◌, inl, inr, ℕ, ◌+◌, true, false, List, Some, take, Result, refl, sym, ap, subst, ◌∙◌}
+use Rattle.std.proofs.Common.{◌≡◌, ◌⊎◌, inl, inr, ℕ, ◌+◌, true, false, IsTrue, List, Some, take, Result, refl, sym, ap, subst, ◌∙◌}
 use Rattle.std.specs.FinMap as finite
 use Rattle.std.specs.FinSet as set
 use Rattle.bk_record.specs.Key.{EntryKey}
@@ -17,7 +17,7 @@ use Rattle.bk_store.specs.Shown.{Shows}
 use Rattle.bk_store.specs.Logs.{Log, IsFlushLog, is_open, is_written, closed_log}
 use Rattle.bk_store.specs.State.{State, Parts}
 use Rattle.bk_store.specs.Kept.{Keeps, Fits, Promises, entry_measure}
-use Rattle.bk_store.specs.Doors.{MaySeal, Seals, failed_in}
+use Rattle.bk_store.specs.Doors.{IsIdle, MaySeal, Seals, failed_in}
 use Rattle.bk_store.specs.Beside.{SealsBeside, unless_log}
 use Rattle.bk_store.specs.declared.log.LogState.{LogState}
 use Rattle.bk_store.specs.declared.log.LogState.TheVariants.{Writing, Filled, Copying, Readable, Retired, Closed}
@@ -28,7 +28,8 @@ use Rattle.bk_store.proofs.Acknowledged.{entries_acknowledged, entries_whole}
 use Rattle.bk_store.proofs.Closing.{held_closed, writing_closed, none_keyed, parts_same}
 use Rattle.bk_store.proofs.KeptSet.{not_flushed, one_log}
 use Rattle.bk_store.proofs.Seats.{slot_state-same}
-use Rattle.bk_store.proofs.KeptOne.{with_one, fits_one, promises_one}
+use Rattle.bk_store.proofs.KeptOne.{with_one, fits_one, promises_one, job_in}
+use Rattle.bk_store.proofs.JobStays.{job_unflushed}
 
 -- the entries that are acknowledged of a log stay as it grows
 pub acknowledged_stay : (files files' : Files) (id : ℕ) (w : writers.Writing) (n : ℕ) → writers.Writes files w → w.log ≡ id → n ≡ w.end
@@ -100,18 +101,21 @@ readable_unflushed (inr wrong) = cc
 
 module _ (p q : Parts) (id : ℕ) (state : LogState) (result : Result (Unit {0}) LogFault) (keeps : Keeps p) (turn : Seals p.state id state result q.state)
     (closed : is_written state ≡ false) (opened : is_open state ≡ true) (was_open : is_open turn.log.state ≡ true) (beside : SealsBeside p id q) where
-  sealed_kept : Fits (with_one p id (closed_log state turn.log) q.state.files (p.state.failures + failed_in result) p.accounts (unless_log p.writing id)) → Keeps q
-  sealed_kept fits =
+  sealed_kept : IsIdle p.state id → Fits (with_one p id (closed_log state turn.log) q.state.files (p.state.failures + failed_in result) p.accounts (unless_log p.writing id)) → Keeps q
+  sealed_kept idle fits =
       let log = turn.log in
+      let by = (keeps.fits.held id log turn.writer.held).by turn.w turn.writer.writer in
+      let gained = λ (honest : IsTrue p.state.honest).
+      subst (λ n. Gains p.state.files n (turn.sealed honest).gains.others q.state.files) by.own (turn.sealed honest).gains.gains in
       subst Keeps (sym (beside ∙ ap (λ (s : State). record p { state = s; writing = unless_log p.writing id }) turn.left)) (record {
         fits = fits;
+        job = job_in p.state.keeper p id (closed_log state log) q.state.files (p.state.failures + failed_in result) p.accounts (unless_log p.writing id) keeps idle
+            (λ honest. (gained honest).only);
         promises = λ honest.
             let promise = keeps.promises honest in
             let sealed = turn.sealed honest in
-            let by = (keeps.fits.held id log turn.writer.held).by turn.w turn.writer.writer in
-            let gains = subst (λ n. Gains p.state.files n sealed.gains.others q.state.files) by.own sealed.gains.gains in
             closed_promise p keeps id state log turn.writer.held turn.w turn.writer.writer closed opened was_open q.state.files
-            (p.state.failures + failed_in result) promise sealed.gains.others gains
+            (p.state.failures + failed_in result) promise sealed.gains.others (gained honest)
             (λ at payload key there keyed _. absurd (none_keyed sealed.gains.others sealed.gains.foreign at payload key there keyed));
       })
 
@@ -122,13 +126,14 @@ keeps_seal p q id Filled result keeps may turn beside =
     let was = one_log p id log Writing turn.writer.held may in
     let opened : is_open log.state ≡ true = ap is_open was in
     sealed_kept p q id Filled result keeps turn refl refl opened beside
+    (λ job is. job_unflushed p.state job (keeps.job job is) id log turn.writer.held (inl was))
     (closed_fits p keeps id Filled log turn.writer.held turn.w turn.writer.writer refl refl opened q.state.files (p.state.failures + failed_in result)
     (filled_flush p keeps id log turn.writer.held was) (λ _. keeps.fits.filled id log turn.writer.held (inl was)))
 keeps_seal p q id Readable result keeps (inl copy) turn beside =
     let log = turn.log in
-    let was = one_log p id log Copying turn.writer.held copy in
+    let was = one_log p id log Copying turn.writer.held copy.0 in
     let opened : is_open log.state ≡ true = ap is_open was in
-    sealed_kept p q id Readable result keeps turn refl refl opened beside
+    sealed_kept p q id Readable result keeps turn refl refl opened beside copy.1
     (closed_fits p keeps id Readable log turn.writer.held turn.w turn.writer.writer refl refl opened q.state.files (p.state.failures + failed_in result)
     (copy_flush p keeps id log turn.writer.held was) (λ wrong. absurd (readable_unflushed wrong)))
 keeps_seal p q id Readable result keeps (inr idle) turn beside =
@@ -136,6 +141,7 @@ keeps_seal p q id Readable result keeps (inr idle) turn beside =
     let was = one_log p id log Writing turn.writer.held idle.0 in
     let opened : is_open log.state ≡ true = ap is_open was in
     sealed_kept p q id Readable result keeps turn refl refl opened beside
+    (λ job is. job_unflushed p.state job (keeps.job job is) id log turn.writer.held (inl was))
     (closed_fits p keeps id Readable log turn.writer.held turn.w turn.writer.writer refl refl opened q.state.files (p.state.failures + failed_in result)
     (λ key place is. absurd (none_placed p.state.places key place (keeps.fits.placed.idle idle.1) is)) (λ wrong. absurd (readable_unflushed wrong)))
 keeps_seal p q id Writing result keeps never turn beside = absurd never

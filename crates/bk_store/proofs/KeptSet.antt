@@ -16,7 +16,7 @@ use Rattle.bk_store.specs.Seated.{IsSeated, slot_state}
 use Rattle.bk_store.specs.Logs.{Log, HasOpenView, is_open, is_written, closed_log, open_parts}
 use Rattle.bk_store.specs.State.{Parts}
 use Rattle.bk_store.specs.Kept.{Keeps, entry_measure}
-use Rattle.bk_store.specs.Doors.{MaySet, SetTurn, IsIn}
+use Rattle.bk_store.specs.Doors.{MaySet, SetTurn, IsIn, IsIdle}
 use Rattle.bk_store.specs.Leasing.{CloseTurn}
 use Rattle.bk_lease.specs.declared.answers.Leased.{Leased}
 use Rattle.bk_store.specs.declared.log.LogState.{LogState}
@@ -25,7 +25,8 @@ use Rattle.bk_store.proofs.KeptParts.{with_state, keeps_same}
 use Rattle.bk_store.proofs.ShownMoves.{shows_hidden}
 use Rattle.bk_store.proofs.OneLog.{IsFlushed, views_stay, views_else, flush_logs_stay, writing_same, parts_else, parts_here, entries_stay}
 use Rattle.bk_store.proofs.Closing.{held_closed, parts_same}
-use Rattle.bk_store.proofs.KeptOne.{with_one, with_one_in, fits_in, promises_in}
+use Rattle.bk_store.proofs.KeptOne.{with_one, with_one_in, fits_in, promises_in, job_in}
+use Rattle.bk_store.proofs.JobStays.{job_apart}
 use Rattle.bk_store.proofs.Seats.{seated_one, seated_closed}
 
 -- a log in this state is not one that a flush wrote
@@ -37,7 +38,7 @@ not_flushed log (inr (inl is)) (inr wrong) = cc
 not_flushed log (inr (inr is)) (inl wrong) = cc
 not_flushed log (inr (inr is)) (inr wrong) = cc
 
-module _ (p : Parts) (keeps : Keeps p) (id : ℕ) (state : LogState) (log : Log) (held : finite.get p.state.logs id ≡ Some log)
+module _ (p : Parts) (keeps : Keeps p) (id : ℕ) (state : LogState) (log : Log) (held : finite.get p.state.logs id ≡ Some log) (idle : IsIdle p.state id)
     (other : ¬ (IsFlushed log)) (closed : is_written state ≡ false) (unflushed : ¬ ((state ≡ Writing) ⊎ (state ≡ Filled)))
     (keeper : SlotTable) (seated : IsSeated p.state.settings keeper (finite.insert p.state.logs id (closed_log state log))) where
   keeps_closed : ((key : EntryKey) (place : Place) → finite.get p.state.index key ≡ Some place → HasOpenView (finite.insert p.state.logs id (closed_log state log)) place.log)
@@ -54,6 +55,7 @@ module _ (p : Parts) (keeps : Keeps p) (id : ℕ) (state : LogState) (log : Log)
             (λ key place is. flush_logs_stay p.state.logs id log new held (λ f. absurd (other f)) place.log (fits.placed.logs key place is))
             (writing_same p.state.logs id log new held (λ wrong. absurd (other (inl wrong))) (λ wrong. absurd (unflushed (inl wrong))) p.writing fits.writing)
             (λ wrong. absurd (unflushed wrong)) (λ wrong. absurd (unflushed (inl wrong))) (λ q. refl) (fits.total id log held) (λ q _. refl);
+        job = job_in keeper p id new files p.state.failures p.accounts p.writing keeps idle (λ _ q apart. refl);
         promises = λ honest.
             let promise = keeps.promises honest in
             let old = promise.backed id log held in
@@ -75,21 +77,21 @@ module _ (p : Parts) (keeps : Keeps p) (id : ℕ) (log : Log) (held : finite.get
       → IsSeated p.state.settings p.state.keeper (finite.insert p.state.logs id (closed_log state log))
   still_seated state same = seated_one p.state.settings p.state.keeper p.state.logs keeps.fits.seated id log (closed_log state log) held refl same
 
-  readable_kept : log.state ≡ Copying → Keeps (with_one p id (closed_log Readable log) p.state.files p.state.failures p.accounts p.writing)
-  readable_kept was =
+  readable_kept : log.state ≡ Copying → IsIdle p.state id → Keeps (with_one p id (closed_log Readable log) p.state.files p.state.failures p.accounts p.writing)
+  readable_kept was idle =
       let new = closed_log Readable log in
       let opened : is_open new.state ≡ is_open log.state = sym (ap is_open was) in
-      keeps_closed p keeps id Readable log held (not_flushed log (inl was)) refl (λ wrong. elim wrong [ inl w ↦ cc | inr w ↦ cc ])
+      keeps_closed p keeps id Readable log held idle (not_flushed log (inl was)) refl (λ wrong. elim wrong [ inl w ↦ cc | inr w ↦ cc ])
       p.state.keeper (still_seated Readable (sym (ap (slot_state id) was)))
       (λ key place is. views_stay p.state.logs id log new held (λ v _ view_is. (refl, (v, view_is))) place.log (keeps.fits.sent key place is))
       (λ shows. subst (λ ps. Shows (file_of p.state.files) ps p.state.index) (λ i q. sym (parts_same p.state.logs id log new held opened refl q) i) shows)
 
-  retired_kept : log.state ≡ Readable → log_count p.state.index id ≡ 0
+  retired_kept : log.state ≡ Readable → log_count p.state.index id ≡ 0 → IsIdle p.state id
       → Keeps (with_one p id (closed_log Retired log) p.state.files p.state.failures p.accounts p.writing)
-  retired_kept was none =
+  retired_kept was none idle =
       let new = closed_log Retired log in
       let unnamed = log_count-zero p.state.index id none in
-      keeps_closed p keeps id Retired log held (not_flushed log (inr (inl was))) refl (λ wrong. elim wrong [ inl w ↦ cc | inr w ↦ cc ])
+      keeps_closed p keeps id Retired log held idle (not_flushed log (inr (inl was))) refl (λ wrong. elim wrong [ inl w ↦ cc | inr w ↦ cc ])
       p.state.keeper (still_seated Retired (sym (ap (slot_state id) was)))
       (λ key place is. views_else p.state.logs id log new held place.log (unnamed key place is) (keeps.fits.sent key place is))
       (λ shows. shows_hidden shows (open_parts (finite.insert p.state.logs id new)) id (parts_else p.state.logs id log new held)
@@ -101,7 +103,8 @@ module _ (p : Parts) (keeps : Keeps p) (id : ℕ) (log : Log) (held : finite.get
   closed_kept was =
       let new = closed_log Closed log in
       let hidden : is_open new.state ≡ is_open log.state = sym (ap is_open was) in
-      keeps_closed p keeps id Closed log held (not_flushed log (inr (inr was))) refl (λ wrong. elim wrong [ inl w ↦ cc | inr w ↦ cc ])
+      let idle : IsIdle p.state id = λ job is. job_apart p.state job (keeps.job job is) id log held (λ wrong. cc) (λ wrong. cc) in
+      keeps_closed p keeps id Closed log held idle (not_flushed log (inr (inr was))) refl (λ wrong. elim wrong [ inl w ↦ cc | inr w ↦ cc ])
       (with_slot p.state.keeper log.slot (slots.Closed id)) (seated_closed p.state.settings p.state.keeper p.state.logs keeps.fits.seated id log held)
       (λ key place is. views_stay p.state.logs id log new held (λ v wrong _. absurd (let both : true ≡ false = sym wrong ∙ ap is_open was in cc))
       place.log (keeps.fits.sent key place is))
@@ -110,9 +113,9 @@ module _ (p : Parts) (keeps : Keeps p) (id : ℕ) (log : Log) (held : finite.get
 pub keeps_set : (p q : Parts) (id : ℕ) (state : LogState) → Keeps p → MaySet p.state id state → SetTurn p.state id state q.state
     → q ≡ with_state p q.state → Keeps q
 keeps_set p q id Readable keeps may turn beside =
-    subst Keeps (sym (beside ∙ ap (with_state p) turn.2)) (readable_kept p keeps id turn.0 turn.1 (one_log p id turn.0 Copying turn.1 may))
+    subst Keeps (sym (beside ∙ ap (with_state p) turn.2)) (readable_kept p keeps id turn.0 turn.1 (one_log p id turn.0 Copying turn.1 may.0) may.1)
 keeps_set p q id Retired keeps may turn beside =
-    subst Keeps (sym (beside ∙ ap (with_state p) turn.2)) (retired_kept p keeps id turn.0 turn.1 (one_log p id turn.0 Readable turn.1 may.0) may.1)
+    subst Keeps (sym (beside ∙ ap (with_state p) turn.2)) (retired_kept p keeps id turn.0 turn.1 (one_log p id turn.0 Readable turn.1 may.0) may.1 may.2)
 keeps_set p q id Closed keeps never turn beside = absurd never
 keeps_set p q id Writing keeps never turn beside = absurd never
 keeps_set p q id Filled keeps never turn beside = absurd never

@@ -12,11 +12,11 @@ use Rattle.bk_accounts.specs.Sums.{AreSums}
 use Rattle.bk_store.specs.Logs.{View, Log, is_open, open_parts, with_view}
 use Rattle.bk_store.specs.State.{Parts}
 use Rattle.bk_store.specs.Kept.{Keeps, Promises, entry_measure}
-use Rattle.bk_store.specs.Doors.{IsOpenLog, ShowTurn}
+use Rattle.bk_store.specs.Doors.{IsIdle, MayShow, ShowTurn}
 use Rattle.bk_store.proofs.KeptParts.{with_state}
 use Rattle.bk_store.proofs.ShownMoves.{shows_all_of_one}
 use Rattle.bk_store.proofs.OneLog.{views_stay, flush_logs_stay, writing_same, parts_else, parts_here, entries_stay}
-use Rattle.bk_store.proofs.KeptOne.{with_one, fits_one, promises_one, keeps_failures}
+use Rattle.bk_store.proofs.KeptOne.{with_one, fits_one, promises_one, job_in, keeps_failures}
 
 module _ (p : Parts) (keeps : Keeps p) (id : ℕ) (log : Log) (held : finite.get p.state.logs id ≡ Some log) (opened : is_open log.state ≡ true) (view : View) where
   abbrev shown : Log
@@ -43,9 +43,9 @@ module _ (p : Parts) (keeps : Keeps p) (id : ℕ) (log : Log) (held : finite.get
       })
       (subst (λ f. AreSums entry_measure (set.contains p.state.dead) f (log_count p.state.index) p.accounts) (λ i q. sym (same q) i) promise.counted)
 
-  pub keeps_shown : (IsTrue p.state.honest → IsTrue view.is_honest × (finite.get p.state.files id ≡ Some view.bytes))
+  pub keeps_shown : IsIdle p.state id → (IsTrue p.state.honest → IsTrue view.is_honest × (finite.get p.state.files id ≡ Some view.bytes))
       → Keeps (with_one p id shown p.state.files p.state.failures p.accounts p.writing)
-  keeps_shown seen =
+  keeps_shown idle seen =
       let fits = keeps.fits in
       let was = fits.held id log held in
       record {
@@ -59,12 +59,14 @@ module _ (p : Parts) (keeps : Keeps p) (id : ℕ) (log : Log) (held : finite.get
             (λ key place is. flush_logs_stay p.state.logs id log shown held (λ f. f) place.log (fits.placed.logs key place is))
             (writing_same p.state.logs id log shown held (λ w. w) (λ w. w) p.writing fits.writing)
             (fits.filled id log held) (λ w. w) (λ q. refl) (fits.total id log held) (λ q _. refl);
+        job = job_in p.state.keeper p id shown p.state.files p.state.failures p.accounts p.writing keeps idle (λ _ q apart. refl);
         promises = λ honest. let s = seen honest in promised (keeps.promises honest) s.0 s.1;
       }
 
-pub keeps_show : (p q : Parts) (id : ℕ) (result : Result (Unit {0}) LogFault) → Keeps p → IsOpenLog p.state id → ShowTurn p.state id result q.state
+pub keeps_show : (p q : Parts) (id : ℕ) (result : Result (Unit {0}) LogFault) → Keeps p → MayShow p.state id → ShowTurn p.state id result q.state
     → q ≡ with_state p q.state → Keeps q
-keeps_show p q id (Ok _) keeps open_log turn beside =
+keeps_show p q id (Ok _) keeps may turn beside =
+    let open_log = may.open_is in
     let log = turn.0 in
     let view = turn.2.0 in
     let both : Some log ≡ Some open_log.log = sym turn.1 ∙ open_log.held in
@@ -72,12 +74,12 @@ keeps_show p q id (Ok _) keeps open_log turn beside =
     let opened : is_open log.state ≡ true = ap (λ (l : Log). is_open l.state) one ∙ open_log.opened in
     subst Keeps (sym (beside ∙ ap (with_state p) turn.2.3))
     (keeps_failures (with_one p id (with_view view log) p.state.files p.state.failures p.accounts p.writing) q.state.files p.state.failures
-    (keeps_shown p keeps id log turn.1 opened view turn.2.1) turn.2.2)
-keeps_show p q id (Err log_faults.Disk) keeps open_log turn beside =
+    (keeps_shown p keeps id log turn.1 opened view may.idle turn.2.1) turn.2.2)
+keeps_show p q id (Err log_faults.Disk) keeps may turn beside =
     subst Keeps (sym (beside ∙ ap (with_state p) turn.1)) (keeps_failures p q.state.files (p.state.failures + 1) keeps turn.0)
-keeps_show p q id (Err log_faults.Memory) keeps open_log turn beside =
+keeps_show p q id (Err log_faults.Memory) keeps may turn beside =
     subst Keeps (sym (beside ∙ ap (with_state p) turn.1)) (keeps_failures p q.state.files p.state.failures keeps turn.0)
-keeps_show p q id (Err log_faults.Odd) keeps open_log turn beside =
+keeps_show p q id (Err log_faults.Odd) keeps may turn beside =
     subst Keeps (sym (beside ∙ ap (with_state p) turn.1)) (keeps_failures p q.state.files p.state.failures keeps
     (λ honest. absurd (let wrong = turn.0 in cc)))
-keeps_show p q id (Err log_faults.Failed) keeps open_log never beside = absurd never
+keeps_show p q id (Err log_faults.Failed) keeps may never beside = absurd never

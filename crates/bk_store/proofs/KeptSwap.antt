@@ -12,6 +12,7 @@ use Rattle.bk_store.specs.declared.answer.SwapAnswer.{SwapAnswer}
 use Rattle.bk_store.specs.declared.answer.SwapAnswer.TheVariants.{Running, Nothing, Swapped}
 use Rattle.bk_store.proofs.CachedMoves.{carries_same_cached}
 use Rattle.bk_store.proofs.KeptParts.{with_state, keeps_same, none_placed}
+use Rattle.bk_store.proofs.JobStays.{job_stays, stays_same}
 
 module _ (p : Parts) (keeps : Keeps p) (idle : p.state.caches.flush ≡ None) where
   abbrev swapped : Parts
@@ -68,6 +69,7 @@ module _ (p : Parts) (keeps : Keeps p) (idle : p.state.caches.flush ≡ None) wh
           named = fits.named;
           total = fits.total;
         };
+        job = λ job is. job_stays p.state swapped.state job (stays_same p.state swapped.state job refl refl refl (λ _. refl)) (keeps.job job is);
         promises = λ honest. promised (keeps.promises honest);
       }
 

@@ -1,5 +1,5 @@
 -- A take keeps what a store keeps: a lease that is given is one more that was given out.
-use Rattle.std.proofs.Common.{◌≡◌, ℕ, List, Bool, Result, Ok, Err, sym, ap, subst, ◌∙◌}
+use Rattle.std.proofs.Common.{◌≡◌, ℕ, List, Bool, Result, Ok, Err, refl, sym, ap, subst, ◌∙◌}
 use Rattle.bk_record.specs.Key.{EntryKey}
 use Rattle.bk_lease.specs.Values.{with_given}
 use Rattle.bk_store.specs.State.{State, Parts}
@@ -10,6 +10,7 @@ use Rattle.bk_store.specs.declared.answer.Taken.TheVariants.{Deleted, Cached, No
 use Rattle.bk_store.specs.declared.answer.TakeFault.{TakeFault}
 use Rattle.bk_store.specs.declared.answer.TakeFault.TheVariants as take_faults
 use Rattle.bk_store.proofs.KeptParts.{with_state, keeps_same}
+use Rattle.bk_store.proofs.JobStays.{job_stays, stays_same}
 
 -- one lease more was given out
 keeps_given : (p : Parts) → Keeps p → Keeps (with_state p (record p.state { keeper = with_given p.state.keeper }))
@@ -41,6 +42,9 @@ keeps_given p keeps =
         named = fits.named;
         total = fits.total;
       };
+      job = λ job is.
+          let given = record p.state { keeper = with_given p.state.keeper } in
+          job_stays p.state given job (stays_same p.state given job refl refl refl (λ _. refl)) (keeps.job job is);
       promises = λ honest.
           let promise = keeps.promises honest in
           record {

@@ -48,7 +48,8 @@ use Rattle.bk_store.proofs.Acknowledged.{entries_acknowledged, entries_whole, en
 use Rattle.bk_store.proofs.Closing.{parts_same}
 use Rattle.bk_store.proofs.KeptSet.{one_log}
 use Rattle.bk_store.proofs.KeptSeal.{closed_promise, closed_fits, filled_flush}
-use Rattle.bk_store.proofs.KeptOne.{with_one, fits_one, promises_one, keeps_failures}
+use Rattle.bk_store.proofs.KeptOne.{with_one, fits_one, promises_one, job_in, keeps_failures}
+use Rattle.bk_store.proofs.JobStays.{job_stays, stays_same, job_unflushed}
 
 -- a key of the flush has there what the write caches have of it
 pub flush_held : (held : caches.CacheState) (key : EntryKey) (payload : List ℕ) → caches.AreApart held → finite.get (caches.flush_of held) key ≡ Some payload
@@ -102,6 +103,7 @@ keeps_ready p log ledger keeps =
         named = λ q. named_in-after_ready p.accounts log ledger q ∙ fits.named q;
         total = λ q l is. subst (λ n. n + header_length ≤ l.acknowledged) (sym (total_readied p.accounts log ledger q)) (fits.total q l is);
       };
+      job = keeps.job;
       promises = λ honest.
           let promise = keeps.promises honest in
           record {
@@ -179,6 +181,8 @@ keeps_noted p key payload place keeps flushing in_log unplaced first stands =
         named = fits.named;
         total = fits.total;
       };
+      job = λ job is.
+          job_stays p.state (noted p.state key place) job (stays_same p.state (noted p.state key place) job refl refl refl (λ _. refl)) (keeps.job job is);
       promises = λ honest.
           let promise = keeps.promises honest in
           record {
@@ -355,6 +359,12 @@ written_kept p id key payload keeps may flushing sound log w held writer files g
     let mid : Keeps (with_one p id (grown_log log w payload) files p.state.failures
     (after_count (after_ready p.accounts id key.ledger) id key.ledger (4 + length payload)) p.writing) = record {
       fits = put_fits p keeps id log held w writer key payload read files;
+      job = job_in p.state.keeper p id (grown_log log w payload) files p.state.failures
+          (after_count (after_ready p.accounts id key.ledger) id key.ledger (4 + length payload)) p.writing keeps
+          (λ job is. job_unflushed p.state job (keeps.job job is) id log held (inl was))
+          (λ honest.
+          let promise = keeps.promises honest in
+          (put_gained p keeps id log held w writer key payload read files promise (mapped promise) (grew honest)).only);
       promises = λ honest.
           let promise = keeps.promises honest in
           put_promises p keeps id log held w writer key payload read files promise (mapped promise) (grew honest);
@@ -386,24 +396,29 @@ failed_kept p id key payload keeps may flushing sound log held files failures pa
     let keyed = (addable payload key read).keyed in
     let closes : unless_log p.writing id ≡ None =
     ap (λ o. unless_log o id) ((keeps.fits.writing id).1 (log, held, was)) ∙ ap (λ b. cond b None (Some id)) (eq-eqb id id refl) in
+    let gained = λ (honest : IsTrue p.state.honest).
+    let grew = part honest in
+    put_gains p.state.files files w payload (Err log_faults.Disk) (((keeps.promises honest).backed id log held).writes w writer) legal
+    (grew.0, grew.1 ∙ ap (λ n. grown p.state.files n (take grew.0 (record_of payload))) (sym own)) in
+    let own_gains : (others : List (ℕ × List ℕ)) → Gains p.state.files w.log others files → Gains p.state.files id others files =
+    λ others gains. subst (λ n. Gains p.state.files n others files) own gains in
     let state : closed_log Filled log ≡ halted_log log = ap (λ s. closed_log (halted_as s) log) (sym was) in
     subst (λ l. Keeps (with_one p id l files failures p.accounts None)) state
     (subst (λ o. Keeps (with_one p id (closed_log Filled log) files failures p.accounts o)) closes (record {
       fits = closed_fits p keeps id Filled log held w writer refl refl opened files failures (filled_flush p keeps id log held was)
           (λ _. keeps.fits.filled id log held (inl was));
+      job = job_in p.state.keeper p id (closed_log Filled log) files failures p.accounts (unless_log p.writing id) keeps
+          (λ job is. job_unflushed p.state job (keeps.job job is) id log held (inl was))
+          (λ honest. elim (gained honest) [ inl all ↦ (own_gains (put_record w payload) all).only | inr none ↦ (own_gains [] none).only ]);
       promises = λ honest.
           let promise = keeps.promises honest in
           let mapped = promise.carries.cached_is key payload (flush_written p.state key payload sound.apart flushing) in
-          let grew = part honest in
-          let writes = (promise.backed id log held).writes w writer in
-          let gains = put_gains p.state.files files w payload (Err log_faults.Disk) writes legal
-          (grew.0, grew.1 ∙ ap (λ n. grown p.state.files n (take grew.0 (record_of payload))) (sym own)) in
-          elim gains [
+          elim (gained honest) [
             | inl all ↦ closed_promise p keeps id Filled log held w writer refl refl opened files failures promise (put_record w payload)
-                (subst (λ n. Gains p.state.files n (put_record w payload) files) own all)
+                (own_gains (put_record w payload) all)
                 (λ at b k there is_key _. put_mapped promise.carried w key payload keyed mapped at b k there is_key)
             | inr none ↦ closed_promise p keeps id Filled log held w writer refl refl opened files failures promise []
-                (subst (λ n. Gains p.state.files n [] files) own none) (λ at b k never. absurd never)
+                (own_gains [] none) (λ at b k never. absurd never)
           ];
     }))
 

@@ -17,6 +17,7 @@ pub mod HeldWalks
 pub mod Indexes
 pub mod Noted
 pub mod KeptParts
+pub mod KeptJob
 pub mod KeptAdd
 pub mod KeptSwap
 pub mod Tables
@@ -33,6 +34,7 @@ pub mod OpenedKeeps
 pub mod OpenedScan
 pub mod OpenedFinds
 pub mod LogMaps
+pub mod JobStays
 pub mod FlushLogs
 pub mod OneLog
 pub mod Seats

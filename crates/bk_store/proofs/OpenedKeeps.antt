@@ -71,6 +71,7 @@ opened_parts settings files honest failures t logs keeper next = record {
     keeper = keeper;
     next = next;
     dead = t.dead;
+    job = None;
   };
   accounts = named_by (finite.entries t.index) t.accounts;
   writing = None;
@@ -415,6 +416,7 @@ made_parts settings files honest failures kept places t logs keeper next filled 
     keeper = keeper;
     next = next;
     dead = t.dead;
+    job = None;
   };
   accounts = t.accounts;
   writing = None;
@@ -439,6 +441,7 @@ module _ (settings : Settings) (honest honest' : Bool) (files files' : Files) (f
       → Keeps (made_parts settings files' honest' failures kept places now logs keeper next filled)
   opened_keeps allowed seated = subst Keeps parts_are (record {
     fits = opened_fits settings honest' files' failures dead ids next t logs taken_now keeper allowed seated;
+    job = λ job wrong. absurd (cc);
     promises = λ is. opened_promises settings honest' files' failures dead ids next t logs taken_now keeper is (listed_now is);
   })
 
@@ -449,6 +452,7 @@ module _ (settings : Settings) (honest honest' : Bool) (files files' : Files) (f
     caches_are = refl;
     places_are = refl;
     dead_are = ap (λ (x : Tally). x.dead) taken.taken ∙ dead-reads (started dead) taken.reads ∙ dead_are;
+    idle = refl;
     holds = λ is.
         let is' : IsTrue honest' = stays ∙ is in
         subst (λ fs. HoldsFiles fs (opened_parts settings files' honest' failures t logs keeper next).state) (same is)

@@ -37,7 +37,7 @@ written_log p keeps id log held is =
 
 pub sealable : (p : Parts) → Keeps p → (id : ℕ) (state : LogState) → MaySeal p.state id state → IsWrittenLog p id
 sealable p keeps id Filled may = written_log p keeps id may.log may.held (ap is_written may.state_is)
-sealable p keeps id Readable (inl copy) = written_log p keeps id copy.log copy.held (ap is_written copy.state_is)
+sealable p keeps id Readable (inl copy) = written_log p keeps id copy.0.log copy.0.held (ap is_written copy.0.state_is)
 sealable p keeps id Readable (inr idle) = written_log p keeps id idle.0.log idle.0.held (ap is_written idle.0.state_is)
 sealable p keeps id Writing never = absurd never
 sealable p keeps id Copying never = absurd never

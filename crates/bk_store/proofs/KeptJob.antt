@@ -1,0 +1,63 @@
+-- A job that is taken out of a store, or given back, keeps what a store keeps.
+use Rattle.std.proofs.Common.{◌≡◌, Option, Some, None, refl, subst}
+use Rattle.std.specs.FinMap as finite
+use Rattle.bk_store.specs.Jobs.{Job}
+use Rattle.bk_store.specs.JobKept.{IsJob}
+use Rattle.bk_store.specs.State.{State, Parts}
+use Rattle.bk_store.specs.Kept.{Keeps}
+use Rattle.bk_store.proofs.KeptParts.{with_state}
+use Rattle.bk_store.proofs.JobStays.{job_stays, stays_same}
+
+-- the parts with another job
+abbrev pub with_job : Parts → Option Job → Parts
+with_job p job = with_state p (record p.state { job = job })
+
+keeps_job : (p : Parts) (now : Option Job) → Keeps p → ((job : Job) → now ≡ Some job → IsJob p.state job) → Keeps (with_job p now)
+keeps_job p now keeps each =
+    let fits = keeps.fits in
+    record {
+      fits = record {
+        allowed = fits.allowed;
+        limit = fits.limit;
+        ids = fits.ids;
+        seated = fits.seated;
+        held = fits.held;
+        sent = fits.sent;
+        placed = record {
+          idle = fits.placed.idle;
+          flushing = fits.placed.flushing;
+          logs = fits.placed.logs;
+          front = fits.placed.front;
+          rising = fits.placed.rising;
+          newest = fits.placed.newest;
+        };
+        writing = fits.writing;
+        filled = fits.filled;
+        named = fits.named;
+        total = fits.total;
+      };
+      job = λ job is.
+          let t = (with_job p now).state in
+          job_stays p.state t job (stays_same p.state t job refl refl refl (λ _. refl)) (each job is);
+      promises = λ honest.
+          let promise = keeps.promises honest in
+          record {
+            carried = promise.carried;
+            carries = promise.carries;
+            shows = promise.shows;
+            recent = promise.recent;
+            counted = promise.counted;
+            backed = promise.backed;
+            fresh = promise.fresh;
+            placed = λ key place is.
+                let old = promise.placed key place is in
+                record { payload = old.payload; flushing = old.flushing; stands = old.stands };
+          };
+    }
+
+pub keeps_without_job : (p : Parts) → Keeps p → Keeps (with_job p None)
+keeps_without_job p keeps = keeps_job p None keeps (λ job wrong. absurd (cc))
+
+pub keeps_with_job : (p : Parts) (own : Job) → Keeps p → IsJob p.state own → Keeps (with_job p (Some own))
+keeps_with_job p own keeps kept =
+    keeps_job p (Some own) keeps (λ job is. let one : own ≡ job = cc in subst (λ x. IsJob p.state x) one kept)
