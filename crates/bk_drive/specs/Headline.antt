@@ -11,8 +11,8 @@ use Rattle.bk_store.specs.Opening.{IsOpened}
 use Rattle.bk_store.specs.Plain as plain
 use Rattle.bk_store.specs.declared.settings.Settings.{Settings}
 use Rattle.bk_drive.specs.Plain.{Owed, PlainDesk}
-use Rattle.bk_drive.specs.Machine.{Hold, Desk, Turn, PlainTurn}
-use Rattle.bk_drive.specs.Leased.{AreOpenLeases, IsUnread, WasClosed}
+use Rattle.bk_drive.specs.Machine.{Hold, Desk, Turn, PlainTurn, IsUnread}
+use Rattle.bk_drive.specs.Leased.{AreOpenLeases, WasLetGo}
 use Rattle.bk_drive.specs.declared.step.Step.{Step}
 use Rattle.bk_drive.specs.declared.step.Answer.{Answer}
 
@@ -64,10 +64,10 @@ first_plain files dead = record {
 }
 
 -- From these files, with these ledgers dead, these steps were answered so, and left this store and these readers: a run leads
--- there from a store that was opened on the files; and no reader holds a lease of a log that was answered Closed.
+-- there from a store that was opened on the files; and no reader holds a lease of a log that was answered Closed, or Removed.
 pub record Headline (settings : Settings) (files : Files) (dead : List ℕ) (steps : List Step) (answers : List Answer) (store : State) (readers : List (Option Hold)) : Type 0 where
   pub first : State
   pub opened : IsOpened true files settings dead first
   pub plain : PlainDesk
   pub run : Run settings.cache_limit (first_desk first) (first_plain files (ledgers_of dead)) steps answers (record { store = store; readers = readers }) plain
-  pub unread : (log : ℕ) → WasClosed steps answers log → IsUnread readers log
+  pub unread : (log : ℕ) → WasLetGo steps answers log → IsUnread readers log

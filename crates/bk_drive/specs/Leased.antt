@@ -1,16 +1,14 @@
--- The leases that readers hold: each stands open in the store's table, and none is on a log that was answered Closed.
-use Rattle.std.specs.Prelude.{◌≡◌, ℕ, true, List, [], ◌∷◌, ◌⊎◌, Option}
+-- The leases that readers hold: each stands open in the store's table, and none is on a log that was answered Closed, or Removed.
+use Rattle.std.specs.Prelude.{◌≡◌, ◌⊎◌, ℕ, ◌<◌, true, List, [], ◌∷◌, Option, None}
+use Rattle.std.specs.FinMap as finite
 use Rattle.bk_lease.specs.declared.slot.Slot.TheVariants.{Open, Closed}
 use Rattle.bk_lease.specs.Leases.{state_at}
 use Rattle.bk_lease.specs.Values.{SlotTable}
-use Rattle.bk_collect.specs.declared.answer.CloseAnswer.TheVariants as closes
+use Rattle.bk_store.specs.State.{State}
 use Rattle.bk_drive.specs.Plain.{HasAt}
-use Rattle.bk_drive.specs.Machine.{Hold}
+use Rattle.bk_drive.specs.Machine.{Hold, LetsGo}
 use Rattle.bk_drive.specs.declared.step.Step.{Step}
-use Rattle.bk_drive.specs.declared.step.Step.TheVariants as steps
-use Rattle.bk_drive.specs.declared.step.Work.TheVariants as works
 use Rattle.bk_drive.specs.declared.step.Answer.{Answer}
-use Rattle.bk_drive.specs.declared.step.Answer.TheVariants as answers
 
 -- the lease is of this table, holds its slot, and its log stands open there
 pub record IsOpenLease (keeper : SlotTable) (hold : Hold) : Type 0 where
@@ -26,16 +24,16 @@ AreOpenLeases keeper readers = (reader : ℕ) (hold : Hold) → HasAt readers re
 abbrev pub StandsClosed : SlotTable → ℕ → Type 0
 StandsClosed keeper log = (slot : ℕ) × (state_at keeper.slots slot ≡ Closed log)
 
--- no reader holds a lease of the log
-abbrev pub IsUnread : List (Option Hold) → ℕ → Type 0
-IsUnread readers log = (reader : ℕ) (hold : Hold) → HasAt readers reader hold → ¬ (hold.ticket.log ≡ log)
+-- the log is held no more, and its id is never given again
+abbrev pub IsGone : State → ℕ → Type 0
+IsGone s log = (finite.get s.logs log ≡ None) × (log < s.next)
 
--- the step asks to close the log, and is answered Closed
-abbrev pub Closes : Step → Answer → ℕ → Type 0
-Closes step answer log = (step ≡ steps.Work (works.Close log)) × (answer ≡ answers.Close closes.Closed)
+-- no lease of the log is given any more: it is closed to leases, or gone
+abbrev pub IsShut : State → ℕ → Type 0
+IsShut s log = StandsClosed s.keeper log ⊎ IsGone s log
 
--- one of the steps does
-abbrev pub WasClosed : List Step → List Answer → ℕ → Type 0
-WasClosed [] as' log = ⊥
-WasClosed (s ∷ ss) [] log = ⊥
-WasClosed (s ∷ ss) (a ∷ as') log = Closes s a log ⊎ WasClosed ss as' log
+-- one of the steps asked to close the log, or to remove it, and was answered Closed, or Removed
+abbrev pub WasLetGo : List Step → List Answer → ℕ → Type 0
+WasLetGo [] as' log = ⊥
+WasLetGo (s ∷ ss) [] log = ⊥
+WasLetGo (s ∷ ss) (a ∷ as') log = LetsGo s a log ⊎ WasLetGo ss as' log

@@ -26,10 +26,22 @@ use Rattle.bk_flush.specs.declared.answer.WriteAnswer.{WriteAnswer}
 use Rattle.bk_flush.specs.declared.answer.PublishAnswer.{PublishAnswer}
 use Rattle.bk_flush.specs.declared.answer.RollAnswer.{RollAnswer}
 use Rattle.bk_flush.specs.declared.answer.FlushFault.{FlushFault}
-use Rattle.bk_collect.specs.Collecting.{RetireTurn, RebuildTurn, CloseTurn}
+use Rattle.bk_collect.specs.Collecting.{RetireTurn, RebuildTurn, CloseTurn, RemoveTurn}
 use Rattle.bk_collect.specs.declared.answer.CloseAnswer.{CloseAnswer}
+use Rattle.bk_collect.specs.declared.answer.CloseAnswer.TheVariants as closes
+use Rattle.bk_collect.specs.declared.answer.RemoveAnswer.{RemoveAnswer}
+use Rattle.bk_collect.specs.declared.answer.RemoveAnswer.TheVariants as removes
 use Rattle.bk_collect.specs.declared.answer.RetireAnswer.{RetireAnswer}
 use Rattle.bk_collect.specs.declared.answer.CollectFault.{CollectFault}
+use Rattle.bk_compact.specs.Compacting.{BeginTurn, CopyTurn, EndTurn, SwitchTurn, FinishTurn, GiveUpTurn}
+use Rattle.bk_compact.specs.declared.answer.Kind.{Kind}
+use Rattle.bk_compact.specs.declared.answer.BeginAnswer.{BeginAnswer}
+use Rattle.bk_compact.specs.declared.answer.CopyAnswer.{CopyAnswer}
+use Rattle.bk_compact.specs.declared.answer.EndAnswer.{EndAnswer}
+use Rattle.bk_compact.specs.declared.answer.SwitchAnswer.{SwitchAnswer}
+use Rattle.bk_compact.specs.declared.answer.FinishAnswer.{FinishAnswer}
+use Rattle.bk_compact.specs.declared.answer.GiveUpAnswer.{GiveUpAnswer}
+use Rattle.bk_compact.specs.declared.answer.CompactFault.{CompactFault}
 use Rattle.bk_drive.specs.Plain.{Owed, PlainDesk, IsFree, HasAt, IsBusy, OwedTake, OwedFetch, OwedRelease, after_publish}
 use Rattle.bk_drive.specs.declared.step.TakeAnswer.{TakeAnswer}
 use Rattle.bk_drive.specs.declared.step.TakeAnswer.TheVariants as takes
@@ -126,10 +138,34 @@ pub data WorkTurn : State → Work → Answer → State → Type 0 where
   retired : {s t : State} {log : ℕ} {r : RetireAnswer} → RetireTurn s log r t → WorkTurn s (works.Retire log) (answers.Retire r) t
   rebuilt : {s t : State} {r : Result ℕ CollectFault} → RebuildTurn s r t → WorkTurn s works.Rebuild (answers.Rebuild r) t
   closed : {s t : State} {log : ℕ} {r : CloseAnswer} → CloseTurn s log r t → WorkTurn s (works.Close log) (answers.Close r) t
+  removed : {s t : State} {log : ℕ} {r : Result RemoveAnswer CollectFault} → RemoveTurn s log r t → WorkTurn s (works.Remove log) (answers.Remove r) t
+  begun : {s t : State} {kind : Kind} {r : Result BeginAnswer CompactFault} → BeginTurn s kind r t → WorkTurn s (works.Begin kind) (answers.Begin r) t
+  copied : {s t : State} {n : ℕ} {r : Result CopyAnswer CompactFault} → CopyTurn s n r t → WorkTurn s (works.Copy n) (answers.Copy r) t
+  ended : {s t : State} {r : Result EndAnswer CompactFault} → EndTurn s r t → WorkTurn s works.EndCopy (answers.EndCopy r) t
+  switched : {s t : State} {n : ℕ} {r : SwitchAnswer} → SwitchTurn s n r t → WorkTurn s (works.Switch n) (answers.Switch r) t
+  finished : {s t : State} {r : FinishAnswer} → FinishTurn s r t → WorkTurn s works.Finish (answers.Finish r) t
+  given_up : {s t : State} {r : GiveUpAnswer} → GiveUpTurn s r t → WorkTurn s works.GiveUp (answers.GiveUp r) t
 
--- One step of the machine, with its answer.
+-- the step asks to close the log, and is answered Closed
+abbrev pub Closes : Step → Answer → ℕ → Type 0
+Closes step answer log = (step ≡ steps.Work (works.Close log)) × (answer ≡ answers.Close closes.Closed)
+
+-- the step asks to remove the log, and is answered Removed
+abbrev pub Removes : Step → Answer → ℕ → Type 0
+Removes step answer log = (step ≡ steps.Work (works.Remove log)) × (answer ≡ answers.Remove (Ok removes.Removed))
+
+-- one or the other: from then on nobody reads the log
+abbrev pub LetsGo : Step → Answer → ℕ → Type 0
+LetsGo step answer log = Closes step answer log ⊎ Removes step answer log
+
+-- no reader holds a lease of the log
+abbrev pub IsUnread : List (Option Hold) → ℕ → Type 0
+IsUnread readers log = (reader : ℕ) (hold : Hold) → HasAt readers reader hold → ¬ (hold.ticket.log ≡ log)
+
+-- One step of the machine, with its answer. A log is closed, or removed, only where no reader holds a lease of it.
 pub data Turn : Desk → Step → Answer → Desk → Type 0 where
-  worked : {d : Desk} {t : State} {work : Work} {a : Answer} → WorkTurn d.store work a t → Turn d (steps.Work work) a (record d { store = t })
+  worked : {d : Desk} {t : State} {work : Work} {a : Answer} → WorkTurn d.store work a t
+      → ((log : ℕ) → LetsGo (steps.Work work) a log → IsUnread d.readers log) → Turn d (steps.Work work) a (record d { store = t })
   added : {d : Desk} {t : State} {payload : Vec ℕ Global} {r : Result Added AddFault} → AddTurn d.store payload.items r t
       → Turn d (steps.Add payload) (answers.Add r) (record d { store = t })
   deleted : {d : Desk} {t : State} {ledger : ℕ} {r : Result ℕ DeleteFault} → DeleteTurn d.store ledger r t
@@ -155,6 +191,15 @@ pub data PlainTurn : ℕ → PlainDesk → Step → Answer → PlainDesk → Typ
   retired : {limit : ℕ} {p : PlainDesk} {log : ℕ} {r : RetireAnswer} → PlainTurn limit p (steps.Work (works.Retire log)) (answers.Retire r) p
   rebuilt : {limit : ℕ} {p : PlainDesk} {r : Result ℕ CollectFault} → PlainTurn limit p (steps.Work works.Rebuild) (answers.Rebuild r) p
   closed : {limit : ℕ} {p : PlainDesk} {log : ℕ} {r : CloseAnswer} → PlainTurn limit p (steps.Work (works.Close log)) (answers.Close r) p
+  removed : {limit : ℕ} {p : PlainDesk} {log : ℕ} {r : Result RemoveAnswer CollectFault}
+      → PlainTurn limit p (steps.Work (works.Remove log)) (answers.Remove r) p
+  begun : {limit : ℕ} {p : PlainDesk} {kind : Kind} {r : Result BeginAnswer CompactFault}
+      → PlainTurn limit p (steps.Work (works.Begin kind)) (answers.Begin r) p
+  copied : {limit : ℕ} {p : PlainDesk} {n : ℕ} {r : Result CopyAnswer CompactFault} → PlainTurn limit p (steps.Work (works.Copy n)) (answers.Copy r) p
+  ended : {limit : ℕ} {p : PlainDesk} {r : Result EndAnswer CompactFault} → PlainTurn limit p (steps.Work works.EndCopy) (answers.EndCopy r) p
+  switched : {limit : ℕ} {p : PlainDesk} {n : ℕ} {r : SwitchAnswer} → PlainTurn limit p (steps.Work (works.Switch n)) (answers.Switch r) p
+  finished : {limit : ℕ} {p : PlainDesk} {r : FinishAnswer} → PlainTurn limit p (steps.Work works.Finish) (answers.Finish r) p
+  given_up : {limit : ℕ} {p : PlainDesk} {r : GiveUpAnswer} → PlainTurn limit p (steps.Work works.GiveUp) (answers.GiveUp r) p
   added : {limit : ℕ} {p : PlainDesk} {q : Plain} {payload : Vec ℕ Global} {r : Result Added AddFault} → PlainAdd limit p.store payload.items r q
       → PlainTurn limit p (steps.Add payload) (answers.Add r) (record p { store = q })
   deleted : {limit : ℕ} {p : PlainDesk} {q : Plain} {ledger : ℕ} {r : Result ℕ DeleteFault} → PlainDelete p.store ledger r q

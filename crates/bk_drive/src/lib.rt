@@ -8,7 +8,11 @@ mod taking;
 #[cfg(test)]
 mod tests;
 
-pub use bk_collect::{CloseAnswer, CollectFault, RetireAnswer};
+pub use bk_collect::{CloseAnswer, CollectFault, RemoveAnswer, RetireAnswer};
+pub use bk_compact::{
+    BeginAnswer, CompactFault, CopyAnswer, EndAnswer, FinishAnswer, GiveUpAnswer, Kind,
+    SwitchAnswer,
+};
 pub use bk_flush::{FlushFault, PublishAnswer, RollAnswer, WriteAnswer};
 pub use bk_lease::Lease;
 pub use bk_store::{

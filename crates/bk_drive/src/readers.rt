@@ -5,7 +5,7 @@ ghost use Rattle.std.specs.Bool.{OnTrue, OnFalse};
 ghost use Rattle.bk_drive.specs.Plain.{IsFree, IsBusy, HasAt};
 ghost use Rattle.bk_drive.specs.Headline.{reader_count};
 ghost use Rattle.bk_drive.specs.Held.{seen_hold};
-ghost use Rattle.bk_drive.specs.Leased.{IsUnread};
+ghost use Rattle.bk_drive.specs.Machine.{IsUnread};
 
 use bk_disk::LogView;
 use bk_lease::Lease;

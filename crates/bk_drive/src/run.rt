@@ -1,21 +1,21 @@
 //! The machine: a store and its readers take the steps of a script, one after another.
 
 ghost use Rattle.std.specs.Prelude.{◌≡◌, ◌↔◌, ◌<◌, ◌≤◌, ℕ, List, Option, IsTrue, IfOk, IfErr, IsErrOf, IfSome, IfNone, length};
-ghost use Rattle.bk_disk.specs.Disk.{IsCaused};
 ghost use Rattle.bk_collect.specs.Collecting.{AreSound};
 ghost use Rattle.bk_store.specs.Limits.{IsAllowed};
 ghost use Rattle.bk_store.specs.Opening.{OpenFails};
 ghost use Rattle.bk_store.specs.Plain.{Plain, Agrees as StoreAgrees};
 ghost use Rattle.bk_drive.specs.Plain.{PlainDesk, HasAt, after_work};
 ghost use Rattle.bk_lease.specs.Leases.{IsClosed};
-ghost use Rattle.bk_drive.specs.Machine.{Hold, WorkTurn, Turn, PlainTurn};
+ghost use Rattle.bk_drive.specs.Machine.{Hold, WorkTurn, Turn, PlainTurn, IsUnread, Closes, LetsGo};
 ghost use Rattle.bk_drive.specs.Headline.{Agrees, Headline};
-ghost use Rattle.bk_drive.specs.Leased.{AreOpenLeases, IsUnread, StandsClosed, Closes};
-ghost use Rattle.bk_drive.specs.Failing.{IsDiskFault, IsDeviceFault, NoneIsDiskFault, NeverFails};
+ghost use Rattle.bk_drive.specs.Leased.{AreOpenLeases, IsShut};
+ghost use Rattle.bk_drive.specs.Failing.{IsDiskFault, IsTold, NoneIsDiskFault, NeverFails};
 
 use crate::taking::{fetch_by, release, take};
 use crate::{Answer, Readers, Step, Work};
-use bk_collect::{CloseAnswer, close, rebuild, retire};
+use bk_collect::{CloseAnswer, close, rebuild, remove, retire};
+use bk_compact::{begin, copy, end_copy, finish, give_up, switch};
 use bk_disk::LogDisk;
 use bk_flush::{publish, roll, swap, write_one};
 use bk_store::{OpenFault, Settings, Store};
@@ -29,11 +29,12 @@ pub struct Ran<D: LogDisk> {
     pub readers: Readers<D::View>,
 }
 
-/// One step of the store alone, and its answer. It changes nothing of the plain map but which pairs are only cached.
+/// One step of the store alone, and its answer. It changes nothing of the plain map but which pairs are only cached. The
+/// device fails at most once in it, and then the answer is `Disk`.
 pub fn apply<D: LogDisk>(store: &mut Store<D>, work: Work) -> Answer
     ensures honest { store.new.honest ≡ store.old.honest }
-    ensures cause { IsCaused store.old.failures store.new.failures (IsDeviceFault result) }
-    ensures sound { AreSound D.View.sound → IsDiskFault result → IsDeviceFault result }
+    ensures cause { IsTold store.old.failures store.new.failures result }
+    ensures sound { AreSound D.View.sound → IsDiskFault result → store.old.failures < store.new.failures }
     ensures settings { store.new.settings ≡ store.old.settings }
     ensures turn { WorkTurn store.old work result store.new }
     ensures plain { IsTrue store.old.honest → (p : Plain) → StoreAgrees store.old p → StoreAgrees store.new (after_work result p) }
@@ -47,6 +48,13 @@ pub fn apply<D: LogDisk>(store: &mut Store<D>, work: Work) -> Answer
         Work::Retire(log) => Answer::Retire(retire(store, log)),
         Work::Rebuild => Answer::Rebuild(rebuild(store)),
         Work::Close(log) => Answer::Close(close(store, log)),
+        Work::Remove(log) => Answer::Remove(remove(store, log)),
+        Work::Begin(kind) => Answer::Begin(begin(store, kind)),
+        Work::Copy(count) => Answer::Copy(copy(store, count)),
+        Work::EndCopy => Answer::EndCopy(end_copy(store)),
+        Work::Switch(count) => Answer::Switch(switch(store, count)),
+        Work::Finish => Answer::Finish(finish(store)),
+        Work::GiveUp => Answer::GiveUp(give_up(store)),
     }
 }
 
@@ -106,8 +114,8 @@ fn turn<D: LogDisk>(
     ensures later { store.old.failures ≤ store.new.failures }
     ensures disk { AreSound D.View.sound → IsDiskFault result → store.old.failures < store.new.failures }
     ensures leases { AreOpenLeases store.new.keeper readers.new }
-    ensures closes { (log : ℕ) → Closes step.now result log → StandsClosed store.new.keeper log }
-    ensures closed { (log : ℕ) → StandsClosed store.old.keeper log → StandsClosed store.new.keeper log }
+    ensures closes { (log : ℕ) → LetsGo step.now result log → IsShut store.new log }
+    ensures closed { (log : ℕ) → IsShut store.old log → IsShut store.new log }
     ensures turn { Turn (record { store = store.old; readers = readers.old }) step.now result
         (record { store = store.new; readers = readers.new }) }
     ensures plain { IsTrue store.old.honest → (p : PlainDesk) → Agrees (record { store = store.old; readers = readers.old }) p
@@ -125,19 +133,20 @@ fn turn<D: LogDisk>(
     }
 }
 
-/// One step of the store alone. Where it closed a log, no reader has a lease of that log.
+/// One step of the store alone. Where it closed a log, or removed it, no reader has a lease of that log.
 fn work_on<D: LogDisk>(store: &mut Store<D>, readers: &mut Readers<D::View>, work: Work) -> Answer
     requires { AreOpenLeases store.old.keeper readers.old }
     ensures honest { store.new.honest ≡ store.old.honest }
-    ensures cause { IsCaused store.old.failures store.new.failures (IsDeviceFault result) }
-    ensures sound { AreSound D.View.sound → IsDiskFault result → IsDeviceFault result }
+    ensures cause { IsTold store.old.failures store.new.failures result }
+    ensures sound { AreSound D.View.sound → IsDiskFault result → store.old.failures < store.new.failures }
     ensures settings { store.new.settings ≡ store.old.settings }
     ensures turn { WorkTurn store.old work result store.new }
     ensures plain { IsTrue store.old.honest → (p : Plain) → StoreAgrees store.old p → StoreAgrees store.new (after_work result p) }
     ensures readers { readers.new ≡ readers.old }
     ensures leases { AreOpenLeases store.new.keeper readers.new }
-    ensures closes { (log : ℕ) → Closes (Step.Work work) result log → StandsClosed store.new.keeper log }
-    ensures closed { (log : ℕ) → StandsClosed store.old.keeper log → StandsClosed store.new.keeper log }
+    ensures unread { (log : ℕ) → LetsGo (Step.Work work) result log → IsUnread readers.old log }
+    ensures closes { (log : ℕ) → LetsGo (Step.Work work) result log → IsShut store.new log }
+    ensures closed { (log : ℕ) → IsShut store.old log → IsShut store.new log }
 {
     store.promise();
     let answer = apply(store, work);

@@ -1,6 +1,10 @@
 //! The steps of a script and their answers.
 
-use bk_collect::{CloseAnswer, CollectFault, RetireAnswer};
+use bk_collect::{CloseAnswer, CollectFault, RemoveAnswer, RetireAnswer};
+use bk_compact::{
+    BeginAnswer, CompactFault, CopyAnswer, EndAnswer, FinishAnswer, GiveUpAnswer, Kind,
+    SwitchAnswer,
+};
 use bk_flush::{FlushFault, PublishAnswer, RollAnswer, WriteAnswer};
 use bk_log::FetchFault;
 use bk_record::{Key, Location};
@@ -24,6 +28,20 @@ pub enum Work {
     Rebuild,
     /// Closes the log of this id, which is retired, where no lease of it is out.
     Close(u32),
+    /// Removes the log of this id, which is closed, with its file.
+    Remove(u32),
+    /// Begins a compaction of this kind: chooses the log, and makes the one that its entries are copied to.
+    Begin(Kind),
+    /// Examines so many more entries of the compaction's source, and copies those that the index names there.
+    Copy(u64),
+    /// Seals the copy and shows it, when all entries were examined.
+    EndCopy,
+    /// Sends so many more of the keys that were copied to their copies.
+    Switch(u64),
+    /// Retires the compaction's source, when all keys were sent on.
+    Finish,
+    /// Ends the compaction where it stands.
+    GiveUp,
 }
 
 /// One step. Readers are numbered from 0 to 3.
@@ -99,4 +117,11 @@ pub enum Answer {
     /// How many keys the new index has.
     Rebuild(Result<u64, CollectFault>),
     Close(CloseAnswer),
+    Remove(Result<RemoveAnswer, CollectFault>),
+    Begin(Result<BeginAnswer, CompactFault>),
+    Copy(Result<CopyAnswer, CompactFault>),
+    EndCopy(Result<EndAnswer, CompactFault>),
+    Switch(SwitchAnswer),
+    Finish(FinishAnswer),
+    GiveUp(GiveUpAnswer),
 }

@@ -2,9 +2,10 @@
 //! are the most that one has, and there are two of them.
 
 use crate::{
-    AddFault, Added, Answer, CloseAnswer, DeleteFault, FetchAnswer, FlushFault, OpenFault,
-    PublishAnswer, Ran, ReleaseAnswer, RetireAnswer, RollAnswer, Settings, Step, SwapAnswer,
-    TakeAnswer, TakeFault, Work, WriteAnswer, drive,
+    AddFault, Added, Answer, BeginAnswer, CloseAnswer, CompactFault, CopyAnswer, DeleteFault,
+    EndAnswer, FetchAnswer, FinishAnswer, FlushFault, GiveUpAnswer, OpenFault, PublishAnswer, Ran,
+    ReleaseAnswer, RemoveAnswer, RetireAnswer, RollAnswer, Settings, Step, SwapAnswer,
+    SwitchAnswer, TakeAnswer, TakeFault, Work, WriteAnswer, drive,
 };
 use bk_disk::{LogDisk, MemDisk};
 use bk_record::Key;
@@ -12,6 +13,7 @@ use std::alloc::{AllocError, Global};
 use std::test::Fail;
 
 mod collecting;
+mod compacting;
 mod deleting;
 mod failing;
 mod found;
@@ -135,13 +137,84 @@ fn told(answer: &Answer) -> Told {
         Answer::Roll(Ok(RollAnswer::FlushRunning)) => ("flush running", 0),
         Answer::Roll(Ok(RollAnswer::NothingOpen)) => ("nothing open", 0),
         Answer::Roll(Ok(RollAnswer::Sealed(log))) => ("sealed", u64::from(*log)),
-        Answer::Retire(RetireAnswer::NoLog) => ("no log", 0),
-        Answer::Retire(RetireAnswer::InUse) => ("in use", 0),
-        Answer::Retire(RetireAnswer::Retired(log)) => ("retired", u64::from(*log)),
-        Answer::Retire(RetireAnswer::StillNamed(keys)) => ("still named", *keys),
+        Answer::Retire(retired) => told_of_retire(retired),
         Answer::Rebuild(Ok(keys)) => ("rebuilt", *keys),
         Answer::Close(closed) => told_of_close(closed),
+        Answer::Remove(Ok(removed)) => told_of_remove(removed),
+        Answer::Begin(Ok(begun)) => told_of_begin(begun),
+        Answer::Begin(Err(CompactFault::LogsFull)) => ("logs full", 0),
+        Answer::Copy(Ok(copied)) => told_of_copy(copied),
+        Answer::EndCopy(Ok(ended)) => told_of_end(ended),
+        Answer::Switch(switched) => told_of_switch(switched),
+        Answer::Finish(finished) => told_of_finish(finished),
+        Answer::GiveUp(GiveUpAnswer::NoJob) => ("no job", 0),
+        Answer::GiveUp(GiveUpAnswer::GivenUp) => ("given up", 0),
         _ => ("another fault", 0),
+    }
+}
+
+fn told_of_retire(retired: &RetireAnswer) -> Told {
+    match retired {
+        RetireAnswer::NoLog => ("no log", 0),
+        RetireAnswer::InUse => ("in use", 0),
+        RetireAnswer::Retired(log) => ("retired", u64::from(*log)),
+        RetireAnswer::StillNamed(keys) => ("still named", *keys),
+    }
+}
+
+fn told_of_remove(removed: &RemoveAnswer) -> Told {
+    match removed {
+        RemoveAnswer::NoLog => ("no log", 0),
+        RemoveAnswer::NotClosed => ("not closed", 0),
+        RemoveAnswer::Removed => ("removed", 0),
+    }
+}
+
+fn told_of_begin(begun: &BeginAnswer) -> Told {
+    match begun {
+        BeginAnswer::JobRunning => ("job running", 0),
+        BeginAnswer::NothingToDo => ("nothing to do", 0),
+        BeginAnswer::Chosen(log) => ("chosen", u64::from(*log)),
+    }
+}
+
+fn told_of_copy(copied: &CopyAnswer) -> Told {
+    match copied {
+        CopyAnswer::NoJob => ("no job", 0),
+        CopyAnswer::NotNow => ("not now", 0),
+        CopyAnswer::AtEnd => ("at end", 0),
+        CopyAnswer::Copied(entries) => ("copied", *entries),
+    }
+}
+
+fn told_of_end(ended: &EndAnswer) -> Told {
+    match ended {
+        EndAnswer::NoJob => ("no job", 0),
+        EndAnswer::NotNow => ("not now", 0),
+        EndAnswer::NotAtEnd => ("not at end", 0),
+        EndAnswer::Ended(moves) => ("ended", *moves),
+    }
+}
+
+/// Of a switch it is how many keys were sent to their copies, and a hundred for each move that waits.
+fn told_of_switch(switched: &SwitchAnswer) -> Told {
+    match switched {
+        SwitchAnswer::NoJob => ("no job", 0),
+        SwitchAnswer::NotNow => ("not now", 0),
+        SwitchAnswer::Moved(moved, left) => (
+            "moved",
+            left.saturating_mul(100).saturating_add(*moved),
+        ),
+    }
+}
+
+fn told_of_finish(finished: &FinishAnswer) -> Told {
+    match finished {
+        FinishAnswer::NoJob => ("no job", 0),
+        FinishAnswer::NotNow => ("not now", 0),
+        FinishAnswer::Left(moves) => ("left", *moves),
+        FinishAnswer::StillNamed(keys) => ("still named", *keys),
+        FinishAnswer::Retired(log) => ("retired", u64::from(*log)),
     }
 }
 

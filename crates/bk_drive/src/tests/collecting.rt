@@ -74,7 +74,7 @@ fn hold(alloc: Global, disk: &mut MemDisk, log: u32, records: &[u8]) -> Result<(
 }
 
 /// Log 0 has an entry of ledger 3, and log 2 another one of the same key, and an entry of ledger 4.
-fn two_logs(alloc: Global) -> Result<MemDisk, Fail> {
+pub(super) fn two_logs(alloc: Global) -> Result<MemDisk, Fail> {
     let mut old = Vec::new(alloc);
     old.extend_from_slice(&THIRD)?;
     old.push(b'x')?;
