@@ -1,5 +1,5 @@
 -- A job that is taken out of a store, or given back, keeps what a store keeps.
-use Rattle.std.proofs.Common.{◌≡◌, Option, Some, None, refl, subst}
+use Rattle.std.proofs.Common.{◌≡◌, Option, Some, None, refl, sym, subst, ◌∙◌}
 use Rattle.std.specs.FinMap as finite
 use Rattle.bk_store.specs.Jobs.{Job}
 use Rattle.bk_store.specs.JobKept.{IsJob}
@@ -55,8 +55,8 @@ keeps_job p now keeps each =
           };
     }
 
-pub keeps_without_job : (p : Parts) → Keeps p → Keeps (with_job p None)
-keeps_without_job p keeps = keeps_job p None keeps (λ job wrong. absurd (cc))
+pub keeps_without_job : (p : Parts) (now : Option Job) → now ≡ None → Keeps p → Keeps (with_job p now)
+keeps_without_job p now none keeps = keeps_job p now keeps (λ job wrong. absurd (let both : None ≡ Some job = sym none ∙ wrong in cc))
 
 pub keeps_with_job : (p : Parts) (own : Job) → Keeps p → IsJob p.state own → Keeps (with_job p (Some own))
 keeps_with_job p own keeps kept =
