@@ -5,9 +5,9 @@ use Rattle.std.specs.Result.{IfOk, MatchResult}
 use Rattle.bk_drive.specs.declared.step.Step.{Step}
 use Rattle.bk_drive.specs.declared.step.Step.TheVariants as steps
 use Rattle.bk_drive.specs.declared.step.Work.{Work}
-use Rattle.bk_drive.specs.declared.step.Work.TheVariants.{Retire, Close}
+use Rattle.bk_drive.specs.declared.step.Work.TheVariants.{Retire, Close, Remove, Copy, Switch}
 use Rattle.bk_record.specs.Key.{EntryKey}
-use Rattle.bk_script.specs.Line.{IsPrintable, IsWord, IsAdd, words, followed, IsAlone, word_of, Spells, work, add, add_text, pad, take, fetch, release, delete, retire, close}
+use Rattle.bk_script.specs.Line.{IsPrintable, IsWord, IsAdd, words, followed, IsAlone, word_of, Spells, work, add, add_text, pad, take, fetch, release, delete, retire, close, remove, copy, switch}
 use Rattle.bk_script.specs.declared.line.LineFault.{LineFault}
 use Rattle.bk_script.specs.declared.line.LineFault.TheVariants.{Memory}
 use Rattle.bk_script.proofs.Printable.{printable_behind}
@@ -37,6 +37,15 @@ spelled_retire log text low is = rw is (retire {log = log} low)
 
 pub spelled_close : (log : ℕ) (text : List ℕ) → log < 2 ^ 31 → text ≡ decimal log → Spells (codes "close" ++ 32 ∷ text) (steps.Work (Close log))
 spelled_close log text low is = rw is (close {log = log} low)
+
+pub spelled_remove : (log : ℕ) (text : List ℕ) → log < 2 ^ 31 → text ≡ decimal log → Spells (codes "remove" ++ 32 ∷ text) (steps.Work (Remove log))
+spelled_remove log text low is = rw is (remove {log = log} low)
+
+pub spelled_copy : (count : ℕ) (text : List ℕ) → count < 2 ^ 32 → text ≡ decimal count → Spells (codes "copy" ++ 32 ∷ text) (steps.Work (Copy count))
+spelled_copy count text low is = rw is (copy {count = count} low)
+
+pub spelled_switch : (count : ℕ) (text : List ℕ) → count < 2 ^ 32 → text ≡ decimal count → Spells (codes "switch" ++ 32 ∷ text) (steps.Work (Switch count))
+spelled_switch count text low is = rw is (switch {count = count} low)
 
 pub spelled_pad : (ledger entry size : ℕ) (text : List ℕ) (r : Result Step LineFault) → ledger < 2 ^ 63 → entry < 2 ^ 63 → size ≤ 2097152
     → text ≡ words (decimal ledger ∷ decimal entry ∷ decimal size ∷ [])

@@ -1,10 +1,9 @@
 -- What the parts of a line that spells a step are: its first word, and what stands behind that word and a space.
-use Rattle.std.proofs.Common.{◌≡◌, ◌≢◌, ℕ, ◌<◌, ◌≤◌, ◌^◌, List, [], ◌∷◌, ◌++◌, codes, Option, Some, None, ◌⊎◌, inl, inr, false, eqb, eq-eqb, slice_index, arith, refl, sym, ◌∙◌, ap, subst}
-use Rattle.std.proofs.lemmas.Bool.{false≢true}
+use Rattle.std.proofs.Common.{◌≡◌, ◌≢◌, ℕ, ◌+◌, ◌*◌, ◌<◌, ◌≤◌, ◌^◌, List, [], ◌∷◌, ◌++◌, codes, Option, Some, None, cond, eqb, slice_index, arith, refl, sym, ◌∙◌, ap, subst}
 use Rattle.std.specs.Fmt.{decimal}
 use Rattle.bk_drive.specs.declared.step.Step.{Step}
 use Rattle.bk_drive.specs.declared.step.Work.{Work}
-use Rattle.bk_script.specs.Line.{IsWord, words, followed, IsAlone, word_of, Spells, work, add, add_text, pad, take, fetch, release, delete, retire, close}
+use Rattle.bk_script.specs.Line.{IsWord, words, followed, IsAlone, word_of, Spells, work, add, add_text, pad, take, fetch, release, delete, retire, close, remove, copy, switch}
 use Rattle.bk_script.proofs.Words.{IsWord-from_test, IsWord-word_of, followed-injective}
 
 -- what stands behind `add` and a space
@@ -31,12 +30,6 @@ pub record IsThree (first second third : ℕ) (text : List ℕ) : Type 0 where
 abbrev pub max_id : ℕ
 max_id = 9223372036854775807
 
-abbrev pub IsPadText : List ℕ → Type 0
-IsPadText = IsThree max_id max_id 2097152
-
-abbrev pub IsTakeText : List ℕ → Type 0
-IsTakeText = IsThree 3 max_id max_id
-
 -- the number of a reader: what stands behind `fetch` or `release` and a space
 pub record IsReader (text : List ℕ) : Type 0 where
   pub reader : ℕ
@@ -49,23 +42,103 @@ pub record IsLedger (text : List ℕ) : Type 0 where
   pub fits : ledger < 2 ^ 63
   pub is : text ≡ decimal ledger
 
--- a log: what stands behind `retire` or `close` and a space
+-- a log: what stands behind `retire`, `close` or `remove` and a space
 pub record IsLog (text : List ℕ) : Type 0 where
   pub log : ℕ
   pub fits : log < 2 ^ 31
   pub is : text ≡ decimal log
 
+-- how many: what stands behind `copy` or `switch` and a space
+pub record IsCount (text : List ℕ) : Type 0 where
+  pub count : ℕ
+  pub fits : count < 2 ^ 32
+  pub is : text ≡ decimal count
+
+-- the first words that a line goes on behind
+pub data Opener : Type 0 where
+  add_opens : Opener
+  pad_opens : Opener
+  take_opens : Opener
+  fetch_opens : Opener
+  release_opens : Opener
+  delete_opens : Opener
+  retire_opens : Opener
+  close_opens : Opener
+  remove_opens : Opener
+  copy_opens : Opener
+  switch_opens : Opener
+
+abbrev pub opener : Opener → List ℕ
+opener add_opens = codes "add"
+opener pad_opens = codes "pad"
+opener take_opens = codes "take"
+opener fetch_opens = codes "fetch"
+opener release_opens = codes "release"
+opener delete_opens = codes "delete"
+opener retire_opens = codes "retire"
+opener close_opens = codes "close"
+opener remove_opens = codes "remove"
+opener copy_opens = codes "copy"
+opener switch_opens = codes "switch"
+
+-- what stands behind it and a space
+abbrev pub IsBehind : Opener → List ℕ → Type 0
+IsBehind add_opens = IsAddText
+IsBehind pad_opens = IsThree max_id max_id 2097152
+IsBehind take_opens = IsThree 3 max_id max_id
+IsBehind fetch_opens = IsReader
+IsBehind release_opens = IsReader
+IsBehind delete_opens = IsLedger
+IsBehind retire_opens = IsLog
+IsBehind close_opens = IsLog
+IsBehind remove_opens = IsLog
+IsBehind copy_opens = IsCount
+IsBehind switch_opens = IsCount
+
+IsWord-opener : (o : Opener) → IsWord (opener o)
+IsWord-opener add_opens = IsWord-from_test (codes "add") refl
+IsWord-opener pad_opens = IsWord-from_test (codes "pad") refl
+IsWord-opener take_opens = IsWord-from_test (codes "take") refl
+IsWord-opener fetch_opens = IsWord-from_test (codes "fetch") refl
+IsWord-opener release_opens = IsWord-from_test (codes "release") refl
+IsWord-opener delete_opens = IsWord-from_test (codes "delete") refl
+IsWord-opener retire_opens = IsWord-from_test (codes "retire") refl
+IsWord-opener close_opens = IsWord-from_test (codes "close") refl
+IsWord-opener remove_opens = IsWord-from_test (codes "remove") refl
+IsWord-opener copy_opens = IsWord-from_test (codes "copy") refl
+IsWord-opener switch_opens = IsWord-from_test (codes "switch") refl
+
+-- no two of them have the same first and third letters
+marked : ℕ → Option Opener
+marked n = cond (eqb n 24932) (Some add_opens) (cond (eqb n 28772) (Some pad_opens) (cond (eqb n 29803) (Some take_opens)
+    (cond (eqb n 26228) (Some fetch_opens) (cond (eqb n 29292) (Some release_opens) (cond (eqb n 25708) (Some delete_opens)
+    (cond (eqb n 29300) (Some retire_opens) (cond (eqb n 25455) (Some close_opens) (cond (eqb n 29293) (Some remove_opens)
+    (cond (eqb n 25456) (Some copy_opens) (cond (eqb n 29545) (Some switch_opens) None))))))))))
+
+opened_by : List ℕ → Option Opener
+opened_by word = marked (slice_index word 0 * 256 + slice_index word 2)
+
+opened_by-opener : (o : Opener) → opened_by (opener o) ≡ Some o
+unfolding opened_by marked
+opened_by-opener add_opens = refl
+opened_by-opener pad_opens = refl
+opened_by-opener take_opens = refl
+opened_by-opener fetch_opens = refl
+opened_by-opener release_opens = refl
+opened_by-opener delete_opens = refl
+opened_by-opener retire_opens = refl
+opened_by-opener close_opens = refl
+opened_by-opener remove_opens = refl
+opened_by-opener copy_opens = refl
+opened_by-opener switch_opens = refl
+
+same_opener : (o p : Opener) → opener o ≡ opener p → o ≡ p
+same_opener o p e = let same : Some o ≡ Some p = sym (opened_by-opener o) ∙ (ap opened_by e ∙ opened_by-opener p) in cc
+
 -- the first word of a line that spells a step, and what stands behind it
-pub data Parts : List ℕ → Option (List ℕ) → Type 0 where
+data Parts : List ℕ → Option (List ℕ) → Type 0 where
   alone : (call : Work) → IsAlone call → Parts (word_of call) None
-  adds : {text : List ℕ} → IsAddText text → Parts (codes "add") (Some text)
-  pads : {text : List ℕ} → IsPadText text → Parts (codes "pad") (Some text)
-  takes : {text : List ℕ} → IsTakeText text → Parts (codes "take") (Some text)
-  fetches : {text : List ℕ} → IsReader text → Parts (codes "fetch") (Some text)
-  releases : {text : List ℕ} → IsReader text → Parts (codes "release") (Some text)
-  deletes : {text : List ℕ} → IsLedger text → Parts (codes "delete") (Some text)
-  retires : {text : List ℕ} → IsLog text → Parts (codes "retire") (Some text)
-  closes : {text : List ℕ} → IsLog text → Parts (codes "close") (Some text)
+  goes_on : (o : Opener) {text : List ℕ} → IsBehind o text → Parts (opener o) (Some text)
 
 record HasParts (line : List ℕ) : Type 0 where
   name : List ℕ
@@ -74,71 +147,27 @@ record HasParts (line : List ℕ) : Type 0 where
   whole : line ≡ followed name rest
   parts : Parts name rest
 
+opened : (o : Opener) (text : List ℕ) → IsBehind o text → HasParts (opener o ++ 32 ∷ text)
+opened o text h = record { name = opener o; rest = Some text; word = IsWord-opener o; whole = refl; parts = goes_on o h }
+
 parted : {line : List ℕ} {step : Step} → Spells line step → HasParts line
 parted (work {call = call} is) = record { name = word_of call; rest = None; word = IsWord-word_of call; whole = refl; parts = alone call is }
-parted (add {ledger = ledger} {entry = entry} low high is) = record {
-  name = codes "add";
-  rest = _;
-  word = IsWord-from_test (codes "add") refl;
-  whole = refl;
-  parts = adds (record { ledger = ledger; entry = entry; rest = None; ledger_fits = low; entry_fits = high; some = λ e. cc; is = refl });
-}
-parted (add_text {ledger = ledger} {entry = entry} {text = text} low high some all is) = record {
-  name = codes "add";
-  rest = _;
-  word = IsWord-from_test (codes "add") refl;
-  whole = refl;
-  parts = adds (record { ledger = ledger; entry = entry; rest = Some text; ledger_fits = low; entry_fits = high; some = λ e. some cc; is = refl });
-}
-parted (pad {ledger = ledger} {entry = entry} {size = size} low high small is) = record {
-  name = codes "pad";
-  rest = _;
-  word = IsWord-from_test (codes "pad") refl;
-  whole = refl;
-  parts = pads (record { a = ledger; b = entry; c = size; a_fits = omega arith; b_fits = omega arith; c_fits = small; is = refl });
-}
-parted (take {reader = reader} {ledger = ledger} {entry = entry} few low high) = record {
-  name = codes "take";
-  rest = _;
-  word = IsWord-from_test (codes "take") refl;
-  whole = refl;
-  parts = takes (record { a = reader; b = ledger; c = entry; a_fits = few; b_fits = omega arith; c_fits = omega arith; is = refl });
-}
-parted (fetch {reader = reader} few) = record {
-  name = codes "fetch";
-  rest = _;
-  word = IsWord-from_test (codes "fetch") refl;
-  whole = refl;
-  parts = fetches (record { reader = reader; fits = few; is = refl });
-}
-parted (release {reader = reader} few) = record {
-  name = codes "release";
-  rest = _;
-  word = IsWord-from_test (codes "release") refl;
-  whole = refl;
-  parts = releases (record { reader = reader; fits = few; is = refl });
-}
-parted (delete {ledger = ledger} low) = record {
-  name = codes "delete";
-  rest = _;
-  word = IsWord-from_test (codes "delete") refl;
-  whole = refl;
-  parts = deletes (record { ledger = ledger; fits = low; is = refl });
-}
-parted (retire {log = log} low) = record {
-  name = codes "retire";
-  rest = _;
-  word = IsWord-from_test (codes "retire") refl;
-  whole = refl;
-  parts = retires (record { log = log; fits = low; is = refl });
-}
-parted (close {log = log} low) = record {
-  name = codes "close";
-  rest = _;
-  word = IsWord-from_test (codes "close") refl;
-  whole = refl;
-  parts = closes (record { log = log; fits = low; is = refl });
-}
+parted (add {ledger = ledger} {entry = entry} low high is) =
+    opened add_opens _ (record { ledger = ledger; entry = entry; rest = None; ledger_fits = low; entry_fits = high; some = λ e. cc; is = refl })
+parted (add_text {ledger = ledger} {entry = entry} {text = text} low high some all is) =
+    opened add_opens _ (record { ledger = ledger; entry = entry; rest = Some text; ledger_fits = low; entry_fits = high; some = λ e. some cc; is = refl })
+parted (pad {ledger = ledger} {entry = entry} {size = size} low high small is) =
+    opened pad_opens _ (record { a = ledger; b = entry; c = size; a_fits = omega arith; b_fits = omega arith; c_fits = small; is = refl })
+parted (take {reader = reader} {ledger = ledger} {entry = entry} few low high) =
+    opened take_opens _ (record { a = reader; b = ledger; c = entry; a_fits = few; b_fits = omega arith; c_fits = omega arith; is = refl })
+parted (fetch {reader = reader} few) = opened fetch_opens _ (record { reader = reader; fits = few; is = refl })
+parted (release {reader = reader} few) = opened release_opens _ (record { reader = reader; fits = few; is = refl })
+parted (delete {ledger = ledger} low) = opened delete_opens _ (record { ledger = ledger; fits = low; is = refl })
+parted (retire {log = log} low) = opened retire_opens _ (record { log = log; fits = low; is = refl })
+parted (close {log = log} low) = opened close_opens _ (record { log = log; fits = low; is = refl })
+parted (remove {log = log} low) = opened remove_opens _ (record { log = log; fits = low; is = refl })
+parted (copy {count = count} low) = opened copy_opens _ (record { count = count; fits = low; is = refl })
+parted (switch {count = count} low) = opened switch_opens _ (record { count = count; fits = low; is = refl })
 
 parts_of : {line : List ℕ} {step : Step} (name : List ℕ) (rest : Option (List ℕ)) → IsWord name → line ≡ followed name rest
     → Spells line step → Parts name rest
@@ -149,158 +178,29 @@ parts_of name rest word whole spells =
     let Q : Option (List ℕ) → Type 0 = λ r. Parts p.name r in
     subst P same.0 (subst Q same.1 p.parts)
 
--- words that begin with different letters
-apart : (a b : List ℕ) → eqb (slice_index a 0) (slice_index b 0) ≡ false → a ≡ b → ⊥
-apart a b differ is = false≢true (sym differ ∙ eq-eqb _ _ (ap (λ (word : List ℕ). slice_index word 0) is))
-
--- words whose third letters differ
-apart_third : (a b : List ℕ) → eqb (slice_index a 2) (slice_index b 2) ≡ false → a ≡ b → ⊥
-apart_third a b differ is = false≢true (sym differ ∙ eq-eqb _ _ (ap (λ (word : List ℕ). slice_index word 2) is))
-
--- what stands behind each of the words
-adds_of : {name : List ℕ} {rest : Option (List ℕ)} → Parts name rest → (text : List ℕ) → name ≡ codes "add" → rest ≡ Some text → IsAddText text
-adds_of (alone call is) text e f = cc
-adds_of (adds {text = t} h) text e f = let same : t ≡ text = cc in subst IsAddText same h
-adds_of (pads h) text e f = absurd (apart (codes "pad") (codes "add") refl e)
-adds_of (takes h) text e f = absurd (apart (codes "take") (codes "add") refl e)
-adds_of (fetches h) text e f = absurd (apart (codes "fetch") (codes "add") refl e)
-adds_of (releases h) text e f = absurd (apart (codes "release") (codes "add") refl e)
-adds_of (deletes h) text e f = absurd (apart (codes "delete") (codes "add") refl e)
-adds_of (retires h) text e f = absurd (apart (codes "retire") (codes "add") refl e)
-adds_of (closes h) text e f = absurd (apart (codes "close") (codes "add") refl e)
-
-pads_of : {name : List ℕ} {rest : Option (List ℕ)} → Parts name rest → (text : List ℕ) → name ≡ codes "pad" → rest ≡ Some text → IsPadText text
-pads_of (alone call is) text e f = cc
-pads_of (adds h) text e f = absurd (apart (codes "add") (codes "pad") refl e)
-pads_of (pads {text = t} h) text e f = let same : t ≡ text = cc in subst IsPadText same h
-pads_of (takes h) text e f = absurd (apart (codes "take") (codes "pad") refl e)
-pads_of (fetches h) text e f = absurd (apart (codes "fetch") (codes "pad") refl e)
-pads_of (releases h) text e f = absurd (apart (codes "release") (codes "pad") refl e)
-pads_of (deletes h) text e f = absurd (apart (codes "delete") (codes "pad") refl e)
-pads_of (retires h) text e f = absurd (apart (codes "retire") (codes "pad") refl e)
-pads_of (closes h) text e f = absurd (apart (codes "close") (codes "pad") refl e)
-
-takes_of : {name : List ℕ} {rest : Option (List ℕ)} → Parts name rest → (text : List ℕ) → name ≡ codes "take" → rest ≡ Some text → IsTakeText text
-takes_of (alone call is) text e f = cc
-takes_of (adds h) text e f = absurd (apart (codes "add") (codes "take") refl e)
-takes_of (pads h) text e f = absurd (apart (codes "pad") (codes "take") refl e)
-takes_of (takes {text = t} h) text e f = let same : t ≡ text = cc in subst IsTakeText same h
-takes_of (fetches h) text e f = absurd (apart (codes "fetch") (codes "take") refl e)
-takes_of (releases h) text e f = absurd (apart (codes "release") (codes "take") refl e)
-takes_of (deletes h) text e f = absurd (apart (codes "delete") (codes "take") refl e)
-takes_of (retires h) text e f = absurd (apart (codes "retire") (codes "take") refl e)
-takes_of (closes h) text e f = absurd (apart (codes "close") (codes "take") refl e)
-
-fetches_of : {name : List ℕ} {rest : Option (List ℕ)} → Parts name rest → (text : List ℕ) → name ≡ codes "fetch" → rest ≡ Some text → IsReader text
-fetches_of (alone call is) text e f = cc
-fetches_of (adds h) text e f = absurd (apart (codes "add") (codes "fetch") refl e)
-fetches_of (pads h) text e f = absurd (apart (codes "pad") (codes "fetch") refl e)
-fetches_of (takes h) text e f = absurd (apart (codes "take") (codes "fetch") refl e)
-fetches_of (fetches {text = t} h) text e f = let same : t ≡ text = cc in subst IsReader same h
-fetches_of (releases h) text e f = absurd (apart (codes "release") (codes "fetch") refl e)
-fetches_of (deletes h) text e f = absurd (apart (codes "delete") (codes "fetch") refl e)
-fetches_of (retires h) text e f = absurd (apart (codes "retire") (codes "fetch") refl e)
-fetches_of (closes h) text e f = absurd (apart (codes "close") (codes "fetch") refl e)
-
-releases_of : {name : List ℕ} {rest : Option (List ℕ)} → Parts name rest → (text : List ℕ) → name ≡ codes "release" → rest ≡ Some text → IsReader text
-releases_of (alone call is) text e f = cc
-releases_of (adds h) text e f = absurd (apart (codes "add") (codes "release") refl e)
-releases_of (pads h) text e f = absurd (apart (codes "pad") (codes "release") refl e)
-releases_of (takes h) text e f = absurd (apart (codes "take") (codes "release") refl e)
-releases_of (fetches h) text e f = absurd (apart (codes "fetch") (codes "release") refl e)
-releases_of (releases {text = t} h) text e f = let same : t ≡ text = cc in subst IsReader same h
-releases_of (deletes h) text e f = absurd (apart (codes "delete") (codes "release") refl e)
-releases_of (retires h) text e f = absurd (apart_third (codes "retire") (codes "release") refl e)
-releases_of (closes h) text e f = absurd (apart (codes "close") (codes "release") refl e)
-
-deletes_of : {name : List ℕ} {rest : Option (List ℕ)} → Parts name rest → (text : List ℕ) → name ≡ codes "delete" → rest ≡ Some text → IsLedger text
-deletes_of (alone call is) text e f = cc
-deletes_of (adds h) text e f = absurd (apart (codes "add") (codes "delete") refl e)
-deletes_of (pads h) text e f = absurd (apart (codes "pad") (codes "delete") refl e)
-deletes_of (takes h) text e f = absurd (apart (codes "take") (codes "delete") refl e)
-deletes_of (fetches h) text e f = absurd (apart (codes "fetch") (codes "delete") refl e)
-deletes_of (releases h) text e f = absurd (apart (codes "release") (codes "delete") refl e)
-deletes_of (deletes {text = t} h) text e f = let same : t ≡ text = cc in subst IsLedger same h
-deletes_of (retires h) text e f = absurd (apart (codes "retire") (codes "delete") refl e)
-deletes_of (closes h) text e f = absurd (apart (codes "close") (codes "delete") refl e)
-
-retires_of : {name : List ℕ} {rest : Option (List ℕ)} → Parts name rest → (text : List ℕ) → name ≡ codes "retire" → rest ≡ Some text → IsLog text
-retires_of (alone call is) text e f = cc
-retires_of (adds h) text e f = absurd (apart (codes "add") (codes "retire") refl e)
-retires_of (pads h) text e f = absurd (apart (codes "pad") (codes "retire") refl e)
-retires_of (takes h) text e f = absurd (apart (codes "take") (codes "retire") refl e)
-retires_of (fetches h) text e f = absurd (apart (codes "fetch") (codes "retire") refl e)
-retires_of (releases h) text e f = absurd (apart_third (codes "release") (codes "retire") refl e)
-retires_of (deletes h) text e f = absurd (apart (codes "delete") (codes "retire") refl e)
-retires_of (retires {text = t} h) text e f = let same : t ≡ text = cc in subst IsLog same h
-retires_of (closes h) text e f = absurd (apart (codes "close") (codes "retire") refl e)
-
-closes_of : {name : List ℕ} {rest : Option (List ℕ)} → Parts name rest → (text : List ℕ) → name ≡ codes "close" → rest ≡ Some text → IsLog text
-closes_of (alone call is) text e f = cc
-closes_of (adds h) text e f = absurd (apart (codes "add") (codes "close") refl e)
-closes_of (pads h) text e f = absurd (apart (codes "pad") (codes "close") refl e)
-closes_of (takes h) text e f = absurd (apart (codes "take") (codes "close") refl e)
-closes_of (fetches h) text e f = absurd (apart (codes "fetch") (codes "close") refl e)
-closes_of (releases h) text e f = absurd (apart (codes "release") (codes "close") refl e)
-closes_of (deletes h) text e f = absurd (apart (codes "delete") (codes "close") refl e)
-closes_of (retires h) text e f = absurd (apart (codes "retire") (codes "close") refl e)
-closes_of (closes {text = t} h) text e f = let same : t ≡ text = cc in subst IsLog same h
+text_of : (o : Opener) {name : List ℕ} {rest : Option (List ℕ)} → Parts name rest → (text : List ℕ) → name ≡ opener o → rest ≡ Some text
+    → IsBehind o text
+text_of o (alone call is) text e f = cc
+text_of o (goes_on p {text = t} h) text e f =
+    let behind : t ≡ text = cc in
+    subst (λ (q : Opener). IsBehind q text) (same_opener p o e) (subst (IsBehind p) behind h)
 
 alone_of : {name : List ℕ} {rest : Option (List ℕ)} → Parts name rest → rest ≡ None → (call : Work) × IsAlone call × (name ≡ word_of call)
 alone_of (alone call is) f = (call, is, refl)
-alone_of (adds h) f = cc
-alone_of (pads h) f = cc
-alone_of (takes h) f = cc
-alone_of (fetches h) f = cc
-alone_of (releases h) f = cc
-alone_of (deletes h) f = cc
-alone_of (retires h) f = cc
-alone_of (closes h) f = cc
+alone_of (goes_on o h) f = cc
 
--- the words that go on
-abbrev pub IsCalled : List ℕ → Type 0
-IsCalled name = (name ≡ codes "add") ⊎ ((name ≡ codes "pad") ⊎ ((name ≡ codes "take") ⊎ ((name ≡ codes "fetch")
-    ⊎ ((name ≡ codes "release") ⊎ ((name ≡ codes "delete") ⊎ ((name ≡ codes "retire") ⊎ (name ≡ codes "close")))))))
+opener_in : {name : List ℕ} {rest : Option (List ℕ)} → Parts name rest → (text : List ℕ) → rest ≡ Some text → (o : Opener) × (name ≡ opener o)
+opener_in (alone call is) text f = cc
+opener_in (goes_on o h) text f = (o, refl)
 
-named_of : {name : List ℕ} {rest : Option (List ℕ)} → Parts name rest → (text : List ℕ) → rest ≡ Some text → IsCalled name
-named_of (alone call is) text f = cc
-named_of (adds h) text f = inl refl
-named_of (pads h) text f = inr (inl refl)
-named_of (takes h) text f = inr (inr (inl refl))
-named_of (fetches h) text f = inr (inr (inr (inl refl)))
-named_of (releases h) text f = inr (inr (inr (inr (inl refl))))
-named_of (deletes h) text f = inr (inr (inr (inr (inr (inl refl)))))
-named_of (retires h) text f = inr (inr (inr (inr (inr (inr (inl refl))))))
-named_of (closes h) text f = inr (inr (inr (inr (inr (inr (inr refl))))))
-
-pub add_text_of : (text : List ℕ) (step : Step) → Spells (codes "add" ++ 32 ∷ text) step → IsAddText text
-add_text_of text step h = adds_of (parts_of (codes "add") (Some text) (IsWord-from_test (codes "add") refl) refl h) text refl refl
-
-pub pad_text_of : (text : List ℕ) (step : Step) → Spells (codes "pad" ++ 32 ∷ text) step → IsPadText text
-pad_text_of text step h = pads_of (parts_of (codes "pad") (Some text) (IsWord-from_test (codes "pad") refl) refl h) text refl refl
-
-pub take_text_of : (text : List ℕ) (step : Step) → Spells (codes "take" ++ 32 ∷ text) step → IsTakeText text
-take_text_of text step h = takes_of (parts_of (codes "take") (Some text) (IsWord-from_test (codes "take") refl) refl h) text refl refl
-
-pub fetch_text_of : (text : List ℕ) (step : Step) → Spells (codes "fetch" ++ 32 ∷ text) step → IsReader text
-fetch_text_of text step h = fetches_of (parts_of (codes "fetch") (Some text) (IsWord-from_test (codes "fetch") refl) refl h) text refl refl
-
-pub release_text_of : (text : List ℕ) (step : Step) → Spells (codes "release" ++ 32 ∷ text) step → IsReader text
-release_text_of text step h = releases_of (parts_of (codes "release") (Some text) (IsWord-from_test (codes "release") refl) refl h) text refl refl
-
-pub delete_text_of : (text : List ℕ) (step : Step) → Spells (codes "delete" ++ 32 ∷ text) step → IsLedger text
-delete_text_of text step h = deletes_of (parts_of (codes "delete") (Some text) (IsWord-from_test (codes "delete") refl) refl h) text refl refl
-
-pub retire_text_of : (text : List ℕ) (step : Step) → Spells (codes "retire" ++ 32 ∷ text) step → IsLog text
-retire_text_of text step h = retires_of (parts_of (codes "retire") (Some text) (IsWord-from_test (codes "retire") refl) refl h) text refl refl
-
-pub close_text_of : (text : List ℕ) (step : Step) → Spells (codes "close" ++ 32 ∷ text) step → IsLog text
-close_text_of text step h = closes_of (parts_of (codes "close") (Some text) (IsWord-from_test (codes "close") refl) refl h) text refl refl
+-- what stands behind the first word of a line that spells a step
+pub behind_of : (o : Opener) (text : List ℕ) (step : Step) → Spells (opener o ++ 32 ∷ text) step → IsBehind o text
+behind_of o text step h = text_of o (parts_of (opener o) (Some text) (IsWord-opener o) refl h) text refl refl
 
 -- a line without a space that spells a step is the word of a call
 pub call_of : (line : List ℕ) (step : Step) → IsWord line → Spells line step → (call : Work) × IsAlone call × (line ≡ word_of call)
 call_of line step word h = alone_of (parts_of line None word refl h) refl
 
 -- a line with a space begins with one of these words
-pub name_of : (name text : List ℕ) (step : Step) → IsWord name → Spells (name ++ 32 ∷ text) step → IsCalled name
-name_of name text step word h = named_of (parts_of name (Some text) word refl h) text refl
+pub opener_of : (name text : List ℕ) (step : Step) → IsWord name → Spells (name ++ 32 ∷ text) step → (o : Opener) × (name ≡ opener o)
+opener_of name text step word h = opener_in (parts_of name (Some text) word refl h) text refl

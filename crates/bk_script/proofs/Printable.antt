@@ -15,8 +15,9 @@ use Rattle.std.proofs.lemmas.List.Sums.{AllPass-from_list_all}
 use Rattle.std.proofs.lemmas.Bool.Decides.{nat_tests}
 use Rattle.bk_drive.specs.declared.step.Step.{Step}
 use Rattle.bk_drive.specs.declared.step.Work.{Work}
-use Rattle.bk_drive.specs.declared.step.Work.TheVariants.{Swap, WriteOne, Publish, Roll, Retire, Rebuild, Close}
-use Rattle.bk_script.specs.Line.{IsPrintable, word_of, words, Spells, work, add, add_text, pad, take, fetch, release, delete, retire, close}
+use Rattle.bk_drive.specs.declared.step.Work.TheVariants.{Swap, WriteOne, Publish, Roll, Retire, Rebuild, Close, Remove, Begin, Copy, EndCopy, Switch, Finish, GiveUp}
+use Rattle.bk_compact.specs.declared.answer.Kind.TheVariants.{Minor, Major}
+use Rattle.bk_script.specs.Line.{IsPrintable, word_of, words, Spells, work, add, add_text, pad, take, fetch, release, delete, retire, close, remove, copy, switch}
 
 pub printable_behind : (name rest : List ℕ) → All IsPrintable (name ++ 32 ∷ rest) → All IsPrintable rest
 printable_behind [] rest h = All-tail IsPrintable 32 rest h
@@ -48,6 +49,14 @@ printable_word Roll = printable_test (word_of Roll) refl
 printable_word (Retire log) = printable_test (word_of (Retire log)) refl
 printable_word Rebuild = printable_test (word_of Rebuild) refl
 printable_word (Close log) = printable_test (word_of (Close log)) refl
+printable_word (Remove log) = printable_test (word_of (Remove log)) refl
+printable_word (Begin Minor) = printable_test (word_of (Begin Minor)) refl
+printable_word (Begin Major) = printable_test (word_of (Begin Major)) refl
+printable_word (Copy count) = printable_test (word_of (Copy count)) refl
+printable_word EndCopy = printable_test (word_of EndCopy) refl
+printable_word (Switch count) = printable_test (word_of (Switch count)) refl
+printable_word Finish = printable_test (word_of Finish) refl
+printable_word GiveUp = printable_test (word_of GiveUp) refl
 
 followed_by : (word rest : List ℕ) → All IsPrintable word → All IsPrintable rest → All IsPrintable (word ++ 32 ∷ rest)
 followed_by word rest h k = All-append IsPrintable word (32 ∷ rest) h (All-cons IsPrintable 32 rest (omega arith, omega arith) k)
@@ -75,3 +84,9 @@ printable_line (retire {log = log} low) =
     followed_by (codes "retire") _ (printable_test (codes "retire") refl) (printable_decimal log (omega (arith, low)))
 printable_line (close {log = log} low) =
     followed_by (codes "close") _ (printable_test (codes "close") refl) (printable_decimal log (omega (arith, low)))
+printable_line (remove {log = log} low) =
+    followed_by (codes "remove") _ (printable_test (codes "remove") refl) (printable_decimal log (omega (arith, low)))
+printable_line (copy {count = count} low) =
+    followed_by (codes "copy") _ (printable_test (codes "copy") refl) (printable_decimal count (omega (arith, low)))
+printable_line (switch {count = count} low) =
+    followed_by (codes "switch") _ (printable_test (codes "switch") refl) (printable_decimal count (omega (arith, low)))

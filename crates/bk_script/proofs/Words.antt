@@ -10,7 +10,8 @@ use Rattle.std.proofs.Math.Dec.{eqb-suc-zero}
 use Rattle.std.proofs.lemmas.List.Sums.{AllPass-from_list_all}
 use Rattle.std.proofs.lemmas.Bool.{ne_eqb, false≢true}
 use Rattle.bk_drive.specs.declared.step.Work.{Work}
-use Rattle.bk_drive.specs.declared.step.Work.TheVariants.{Swap, WriteOne, Publish, Roll, Retire, Rebuild, Close}
+use Rattle.bk_drive.specs.declared.step.Work.TheVariants.{Swap, WriteOne, Publish, Roll, Retire, Rebuild, Close, Remove, Begin, Copy, EndCopy, Switch, Finish, GiveUp}
+use Rattle.bk_compact.specs.declared.answer.Kind.TheVariants.{Minor, Major}
 use Rattle.bk_script.specs.Line.{IsWord, followed, word_of}
 use Rattle.bk_script.proofs.Numbers.{own}
 
@@ -50,6 +51,14 @@ IsWord-word_of Roll = IsWord-from_test (word_of Roll) refl
 IsWord-word_of (Retire log) = IsWord-from_test (word_of (Retire log)) refl
 IsWord-word_of Rebuild = IsWord-from_test (word_of Rebuild) refl
 IsWord-word_of (Close log) = IsWord-from_test (word_of (Close log)) refl
+IsWord-word_of (Remove log) = IsWord-from_test (word_of (Remove log)) refl
+IsWord-word_of (Begin Minor) = IsWord-from_test (word_of (Begin Minor)) refl
+IsWord-word_of (Begin Major) = IsWord-from_test (word_of (Begin Major)) refl
+IsWord-word_of (Copy count) = IsWord-from_test (word_of (Copy count)) refl
+IsWord-word_of EndCopy = IsWord-from_test (word_of EndCopy) refl
+IsWord-word_of (Switch count) = IsWord-from_test (word_of (Switch count)) refl
+IsWord-word_of Finish = IsWord-from_test (word_of Finish) refl
+IsWord-word_of GiveUp = IsWord-from_test (word_of GiveUp) refl
 
 -- and numbers too are read in one way
 pub numbers-injective : (m n : ℕ) (x y : Option (List ℕ)) → m < 2 ^ 64 → n < 2 ^ 64

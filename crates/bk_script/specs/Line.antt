@@ -7,7 +7,8 @@ use Rattle.std.specs.Global.{Vec}
 use Rattle.bk_drive.specs.declared.step.Step.{Step}
 use Rattle.bk_drive.specs.declared.step.Step.TheVariants as steps
 use Rattle.bk_drive.specs.declared.step.Work.{Work}
-use Rattle.bk_drive.specs.declared.step.Work.TheVariants.{Swap, WriteOne, Publish, Roll, Retire, Rebuild, Close}
+use Rattle.bk_drive.specs.declared.step.Work.TheVariants.{Swap, WriteOne, Publish, Roll, Retire, Rebuild, Close, Remove, Begin, Copy, EndCopy, Switch, Finish, GiveUp}
+use Rattle.bk_compact.specs.declared.answer.Kind.TheVariants.{Minor, Major}
 
 -- words with one space between
 abbrev pub words : List (List ℕ) → List ℕ
@@ -43,6 +44,14 @@ word_of Roll = codes "roll"
 word_of (Retire log) = codes "retire"
 word_of Rebuild = codes "rebuild"
 word_of (Close log) = codes "close"
+word_of (Remove log) = codes "remove"
+word_of (Begin Minor) = codes "minor"
+word_of (Begin Major) = codes "major"
+word_of (Copy count) = codes "copy"
+word_of EndCopy = codes "end"
+word_of (Switch count) = codes "switch"
+word_of Finish = codes "finish"
+word_of GiveUp = codes "giveup"
 
 -- that word is the whole line
 abbrev pub IsAlone : Work → Type 0
@@ -53,9 +62,16 @@ IsAlone Roll = Unit {0}
 IsAlone (Retire log) = ⊥
 IsAlone Rebuild = Unit {0}
 IsAlone (Close log) = ⊥
+IsAlone (Remove log) = ⊥
+IsAlone (Begin kind) = Unit {0}
+IsAlone (Copy count) = ⊥
+IsAlone EndCopy = Unit {0}
+IsAlone (Switch count) = ⊥
+IsAlone Finish = Unit {0}
+IsAlone GiveUp = Unit {0}
 
 -- The line spells the step (this project's rule). Ids are below 2 ^ 63, those of logs below 2 ^ 31, readers are numbered
--- from 0 to 3, and a pad has up to 2097152 zero bytes.
+-- from 0 to 3, a pad has up to 2097152 zero bytes, and what a copy or a switch counts is below 2 ^ 32.
 pub data Spells : List ℕ → Step → Type 0 where
   work : {call : Work} → IsAlone call → Spells (word_of call) (steps.Work call)
   add : {ledger entry : ℕ} {step : Step} → ledger < 2 ^ 63 → entry < 2 ^ 63 → IsAdd ledger entry [] step
@@ -74,3 +90,6 @@ pub data Spells : List ℕ → Step → Type 0 where
   delete : {ledger : ℕ} → ledger < 2 ^ 63 → Spells (words (codes "delete" ∷ decimal ledger ∷ [])) (steps.Delete ledger)
   retire : {log : ℕ} → log < 2 ^ 31 → Spells (words (codes "retire" ∷ decimal log ∷ [])) (steps.Work (Retire log))
   close : {log : ℕ} → log < 2 ^ 31 → Spells (words (codes "close" ∷ decimal log ∷ [])) (steps.Work (Close log))
+  remove : {log : ℕ} → log < 2 ^ 31 → Spells (words (codes "remove" ∷ decimal log ∷ [])) (steps.Work (Remove log))
+  copy : {count : ℕ} → count < 2 ^ 32 → Spells (words (codes "copy" ∷ decimal count ∷ [])) (steps.Work (Copy count))
+  switch : {count : ℕ} → count < 2 ^ 32 → Spells (words (codes "switch" ∷ decimal count ∷ [])) (steps.Work (Switch count))

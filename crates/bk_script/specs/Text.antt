@@ -35,6 +35,22 @@ use Rattle.bk_collect.specs.declared.answer.CloseAnswer.{CloseAnswer}
 use Rattle.bk_collect.specs.declared.answer.CloseAnswer.TheVariants as closings
 use Rattle.bk_collect.specs.declared.answer.CollectFault.{CollectFault}
 use Rattle.bk_collect.specs.declared.answer.CollectFault.TheVariants as collect_faults
+use Rattle.bk_collect.specs.declared.answer.RemoveAnswer.{RemoveAnswer}
+use Rattle.bk_collect.specs.declared.answer.RemoveAnswer.TheVariants as removals
+use Rattle.bk_compact.specs.declared.answer.BeginAnswer.{BeginAnswer}
+use Rattle.bk_compact.specs.declared.answer.BeginAnswer.TheVariants as begins
+use Rattle.bk_compact.specs.declared.answer.CopyAnswer.{CopyAnswer}
+use Rattle.bk_compact.specs.declared.answer.CopyAnswer.TheVariants as copies
+use Rattle.bk_compact.specs.declared.answer.EndAnswer.{EndAnswer}
+use Rattle.bk_compact.specs.declared.answer.EndAnswer.TheVariants as ends
+use Rattle.bk_compact.specs.declared.answer.SwitchAnswer.{SwitchAnswer}
+use Rattle.bk_compact.specs.declared.answer.SwitchAnswer.TheVariants as switches
+use Rattle.bk_compact.specs.declared.answer.FinishAnswer.{FinishAnswer}
+use Rattle.bk_compact.specs.declared.answer.FinishAnswer.TheVariants as finishes
+use Rattle.bk_compact.specs.declared.answer.GiveUpAnswer.{GiveUpAnswer}
+use Rattle.bk_compact.specs.declared.answer.GiveUpAnswer.TheVariants as give_ups
+use Rattle.bk_compact.specs.declared.answer.CompactFault.{CompactFault}
+use Rattle.bk_compact.specs.declared.answer.CompactFault.TheVariants as compact_faults
 use Rattle.bk_drive.specs.declared.step.TakeAnswer.{TakeAnswer}
 use Rattle.bk_drive.specs.declared.step.TakeAnswer.TheVariants as takes
 use Rattle.bk_drive.specs.declared.step.FetchAnswer.{FetchAnswer}
@@ -179,6 +195,55 @@ close_text closings.NotRetired = codes "not retired"
 close_text closings.Closed = codes "closed"
 close_text (closings.Leased n) = codes "leased " ++ decimal n
 
+abbrev pub remove_text : Result RemoveAnswer CollectFault → List ℕ
+remove_text (Ok removals.NoLog) = codes "no log"
+remove_text (Ok removals.NotClosed) = codes "not closed"
+remove_text (Ok removals.Removed) = codes "removed"
+remove_text (Err fault) = codes "fault " ++ collect_fault_text fault
+
+abbrev pub compact_fault_text : CompactFault → List ℕ
+compact_fault_text compact_faults.Disk = codes "disk"
+compact_fault_text (compact_faults.Memory n) = codes "memory after " ++ decimal n
+compact_fault_text compact_faults.LogsFull = codes "logs full"
+compact_fault_text compact_faults.NoMoreIds = codes "no more ids"
+compact_fault_text compact_faults.Odd = codes "odd disk"
+
+abbrev pub begin_text : Result BeginAnswer CompactFault → List ℕ
+begin_text (Ok begins.JobRunning) = codes "job running"
+begin_text (Ok begins.NothingToDo) = codes "nothing to do"
+begin_text (Ok (begins.Chosen log)) = codes "chosen " ++ decimal log
+begin_text (Err fault) = codes "fault " ++ compact_fault_text fault
+
+abbrev pub copy_text : Result CopyAnswer CompactFault → List ℕ
+copy_text (Ok copies.NoJob) = codes "no job"
+copy_text (Ok copies.NotNow) = codes "not now"
+copy_text (Ok copies.AtEnd) = codes "at end"
+copy_text (Ok (copies.Copied n)) = codes "copied " ++ decimal n
+copy_text (Err fault) = codes "fault " ++ compact_fault_text fault
+
+abbrev pub end_text : Result EndAnswer CompactFault → List ℕ
+end_text (Ok ends.NoJob) = codes "no job"
+end_text (Ok ends.NotNow) = codes "not now"
+end_text (Ok ends.NotAtEnd) = codes "not at end"
+end_text (Ok (ends.Ended n)) = codes "ended " ++ decimal n
+end_text (Err fault) = codes "fault " ++ compact_fault_text fault
+
+abbrev pub switch_text : SwitchAnswer → List ℕ
+switch_text switches.NoJob = codes "no job"
+switch_text switches.NotNow = codes "not now"
+switch_text (switches.Moved n left) = codes "moved " ++ decimal n ++ codes " " ++ decimal left
+
+abbrev pub finish_text : FinishAnswer → List ℕ
+finish_text finishes.NoJob = codes "no job"
+finish_text finishes.NotNow = codes "not now"
+finish_text (finishes.Left n) = codes "left " ++ decimal n
+finish_text (finishes.StillNamed n) = codes "still named " ++ decimal n
+finish_text (finishes.Retired log) = codes "retired " ++ decimal log
+
+abbrev pub give_up_text : GiveUpAnswer → List ℕ
+give_up_text give_ups.NoJob = codes "no job"
+give_up_text give_ups.GivenUp = codes "given up"
+
 -- the text of an answer
 abbrev pub text_of : Answer → List ℕ
 text_of (answers.Add answer) = add_text answer
@@ -193,6 +258,13 @@ text_of (answers.Roll answer) = roll_text answer
 text_of (answers.Retire answer) = retire_text answer
 text_of (answers.Rebuild answer) = rebuild_text answer
 text_of (answers.Close answer) = close_text answer
+text_of (answers.Remove answer) = remove_text answer
+text_of (answers.Begin answer) = begin_text answer
+text_of (answers.Copy answer) = copy_text answer
+text_of (answers.EndCopy answer) = end_text answer
+text_of (answers.Switch answer) = switch_text answer
+text_of (answers.Finish answer) = finish_text answer
+text_of (answers.GiveUp answer) = give_up_text answer
 
 -- one line for each answer
 abbrev pub lines_of : List Answer → List ℕ

@@ -7,9 +7,10 @@ mod calls;
 mod payload;
 mod words;
 
-use bk_drive::{Step, Work};
+use bk_drive::{Kind, Step, Work};
 use calls::{
-    read_add, read_close, read_delete, read_fetch, read_pad, read_release, read_retire, read_take,
+    read_add, read_close, read_copy, read_delete, read_fetch, read_pad, read_release, read_remove,
+    read_retire, read_switch, read_take,
 };
 use std::alloc::Global;
 use words::split_word;
@@ -52,6 +53,11 @@ fn work_named(name: &str) -> Option<Work>
         "publish" => Some(Work::Publish),
         "roll" => Some(Work::Roll),
         "rebuild" => Some(Work::Rebuild),
+        "minor" => Some(Work::Begin(Kind::Minor)),
+        "major" => Some(Work::Begin(Kind::Major)),
+        "end" => Some(Work::EndCopy),
+        "finish" => Some(Work::Finish),
+        "giveup" => Some(Work::GiveUp),
         _ => None,
     }
 }
@@ -72,6 +78,9 @@ fn read_call(alloc: Global, name: &str, rest: &str) -> Result<Step, LineFault>
         "delete" => read_delete(rest),
         "retire" => read_retire(rest),
         "close" => read_close(rest),
+        "remove" => read_remove(rest),
+        "copy" => read_copy(rest),
+        "switch" => read_switch(rest),
         _ => Err(LineFault::Bad),
     }
 }

@@ -6,6 +6,7 @@ ghost use Rattle.bk_script.specs.Text.{add_text, data_text, delete_text, digit_p
 ghost use Rattle.bk_script.specs.Text.{release_text, roll_text, swap_text, take_text, text_of, write_text};
 
 mod collecting;
+mod compacting;
 mod faults;
 
 use bk_drive::{
@@ -37,6 +38,13 @@ impl Display for Text<'_, Answer> {
             Answer::Retire(answer) => write!(f, "{}", Text(answer)),
             Answer::Rebuild(answer) => write!(f, "{}", Text(answer)),
             Answer::Close(answer) => write!(f, "{}", Text(answer)),
+            Answer::Remove(answer) => write!(f, "{}", Text(answer)),
+            Answer::Begin(answer) => write!(f, "{}", Text(answer)),
+            Answer::Copy(answer) => write!(f, "{}", Text(answer)),
+            Answer::EndCopy(answer) => write!(f, "{}", Text(answer)),
+            Answer::Switch(answer) => write!(f, "{}", Text(answer)),
+            Answer::Finish(answer) => write!(f, "{}", Text(answer)),
+            Answer::GiveUp(answer) => write!(f, "{}", Text(answer)),
         }
     }
 }

@@ -24,6 +24,9 @@ const MAX_READER: u64 = 3;
 /// show the refusal.
 const MAX_PAD: u64 = 2_097_152;
 
+/// The most entries or moves that a line asks for (this project's rule).
+const MAX_COUNT: u64 = u32::MAX as u64;
+
 /// The add of what follows `add` and a space.
 pub(crate) fn read_add(alloc: Global, text: &str) -> Result<Step, LineFault>
     requires { All IsPrintable text.now }
@@ -120,6 +123,39 @@ pub(crate) fn read_close(text: &str) -> Result<Step, LineFault>
 {
     match number(text, MAX_LOG) {
         Some(log) => Ok(Step::Work(Work::Close(log as u32))),
+        None => Err(LineFault::Bad),
+    }
+}
+
+/// The removal of what follows `remove` and a space.
+pub(crate) fn read_remove(text: &str) -> Result<Step, LineFault>
+    ensures ok { IfOk result (Spells (codes "remove" ++ 32 ∷ text.now)) }
+    ensures err { OnErr result ((step : _) → ¬ (Spells (codes "remove" ++ 32 ∷ text.now) step)) }
+{
+    match number(text, MAX_LOG) {
+        Some(log) => Ok(Step::Work(Work::Remove(log as u32))),
+        None => Err(LineFault::Bad),
+    }
+}
+
+/// The copying of what follows `copy` and a space: how many entries are looked at.
+pub(crate) fn read_copy(text: &str) -> Result<Step, LineFault>
+    ensures ok { IfOk result (Spells (codes "copy" ++ 32 ∷ text.now)) }
+    ensures err { OnErr result ((step : _) → ¬ (Spells (codes "copy" ++ 32 ∷ text.now) step)) }
+{
+    match number(text, MAX_COUNT) {
+        Some(count) => Ok(Step::Work(Work::Copy(count))),
+        None => Err(LineFault::Bad),
+    }
+}
+
+/// The switching of what follows `switch` and a space: how many keys are looked at.
+pub(crate) fn read_switch(text: &str) -> Result<Step, LineFault>
+    ensures ok { IfOk result (Spells (codes "switch" ++ 32 ∷ text.now)) }
+    ensures err { OnErr result ((step : _) → ¬ (Spells (codes "switch" ++ 32 ∷ text.now) step)) }
+{
+    match number(text, MAX_COUNT) {
+        Some(count) => Ok(Step::Work(Work::Switch(count))),
         None => Err(LineFault::Bad),
     }
 }

@@ -1,11 +1,11 @@
 //! The texts of faults.
 
 ghost use Rattle.std.specs.Prelude.{Some};
-ghost use Rattle.bk_script.specs.Text.{add_fault_text, cause_text, collect_fault_text, delete_fault_text};
+ghost use Rattle.bk_script.specs.Text.{add_fault_text, cause_text, collect_fault_text, compact_fault_text, delete_fault_text};
 ghost use Rattle.bk_script.specs.Text.{fetch_fault_text, flush_fault_text, head_fault_text, record_fault_text};
 
 use super::Text;
-use bk_drive::{AddFault, CollectFault, DeleteFault, FlushFault, LogCause};
+use bk_drive::{AddFault, CollectFault, CompactFault, DeleteFault, FlushFault, LogCause};
 use bk_head::HeadFault;
 use bk_log::FetchFault;
 use bk_record::RecordFault;
@@ -72,6 +72,20 @@ impl Display for Text<'_, FlushFault> {
             FlushFault::LogsFull => write!(f, "logs full"),
             FlushFault::NoMoreIds => write!(f, "no more ids"),
             FlushFault::Odd => write!(f, "odd disk"),
+        }
+    }
+}
+
+impl Display for Text<'_, CompactFault> {
+    ghost output = { λ text. Some (compact_fault_text text.0.now) };
+
+    fn fmt<W: fmt::Write>(&self, f: &mut Formatter<W>) -> fmt::Result {
+        match self.0 {
+            CompactFault::Disk => write!(f, "disk"),
+            CompactFault::Memory { done } => write!(f, "memory after {done}"),
+            CompactFault::LogsFull => write!(f, "logs full"),
+            CompactFault::NoMoreIds => write!(f, "no more ids"),
+            CompactFault::Odd => write!(f, "odd disk"),
         }
     }
 }

@@ -1,12 +1,12 @@
 use Rattle.std.proofs.Common.{◌≡◌, arith, sym, ◌∙◌, Some, [], ap, Bor, List, ℕ}
 use Rattle.bk_script.proofs.Words.{empty_from_test, filled_from_test}
-use Rattle.bk_script.proofs.Parts.{add_text_of}
+use Rattle.bk_script.proofs.Parts.{behind_of, add_opens}
 use Rattle.bk_script.proofs.Lines.{add_words, spelled_add, spelled_add_text}
 use Rattle.bk_script.proofs.line.calls.read_add.Goals as goal
 
 pub returns-in_default-number-clause-bad : goal.returns-in_default-number-clause-bad
 returns-in_default-number-clause-bad c = λ _ step spells.
-    let t = add_text_of _ step spells in
+    let t = behind_of add_opens _ step spells in
     c.in_default-number.ensures.none t.entry (let h = t.entry_fits in omega arith) (add_words _ _ _ _ _ t (omega (arith, c.in-Some.ensures.value.0)) c.split_word.ensures.word c.in-Some.ensures.value.1 c.split_word.ensures.whole).0
 
 pub returns-in-None-clause-ok : goal.returns-in-None-clause-ok
@@ -16,7 +16,7 @@ returns-in-None-clause-ok c =
 
 pub returns-in-Some-data-clause-bad : goal.returns-in-Some-data-clause-bad
 returns-in-Some-data-clause-bad c = λ _ step spells.
-    let t = add_text_of _ step spells in
+    let t = behind_of add_opens _ step spells in
     let whole = rw (empty_from_test _ _ c.is_empty.ensures c.if-is_empty.true) at (rw c.in-Some-data.is at c.split_word.ensures.whole) in
     t.some (sym (add_words _ _ _ (Some []) _ t (omega (arith, c.in-Some.ensures.value.0)) c.split_word.ensures.word c.in-Some.ensures.value.1 whole).1)
 

@@ -1,5 +1,5 @@
 use Rattle.std.proofs.Common.{arith}
-use Rattle.bk_script.proofs.Parts.{delete_text_of}
+use Rattle.bk_script.proofs.Parts.{behind_of, delete_opens}
 use Rattle.bk_script.proofs.Lines.{spelled_delete}
 use Rattle.bk_script.proofs.line.calls.read_delete.Goals as goal
 
@@ -8,5 +8,5 @@ returns-in-Some-clause-ok c = spelled_delete _ _ (omega (arith, c.in-Some.ensure
 
 pub returns-in-None-clause-err : goal.returns-in-None-clause-err
 returns-in-None-clause-err c = λ step spells.
-    let t = delete_text_of _ step spells in
+    let t = behind_of delete_opens _ step spells in
     c.in-None.ensures.none t.ledger (let h = t.fits in omega arith) t.is

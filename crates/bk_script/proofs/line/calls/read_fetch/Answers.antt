@@ -1,4 +1,4 @@
-use Rattle.bk_script.proofs.Parts.{fetch_text_of}
+use Rattle.bk_script.proofs.Parts.{behind_of, fetch_opens}
 use Rattle.bk_script.proofs.Lines.{spelled_fetch}
 use Rattle.bk_script.proofs.line.calls.read_fetch.Goals as goal
 
@@ -7,5 +7,5 @@ returns-in-Some-clause-ok c = spelled_fetch _ _ c.in-Some.ensures.value.0 c.in-S
 
 pub returns-in-None-clause-err : goal.returns-in-None-clause-err
 returns-in-None-clause-err c = λ step spells.
-    let t = fetch_text_of _ step spells in
+    let t = behind_of fetch_opens _ step spells in
     c.in-None.ensures.none t.reader t.fits t.is

@@ -1,5 +1,5 @@
 use Rattle.std.proofs.Common.{arith}
-use Rattle.bk_script.proofs.Parts.{pad_text_of}
+use Rattle.bk_script.proofs.Parts.{behind_of, pad_opens}
 use Rattle.bk_script.proofs.Lines.{spelled_pad}
 use Rattle.bk_script.proofs.line.calls.read_pad.Goals as goal
 
@@ -10,5 +10,5 @@ returns-in-Some-clause-ok c =
 
 pub returns-in-None-clause-bad : goal.returns-in-None-clause-bad
 returns-in-None-clause-bad c = λ _ step spells.
-    let t = pad_text_of _ step spells in
+    let t = behind_of pad_opens _ step spells in
     c.in-None.ensures.none t.a t.b t.c t.a_fits t.b_fits t.c_fits t.is

@@ -1,4 +1,4 @@
-use Rattle.bk_script.proofs.Parts.{release_text_of}
+use Rattle.bk_script.proofs.Parts.{behind_of, release_opens}
 use Rattle.bk_script.proofs.Lines.{spelled_release}
 use Rattle.bk_script.proofs.line.calls.read_release.Goals as goal
 
@@ -7,5 +7,5 @@ returns-in-Some-clause-ok c = spelled_release _ _ c.in-Some.ensures.value.0 c.in
 
 pub returns-in-None-clause-err : goal.returns-in-None-clause-err
 returns-in-None-clause-err c = λ step spells.
-    let t = release_text_of _ step spells in
+    let t = behind_of release_opens _ step spells in
     c.in-None.ensures.none t.reader t.fits t.is

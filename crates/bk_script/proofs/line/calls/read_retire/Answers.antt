@@ -1,5 +1,5 @@
 use Rattle.std.proofs.Common.{arith}
-use Rattle.bk_script.proofs.Parts.{retire_text_of}
+use Rattle.bk_script.proofs.Parts.{behind_of, retire_opens}
 use Rattle.bk_script.proofs.Lines.{spelled_retire}
 use Rattle.bk_script.proofs.line.calls.read_retire.Goals as goal
 
@@ -8,5 +8,5 @@ returns-in-Some-clause-ok c = spelled_retire _ _ (omega (arith, c.in-Some.ensure
 
 pub returns-in-None-clause-err : goal.returns-in-None-clause-err
 returns-in-None-clause-err c = λ step spells.
-    let t = retire_text_of _ step spells in
+    let t = behind_of retire_opens _ step spells in
     c.in-None.ensures.none t.log (let h = t.fits in omega arith) t.is

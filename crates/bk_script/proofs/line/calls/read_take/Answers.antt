@@ -1,10 +1,10 @@
-use Rattle.bk_script.proofs.Parts.{take_text_of}
+use Rattle.bk_script.proofs.Parts.{behind_of, take_opens}
 use Rattle.bk_script.proofs.Lines.{spelled_take}
 use Rattle.bk_script.proofs.line.calls.read_take.Goals as goal
 
 pub returns-in_default-clause-err : goal.returns-in_default-clause-err
 returns-in_default-clause-err c = λ step spells.
-    let t = take_text_of _ step spells in
+    let t = behind_of take_opens _ step spells in
     c.in_default.ensures.none t.a t.b t.c t.a_fits t.b_fits t.c_fits t.is
 
 pub returns-in-Some-new-clause-ok : goal.returns-in-Some-new-clause-ok
