@@ -14,6 +14,7 @@ use std::test::Fail;
 
 mod collecting;
 mod compacting;
+mod compaction_series;
 mod deleting;
 mod failing;
 mod found;

@@ -2,7 +2,7 @@
 //! entry is lost.
 
 use super::{PUBLISH, Plan, ROLL, SETTINGS, SWAP, Told, WRITE, steps_of, told};
-use crate::{Answer, FlushFault, OpenFault, Ran, drive};
+use crate::{Answer, CollectFault, CompactFault, FlushFault, OpenFault, Ran, drive};
 use bk_disk::{FaultDisk, MemDisk};
 use bk_log::FetchFault;
 use std::alloc::Global;
@@ -43,6 +43,10 @@ pub(super) fn is_disk_fault(answer: &Answer) -> bool {
         Answer::Write(Err(FlushFault::Disk))
             | Answer::Publish(Err(FlushFault::Disk))
             | Answer::Roll(Err(FlushFault::Disk))
+            | Answer::Remove(Err(CollectFault::Disk))
+            | Answer::Begin(Err(CompactFault::Disk))
+            | Answer::Copy(Err(CompactFault::Disk))
+            | Answer::EndCopy(Err(CompactFault::Disk))
     )
 }
 

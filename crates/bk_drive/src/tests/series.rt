@@ -46,7 +46,7 @@ const LATER: Found = (
 const DEAD: [u64; 1] = [4];
 
 /// A disk with these logs.
-fn found(alloc: Global) -> Result<MemDisk, DiskFault> {
+pub(super) fn found(alloc: Global) -> Result<MemDisk, DiskFault> {
     let mut disk = MemDisk::new(alloc);
     for (id, map, behind) in [SEALED, TORN, LATER] {
         disk.create(alloc, id)?;
