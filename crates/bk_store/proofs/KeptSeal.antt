@@ -89,13 +89,13 @@ module _ (p : Parts) (keeps : Keeps p) (id : ℕ) (log : Log) (held : finite.get
       flush_logs_stay p.state.logs id log (closed_log Filled log) held (λ _. inr refl) place.log (keeps.fits.placed.logs key place is)
 
   -- no place is in a copy
-  copy_flush : log.state ≡ Copying → (key : EntryKey) (place : Place) → finite.get p.state.places key ≡ Some place
+  pub copy_flush : log.state ≡ Copying → (key : EntryKey) (place : Place) → finite.get p.state.places key ≡ Some place
       → IsFlushLog (finite.insert p.state.logs id (closed_log Readable log)) place.log
   copy_flush was key place is =
       flush_logs_stay p.state.logs id log (closed_log Readable log) held (λ f. absurd (not_flushed log (inl was) f)) place.log
       (keeps.fits.placed.logs key place is)
 
-readable_unflushed : ¬ ((Readable ≡ Writing) ⊎ (Readable ≡ Filled))
+pub readable_unflushed : ¬ ((Readable ≡ Writing) ⊎ (Readable ≡ Filled))
 readable_unflushed (inl wrong) = cc
 readable_unflushed (inr wrong) = cc
 

@@ -226,7 +226,7 @@ eqb_apart q id apart = elim (eqb q id) as (λ b. eqb q id ≡ b → b ≡ false)
 ] refl
 
 module _ (p : Parts) (keeps : Keeps p) (id : ℕ) (log : Log) (held : finite.get p.state.logs id ≡ Some log) (w : writers.Writing) (writer : log.writer ≡ Some w)
-    (key : EntryKey) (payload : List ℕ) (read : read_added payload ≡ Ok key) (files : Files) where
+    (key : EntryKey) (payload : List ℕ) (legal : IsPayload payload) (keyed : key_of payload ≡ Some key) (files : Files) where
   abbrev new : Log
   new = grown_log log w payload
 
@@ -235,9 +235,6 @@ module _ (p : Parts) (keeps : Keeps p) (id : ℕ) (log : Log) (held : finite.get
 
   by : IsWrittenBy id log w
   by = (keeps.fits.held id log held).by w writer
-
-  keyed : key_of payload ≡ Some key
-  keyed = (addable payload key read).keyed
 
   new_held : IsHeld p.state.next id new
   new_held = record {
@@ -275,9 +272,6 @@ module _ (p : Parts) (keeps : Keeps p) (id : ℕ) (log : Log) (held : finite.get
 
     grew_own : files ≡ grown p.state.files w.log (record_of payload)
     grew_own = grew ∙ ap (λ n. grown p.state.files n (record_of payload)) (sym by.own)
-
-    legal : IsPayload payload
-    legal = addable_payload payload key read
 
     pub put_gained : Gains p.state.files id (put_record w payload) files
     put_gained = subst (λ n. Gains p.state.files n (put_record w payload) files) by.own
@@ -353,21 +347,23 @@ written_kept : (p : Parts) (id : ℕ) (key : EntryKey) (payload : List ℕ) → 
     (after_count (after_ready p.accounts id key.ledger) id key.ledger (4 + length payload)) p.writing).state key (next_place w)))
 written_kept p id key payload keeps may flushing sound log w held writer files grew =
     let read = sound.flush_keyed key payload flushing in
+    let legal = addable_payload payload key read in
+    let keyed = (addable payload key read).keyed in
     let was = one_log p id log Writing held (record { log = may.takes.log; held = may.takes.writer.held; state_is = may.takes.state_is }) in
     let own = ((keeps.fits.held id log held).by w writer).own in
     let mapped = λ (promise : Promises p). promise.carries.cached_is key payload (flush_written p.state key payload sound.apart flushing) in
     let mid : Keeps (with_one p id (grown_log log w payload) files p.state.failures
     (after_count (after_ready p.accounts id key.ledger) id key.ledger (4 + length payload)) p.writing) = record {
-      fits = put_fits p keeps id log held w writer key payload read files;
+      fits = put_fits p keeps id log held w writer key payload legal keyed files;
       job = job_in p.state.keeper p id (grown_log log w payload) files p.state.failures
           (after_count (after_ready p.accounts id key.ledger) id key.ledger (4 + length payload)) p.writing keeps
           (λ job is. job_unflushed p.state job (keeps.job job is) id log held (inl was))
           (λ honest.
           let promise = keeps.promises honest in
-          (put_gained p keeps id log held w writer key payload read files promise (mapped promise) (grew honest)).only);
+          (put_gained p keeps id log held w writer key payload legal keyed files promise (mapped promise) (grew honest)).only);
       promises = λ honest.
           let promise = keeps.promises honest in
-          put_promises p keeps id log held w writer key payload read files promise (mapped promise) (grew honest);
+          put_promises p keeps id log held w writer key payload legal keyed files promise (mapped promise) (grew honest);
     } in
     keeps_noted (with_one p id (grown_log log w payload) files p.state.failures
     (after_count (after_ready p.accounts id key.ledger) id key.ledger (4 + length payload)) p.writing) key payload (next_place w) mid flushing
@@ -375,7 +371,7 @@ written_kept p id key payload keeps may flushing sound log w held writer files g
     may.next.unplaced may.next.first
     (λ honest.
     let promise = keeps.promises honest in
-    put_stands p keeps id log held w writer key payload read files promise (mapped promise) (grew honest))
+    put_stands p keeps id log held w writer key payload legal keyed files promise (mapped promise) (grew honest))
 
 -- a write that failed leaves the log Filled, and no log Writing
 failed_kept : (p : Parts) (id : ℕ) (key : EntryKey) (payload : List ℕ) → Keeps p → MayWrite p.state id key → finite.get (caches.flush_of p.state.caches) key ≡ Some payload

@@ -2,9 +2,10 @@
 use Rattle.std.proofs.Common.{◌≡◌, ℕ, ◌<◌, true, false, Some, sym, ap, subst, ◌∙◌}
 use Rattle.std.specs.FinMap as finite
 use Rattle.bk_lease.specs.declared.slot.Slot.TheVariants as slots
-use Rattle.bk_lease.specs.Leases.{IsOpen}
+use Rattle.bk_lease.specs.Leases.{IsOpen, state_at}
 use Rattle.bk_lease.specs.Values.{SlotTable, Ticket, MayMeet, held_ticket, new_ticket, with_closed, with_given, with_state}
 use Rattle.bk_store.specs.Logs.{View, Log, Logs, HasOpenView, closed_log, is_open}
+use Rattle.bk_store.specs.Seated.{slot_state}
 use Rattle.bk_store.specs.State.{State, Parts}
 use Rattle.bk_store.specs.Kept.{Keeps}
 use Rattle.bk_store.specs.Doors.{IsIn}
@@ -89,3 +90,11 @@ module _ (p now : Parts) (here : p ≡ now) (keeps : Keeps now) (id : ℕ) (log 
             }) (stands_log now.state.keeper now.state.logs keeps.fits.seated.seats id log held_now),
       ),
     )
+
+  -- ---- a log that is removed
+
+  pub remove_closed : IsIn now.state id Closed → state_at p.state.keeper.slots log.slot ≡ slots.Closed id
+  remove_closed known =
+      let same = log_stands known.log known.held in
+      ap (λ (q : Parts). state_at q.state.keeper.slots log.slot) here ∙ keeps.fits.seated.seats.stands id log held_now
+      ∙ ap (slot_state id) (ap (λ (l : Log). l.state) same ∙ known.state_is)

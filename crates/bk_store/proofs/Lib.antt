@@ -64,3 +64,9 @@ pub mod NextEntry
 pub mod HeldWriters
 pub mod KeptReplace
 pub mod HeldIds
+pub mod KeptCopy
+pub mod KeptRename
+pub mod CopyMeans
+pub mod CopyTurns
+pub mod Choosing
+pub mod KeptRemove

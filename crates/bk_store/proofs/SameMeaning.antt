@@ -36,19 +36,19 @@ use Rattle.bk_store.proofs.KeptWrite.{flush_written, put_mapped}
 use Rattle.bk_store.proofs.KeptRuled.{let_go}
 
 -- two states of which the same map is carried mean the same
-same_map : (s t : State) (map : Payloads) → Carries (file_of s.files) s.index (written_at s) s.dead map
+pub same_map : (s t : State) (map : Payloads) → Carries (file_of s.files) s.index (written_at s) s.dead map
     → Carries (file_of t.files) t.index (written_at t) t.dead map → MeansTheSame s t
 same_map s t map was now key = sym (carries_meaning t.files now key) ∙ carries_meaning s.files was key
 
 -- a state with the same files, caches and dead ledgers
-means_same : (s t : State) → t ≡ s → MeansTheSame s t
+pub means_same : (s t : State) → t ≡ s → MeansTheSame s t
 means_same s t same = subst (MeansTheSame s) (sym same) (λ key. refl)
 
-same_files : (s : State) (files : Files) → files ≡ s.files → MeansTheSame s (record s { files = files })
+pub same_files : (s : State) (files : Files) → files ≡ s.files → MeansTheSame s (record s { files = files })
 same_files s files same key = ap (λ f. meaning_at (record s { files = f }) key) same
 
 -- in one log others stand behind the old records, and those that have keys of live ledgers have what the map has
-gained : (p : Parts) (promise : Promises p) (id : ℕ) (files : Files) (others : List (ℕ × List ℕ)) → Gains p.state.files id others files
+pub gained : (p : Parts) (promise : Promises p) (id : ℕ) (files : Files) (others : List (ℕ × List ℕ)) → Gains p.state.files id others files
     → ((at : ℕ) (payload : List ℕ) (key : EntryKey) → In (at, payload) others → key_of payload ≡ Some key → set.contains p.state.dead key.ledger ≡ false
     → finite.get promise.carried key ≡ Some payload)
     → MeansTheSame p.state (record p.state { files = files })

@@ -1,5 +1,5 @@
 -- What a change of the logs, or of a slot, does to the seats of the logs.
-use Rattle.std.proofs.Common.{◌≡◌, ◌≢◌, ◌⊎◌, inl, inr, ℕ, ◌+◌, ◌<◌, ◌≤◌, true, false, cond, Option, Some, None, is_some, option_map, length, set, refl, sym, ap, subst, ◌∙◌, arith}
+use Rattle.std.proofs.Common.{◌≡◌, ◌≢◌, ◌⊎◌, inl, inr, ℕ, ◌+◌, ◌-◌, ◌<◌, ◌≤◌, true, false, cond, Option, Some, None, is_some, option_map, length, set, refl, sym, ap, subst, ◌∙◌, arith}
 use Rattle.std.specs.FinMap as finite
 use Rattle.std.proofs.lemmas.Cmp.{nat_cmp_total}
 use Rattle.std.proofs.lemmas.List.{length-set}
@@ -15,7 +15,7 @@ use Rattle.bk_store.specs.declared.log.LogState.{LogState}
 use Rattle.bk_store.specs.declared.log.LogState.TheVariants.{Writing, Filled, Copying, Readable, Retired, Closed}
 use Rattle.bk_store.specs.declared.settings.Settings.{Settings}
 use Rattle.bk_store.proofs.Cases.{same_or_apart}
-use Rattle.bk_store.proofs.LogMaps.{log-insert_cases}
+use Rattle.bk_store.proofs.LogMaps.{log-insert_cases, log-remove_cases}
 use Rattle.bk_store.proofs.OneLog.{same_len, each_log}
 
 -- ---- the state of a log's slot
@@ -135,6 +135,19 @@ module _ (keeper : SlotTable) (logs : Logs) (seats : AreSeated keeper logs) wher
         (λ q l apart is. state_at-set_else keeper.slots log.slot l.slot (slots.Closed id) (slots_apart id q log l held is apart) ∙ seats.stands q l is);
   }
 
+  -- ---- a log goes, and its slot is free
+  pub seats_removed : (id : ℕ) (log : Log) → finite.get logs id ≡ Some log → AreSeated (with_state keeper log.slot slots.Free) (finite.remove logs id)
+  seats_removed id log held = record {
+    taken = let less = taken_count-set keeper.slots log.slot slots.Free (stands_inside id log held) in
+        let was : taken_of (state_at keeper.slots log.slot) ≡ 1 = ap taken_of (seats.stands id log held) ∙ slot_state-taken id log.state in
+        let len : finite.len (finite.remove logs id) ≡ finite.len logs - 1 =
+        finite.len-remove nat_cmp_total logs id ∙ ap (λ (o : Option Log). cond (is_some o) (finite.len logs - 1) (finite.len logs)) held in
+        let same = seats.taken in omega arith;
+    stands = λ q l is.
+        let other = log-remove_cases logs id q l is in
+        state_at-set_else keeper.slots log.slot l.slot slots.Free (slots_apart id q log l held other.1 other.0) ∙ seats.stands q l other.1;
+  }
+
 -- ---- the table of a store
 
 module _ (settings : Settings) (keeper : SlotTable) (logs : Logs) (seated : IsSeated settings keeper logs) where
@@ -164,6 +177,14 @@ module _ (settings : Settings) (keeper : SlotTable) (logs : Logs) (seated : IsSe
     slots = length-set keeper.slots log.slot (slots.Closed id) ∙ seated.slots;
     most = seated.most;
     seats = seats_closed keeper logs seated.seats id log held;
+  }
+
+  pub seated_removed : (id : ℕ) (log : Log) → finite.get logs id ≡ Some log
+      → IsSeated settings (with_state keeper log.slot slots.Free) (finite.remove logs id)
+  seated_removed id log held = record {
+    slots = length-set keeper.slots log.slot slots.Free ∙ seated.slots;
+    most = seated.most;
+    seats = seats_removed keeper logs seated.seats id log held;
   }
 
   -- ---- all logs change by a rule, and stand as before

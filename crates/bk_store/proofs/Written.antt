@@ -130,7 +130,7 @@ module _ (p now : Parts) (here : p ≡ now) (id : ℕ) (key : EntryKey) (payload
         ),
       )
 
-  failed_inside : (fault : LogFault) → logs ≡ finite.insert p.state.logs id (put_log is.log is.w payload (Err fault)) → IsPutAt is.w (Err fault)
+  pub failed_inside : (fault : LogFault) → logs ≡ finite.insert p.state.logs id (put_log is.log is.w payload (Err fault)) → IsPutAt is.w (Err fault)
       → IsCaused p.state.failures failures (◌≡◌ {A = Result Place LogFault} (Err fault) (Err log_faults.Disk))
       → (IsTrue p.state.honest → writers.PutTurn p.state.files is.w payload (Err fault) files)
       → PutTurn p.state id payload (Err fault) (record p.state { files = files; honest = honest; failures = failures; logs = logs })

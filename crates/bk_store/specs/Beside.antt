@@ -1,6 +1,6 @@
 -- What the doors do to the parts of a store that its state does not show: the accounts, the log that flushes write, and
 -- the list of the logs that are Writing or Filled.
-use Rattle.std.specs.Prelude.{◌≡◌, ◌⊎◌, ℕ, ◌+◌, ◌==◌, Bool, if◌then◌else◌, List, [], length, Option, Some, None, Result, Ok, Err, IsOk}
+use Rattle.std.specs.Prelude.{◌≡◌, ◌⊎◌, ℕ, ◌+◌, ◌==◌, Bool, true, false, if◌then◌else◌, List, [], length, Option, Some, None, Result, Ok, Err, IsOk}
 use Rattle.std.specs.FinMap as finite
 use Rattle.bk_record.specs.Key.{EntryKey}
 use Rattle.bk_record.specs.Location.{Place}
@@ -9,7 +9,7 @@ use Rattle.bk_log.specs.declared.fault.LogFault.{LogFault}
 use Rattle.bk_log.specs.declared.fault.LogFault.TheVariants as log_faults
 use Rattle.bk_cache.specs.Kept.{IsSound}
 use Rattle.bk_lease.specs.Slots.{IsFree}
-use Rattle.bk_accounts.specs.Book.{Book, after_open, after_ready, after_count, after_name, after_unname}
+use Rattle.bk_accounts.specs.Book.{Book, after_open, after_ready, after_count, after_name, after_unname, after_drop}
 use Rattle.bk_store.specs.Logs.{Logs, unmade_log}
 use Rattle.bk_store.specs.State.{State, Parts}
 use Rattle.bk_store.specs.Deletion.{AreNamedBy}
@@ -107,6 +107,14 @@ WritesBeside p log key payload (Err log_faults.Odd) q = IsSound p.state.caches �
 })
 WritesBeside p log key payload (Err log_faults.Failed) q = ⊥
 
+-- a record that was put in a copy is counted; a refusal leaves room for one, or not
+abbrev pub CopiesBeside : Parts → ℕ → EntryKey → List ℕ → Result Place LogFault → Parts → Type 0
+CopiesBeside p log key payload (Ok place) q = q ≡ record p {
+  state = q.state;
+  accounts = after_count (after_ready p.accounts log key.ledger) log key.ledger (4 + length payload);
+}
+CopiesBeside p log key payload (Err fault) q = IsReadied p.accounts log key.ledger q.accounts × (q ≡ record p { state = q.state; accounts = q.accounts })
+
 -- the log that flushes write, unless it is this one
 abbrev pub unless_log : Option ℕ → ℕ → Option ℕ
 unless_log None log = None
@@ -134,6 +142,11 @@ NamesBeside p key place (Ok _) q = IsSound p.state.caches
     × (q ≡ record p { state = q.state; accounts = renamed p.accounts (finite.get p.state.index key) place })
 NamesBeside p key place (Err _) q = q ≡ p
 
+-- a key that is sent on is counted as a name of its new log
+abbrev pub RenamesBeside : Parts → EntryKey → Place → Bool → Parts → Type 0
+RenamesBeside p key place true q = q ≡ sent p key place
+RenamesBeside p key place false q = q ≡ p
+
 abbrev pub RestartsBeside : Parts → Parts → Type 0
 RestartsBeside p q = q ≡ record p { state = q.state; writing = None; filled = [] }
 
@@ -147,3 +160,10 @@ pub record EndsBeside (p q : Parts) : Type 0 where
 -- the names of each log are counted anew
 abbrev pub ReplacesBeside : Parts → Parts → Type 0
 ReplacesBeside p q = AreNamedBy q.state.index p.accounts q.accounts × (q ≡ record p { state = q.state; accounts = q.accounts })
+
+-- ---- removing a log
+
+-- the account of a log that is removed goes
+abbrev pub RemovesBeside : Parts → ℕ → Result (Unit {0}) LogFault → Parts → Type 0
+RemovesBeside p id (Ok _) q = q ≡ record p { state = q.state; accounts = after_drop p.accounts id }
+RemovesBeside p id (Err _) q = q ≡ record p { state = q.state }

@@ -9,12 +9,14 @@ ghost use Rattle.bk_store.specs.JobKept.{IsJob};
 ghost use Rattle.bk_store.specs.Kept.{Keeps};
 ghost use Rattle.bk_store.specs.Meaning.{MeansTheSame};
 ghost use Rattle.bk_store.specs.Doors.{IsIn, PutTurn};
+ghost use Rattle.bk_store.specs.Beside.{CopiesBeside, RemovesBeside, RenamesBeside};
 ghost use Rattle.bk_store.specs.Copying.{IsLeastUsed, MayCopy, MayRename, RemoveTurn, RenameTurn};
 ghost use Rattle.bk_store.specs.declared.log.LogState.TheVariants.{Closed as ClosedState};
 
 use crate::fields::Fields;
+use crate::showing::view_fault;
 use crate::{Job, Store};
-use bk_disk::{DiskFault, LogDisk};
+use bk_disk::LogDisk;
 use bk_lease::Closed;
 use bk_log::LogFault;
 use bk_record::{Key, Location};
@@ -25,14 +27,19 @@ impl<D: LogDisk> Fields<D> {
         requires keeps { Keeps self.old }
         requires may { (place : Place) × MayCopy self.old.state log key place payload.now }
         ensures turn { PutTurn self.old.state log payload.now result self.new.state }
+        ensures beside { CopiesBeside self.old log key payload.now result self.new }
     {
         let Ok(()) = self.accounts.ready(log, key.ledger()) else {
             return Err(LogFault::Memory);
         };
-        let location = self.logs.put(log, &mut self.disk, self.alloc, payload)?;
-        let size = payload.len() as u32 + 4;
-        self.accounts.count(log, key.ledger(), size);
-        Ok(location)
+        match self.logs.put(log, &mut self.disk, self.alloc, payload) {
+            Ok(location) => {
+                let size = payload.len() as u32 + 4;
+                self.accounts.count(log, key.ledger(), size);
+                Ok(location)
+            }
+            Err(fault) => Err(fault),
+        }
     }
 
     /// Sends a key from one place to another, where the index sends it to the one.
@@ -40,6 +47,7 @@ impl<D: LogDisk> Fields<D> {
         requires keeps { Keeps self.old }
         requires may { MayRename self.old.state key from to }
         ensures turn { RenameTurn self.old.state key from to result self.new.state }
+        ensures beside { RenamesBeside self.old key to result self.new }
     {
         if !self.index.replace_if(&key, from, to) {
             return false;
@@ -51,34 +59,33 @@ impl<D: LogDisk> Fields<D> {
         true
     }
 
+    /// Of these logs, which are held, the one to compact.
+    pub fn least_used(&self, threshold: u32, allowed: &[u32]) -> Option<u32>
+        requires keeps { Keeps self.now }
+        requires held { All (λ id. IsSome (map.get self.now.state.logs id)) allowed.now }
+        ensures { IsTrue self.now.state.honest → IsLeastUsed self.now.state threshold allowed.now result }
+    {
+        self.accounts.lowest_below(threshold, allowed)
+    }
+
     /// Removes a closed log.
     pub fn remove_log(&mut self, log: u32) -> Result<(), LogFault>
         requires keeps { Keeps self.old }
         requires closed { IsIn self.old.state log ClosedState }
         ensures turn { RemoveTurn self.old.state log result self.new.state }
+        ensures beside { RemovesBeside self.old log result self.new }
     {
         let Some(held) = self.logs.get(log) else {
             unreachable!();
         };
         let slot = held.slot;
         if let Err(fault) = self.disk.remove(self.alloc, log) {
-            return Err(remove_fault(fault));
+            return Err(view_fault(fault));
         }
         self.logs.let_go(log);
         self.accounts.drop_log(log);
         self.keeper.free(Closed { slot, log });
         Ok(())
-    }
-}
-
-/// What a fault of the disk means for a log that is to be removed.
-fn remove_fault(fault: DiskFault) -> LogFault {
-    match fault {
-        DiskFault::Disk => LogFault::Disk,
-        DiskFault::Memory => LogFault::Memory,
-        DiskFault::Exists | DiskFault::NoLog | DiskFault::PastEnd | DiskFault::TooLong => {
-            LogFault::Odd
-        }
     }
 }
 
@@ -113,7 +120,7 @@ impl<D: LogDisk> Store<D> {
         requires { All (λ id. IsSome (map.get self.now.logs id)) allowed.now }
         ensures { IsTrue self.now.honest → IsLeastUsed self.now threshold allowed.now result }
     {
-        self.fields.accounts.lowest_below(threshold, allowed)
+        self.fields.least_used(threshold, allowed)
     }
 
     /// Puts an entry that the index names at the end of a log that is a copy, and answers its place. The log stays at most

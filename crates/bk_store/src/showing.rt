@@ -45,8 +45,8 @@ fn view_log<D: LogDisk>(disk: &mut D, alloc: Global, log: u32) -> Result<Arc<D::
     }
 }
 
-/// What a fault of the disk means for a log that is to be shown.
-fn view_fault(fault: DiskFault) -> LogFault
+/// What a fault of the disk means for a log that is to be shown, or to be removed.
+pub(crate) fn view_fault(fault: DiskFault) -> LogFault
     ensures { result ≡ told fault }
 {
     match fault {

@@ -1,0 +1,231 @@
+-- A closed log that is removed leaves what a store keeps.
+use Rattle.std.proofs.Common.{◌≡◌, ◌≢◌, ◌⊎◌, inl, inr, ℕ, ◌+◌, ◌≤◌, Bool, true, false, cond, eqb, ◌==◌, if◌then◌else◌, IsTrue, List, [], take, Option, Some, None, IsSome, is_some, option_map, unwrap_or, Result, Ok, Err, refl, sym, ap, subst, ◌∙◌, arith}
+use Rattle.std.specs.Option.{option_map_or}
+use Rattle.std.specs.FinMap as finite
+use Rattle.std.proofs.lemmas.Bool.{eqb-true, eq-eqb}
+use Rattle.bk_record.specs.Key.{EntryKey}
+use Rattle.bk_record.specs.Location.{Place}
+use Rattle.bk_record.specs.Files.{Files, file_of, header_length}
+use Rattle.bk_record.specs.Scan.{entries_of}
+use Rattle.bk_record.specs.Keyed.{log_count}
+use Rattle.bk_log.specs.Growing.{HasNoBadLength}
+use Rattle.bk_log.specs.declared.fault.LogFault.{LogFault}
+use Rattle.bk_log.specs.declared.fault.LogFault.TheVariants as log_faults
+use Rattle.bk_accounts.specs.Book.{named_in, total_in, after_drop}
+use Rattle.bk_accounts.proofs.BookLaws.{total_in-after_drop, named_in-after_drop}
+use Rattle.bk_accounts.proofs.CallerLaws.{sums_drop}
+use Rattle.bk_store.specs.Entries.{Bytes}
+use Rattle.bk_store.specs.Carried.{Carries}
+use Rattle.bk_store.specs.Meaning.{written_at}
+use Rattle.bk_store.specs.Logs.{Log, Logs, HasOpenView, IsFlushLog, is_open, open_parts, published_part}
+use Rattle.bk_store.specs.State.{State, Parts}
+use Rattle.bk_store.specs.Shown.{Shows}
+use Rattle.bk_store.specs.Kept.{Keeps, Fits, Promises, IsBacked, entry_measure, acknowledged_entries}
+use Rattle.bk_store.specs.Doors.{IsIn}
+use Rattle.bk_store.specs.Copying.{RemoveTurn, without_log}
+use Rattle.bk_store.specs.Beside.{RemovesBeside}
+use Rattle.bk_store.specs.declared.log.LogState.TheVariants.{Writing, Filled, Closed}
+use Rattle.bk_store.proofs.Cases.{same_or_apart}
+use Rattle.bk_store.proofs.LogMaps.{log-removed, log-remove_else, log-remove_cases}
+use Rattle.bk_store.proofs.Growing.{OnlyIn, carries_removed, entry_same, none_stands}
+use Rattle.bk_store.proofs.Seats.{seated_removed}
+use Rattle.bk_store.proofs.KeptSet.{one_log}
+use Rattle.bk_store.proofs.KeptOne.{keeps_failures}
+use Rattle.bk_store.proofs.JobStays.{Stays, job_stays, job_apart}
+
+module _ (p : Parts) (keeps : Keeps p) (id : ℕ) (log : Log) (held : finite.get p.state.logs id ≡ Some log) (closed : log.state ≡ Closed) (files : Files) where
+  abbrev removed : Parts
+  removed = record p { state = without_log (record p.state { files = files }) id log; accounts = after_drop p.accounts id }
+
+  -- a log that keys may be sent to, or that the flush wrote, is another one
+  not_closed : (q : ℕ) (l : Log) → finite.get p.state.logs q ≡ Some l → l.state ≢ Closed → q ≢ id
+  not_closed q l is other same =
+      let both : Some l ≡ Some log = sym is ∙ ap (finite.get p.state.logs) same ∙ held in
+      let one : l ≡ log = cc in
+      other (ap (λ (x : Log). x.state) one ∙ closed)
+
+  view_apart : (q : ℕ) → HasOpenView p.state.logs q → q ≢ id
+  view_apart q shown = not_closed q shown.log shown.held
+      (λ wrong. let both : true ≡ false = sym shown.opened ∙ ap is_open wrong in cc)
+
+  flush_apart : (q : ℕ) → IsFlushLog p.state.logs q → q ≢ id
+  flush_apart q f = not_closed q f.log f.held (λ wrong. elim f.flushed [
+    | inl now ↦ let both : Closed ≡ Writing = sym wrong ∙ now in cc
+    | inr now ↦ let both : Closed ≡ Filled = sym wrong ∙ now in cc
+  ])
+
+  view_stays : (q : ℕ) → HasOpenView p.state.logs q → HasOpenView (finite.remove p.state.logs id) q
+  view_stays q shown = record {
+    log = shown.log;
+    view = shown.view;
+    held = log-remove_else p.state.logs id q (view_apart q shown) ∙ shown.held;
+    opened = shown.opened;
+    view_is = shown.view_is;
+  }
+
+  flush_stays : (q : ℕ) → IsFlushLog p.state.logs q → IsFlushLog (finite.remove p.state.logs id) q
+  flush_stays q f = record { log = f.log; held = log-remove_else p.state.logs id q (flush_apart q f) ∙ f.held; flushed = f.flushed }
+
+  writing_apart : (q : ℕ) (l : Log) → finite.get p.state.logs q ≡ Some l → l.state ≡ Writing → q ≢ id
+  writing_apart q l is now = not_closed q l is (λ wrong. let both : Closed ≡ Writing = sym wrong ∙ now in cc)
+
+  names_left : (q : ℕ) → named_in (after_drop p.accounts id) q ≡ option_map (λ _. log_count p.state.index q) (finite.get (finite.remove p.state.logs id) q)
+  names_left q = named_in-after_drop p.accounts id q ∙ elim (q == id) as (λ b. (q == id) ≡ b → (if b then None else named_in p.accounts q)
+      ≡ option_map (λ _. log_count p.state.index q) (finite.get (finite.remove p.state.logs id) q)) [
+        | true ↦ λ tied. sym (ap (option_map (λ (_ : Log). log_count p.state.index q))
+            (ap (finite.get (finite.remove p.state.logs id)) (eqb-true q id tied) ∙ log-removed p.state.logs id))
+        | false ↦ λ other. keeps.fits.named q ∙ sym (ap (option_map (λ (_ : Log). log_count p.state.index q))
+            (log-remove_else p.state.logs id q (λ same. let tied = eq-eqb q id same in cc)))
+      ] refl
+
+  removed_fits : Fits removed
+  removed_fits =
+      let fits = keeps.fits in
+      record {
+        allowed = fits.allowed;
+        limit = fits.limit;
+        ids = fits.ids;
+        seated = seated_removed p.state.settings p.state.keeper p.state.logs fits.seated id log held;
+        held = λ q l is. fits.held q l (log-remove_cases p.state.logs id q l is).1;
+        sent = λ key place is. view_stays place.log (fits.sent key place is);
+        placed = record {
+          idle = fits.placed.idle;
+          flushing = fits.placed.flushing;
+          logs = λ key place is. flush_stays place.log (fits.placed.logs key place is);
+          front = fits.placed.front;
+          rising = fits.placed.rising;
+          newest = λ q l is now. fits.placed.newest q l (log-remove_cases p.state.logs id q l is).1 now;
+        };
+        writing = λ q. (
+          (λ is.
+              let now = (fits.writing q).0 is in
+              (now.0, log-remove_else p.state.logs id q (writing_apart q now.0 now.1 now.2) ∙ now.1, now.2)),
+          (λ now. (fits.writing q).1 (now.0, (log-remove_cases p.state.logs id q now.0 now.1).1, now.2)),
+        );
+        filled = λ q l is now. fits.filled q l (log-remove_cases p.state.logs id q l is).1 now;
+        named = names_left;
+        total = λ q l is.
+            let other = log-remove_cases p.state.logs id q l is in
+            let same : total_in (after_drop p.accounts id) q ≡ total_in p.accounts q =
+            total_in-after_drop p.accounts id q ∙ elim (q == id) as (λ b. (q == id) ≡ b → (if b then None else total_in p.accounts q) ≡ total_in p.accounts q) [
+              | true ↦ λ tied. absurd (other.0 (eqb-true q id tied))
+              | false ↦ λ _. refl
+            ] refl in
+            subst (λ o. unwrap_or o 0 + header_length ≤ l.acknowledged) (sym same) (fits.total q l other.1);
+      }
+
+  module _ (gone : files ≡ finite.remove p.state.files id) where
+    file_same : (q : ℕ) → q ≢ id → finite.get files q ≡ finite.get p.state.files q
+    file_same q apart = ap (λ (f : Files). finite.get f q) gone ∙ log-remove_else p.state.files id q apart
+
+    only : OnlyIn id (file_of p.state.files) (file_of files)
+    only q apart = ap (λ (o : Option (List ℕ)). unwrap_or o []) (file_same q apart)
+
+    none_left : file_of files id ≡ []
+    none_left = ap (λ (o : Option (List ℕ)). unwrap_or o []) (ap (λ (f : Files). finite.get f id) gone ∙ log-removed p.state.files id)
+
+    abbrev part_of : Option Log → List ℕ
+    part_of o = option_map_or (λ (l : Log). if is_open l.state then published_part l else []) o []
+
+    hidden : open_parts p.state.logs id ≡ []
+    hidden = ap part_of held ∙ ap (λ b. if b then published_part log else []) (ap is_open closed)
+
+    parts_left : (q : ℕ) → open_parts (finite.remove p.state.logs id) q ≡ open_parts p.state.logs q
+    parts_left q = elim (same_or_apart q id) [
+      | inr apart ↦ ap part_of (log-remove_else p.state.logs id q apart)
+      | inl here ↦ ap part_of (ap (finite.get (finite.remove p.state.logs id)) here ∙ log-removed p.state.logs id) ∙ sym (ap (open_parts p.state.logs) here ∙ hidden)
+    ]
+
+    entries_left : (q : ℕ) → acknowledged_entries files (finite.remove p.state.logs id) q ≡ (if q == id then None else acknowledged_entries p.state.files p.state.logs q)
+    entries_left q = elim (q == id) as (λ b. (q == id) ≡ b → acknowledged_entries files (finite.remove p.state.logs id) q
+        ≡ (if b then None else acknowledged_entries p.state.files p.state.logs q)) [
+          | true ↦ λ tied. ap (option_map (λ (l : Log). entries_of (take l.acknowledged (file_of files q))))
+              (ap (finite.get (finite.remove p.state.logs id)) (eqb-true q id tied) ∙ log-removed p.state.logs id)
+          | false ↦ λ other.
+              let apart : q ≢ id = λ same. let tied = eq-eqb q id same in cc in
+              ap (option_map (λ (l : Log). entries_of (take l.acknowledged (file_of files q)))) (log-remove_else p.state.logs id q apart)
+              ∙ ap (λ (b : List ℕ). option_map (λ (l : Log). entries_of (take l.acknowledged b)) (finite.get p.state.logs q)) (only q apart)
+        ] refl
+
+    backed_left : (promise : Promises p) (q : ℕ) (l : Log) → finite.get (finite.remove p.state.logs id) q ≡ Some l → IsBacked files q l
+    backed_left promise q l is =
+        let other = log-remove_cases p.state.logs id q l is in
+        let old = promise.backed q l other.1 in
+        let same = file_same q other.0 in
+        record {
+          stands = ap is_some same ∙ old.stands;
+          writes = λ w writer.
+              let was = old.writes w writer in
+              let own = ((keeps.fits.held q l other.1).by w writer).own in
+              record {
+                file = was.file;
+                records = was.records;
+                stands = ap (finite.get files) own ∙ same ∙ ap (finite.get p.state.files) (sym own) ∙ was.stands;
+                long = was.long;
+                text = was.text;
+                counted = was.counted;
+                sized = was.sized;
+                keyed = was.keyed;
+              };
+          honest = old.honest;
+          spelled = subst HasNoBadLength (sym (only q other.0)) old.spelled;
+          shown = old.shown;
+        }
+
+    pub removed_carries : (promise : Promises p) → Carries (file_of files) p.state.index (written_at p.state) p.state.dead promise.carried
+    removed_carries promise = carries_removed id only none_left (λ key place named. view_apart place.log (keeps.fits.sent key place named)) promise.carries
+
+    removed_promises : (promise : Promises p) → Promises removed
+    removed_promises promise = record {
+      carried = promise.carried;
+      carries = removed_carries promise;
+      shows = subst (λ (ps : Bytes). Shows (file_of files) ps p.state.index) (λ i q. sym (parts_left q) i) (record {
+        stands = λ place key payload entry. elim (same_or_apart place.log id) [
+          | inl here ↦ absurd (none_stands place key payload (ap (open_parts p.state.logs) here ∙ hidden) entry)
+          | inr apart ↦ entry_same place key payload (sym (only place.log apart)) (promise.shows.stands place key payload entry)
+        ];
+        shown = promise.shows.shown;
+      });
+      recent = promise.recent;
+      counted = sums_drop entry_measure promise.counted id (acknowledged_entries files (finite.remove p.state.logs id)) entries_left;
+      backed = backed_left promise;
+      fresh = λ q above. elim (same_or_apart q id) [
+        | inl here ↦ absurd (let below = (keeps.fits.held id log held).below in omega (arith, below, above, here))
+        | inr apart ↦ file_same q apart ∙ promise.fresh q above
+      ];
+      placed = λ key place is.
+          let old = promise.placed key place is in
+          let apart = flush_apart place.log (keeps.fits.placed.logs key place is) in
+          record { payload = old.payload; flushing = old.flushing; stands = entry_same place key old.payload (sym (only place.log apart)) old.stands };
+    }
+
+  removed_kept : (IsTrue p.state.honest → files ≡ finite.remove p.state.files id) → Keeps removed
+  removed_kept gone = record {
+    fits = removed_fits;
+    job = λ job is.
+        let own = keeps.job job is in
+        let apart = job_apart p.state job own id log held (λ wrong. let both = sym closed ∙ wrong in cc) (λ wrong. let both = sym closed ∙ wrong in cc) in
+        job_stays p.state removed.state job (record {
+          honest = refl;
+          source = log-remove_else p.state.logs id job.source apart.0;
+          copy = log-remove_else p.state.logs id job.copy apart.1;
+          named = λ _ key place there _. there;
+          stands = λ honest place key payload there entry.
+              entry_same place key payload (sym (only (gone honest) place.log (λ same. apart.1 (sym there ∙ same)))) entry;
+        }) own;
+    promises = λ honest. removed_promises (gone honest) (keeps.promises honest);
+  }
+
+pub keeps_remove : (p q : Parts) (id : ℕ) (result : Result (Unit {0}) LogFault) → Keeps p → IsIn p.state id Closed → RemoveTurn p.state id result q.state
+    → RemovesBeside p id result q → Keeps q
+keeps_remove p q id (Ok _) keeps known turn beside =
+    subst Keeps (sym (beside ∙ ap (λ (s : State). record p { state = s; accounts = after_drop p.accounts id }) turn.3))
+    (removed_kept p keeps id turn.0 turn.1 (one_log p id turn.0 Closed turn.1 known) q.state.files turn.2)
+keeps_remove p q id (Err log_faults.Disk) keeps known turn beside =
+    subst Keeps (sym (beside ∙ ap (λ (s : State). record p { state = s }) turn.1)) (keeps_failures p q.state.files (p.state.failures + 1) keeps turn.0)
+keeps_remove p q id (Err log_faults.Memory) keeps known turn beside =
+    subst Keeps (sym (beside ∙ ap (λ (s : State). record p { state = s }) turn.1)) (keeps_failures p q.state.files p.state.failures keeps turn.0)
+keeps_remove p q id (Err log_faults.Odd) keeps known turn beside =
+    subst Keeps (sym (beside ∙ ap (λ (s : State). record p { state = s }) turn.1)) (keeps_failures p q.state.files p.state.failures keeps
+    (λ honest. absurd (let wrong = turn.0 in cc)))
+keeps_remove p q id (Err log_faults.Failed) keeps known never beside = absurd never

@@ -1,0 +1,97 @@
+-- A key that is sent on to a later log keeps what a store keeps.
+use Rattle.std.proofs.Common.{◌≡◌, ◌⊎◌, inl, inr, ℕ, ◌+◌, ◌≤◌, ◌<◌, Bool, true, false, IsTrue, List, Option, Some, None, unwrap_or, refl, sym, ap, subst, ◌∙◌, arith}
+use Rattle.std.specs.FinMap as finite
+use Rattle.std.specs.FinSet as set
+use Rattle.std.proofs.lemmas.Option.{none-some, same_Some}
+use Rattle.bk_record.specs.Key.{EntryKey}
+use Rattle.bk_record.specs.Location.{Place}
+use Rattle.bk_record.specs.Files.{file_of, header_length}
+use Rattle.bk_accounts.specs.Book.{after_name}
+use Rattle.bk_store.specs.Carried.{IsIndexed}
+use Rattle.bk_store.specs.Jobs.{Job}
+use Rattle.bk_store.specs.Logs.{HasOpenView}
+use Rattle.bk_store.specs.State.{State, Parts}
+use Rattle.bk_store.specs.Kept.{Keeps, Fits, Promises, acknowledged_entries}
+use Rattle.bk_store.specs.Copying.{MayRename, RenameTurn}
+use Rattle.bk_store.specs.Beside.{RenamesBeside, renamed, sent}
+use Rattle.bk_store.proofs.KeyMaps.{inserted_cases}
+use Rattle.bk_store.proofs.IndexMoves.{carries_sent}
+use Rattle.bk_store.proofs.ShownMoves.{shows_sent}
+use Rattle.bk_store.proofs.KeptName.{total_renamed, names_move, sums_move}
+
+module _ (p : Parts) (keeps : Keeps p) (key : EntryKey) (from_place to_place : Place) (may : MayRename p.state key from_place to_place)
+    (there : finite.get p.state.index key ≡ Some from_place) where
+  sent_fits : Fits (sent p key to_place)
+  sent_fits =
+      let fits = keeps.fits in
+      record {
+        allowed = fits.allowed;
+        limit = fits.limit;
+        ids = fits.ids;
+        seated = fits.seated;
+        held = fits.held;
+        sent = λ k pl is. elim (inserted_cases p.state.index key to_place k pl is) [
+          | inl here ↦ subst (λ (x : Place). HasOpenView p.state.logs x.log) here.1 may.seen
+          | inr old ↦ fits.sent k pl old.1
+        ];
+        placed = record {
+          idle = fits.placed.idle;
+          flushing = fits.placed.flushing;
+          logs = fits.placed.logs;
+          front = fits.placed.front;
+          rising = fits.placed.rising;
+          newest = fits.placed.newest;
+        };
+        writing = fits.writing;
+        filled = fits.filled;
+        named = names_move p.state.index key to_place p.accounts (finite.get p.state.logs) fits.named (finite.get p.state.index key) refl;
+        total = λ id log is. subst (λ n. n + header_length ≤ log.acknowledged)
+            (sym (ap (λ o. unwrap_or o 0) (total_renamed p.accounts (finite.get p.state.index key) to_place id))) (fits.total id log is);
+      }
+
+  -- the entry at the new place has what the map has, since the index named an older one
+  arrives : IsTrue p.state.honest → (promise : Promises p) → IsIndexed (file_of p.state.files) promise.carried key to_place
+  arrives honest promise =
+      let shown = may.stands honest in
+      let stands = promise.shows.stands to_place key shown.0 shown.1 in
+      let old = promise.carries.indexed key from_place there in
+      let alive = promise.carries.lives key old.payload old.mapped in
+      elim (promise.carries.recorded to_place key shown.0 stands alive) [
+        | inl mapped ↦ record { payload = shown.0; stands = stands; mapped = mapped }
+        | inr stale ↦ absurd (
+            let same : stale.behind ≡ from_place = same_Some stale.behind from_place (sym stale.sent ∙ there) in
+            let logs = ap (λ (x : Place). x.log) same in
+            let later = may.later in
+            elim stale.later [
+              | inl before ↦ omega (arith, before, logs, later)
+              | inr tied ↦ let here = tied.0 in omega (arith, here, logs, later)
+            ])
+      ]
+
+  sent_promises : IsTrue p.state.honest → Promises p → Promises (sent p key to_place)
+  sent_promises honest promise = record {
+    carried = promise.carried;
+    carries = carries_sent promise.carries key to_place (arrives honest promise)
+        (λ was _ is.
+        let same : was ≡ from_place = same_Some was from_place (sym is ∙ there) in
+        inr (inl (subst (λ (x : Place). x.log < to_place.log) (sym same) may.later)));
+    shows = shows_sent promise.shows key to_place (may.stands honest);
+    recent = promise.recent;
+    counted = sums_move p.state.index key to_place p.accounts (set.contains p.state.dead) (acknowledged_entries p.state.files p.state.logs) promise.counted
+        (finite.get p.state.index key) refl;
+    backed = promise.backed;
+    fresh = promise.fresh;
+    placed = λ k pl is. let old = promise.placed k pl is in record { payload = old.payload; flushing = old.flushing; stands = old.stands };
+  }
+
+  sent_kept : Keeps (sent p key to_place)
+  sent_kept = record {
+    fits = sent_fits;
+    job = λ job is. absurd (none-some job (sym may.no_job ∙ is));
+    promises = λ honest. sent_promises honest (keeps.promises honest);
+  }
+
+pub keeps_rename : (p q : Parts) (key : EntryKey) (from_place to_place : Place) (result : Bool) → Keeps p → MayRename p.state key from_place to_place
+    → RenameTurn p.state key from_place to_place result q.state → RenamesBeside p key to_place result q → Keeps q
+keeps_rename p q key from_place to_place true keeps may turn beside = subst Keeps (sym beside) (sent_kept p keeps key from_place to_place may turn.0)
+keeps_rename p q key from_place to_place false keeps may turn beside = subst Keeps (sym beside) keeps
