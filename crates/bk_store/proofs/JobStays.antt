@@ -116,7 +116,8 @@ stays_same s t job honest logs index files = record {
 
 -- where one log changes, which is none of the job's, and an honest disk's file of it
 pub stays_else : (s t : State) (job : Job) (id : ℕ) (new : Log) → (job.source ≢ id) × (job.copy ≢ id) → t.honest ≡ s.honest
-    → t.logs ≡ finite.insert s.logs id new → t.index ≡ s.index → (IsTrue s.honest → (q : ℕ) → q ≢ id → finite.get t.files q ≡ finite.get s.files q) → Stays s t job
+    → t.logs ≡ finite.insert s.logs id new → t.index ≡ s.index → (IsTrue s.honest → (q : ℕ) → q ≢ id → finite.get t.files q ≡ finite.get s.files q)
+    → Stays s t job
 stays_else s t job id new apart honest logs index files = record {
   honest = honest;
   source = ap (λ (l : Logs). finite.get l job.source) logs ∙ log-insert_else s.logs id new job.source apart.0;

@@ -327,7 +327,8 @@ module _ (p : Parts) (keeps : Keeps p) where
       job = λ job is.
           let kept = keeps.job job is in
           let t : State = with_next p.state files failures (finite.insert p.state.logs next new) (with_seat p.state slot) in
-          let others : (job.source ≢ next) × (job.copy ≢ next) = (apart job.source kept.source.log kept.source.held, apart job.copy kept.copy.log kept.copy.held) in
+          let others : (job.source ≢ next) × (job.copy ≢ next) =
+          (apart job.source kept.source.log kept.source.held, apart job.copy kept.copy.log kept.copy.held) in
           job_stays p.state t job (stays_else p.state t job next new others refl refl refl (λ honest. (made honest).0.only)) kept;
       promises = λ honest. let m = made honest in new_promises (keeps.promises honest) m.0 m.1 m.2;
     }

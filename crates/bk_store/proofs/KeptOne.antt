@@ -152,7 +152,8 @@ module _ (p : Parts) (id : ℕ) (log new : Log) (held : finite.get p.state.logs 
 -- ---- the job of a compaction, which does not have the log
 
 -- the log is none of the job's that the store has
-pub job_in : (keeper : SlotTable) (p : Parts) (id : ℕ) (new : Log) (files : Files) (failures : ℕ) (accounts : Book) (writing : Option ℕ) → Keeps p → IsIdle p.state id
+pub job_in : (keeper : SlotTable) (p : Parts) (id : ℕ) (new : Log) (files : Files) (failures : ℕ) (accounts : Book) (writing : Option ℕ) → Keeps p
+    → IsIdle p.state id
     → (IsTrue p.state.honest → (q : ℕ) → q ≢ id → finite.get files q ≡ finite.get p.state.files q)
     → (job : Job) → p.state.job ≡ Some job → IsJob (with_one_in keeper p id new files failures accounts writing).state job
 job_in keeper p id new files failures accounts writing keeps idle only job is =

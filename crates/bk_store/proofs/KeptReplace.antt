@@ -174,7 +174,8 @@ module _ (p : Parts) (keeps : Keeps p) (index : Places) (may : MayReplace p.stat
     promises = λ honest. replaced_promises honest (keeps.promises honest);
   }
     where
-      rebuilt_job : (o : Option Job) → ((job : Job) → o ≡ Some job → IsJob p.state job) → (job : Job) → option_map with_rebuild o ≡ Some job → IsJob new.state job
+      rebuilt_job : (o : Option Job) → ((job : Job) → o ≡ Some job → IsJob p.state job) → (job : Job)
+          → option_map with_rebuild o ≡ Some job → IsJob new.state job
       rebuilt_job None kept job is = cc
       rebuilt_job (Some old) kept job is =
           let one : with_rebuild old ≡ job = cc in

@@ -101,7 +101,8 @@ readable_unflushed (inr wrong) = cc
 
 module _ (p q : Parts) (id : ℕ) (state : LogState) (result : Result (Unit {0}) LogFault) (keeps : Keeps p) (turn : Seals p.state id state result q.state)
     (closed : is_written state ≡ false) (opened : is_open state ≡ true) (was_open : is_open turn.log.state ≡ true) (beside : SealsBeside p id q) where
-  sealed_kept : IsIdle p.state id → Fits (with_one p id (closed_log state turn.log) q.state.files (p.state.failures + failed_in result) p.accounts (unless_log p.writing id)) → Keeps q
+  sealed_kept : IsIdle p.state id
+      → Fits (with_one p id (closed_log state turn.log) q.state.files (p.state.failures + failed_in result) p.accounts (unless_log p.writing id)) → Keeps q
   sealed_kept idle fits =
       let log = turn.log in
       let by = (keeps.fits.held id log turn.writer.held).by turn.w turn.writer.writer in
@@ -109,8 +110,8 @@ module _ (p q : Parts) (id : ℕ) (state : LogState) (result : Result (Unit {0})
       subst (λ n. Gains p.state.files n (turn.sealed honest).gains.others q.state.files) by.own (turn.sealed honest).gains.gains in
       subst Keeps (sym (beside ∙ ap (λ (s : State). record p { state = s; writing = unless_log p.writing id }) turn.left)) (record {
         fits = fits;
-        job = job_in p.state.keeper p id (closed_log state log) q.state.files (p.state.failures + failed_in result) p.accounts (unless_log p.writing id) keeps idle
-            (λ honest. (gained honest).only);
+        job = job_in p.state.keeper p id (closed_log state log) q.state.files (p.state.failures + failed_in result) p.accounts (unless_log p.writing id)
+            keeps idle (λ honest. (gained honest).only);
         promises = λ honest.
             let promise = keeps.promises honest in
             let sealed = turn.sealed honest in
