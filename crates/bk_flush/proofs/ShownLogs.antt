@@ -11,8 +11,9 @@ use Rattle.bk_store.specs.Logs.{Log, Logs, IsFlushLog, is_open, with_view}
 use Rattle.bk_store.specs.State.{State}
 use Rattle.bk_store.specs.Plain.{IsKept}
 use Rattle.bk_store.specs.Meaning.{MeansTheSame}
-use Rattle.bk_store.specs.Doors.{IsOpenLog, ShowTurn}
+use Rattle.bk_store.specs.Doors.{MayShow, ShowTurn}
 use Rattle.bk_store.proofs.LogMaps.{log-inserted, log-insert_else}
+use Rattle.bk_store.proofs.KeptJob.{flush_idle}
 use Rattle.bk_flush.specs.Flushing.{HasPlace, IsShown, ShowsThose, ShowsPlaced, StopsShowing, told}
 use Rattle.bk_flush.specs.Meaning.{Stays}
 use Rattle.bk_flush.specs.Showing.{AllShown, ShowsLogs}
@@ -48,8 +49,11 @@ flush_log_open logs id is = (
   ]),
 )
 
-pub open_log : (s : State) (id : ℕ) → IsFlushLog s.logs id → IsOpenLog s id
-open_log s id is = let log = flush_log_open s.logs id is in record { log = log.0; held = log.1; opened = log.2 }
+-- and no compaction has it
+pub may_show : (s : State) (id : ℕ) → IsKept s → IsFlushLog s.logs id → MayShow s id
+may_show s id kept is =
+    let log = flush_log_open s.logs id is in
+    record { open_is = record { log = log.0; held = log.1; opened = log.2 }; idle = flush_idle s id kept is }
 
 -- what a store in which so much is shown says of the places
 module _ (s t : State) (from : ℕ) (is : IsShowing s from t) where

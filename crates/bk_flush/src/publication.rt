@@ -58,6 +58,7 @@ fn show_logs<D: LogDisk>(store: &mut Store<D>) -> Result<(), FlushFault>
         if log < from {
             continue;
         }
+        store.promise();
         if let Err(fault) = store.show(log) {
             return Err(fault_of_log(fault));
         }

@@ -1,7 +1,8 @@
 use Rattle.std.proofs.Common.{◌+◌, Some, sym, ap, subst, arith}
 use Rattle.std.specs.FinMap as finite
+use Rattle.bk_store.specs.Doors.{MayShow}
 use Rattle.bk_flush.proofs.NextLogs.{IsNextLog, past_end, one_past, next_placed, none_left}
-use Rattle.bk_flush.proofs.ShownLogs.{one_more, not_shown, all_shown, shows_whole, same_places, same_entry}
+use Rattle.bk_flush.proofs.ShownLogs.{may_show, one_more, not_shown, all_shown, shows_whole, same_places, same_entry}
 use Rattle.bk_flush.proofs.publication.show_logs.Goals as goal
 
 pub unreachable-requires : goal.unreachable-requires
@@ -12,6 +13,11 @@ unreachable-requires g c =
     let within = c.loop-number-test.true in
     let end = c.placed_len-number-end.ensures in
     absurd (omega (arith, past, long, same, within, end))
+
+pub show-requires-after_bounds : goal.show-requires-after_bounds
+show-requires-after_bounds g c = λ κs within.
+    subst (MayShow c.loop-number.store) (sym c.log-log.ensures.value)
+    (may_show c.loop-number.store _ c.promise-in-loop-number.ensures c.in-Some.ensures.log)
 
 pub returns-in-Err-clause-turn : goal.returns-in-Err-clause-turn
 returns-in-Err-clause-turn g c =
