@@ -19,9 +19,9 @@ words_rule name = record (new_rule name) { action = Some Append; value_names = 1
 
 -- the command `script`, with its options and the words beside them
 abbrev pub script : App
-script = with_rule (with_rule (with_rule (with_rule (with_rule (with_rule (new_app (codes "script"))
+script = with_rule (with_rule (with_rule (with_rule (with_rule (with_rule (with_rule (with_rule (new_app (codes "script"))
     (option_rule (codes "log-limit"))) (option_rule (codes "cache-limit"))) (option_rule (codes "recent"))) (option_rule (codes "slots")))
-    (option_rule (codes "leases"))) (words_rule (codes "LEDGER"))
+    (option_rule (codes "leases"))) (option_rule (codes "minor"))) (option_rule (codes "major"))) (words_rule (codes "LEDGER"))
 
 -- the program, which is called with a command
 abbrev pub program : App
@@ -45,15 +45,15 @@ abbrev pub AsksLedgers : Option (List Text) → List ℕ → Type 0
 AsksLedgers None dead = dead ≡ []
 AsksLedgers (Some words) dead = AllZip (IsNumberIn 0 last_ledger) words dead
 
--- What the options of `script` ask for. The settings without an option have one value.
+-- What the options of `script` ask for.
 pub record AsksSettings (rows : List Row) (settings : Settings) : Type 0 where
   pub log_limit : AsksNumber (2 ^ 30) 2048 (2 ^ 30) (first_of (codes "log-limit") rows) settings.log_limit
   pub cache_limit : AsksNumber (2 ^ 24) 16 (2 ^ 30) (first_of (codes "cache-limit") rows) settings.cache_limit
   pub recent : AsksNumber 0 0 65536 (first_of (codes "recent") rows) settings.recent
   pub slots : AsksNumber 1024 1 65536 (first_of (codes "slots") rows) settings.slots
   pub leases : AsksNumber 1024 1 65535 (first_of (codes "leases") rows) settings.leases
-  pub minor : settings.minor ≡ 200
-  pub major : settings.major ≡ 800
+  pub minor : AsksNumber 200 0 1000 (first_of (codes "minor") rows) settings.minor
+  pub major : AsksNumber 800 0 1000 (first_of (codes "major") rows) settings.major
 
 -- The words, of which the first is the program's name, call `script` with options that ask for these settings, and with
 -- these ledgers, which were deleted before.

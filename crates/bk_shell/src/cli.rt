@@ -90,6 +90,24 @@ const LEASES: NumberOption = NumberOption {
     help: "Gives out at most this many leases of one log at once: 1 to 65535 [default: 1024]",
 };
 
+/// Below how many thousandths of live bytes a log is compacted by `minor`.
+const MINOR: NumberOption = NumberOption {
+    name: "minor",
+    least: 0,
+    most: 1000,
+    default: DEFAULTS.minor,
+    help: "Compacts by `minor` a log of which fewer thousandths live than this: 0 to 1000 [default: 200]",
+};
+
+/// The same for `major`.
+const MAJOR: NumberOption = NumberOption {
+    name: "major",
+    least: 0,
+    most: 1000,
+    default: DEFAULTS.major,
+    help: "Compacts by `major` a log of which fewer thousandths live than this: 0 to 1000 [default: 800]",
+};
+
 /// The call of `script` that a command line is, its first word being the program's name. An error is a wrong command
 /// line, help that was asked for, or want of memory, as its kind says.
 pub(crate) fn script_call<'a, S: AsStr>(alloc: Global, words: &'a [S]) -> Result<ScriptCall, Error>
@@ -129,13 +147,16 @@ fn read_options<'a>(script: &ArgMatches<'a>) -> Result<Settings, BadValue<'a>>
     let recent = RECENT.read(script)?;
     let slots = SLOTS.read(script)?;
     let leases = LEASES.read(script)?;
+    let minor = MINOR.read(script)?;
+    let major = MAJOR.read(script)?;
     Ok(Settings {
         log_limit,
         cache_limit,
         recent,
         slots,
         leases,
-        ..DEFAULTS
+        minor,
+        major,
     })
 }
 
@@ -166,7 +187,7 @@ fn unknown_word<'t>(error: &Error, text: &'t str) -> Option<&'t str> {
 
 /// The option of `script` that is this word but for one slip: a letter too many, too few, another, or two exchanged.
 fn near_option(alloc: Global, word: &str) -> Result<Option<&'static str>, AllocError> {
-    for option in [LOG_LIMIT, CACHE_LIMIT, RECENT, SLOTS, LEASES] {
+    for option in [LOG_LIMIT, CACHE_LIMIT, RECENT, SLOTS, LEASES, MINOR, MAJOR] {
         if osa_distance(alloc, word.trim_start_matches('-'), option.name)? <= 1 {
             return Ok(Some(option.name));
         }
@@ -196,6 +217,8 @@ fn command<'a>(alloc: Global) -> Result<Command<'a>, AllocError>
         .arg(RECENT.arg(alloc))?
         .arg(SLOTS.arg(alloc))?
         .arg(LEASES.arg(alloc))?
+        .arg(MINOR.arg(alloc))?
+        .arg(MAJOR.arg(alloc))?
         .arg(ledgers_arg(alloc))?;
     Command::new(alloc, "bk_shell")
         .about("Entry log storage of a bookie")

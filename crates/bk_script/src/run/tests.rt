@@ -1,3 +1,4 @@
+mod compacting;
 mod faults;
 mod lines;
 mod long;

@@ -48,21 +48,43 @@ pub(crate) const SCRIPT_HELP: &str = "\
                             keeps a log that no key is read from out of the index
   close LOG                 closed | leased N | not retired | no log
                             closes a retired log that no lease is on
+  remove LOG                removed | not closed | no log
+                            removes a closed log and its file
   rebuild                   rebuilt N
                             makes the index of N keys anew from what the logs show
+  minor, major              chosen LOG | nothing to do | job running
+                            begins to compact the log of which the least lives
+  copy N                    copied K | at end | no job | not now
+                            looks at the log's next N entries, and copies the K of
+                            them that are still read from there to a new log
+  end                       ended K | not at end | no job | not now
+                            ends copying: the new log with its K copies is shown
+  switch N                  moved K LEFT | no job | not now
+                            takes the next N copies: the keys of K of them are
+                            read from there from now on; LEFT wait
+  finish                    retired LOG | still named N | left N | no job | not now
+                            ends the compaction, and retires the log where no key
+                            is read from it any more
+  giveup                    given up | no job
+                            ends the compaction, and leaves both logs as they are
 A step that is refused answers `fault TEXT`.
 
-LEDGER and ENTRY are 0 to 9223372036854775807, READER is 0 to 3, LOG is 0 to 2147483647. DATA is in hexadecimal, `-`
-where there is none. A LOCATION is the log's id times 2^32, and the position in it. Empty lines are passed over.
+LEDGER and ENTRY are 0 to 9223372036854775807, READER is 0 to 3, LOG is 0 to 2147483647. The N that `copy` and `switch`
+are told is 0 to 4294967295. DATA is in hexadecimal, `-` where there is none. A LOCATION is the log's id times 2^32, and
+the position in it. Empty lines are passed over.
 
 A ledger behind the options was deleted before the first step. An entry of a deleted ledger is refused with `fault
 deleted`, and a second deletion with `fault already deleted`. An entry that would take the cache past --cache-limit is
 refused with `fault full USED LIMIT`, in bytes.
 
 A flush goes on in the log that is written. A record that would take that log past --log-limit goes to the next log; a
-log's first record goes in whatever its length. With as many logs as --slots says, a write that needs a new log answers
+log's first record goes in whatever its length. With as many logs as --slots says, a step that needs a new log answers
 `fault logs full`. With as many leases of a log as --leases says, a take that needs one more answers `fault too many
 leases`.
+
+A log can be compacted that is written no more and that keys are read from, where fewer thousandths of its bytes are of
+ledgers that are not deleted than --minor or --major says. Until the compaction is over, that log and the new one are in
+use. A retired log goes by `close` and `remove`.
 
 The status is 0 where every step was answered. It is 1 where a read fails, the input has more than 16777216 bytes or
 takes more than 1048576 reads, or a line spells no step; where the store is not opened; where no memory is to be had

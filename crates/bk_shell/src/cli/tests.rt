@@ -7,7 +7,7 @@ use std::test::Fail;
 
 #[test]
 fn a_wrong_command_line_has_status_2_and_help_has_0(rt: HostRuntime) {
-    let lines: [(&[&str], i32); 42] = [
+    let lines: [(&[&str], i32); 48] = [
         (&["bk_shell"], 2),
         (&["bk_shell", "frob"], 2),
         (&["bk_shell", "--slots", "5"], 2),
@@ -23,8 +23,14 @@ fn a_wrong_command_line_has_status_2_and_help_has_0(rt: HostRuntime) {
         (&["bk_shell", "script", "--slots", "5", "--", "--slots"], 2),
         (&["bk_shell", "script", "--slot", "5"], 2),
         (&["bk_shell", "script", "-s", "5"], 2),
-        (&["bk_shell", "script", "--minor", "100"], 2),
-        (&["bk_shell", "script", "--major=100"], 2),
+        (&["bk_shell", "script", "--minor", "1001"], 2),
+        (&["bk_shell", "script", "--minor", "-1"], 2),
+        (&["bk_shell", "script", "--minor="], 2),
+        (&["bk_shell", "script", "--minor=1", "--minor=1"], 2),
+        (&["bk_shell", "script", "--major=1001"], 2),
+        (&["bk_shell", "script", "--major", "0x1"], 2),
+        (&["bk_shell", "script", "--major", "01"], 2),
+        (&["bk_shell", "script", "--major"], 2),
         (&["bk_shell", "script", "--slots"], 2),
         (&["bk_shell", "script", "--slots="], 2),
         (&["bk_shell", "script", "--slots", ""], 2),
@@ -169,7 +175,7 @@ fn help_shows_each_command_on_a_folder(rt: HostRuntime) {
 }
 
 /// Words behind the program's name, the settings that they ask for, and the ledgers.
-const CALLS: [(&[&str], Settings, &[u64]); 10] = [
+const CALLS: [(&[&str], Settings, &[u64]); 12] = [
     (&["script"], DEFAULTS, &[]),
     (
         &["script", "--slots", "1"],
@@ -232,6 +238,24 @@ const CALLS: [(&[&str], Settings, &[u64]); 10] = [
         },
         &[],
     ),
+    (
+        &["script", "--minor=0", "--major", "0"],
+        Settings {
+            minor: 0,
+            major: 0,
+            ..DEFAULTS
+        },
+        &[],
+    ),
+    (
+        &["script", "--major=1000", "4", "--minor", "1000"],
+        Settings {
+            minor: 1000,
+            major: 1000,
+            ..DEFAULTS
+        },
+        &[4],
+    ),
     (&["script", "--recent", "0", "9"], DEFAULTS, &[9]),
     (
         &["script", "0", "9223372036854775807", "0"],
@@ -277,7 +301,7 @@ fn told(rt: &impl Abort, alloc: Global, words: &[&str]) -> String {
 }
 
 /// What is told of a wrong value and of an unknown word: the part that it has, and one that it has not.
-const TOLD: [(&[&str], &str, &str); 8] = [
+const TOLD: [(&[&str], &str, &str); 10] = [
     (
         &["bk_shell", "script", "--slots", "0"],
         "'0' for '--slots <NUMBER>': not a number from 1 to 65536",
@@ -299,9 +323,19 @@ const TOLD: [(&[&str], &str, &str); 8] = [
         "tip",
     ),
     (
-        &["bk_shell", "script", "--minor", "100"],
-        "unexpected argument '--minor' found\n\nUsage: bk_shell script [OPTIONS] [LEDGER]...\n",
+        &["bk_shell", "script", "--medium", "100"],
+        "unexpected argument '--medium' found\n\nUsage: bk_shell script [OPTIONS] [LEDGER]...\n",
         "--log-limit",
+    ),
+    (
+        &["bk_shell", "script", "--minr=100"],
+        "unexpected argument '--minr' found; there is '--minor'\n",
+        "--major",
+    ),
+    (
+        &["bk_shell", "script", "--major=1001"],
+        "'1001' for '--major <NUMBER>': not a number from 0 to 1000 in plain digits",
+        "--minor",
     ),
     (
         &["bk_shell", "script", "--cachelimit=5"],
@@ -330,7 +364,7 @@ fn a_wrong_word_is_told_and_no_other_option_is_named(rt: HostRuntime) {
 }
 
 /// Parts of the help: each step and option, the largest payload of a pad, each way to status 1.
-const SHOWN: [&str; 26] = [
+const SHOWN: [&str; 35] = [
     "add LEDGER ENTRY [TEXT]",
     "pad LEDGER ENTRY SIZE",
     "1048560",
@@ -344,12 +378,21 @@ const SHOWN: [&str; 26] = [
     "roll ",
     "retire LOG",
     "close LOG",
+    "remove LOG",
     "rebuild ",
+    "minor, major ",
+    "copy N",
+    "end ",
+    "switch N",
+    "finish ",
+    "giveup ",
     "--log-limit <NUMBER>",
     "--cache-limit <NUMBER>",
     "--recent <NUMBER>",
     "--slots <NUMBER>",
     "--leases <NUMBER>",
+    "--minor <NUMBER>",
+    "--major <NUMBER>",
     "[LEDGER]...",
     "a read fails",
     "16777216 bytes",

@@ -32,6 +32,10 @@ const FLUSH: &str = "pad 1 0 480\npad 1 1 504\npad 1 2 0\nswap\nwrite\nwrite\nwr
 /// A second log after a roll.
 const ROLL: &str = "add 1 0 a\nswap\nwrite\npublish\nroll\nadd 1 1 b\nswap\nwrite\n";
 
+/// A log of which 120 of 220 bytes live.
+const HALF_DELETED: &str =
+    "pad 1 0 100\npad 2 0 80\nswap\nwrite\nwrite\npublish\nroll\ndelete 2\nmajor\nminor\n";
+
 /// Two entries that take 100 bytes, and two more, of which one is held already; then room again.
 const CACHE: &str = "pad 1 0 44\npad 1 1 24\nadd 1 2\npad 1 0 9\nswap\nadd 1 2\n";
 
@@ -40,7 +44,7 @@ const LATEST: &str = "add 1 0 a\nadd 1 1 b\nswap\nwrite\nwrite\npublish\ntake 0 
 
 #[test]
 fn options_are_used(rt: HostRuntime) {
-    let runs: [(&[&str], &str, &str); 7] = [
+    let runs: [(&[&str], &str, &str); 10] = [
         (
             &["bk_shell", "script"],
             FLUSH,
@@ -70,6 +74,21 @@ fn options_are_used(rt: HostRuntime) {
             &["bk_shell", "script", "--recent", "1"],
             LATEST,
             "accepted\naccepted\nswapped 2\nwrote 1028\nwrote 1049\npublished 2\ncached 62\nleased 1028\n",
+        ),
+        (
+            &["bk_shell", "script"],
+            HALF_DELETED,
+            "accepted\naccepted\nswapped 2\nwrote 1028\nwrote 1148\npublished 2\nsealed 0\ndropped 1\nchosen 0\njob running\n",
+        ),
+        (
+            &["bk_shell", "script", "--major=545"],
+            HALF_DELETED,
+            "accepted\naccepted\nswapped 2\nwrote 1028\nwrote 1148\npublished 2\nsealed 0\ndropped 1\nnothing to do\nnothing to do\n",
+        ),
+        (
+            &["bk_shell", "script", "--major", "0", "--minor", "546"],
+            HALF_DELETED,
+            "accepted\naccepted\nswapped 2\nwrote 1028\nwrote 1148\npublished 2\nsealed 0\ndropped 1\nnothing to do\nchosen 0\n",
         ),
         (
             &["bk_shell", "script", "9", "8", "9"],

@@ -3,7 +3,7 @@
 use crate::ScriptFault;
 use crate::run::tell;
 use crate::text::Text;
-use bk_drive::{AddFault, DeleteFault, FlushFault, OpenFault};
+use bk_drive::{AddFault, CollectFault, CompactFault, DeleteFault, FlushFault, OpenFault};
 use bk_log::FetchFault;
 use bk_record::RecordFault;
 use std::alloc::Global;
@@ -92,6 +92,24 @@ fn faults_of_steps_print_their_own_texts(rt: HostRuntime) {
         (FlushFault::Odd, "odd disk"),
     ];
     for (fault, text) in flushes {
+        assert_text(&rt, rt.alloc(), Text(&fault), fault, text);
+    }
+    let compactions = [
+        (CompactFault::Disk, "disk"),
+        (CompactFault::Memory { done: 7 }, "memory after 7"),
+        (CompactFault::LogsFull, "logs full"),
+        (CompactFault::NoMoreIds, "no more ids"),
+        (CompactFault::Odd, "odd disk"),
+    ];
+    for (fault, text) in compactions {
+        assert_text(&rt, rt.alloc(), Text(&fault), fault, text);
+    }
+    let collections = [
+        (CollectFault::Disk, "disk"),
+        (CollectFault::Memory, "memory"),
+        (CollectFault::Odd, "odd disk"),
+    ];
+    for (fault, text) in collections {
         assert_text(&rt, rt.alloc(), Text(&fault), fault, text);
     }
 }

@@ -1,7 +1,7 @@
 use super::{is_shown, run};
 
 /// Scripts and what they print.
-const SCRIPTS: [(&str, &str); 13] = [
+const SCRIPTS: [(&str, &str); 15] = [
     ("", ""),
     ("\n\n", ""),
     ("swap", "nothing\n"),
@@ -24,6 +24,14 @@ const SCRIPTS: [(&str, &str); 13] = [
         "no lease\nno lease\nnothing open\nno log\nrebuilt 0\n",
     ),
     (
+        "copy 4294967295\nswitch 4294967295\nend\nfinish\ngiveup",
+        "no job\nno job\nno job\nno job\nno job\n",
+    ),
+    (
+        "minor\nmajor\nremove 2147483647",
+        "nothing to do\nnothing to do\nno log\n",
+    ),
+    (
         "add 9223372036854775807 9223372036854775807 x\ntake 3 9223372036854775807 9223372036854775807",
         "accepted\ncached 78\n",
     ),
@@ -38,7 +46,7 @@ fn lines_are_read_to_the_letter(rt: HostRuntime) {
 }
 
 /// Lines that spell no step.
-const NO_STEPS: [&str; 81] = [
+const NO_STEPS: [&str; 105] = [
     "add 1 0 ",
     "add 1",
     "add",
@@ -104,6 +112,30 @@ const NO_STEPS: [&str; 81] = [
     "close 01",
     "close 2147483648",
     "rebuild ",
+    "minor ",
+    "minor 0",
+    "Minor",
+    "major 1",
+    "copy",
+    "copy ",
+    "copy 01",
+    "copy -1",
+    "copy 1 1",
+    "copy 4294967296",
+    "end ",
+    "end 1",
+    "switch",
+    "switch +1",
+    "switch  1",
+    "switch 4294967296",
+    "finish 0",
+    "giveup ",
+    "giveup 0",
+    "give up",
+    "remove",
+    "remove 01",
+    "remove 0 0",
+    "remove 2147483648",
     "rebuild 1",
     "roll ",
     "roll 0",
