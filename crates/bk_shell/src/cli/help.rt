@@ -82,9 +82,9 @@ log's first record goes in whatever its length. With as many logs as --slots say
 `fault logs full`. With as many leases of a log as --leases says, a take that needs one more answers `fault too many
 leases`.
 
-A log can be compacted that is written no more and that keys are read from, where fewer thousandths of its bytes are of
-ledgers that are not deleted than --minor or --major says. Until the compaction is over, that log and the new one are in
-use. A retired log goes by `close` and `remove`.
+A log can be compacted that no flush has and that keys are read from, where fewer thousandths of its bytes are of ledgers
+that are not deleted than --minor or --major says. Until the compaction is over, that log and the new one are in use. A
+retired log goes by `close` and `remove`.
 
 The status is 0 where every step was answered. It is 1 where a read fails, the input has more than 16777216 bytes or
 takes more than 1048576 reads, or a line spells no step; where the store is not opened; where no memory is to be had
