@@ -1,33 +1,102 @@
--- What a step of the store alone does to the leases of the readers: all but a close leave the slots that are taken; and where a
--- log was closed, a reader with a lease of it would be met.
-use Rattle.std.proofs.Common.{◌≡◌, ℕ, List, Option, refl, sym, ap, subst, ◌∙◌}
+-- What a step of the store alone does to the leases of the readers: all but a close and a removal leave the slots that are
+-- taken; where a log was closed, a reader with a lease of it would be met; and a log that is removed was closed before.
+use Rattle.std.proofs.Common.{◌≡◌, ◌⊎◌, inl, inr, ℕ, List, Option, Result, Ok, Err, refl, sym, ap, subst, ◌∙◌}
 use Rattle.bk_lease.specs.Leases.{IsClosed}
 use Rattle.bk_lease.specs.declared.slot.Slot.TheVariants.{Open}
 use Rattle.bk_store.specs.State.{State}
 use Rattle.bk_store.specs.Plain.{IsKept}
-use Rattle.bk_collect.specs.Collecting.{CloseTurn}
+use Rattle.bk_collect.specs.Collecting.{CloseTurn, RemoveTurn}
 use Rattle.bk_collect.specs.declared.answer.CloseAnswer.{CloseAnswer}
 use Rattle.bk_collect.specs.declared.answer.CloseAnswer.TheVariants as closes
+use Rattle.bk_collect.specs.declared.answer.RemoveAnswer.{RemoveAnswer}
+use Rattle.bk_collect.specs.declared.answer.RemoveAnswer.TheVariants as removes
+use Rattle.bk_collect.specs.declared.answer.CollectFault.{CollectFault}
 use Rattle.bk_drive.specs.Plain.{HasAt}
-use Rattle.bk_drive.specs.Machine.{Hold, WorkTurn}
-use Rattle.bk_drive.specs.Machine.WorkTurn.{swapped, wrote, published, rolled, retired, rebuilt, closed}
-use Rattle.bk_drive.specs.Leased.{AreOpenLeases, StandsClosed, IsUnread, Closes}
+use Rattle.bk_drive.specs.Machine.{Hold, WorkTurn, Closes, Removes, LetsGo, IsUnread}
+use Rattle.bk_drive.specs.Machine.WorkTurn.{swapped, wrote, published, rolled, retired, rebuilt, closed, removed, begun, copied, ended, switched, finished, given_up}
+use Rattle.bk_drive.specs.Leased.{AreOpenLeases, IsShut}
 use Rattle.bk_drive.specs.declared.step.Step.TheVariants as steps
 use Rattle.bk_drive.specs.declared.step.Work.{Work}
+use Rattle.bk_drive.specs.declared.step.Work.TheVariants as works
 use Rattle.bk_drive.specs.declared.step.Answer.{Answer}
 use Rattle.bk_drive.specs.declared.step.Answer.TheVariants as answers
-use Rattle.bk_drive.proofs.Leases.{SlotsStay, slots_same, seats_kept, closing_table, closing_meets, closing_leaves, closing_closes, closing_stays}
-use Rattle.bk_drive.proofs.Runs.{swap_keeper}
-use Rattle.bk_drive.proofs.Working.{step_stays, roll_stays, retire_stays, rebuild_stays, close_stays, publish_slots}
+use Rattle.bk_drive.proofs.Gone.{GoneStays, gone_same}
+use Rattle.bk_drive.proofs.Leases.{SlotsStay, slots_same, leases_stay, closed_stays, seats_kept, closing_table, closing_meets, closing_leaves, closing_closes, closing_stays, removed_leases, removed_unread, removed_gone, removed_shut}
+use Rattle.bk_drive.proofs.Runs.{swap_logs}
+use Rattle.bk_drive.proofs.Working.{step_stays, roll_stays, retire_stays, rebuild_stays, close_stays, close_beside, remove_beside, remove_slots, publish_slots, publish_gone}
+use Rattle.bk_drive.proofs.Compacting.{begin_stays, copy_stays, end_stays, switch_stays, finish_stays, give_up_stays}
 
-pub work_slots : {s t : State} {work : Work} {a : Answer} → WorkTurn s work a t → ((log : ℕ) → ¬ (Closes (steps.Work work) a log)) → SlotsStay s.keeper t.keeper
-work_slots {s = s} {t = t} (swapped turn) other = slots_same _ _ (swap_keeper s t _ turn)
-work_slots {s = s} {t = t} (wrote turn) other = (step_stays s t _ turn).slots
-work_slots {s = s} {t = t} (published turn) other = publish_slots s t _ turn
-work_slots {s = s} {t = t} (rolled turn) other = (roll_stays s t _ turn).slots
-work_slots {s = s} {t = t} (retired turn) other = (retire_stays s t _ _ turn).slots
-work_slots {s = s} {t = t} (rebuilt turn) other = (rebuild_stays s t _ turn).slots
-work_slots {s = s} {t = t} (closed {log = log} {r = r} turn) other = (close_stays s t log r turn (λ is. other log (refl, ap answers.Close is))).slots
+-- a log that is gone stays so
+work_gone : {s t : State} {work : Work} {a : Answer} → WorkTurn s work a t → GoneStays s t
+work_gone {s = s} {t = t} (swapped turn) = let same = swap_logs s t _ turn in gone_same s t same.logs same.next
+work_gone {s = s} {t = t} (wrote turn) = (step_stays s t _ turn).gone
+work_gone {s = s} {t = t} (published turn) = publish_gone s t _ turn
+work_gone {s = s} {t = t} (rolled turn) = (roll_stays s t _ turn).gone
+work_gone {s = s} {t = t} (retired turn) = (retire_stays s t _ _ turn).gone
+work_gone {s = s} {t = t} (rebuilt turn) = (rebuild_stays s t _ turn).gone
+work_gone {s = s} {t = t} (closed turn) = (close_beside s t _ _ turn).gone
+work_gone {s = s} {t = t} (removed turn) = (remove_beside s t _ _ turn).gone
+work_gone {s = s} {t = t} (begun turn) = (begin_stays s t _ _ turn).gone
+work_gone {s = s} {t = t} (copied turn) = (copy_stays s t _ _ turn).gone
+work_gone {s = s} {t = t} (ended turn) = (end_stays s t _ turn).gone
+work_gone {s = s} {t = t} (switched turn) = (switch_stays s t _ _ turn).gone
+work_gone {s = s} {t = t} (finished turn) = (finish_stays s t _ turn).gone
+work_gone {s = s} {t = t} (given_up turn) = (give_up_stays s t _ turn).gone
+
+-- the log was asked to be removed, and is: then it is this turn
+pub record IsRemoval (s t : State) (work : Work) (a : Answer) : Type 0 where
+  pub log : ℕ
+  pub asked : work ≡ works.Remove log
+  pub told : a ≡ answers.Remove (Ok removes.Removed)
+  pub turn : RemoveTurn s log (Ok removes.Removed) t
+
+removal_or_not : {s t : State} (log : ℕ) (r : Result RemoveAnswer CollectFault) → RemoveTurn s log r t
+    → IsRemoval s t (works.Remove log) (answers.Remove r) ⊎ SlotsStay s.keeper t.keeper
+removal_or_not {s = s} {t = t} log (Ok removes.NoLog) turn = inr (remove_slots s t log (Ok removes.NoLog) turn (λ same. cc))
+removal_or_not {s = s} {t = t} log (Ok removes.NotClosed) turn = inr (remove_slots s t log (Ok removes.NotClosed) turn (λ same. cc))
+removal_or_not log (Ok removes.Removed) turn = inl (record { log = log; asked = refl; told = refl; turn = turn })
+removal_or_not {s = s} {t = t} log (Err fault) turn = inr (remove_slots s t log (Err fault) turn (λ same. cc))
+
+-- a step of the store alone that did not close a log removed one, or all slots that were taken are as before
+work_slots : {s t : State} {work : Work} {a : Answer} → WorkTurn s work a t → ((log : ℕ) → ¬ (Closes (steps.Work work) a log))
+    → IsRemoval s t work a ⊎ SlotsStay s.keeper t.keeper
+work_slots {s = s} {t = t} (swapped turn) other = inr (slots_same _ _ (swap_logs s t _ turn).keeper)
+work_slots {s = s} {t = t} (wrote turn) other = inr (step_stays s t _ turn).slots
+work_slots {s = s} {t = t} (published turn) other = inr (publish_slots s t _ turn)
+work_slots {s = s} {t = t} (rolled turn) other = inr (roll_stays s t _ turn).slots
+work_slots {s = s} {t = t} (retired turn) other = inr (retire_stays s t _ _ turn).slots
+work_slots {s = s} {t = t} (rebuilt turn) other = inr (rebuild_stays s t _ turn).slots
+work_slots {s = s} {t = t} (closed {log = log} {r = r} turn) other = inr (close_stays s t log r turn (λ is. other log (refl, ap answers.Close is))).slots
+work_slots (removed {log = log} {r = r} turn) other = removal_or_not log r turn
+work_slots {s = s} {t = t} (begun turn) other = inr (begin_stays s t _ _ turn).slots
+work_slots {s = s} {t = t} (copied turn) other = inr (copy_stays s t _ _ turn).slots
+work_slots {s = s} {t = t} (ended turn) other = inr (end_stays s t _ turn).slots
+work_slots {s = s} {t = t} (switched turn) other = inr (switch_stays s t _ _ turn).slots
+work_slots {s = s} {t = t} (finished turn) other = inr (finish_stays s t _ turn).slots
+work_slots {s = s} {t = t} (given_up turn) other = inr (give_up_stays s t _ turn).slots
+
+-- a step that was answered Removed was a removal
+removal_of : {s t : State} {work : Work} {a : Answer} (log : ℕ) → WorkTurn s work a t → Removes (steps.Work work) a log
+    → RemoveTurn s log (Ok removes.Removed) t
+removal_of log (swapped turn) is = let e = is.1 in cc
+removal_of log (wrote turn) is = let e = is.1 in cc
+removal_of log (published turn) is = let e = is.1 in cc
+removal_of log (rolled turn) is = let e = is.1 in cc
+removal_of log (retired turn) is = let e = is.1 in cc
+removal_of log (rebuilt turn) is = let e = is.1 in cc
+removal_of log (closed turn) is = let e = is.1 in cc
+removal_of log (begun turn) is = let e = is.1 in cc
+removal_of log (copied turn) is = let e = is.1 in cc
+removal_of log (ended turn) is = let e = is.1 in cc
+removal_of log (switched turn) is = let e = is.1 in cc
+removal_of log (finished turn) is = let e = is.1 in cc
+removal_of log (given_up turn) is = let e = is.1 in cc
+removal_of {s = s} {t = t} log (removed {log = id} {r = r} turn) is =
+    let asked = is.0 in
+    let told = is.1 in
+    let one : id ≡ log = cc in
+    let so : r ≡ Ok removes.Removed = cc in
+    subst (λ (n : ℕ). RemoveTurn s n (Ok removes.Removed) t) one (subst (λ (x : Result RemoveAnswer CollectFault). RemoveTurn s id x t) so turn)
 
 -- a step that was answered Closed was a close
 close_of : {s t : State} {work : Work} {a : Answer} (log : ℕ) → WorkTurn s work a t → Closes (steps.Work work) a log → CloseTurn s log closes.Closed t
@@ -37,12 +106,59 @@ close_of log (published turn) is = let e = is.1 in cc
 close_of log (rolled turn) is = let e = is.1 in cc
 close_of log (retired turn) is = let e = is.1 in cc
 close_of log (rebuilt turn) is = let e = is.1 in cc
+close_of log (removed turn) is = let e = is.1 in cc
+close_of log (begun turn) is = let e = is.1 in cc
+close_of log (copied turn) is = let e = is.1 in cc
+close_of log (ended turn) is = let e = is.1 in cc
+close_of log (switched turn) is = let e = is.1 in cc
+close_of log (finished turn) is = let e = is.1 in cc
+close_of log (given_up turn) is = let e = is.1 in cc
 close_of {s = s} {t = t} log (closed {log = id} {r = r} turn) is =
     let asked = is.0 in
     let told = is.1 in
     let one : id ≡ log = cc in
     let so : r ≡ closes.Closed = cc in
     subst (λ (n : ℕ). CloseTurn s n closes.Closed t) one (subst (λ (x : CloseAnswer). CloseTurn s id x t) so turn)
+
+-- ---- a step that did not close a log
+
+module _ (s t : State) (work : Work) (a : Answer) (kept : IsKept s) (turn : WorkTurn s work a t) (other : (log : ℕ) → ¬ (Closes (steps.Work work) a log))
+    (readers : List (Option Hold)) (leases : AreOpenLeases s.keeper readers) where
+  pub open_leases : AreOpenLeases t.keeper readers
+  open_leases = elim (work_slots turn other) [
+    | inl removal ↦ removed_leases s t removal.log kept removal.turn readers leases
+    | inr slots ↦ leases_stay s.keeper t.keeper slots readers leases
+  ]
+
+  pub open_shut : (log : ℕ) → IsShut s log → IsShut t log
+  open_shut log shut = elim shut [
+    | inl closed ↦ elim (work_slots turn other) [
+      | inl removal ↦ removed_shut s t removal.log kept removal.turn log closed
+      | inr slots ↦ inl (closed_stays s.keeper t.keeper slots log closed)
+    ]
+    | inr gone ↦ inr ((work_gone turn).gone log gone)
+  ]
+
+  pub open_unread : (log : ℕ) → LetsGo (steps.Work work) a log → IsUnread readers log
+  open_unread log is = elim is [
+    | inl closes ↦ absurd (other log closes)
+    | inr removes ↦ removed_unread s t log kept (removal_of log turn removes) readers leases
+  ]
+
+  pub open_lets_go : (log : ℕ) → LetsGo (steps.Work work) a log → IsShut t log
+  open_lets_go log is = elim is [
+    | inl closes ↦ absurd (other log closes)
+    | inr removes ↦ inr (removed_gone s t log kept (removal_of log turn removes))
+  ]
+
+-- ---- a step that closed a log
+
+-- it asked to close one log, and removed none
+one_closed : (work : Work) (a : Answer) (log other : ℕ) → Closes (steps.Work work) a log → LetsGo (steps.Work work) a other → log ≡ other
+one_closed work a log other is too = elim too [
+  | inl closes ↦ let first = is.0 in let second = closes.0 in (let e : steps.Work (works.Close log) ≡ steps.Work (works.Close other) = sym first ∙ second in cc)
+  | inr removes ↦ let first = is.1 in let second = removes.1 in absurd (let e = sym first ∙ second in cc)
+]
 
 module _ (s t : State) (work : Work) (a : Answer) (log : ℕ) (kept : IsKept s) (turn : WorkTurn s work a t) (is : Closes (steps.Work work) a log)
     (readers : List (Option Hold)) (leases : AreOpenLeases s.keeper readers) where
@@ -59,8 +175,15 @@ module _ (s t : State) (work : Work) (a : Answer) (log : ℕ) (kept : IsKept s) 
   pub left_leases : IsUnread readers log → AreOpenLeases t.keeper readers
   left_leases unread = closing_leaves s t log (seats_kept s kept) closing readers leases unread
 
-  pub left_closed : (other : ℕ) → StandsClosed s.keeper other → StandsClosed t.keeper other
-  left_closed = closing_stays s t log (seats_kept s kept) closing
+  pub left_shut : (other : ℕ) → IsShut s other → IsShut t other
+  left_shut other shut = elim shut [
+    | inl stands ↦ inl (closing_stays s t log (seats_kept s kept) closing other stands)
+    | inr gone ↦ inr ((work_gone turn).gone other gone)
+  ]
 
-  pub now_closes : (other : ℕ) → Closes (steps.Work work) a other → StandsClosed t.keeper other
-  now_closes other too = closing_closes s t other (seats_kept s kept) (close_of other turn too)
+  pub left_lets_go : (other : ℕ) → LetsGo (steps.Work work) a other → IsShut t other
+  left_lets_go other too =
+      subst (λ (n : ℕ). IsShut t n) (one_closed work a log other is too) (inl (closing_closes s t log (seats_kept s kept) closing))
+
+  pub left_unread : IsUnread readers log → (other : ℕ) → LetsGo (steps.Work work) a other → IsUnread readers other
+  left_unread unread other too = subst (λ (n : ℕ). IsUnread readers n) (one_closed work a log other is too) unread

@@ -8,12 +8,11 @@ use Rattle.bk_record.specs.Files.{Files}
 use Rattle.bk_store.specs.State.{State}
 use Rattle.bk_store.specs.Opening.{IsOpened}
 use Rattle.bk_store.specs.declared.settings.Settings.{Settings}
-use Rattle.bk_lease.specs.Values.{SlotTable}
 use Rattle.bk_store.specs.Turns.{ledgers_of}
 use Rattle.bk_store.specs.Plain.{IsKept}
 use Rattle.bk_drive.specs.Plain.{PlainDesk}
-use Rattle.bk_drive.specs.Machine.{Hold, Turn, PlainTurn}
-use Rattle.bk_drive.specs.Leased.{AreOpenLeases, StandsClosed, Closes, WasClosed}
+use Rattle.bk_drive.specs.Machine.{Hold, Turn, PlainTurn, LetsGo}
+use Rattle.bk_drive.specs.Leased.{AreOpenLeases, IsShut, WasLetGo}
 use Rattle.bk_drive.specs.Headline.{reader_count, Headline, Run, first_desk, first_plain}
 use Rattle.bk_drive.specs.Headline.Run.{stop}
 use Rattle.bk_drive.specs.declared.step.Step.{Step}
@@ -21,7 +20,7 @@ use Rattle.bk_drive.specs.declared.step.Answer.{Answer}
 use Rattle.bk_drive.specs.Failing.{IsDiskFault, NoneIsDiskFault}
 use Rattle.bk_drive.proofs.Runs.{run_end, run_push, first_agrees}
 use Rattle.bk_drive.proofs.PlainTurns.{GoesOn}
-use Rattle.bk_drive.proofs.Leases.{closed_unread}
+use Rattle.bk_drive.proofs.Leases.{shut_unread}
 
 -- a device fault among the answers was counted by then
 abbrev pub AreCounted : ℕ → List Answer → Type 0
@@ -88,12 +87,12 @@ driven_on settings files dead steps steps' answers answers' store store' readers
       settings_are = same ∙ so_far.settings_are;
     }))
 
--- the logs that were answered Closed stand closed
-abbrev pub AllClosed : List Step → List Answer → SlotTable → Type 0
-AllClosed steps answers keeper = (log : ℕ) → WasClosed steps answers log → StandsClosed keeper log
+-- the logs that were answered Closed, or Removed, are closed or gone
+abbrev pub AllShut : List Step → List Answer → State → Type 0
+AllShut steps answers store = (log : ℕ) → WasLetGo steps answers log → IsShut store log
 
 pub driven_last : (settings : Settings) (files : Files) (dead : List ℕ) (steps steps' : List Step) (answers : List Answer) (store : State) (readers : List (Option Hold))
-    → IsDriven settings files dead steps answers store readers → IsKept store → AreOpenLeases store.keeper readers → AllClosed steps answers store.keeper
+    → IsDriven settings files dead steps answers store readers → IsKept store → AreOpenLeases store.keeper readers → AllShut steps answers store
     → steps' ≡ steps → Headline settings files dead steps' answers store readers
 driven_last settings files dead steps steps' answers store readers driven kept leases closed all =
     subst (λ ss. Headline settings files dead ss answers store readers) (sym all) (record {
@@ -101,19 +100,19 @@ driven_last settings files dead steps steps' answers store readers driven kept l
       opened = driven.opened;
       plain = driven.plain;
       run = driven.run;
-      unread = λ log was. closed_unread store readers log kept leases (closed log was);
+      unread = λ log was. shut_unread store readers log kept leases (closed log was);
     })
 
--- ---- logs that were closed
+-- ---- logs that were closed, or removed
 
-closed_push : (ss : List Step) (as' : List Answer) (x : Step) (a : Answer) (log : ℕ) → length ss ≡ length as' → WasClosed (ss ++ x ∷ []) (as' ++ a ∷ []) log
-    → WasClosed ss as' log ⊎ Closes x a log
-closed_push [] [] x a log same was = elim was [ inl closes ↦ inr closes | inr never ↦ absurd never ]
-closed_push [] (b ∷ bs) x a log same was = absurd (omega (arith, same))
-closed_push (s ∷ ss) [] x a log same was = absurd (omega (arith, same))
-closed_push (s ∷ ss) (b ∷ bs) x a log same was = elim was [
-  | inl closes ↦ inl (inl closes)
-  | inr later ↦ elim (closed_push ss bs x a log (omega (arith, same)) later) [ inl before ↦ inl (inr before) | inr closes ↦ inr closes ]
+shut_push : (ss : List Step) (as' : List Answer) (x : Step) (a : Answer) (log : ℕ) → length ss ≡ length as' → WasLetGo (ss ++ x ∷ []) (as' ++ a ∷ []) log
+    → WasLetGo ss as' log ⊎ LetsGo x a log
+shut_push [] [] x a log same was = elim was [ inl here ↦ inr here | inr never ↦ absurd never ]
+shut_push [] (b ∷ bs) x a log same was = absurd (omega (arith, same))
+shut_push (s ∷ ss) [] x a log same was = absurd (omega (arith, same))
+shut_push (s ∷ ss) (b ∷ bs) x a log same was = elim was [
+  | inl here ↦ inl (inl here)
+  | inr later ↦ elim (shut_push ss bs x a log (omega (arith, same)) later) [ inl before ↦ inl (inr before) | inr here ↦ inr here ]
 ]
 
 module _ (steps steps' : List Step) (answers answers' : List Answer) (x : Step) (a : Answer) (same : length steps ≡ length answers)
@@ -121,12 +120,12 @@ module _ (steps steps' : List Step) (answers answers' : List Answer) (x : Step) 
   pub even_on : length steps' ≡ length answers'
   even_on = ap length more_steps ∙ length-append steps (x ∷ []) ∙ ap (λ n. n + 1) same ∙ sym (length-append answers (a ∷ [])) ∙ sym (ap length more_answers)
 
-  pub closed_on : (old new : SlotTable) → AllClosed steps answers old → ((log : ℕ) → Closes x a log → StandsClosed new log)
-      → ((log : ℕ) → StandsClosed old log → StandsClosed new log) → AllClosed steps' answers' new
-  closed_on old new so_far closes stays = λ log was.
-      let now : WasClosed (steps ++ x ∷ []) (answers ++ a ∷ []) log = subst (λ ss. WasClosed ss (answers ++ a ∷ []) log) more_steps
-      (subst (λ as'. WasClosed steps' as' log) more_answers was) in
-      elim (closed_push steps answers x a log same now) [ inl before ↦ stays log (so_far log before) | inr here ↦ closes log here ]
+  pub shut_on : (old new : State) → AllShut steps answers old → ((log : ℕ) → LetsGo x a log → IsShut new log)
+      → ((log : ℕ) → IsShut old log → IsShut new log) → AllShut steps' answers' new
+  shut_on old new so_far lets_go stays = λ log was.
+      let now : WasLetGo (steps ++ x ∷ []) (answers ++ a ∷ []) log = subst (λ ss. WasLetGo ss (answers ++ a ∷ []) log) more_steps
+      (subst (λ as'. WasLetGo steps' as' log) more_answers was) in
+      elim (shut_push steps answers x a log same now) [ inl before ↦ stays log (so_far log before) | inr here ↦ lets_go log here ]
 
 -- one step more of those that were taken
 pub one_more : {X : Type 0} (xs : List X) (i : ℕ) (x : X) → i < length xs → x ≡ get_or xs i x → take (i + 1) xs ≡ take i xs ++ x ∷ []

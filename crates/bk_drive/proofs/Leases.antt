@@ -1,7 +1,11 @@
 -- The leases of the readers stand open in the store's table through each step.
-use Rattle.std.proofs.Common.{◌≡◌, ◌≢◌, ◌⊎◌, inl, inr, ℕ, zero, suc, List, [], ◌∷◌, replicate, Option, Some, None, Result, Ok, Err, true, refl, sym, ap, subst, ◌∙◌, slice_set}
+use Rattle.std.proofs.Common.{◌≡◌, ◌≢◌, ◌⊎◌, inl, inr, ℕ, ◌<◌, zero, suc, List, [], ◌∷◌, replicate, Option, Some, None, Result, Ok, Err, true, refl, sym, ap, subst, ◌∙◌, slice_set}
 use Rattle.std.specs.FinMap as finite
+use Rattle.std.specs.FinMap.{nat_cmp-IsAntisymmetric}
+use Rattle.std.proofs.lemmas.Cmp.{nat_cmp_total}
 use Rattle.bk_record.specs.Key.{EntryKey}
+use Rattle.bk_record.proofs.Maps.{get-remove_here}
+use Rattle.bk_store.proofs.Cases.{same_or_apart}
 use Rattle.bk_lease.specs.declared.slot.Slot.{Slot}
 use Rattle.bk_lease.specs.declared.slot.Slot.TheVariants.{Free, Open, Closed}
 use Rattle.bk_lease.specs.Leases.{state_at, IsClosed, log_of}
@@ -17,17 +21,19 @@ use Rattle.bk_store.specs.declared.log.LogState.{LogState}
 use Rattle.bk_store.specs.declared.log.LogState.TheVariants as states
 use Rattle.bk_store.specs.declared.answer.TakeFault.{TakeFault}
 use Rattle.bk_store.specs.declared.answer.TakeFault.TheVariants as take_faults
-use Rattle.bk_collect.specs.Collecting.{CloseTurn}
+use Rattle.bk_collect.specs.Collecting.{CloseTurn, RemoveTurn}
 use Rattle.bk_collect.specs.declared.answer.CloseAnswer.TheVariants as closes
+use Rattle.bk_collect.specs.declared.answer.RemoveAnswer.TheVariants as removes
 use Rattle.bk_drive.specs.Plain.{HasAt}
-use Rattle.bk_drive.specs.Machine.{Desk, Hold, hold_on, ReaderTake, ReaderRelease}
+use Rattle.bk_drive.specs.Machine.{Desk, Hold, hold_on, ReaderTake, ReaderRelease, IsUnread}
 use Rattle.bk_drive.specs.declared.step.TakeAnswer.{TakeAnswer}
 use Rattle.bk_drive.specs.declared.step.TakeAnswer.TheVariants as takes
 use Rattle.bk_drive.specs.declared.step.ReleaseAnswer.{ReleaseAnswer}
 use Rattle.bk_drive.specs.declared.step.ReleaseAnswer.TheVariants as releases
 use Rattle.bk_drive.specs.Headline.{reader_count}
-use Rattle.bk_drive.specs.Leased.{IsOpenLease, AreOpenLeases, StandsClosed, IsUnread}
+use Rattle.bk_drive.specs.Leased.{IsOpenLease, AreOpenLeases, StandsClosed, IsGone, IsShut}
 use Rattle.bk_drive.proofs.Slots.{seat_of}
+use Rattle.bk_drive.proofs.Gone.{GoneStays, gone_same}
 
 -- the logs of a store are seated in its table
 pub seats_kept : (s : State) → IsKept s → AreSeated s.keeper s.logs
@@ -81,8 +87,29 @@ module _ (old new : SlotTable) (same : new ≡ old) where
   pub leases_same : (readers : List (Option Hold)) → AreOpenLeases old readers → AreOpenLeases new readers
   leases_same = leases_stay old new (slots_same old new same)
 
-  pub closed_same : (log : ℕ) → StandsClosed old log → StandsClosed new log
-  closed_same = closed_stays old new (slots_same old new same)
+
+-- a log that is closed, or gone, stays so
+pub shut_stays : {s t : State} → SlotsStay s.keeper t.keeper → GoneStays s t → (log : ℕ) → IsShut s log → IsShut t log
+shut_stays {s = s} {t = t} slots gone log shut = elim shut [
+  | inl closed ↦ inl (closed_stays s.keeper t.keeper slots log closed)
+  | inr left ↦ inr (gone.gone log left)
+]
+
+-- the logs, their table and the next id are as before
+pub record SameLogs (s t : State) : Type 0 where
+  pub keeper : t.keeper ≡ s.keeper
+  pub logs : t.logs ≡ s.logs
+  pub next : t.next ≡ s.next
+
+pub logs_same : (s t : State) → t ≡ s → SameLogs s t
+logs_same s t same = record {
+  keeper = ap (λ (x : State). x.keeper) same;
+  logs = ap (λ (x : State). x.logs) same;
+  next = ap (λ (x : State). x.next) same;
+}
+
+pub shut_same : {s t : State} → SameLogs s t → (log : ℕ) → IsShut s log → IsShut t log
+shut_same {s = s} {t = t} same = shut_stays (slots_same s.keeper t.keeper same.keeper) (gone_same s t same.logs same.next)
 
 -- ---- what readers hold
 
@@ -233,6 +260,65 @@ closed_unread s readers log kept leases (slot, is) = λ reader hold has same.
     let one = one_log s.logs log a.log b.log a.held b.held in
     open-closed log log (sym opened ∙ a.stands ∙ ap (λ (l : Log). slot_state log l.state) one ∙ sym b.stands ∙ is)
 
+-- nor of one that is gone
+pub shut_unread : (s : State) (readers : List (Option Hold)) (log : ℕ) → IsKept s → AreOpenLeases s.keeper readers → IsShut s log → IsUnread readers log
+shut_unread s readers log kept leases shut = elim shut [
+  | inl closed ↦ closed_unread s readers log kept leases closed
+  | inr gone ↦ λ reader hold has same.
+      let opened : state_at s.keeper.slots hold.ticket.slot ≡ Open log = (leases reader hold has).opened ∙ ap Open same in
+      let seat = seat_of s.keeper s.logs (seats_kept s kept) hold.ticket.slot log (Open log) opened refl refl in
+      (let e : Some seat.log ≡ None = sym seat.held ∙ gone.0 in cc)
+]
+
+-- ---- a log is removed
+
+module _ (s t : State) (id : ℕ) (kept : IsKept s) (turn : RemoveTurn s id (Ok removes.Removed) t) where
+  -- its slot stood closed
+  removed_closed : state_at s.keeper.slots turn.1.0.slot ≡ Closed id
+  removed_closed =
+      let log : Log = turn.1.0 in
+      let one = one_log s.logs id log turn.0.log turn.1.1 turn.0.held in
+      (seats_kept s kept).stands id log turn.1.1 ∙ ap (λ (l : Log). slot_state id l.state) one ∙ ap (slot_state id) turn.0.state_is
+
+  removed_else : (slot : ℕ) → slot ≢ turn.1.0.slot → state_at t.keeper.slots slot ≡ state_at s.keeper.slots slot
+  removed_else slot apart =
+      ap (λ (x : State). state_at x.keeper.slots slot) turn.1.3 ∙ state_at-set_else s.keeper.slots turn.1.0.slot slot Free apart
+
+  -- no reader has a lease of it, and each lease stands open as before
+  pub removed_leases : (readers : List (Option Hold)) → AreOpenLeases s.keeper readers → AreOpenLeases t.keeper readers
+  removed_leases readers leases = λ reader hold has.
+      let lease = leases reader hold has in
+      let apart : hold.ticket.slot ≢ turn.1.0.slot = λ same.
+      open-closed hold.ticket.log id (sym lease.opened ∙ ap (state_at s.keeper.slots) same ∙ removed_closed) in
+      record {
+        table = lease.table ∙ sym (ap (λ (x : State). x.keeper.table) turn.1.3);
+        held = lease.held;
+        opened = removed_else hold.ticket.slot apart ∙ lease.opened;
+      }
+
+  pub removed_unread : (readers : List (Option Hold)) → AreOpenLeases s.keeper readers → IsUnread readers id
+  removed_unread readers leases = closed_unread s readers id kept leases (turn.1.0.slot, removed_closed)
+
+  -- it is gone
+  pub removed_gone : IsGone t id
+  removed_gone =
+      let is = kept.seen in
+      let held : finite.get kept.parts.state.logs id ≡ Some turn.1.0 = ap (λ (x : State). finite.get x.logs id) is ∙ turn.1.1 in
+      let below = (kept.keeps.fits.held id turn.1.0 held).below in
+      (
+        ap (λ (x : State). finite.get x.logs id) turn.1.3 ∙ get-remove_here nat_cmp_total nat_cmp-IsAntisymmetric s.logs id,
+        subst (λ n. id < n) (ap (λ (x : State). x.next) is ∙ sym (ap (λ (x : State). x.next) turn.1.3)) below,
+      )
+
+  -- another log that is closed stays so
+  pub removed_shut : (other : ℕ) → StandsClosed s.keeper other → IsShut t other
+  removed_shut other (slot, is) = elim (same_or_apart slot turn.1.0.slot) [
+    | inl same ↦
+        let one : id ≡ other = ap log_of (sym removed_closed ∙ ap (state_at s.keeper.slots) (sym same) ∙ is) in
+        inr (subst (IsGone t) one removed_gone)
+    | inr apart ↦ inl (slot, removed_else slot apart ∙ is)
+  ]
+
 -- ---- a step of a reader
 
 same_leases : (d e : Desk) → e ≡ d → AreOpenLeases d.store.keeper d.readers → AreOpenLeases e.store.keeper e.readers
@@ -258,18 +344,21 @@ take_leases d e reader key (Err take_faults.NoSeat) kept turn leases = same_leas
 take_leases d e reader key (Err take_faults.TooMany) kept turn leases = same_leases d e turn.3 leases
 take_leases d e reader key (Err take_faults.Memory) kept turn leases = same_leases d e turn.2 leases
 
--- a log that stands closed does so after a take
-pub take_closed : (d e : Desk) (reader : ℕ) (key : EntryKey) (r : Result TakeAnswer TakeFault) → ReaderTake d reader key r e
-    → (log : ℕ) → StandsClosed d.store.keeper log → StandsClosed e.store.keeper log
-take_closed d e reader key (Ok takes.NoReader) turn log is = subst (λ (x : Desk). StandsClosed x.store.keeper log) (sym turn.1) is
-take_closed d e reader key (Ok takes.ReaderBusy) turn log is = subst (λ (x : Desk). StandsClosed x.store.keeper log) (sym turn.1) is
-take_closed d e reader key (Ok takes.Deleted) turn log is = subst (λ (x : Desk). StandsClosed x.store.keeper log) (sym turn.2) is
-take_closed d e reader key (Ok (takes.Cached payload)) turn log is = subst (λ (x : Desk). StandsClosed x.store.keeper log) (sym turn.2) is
-take_closed d e reader key (Ok takes.NotHeld) turn log is = subst (λ (x : Desk). StandsClosed x.store.keeper log) (sym turn.3) is
-take_closed d e reader key (Ok (takes.Leased place)) turn log is = subst (λ (x : Desk). StandsClosed x.store.keeper log) (sym turn.1.1.2) (is.0, is.1)
-take_closed d e reader key (Err take_faults.NoSeat) turn log is = subst (λ (x : Desk). StandsClosed x.store.keeper log) (sym turn.2) is
-take_closed d e reader key (Err take_faults.TooMany) turn log is = subst (λ (x : Desk). StandsClosed x.store.keeper log) (sym turn.3) is
-take_closed d e reader key (Err take_faults.Memory) turn log is = subst (λ (x : Desk). StandsClosed x.store.keeper log) (sym turn.2) is
+-- a log that is closed, or gone, is so after a take
+pub take_shut : (d e : Desk) (reader : ℕ) (key : EntryKey) (r : Result TakeAnswer TakeFault) → ReaderTake d reader key r e
+    → (log : ℕ) → IsShut d.store log → IsShut e.store log
+take_shut d e reader key (Ok takes.NoReader) turn log is = subst (λ (x : Desk). IsShut x.store log) (sym turn.1) is
+take_shut d e reader key (Ok takes.ReaderBusy) turn log is = subst (λ (x : Desk). IsShut x.store log) (sym turn.1) is
+take_shut d e reader key (Ok takes.Deleted) turn log is = subst (λ (x : Desk). IsShut x.store log) (sym turn.2) is
+take_shut d e reader key (Ok (takes.Cached payload)) turn log is = subst (λ (x : Desk). IsShut x.store log) (sym turn.2) is
+take_shut d e reader key (Ok takes.NotHeld) turn log is = subst (λ (x : Desk). IsShut x.store log) (sym turn.3) is
+take_shut d e reader key (Ok (takes.Leased place)) turn log is =
+    let given : State = record d.store { keeper = with_given d.store.keeper } in
+    let now : IsShut given log = elim is [ inl closed ↦ inl (closed.0, closed.1) | inr gone ↦ inr (gone.0, gone.1) ] in
+    subst (λ (x : Desk). IsShut x.store log) (sym turn.1.1.2) now
+take_shut d e reader key (Err take_faults.NoSeat) turn log is = subst (λ (x : Desk). IsShut x.store log) (sym turn.2) is
+take_shut d e reader key (Err take_faults.TooMany) turn log is = subst (λ (x : Desk). IsShut x.store log) (sym turn.3) is
+take_shut d e reader key (Err take_faults.Memory) turn log is = subst (λ (x : Desk). IsShut x.store log) (sym turn.2) is
 
 pub release_leases : (keeper : SlotTable) (readers readers' : List (Option Hold)) (reader : ℕ) (r : ReleaseAnswer) → ReaderRelease readers reader r readers'
     → AreOpenLeases keeper readers → AreOpenLeases keeper readers'

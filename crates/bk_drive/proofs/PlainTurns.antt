@@ -12,10 +12,10 @@ use Rattle.bk_store.specs.declared.answer.AddFault.{AddFault}
 use Rattle.bk_store.specs.declared.answer.TakeFault.{TakeFault}
 use Rattle.bk_store.specs.declared.answer.DeleteFault.{DeleteFault}
 use Rattle.bk_drive.specs.Plain.{PlainDesk, after_work}
-use Rattle.bk_drive.specs.Machine.{Hold, WorkTurn, Turn, ReaderTake, ReaderFetch, ReaderRelease, PlainTurn}
+use Rattle.bk_drive.specs.Machine.{Hold, WorkTurn, LetsGo, IsUnread, Turn, ReaderTake, ReaderFetch, ReaderRelease, PlainTurn}
 use Rattle.bk_drive.specs.Machine.Turn.{worked}
-use Rattle.bk_drive.specs.Machine.WorkTurn.{swapped as work_swapped, wrote as work_wrote, published as work_published, rolled as work_rolled, retired as work_retired, rebuilt as work_rebuilt, closed as work_closed}
-use Rattle.bk_drive.specs.Machine.PlainTurn.{swapped, wrote, published, rolled, retired, rebuilt, closed, added, deleted, taken, fetched, released}
+use Rattle.bk_drive.specs.Machine.WorkTurn.{swapped as work_swapped, wrote as work_wrote, published as work_published, rolled as work_rolled, retired as work_retired, rebuilt as work_rebuilt, closed as work_closed, removed as work_removed, begun as work_begun, copied as work_copied, ended as work_ended, switched as work_switched, finished as work_finished, given_up as work_given_up}
+use Rattle.bk_drive.specs.Machine.PlainTurn.{swapped, wrote, published, rolled, retired, rebuilt, closed, removed, begun, copied, ended, switched, finished, given_up, added, deleted, taken, fetched, released}
 use Rattle.bk_drive.specs.Leased.{AreOpenLeases}
 use Rattle.bk_drive.specs.Headline.{AreOwed, Agrees}
 use Rattle.bk_drive.specs.declared.step.Step.{Step}
@@ -43,11 +43,19 @@ work_beside limit p (work_rolled turn) = rolled
 work_beside limit p (work_retired turn) = retired
 work_beside limit p (work_rebuilt turn) = rebuilt
 work_beside limit p (work_closed turn) = closed
+work_beside limit p (work_removed turn) = removed
+work_beside limit p (work_begun turn) = begun
+work_beside limit p (work_copied turn) = copied
+work_beside limit p (work_ended turn) = ended
+work_beside limit p (work_switched turn) = switched
+work_beside limit p (work_finished turn) = finished
+work_beside limit p (work_given_up turn) = given_up
 
 module _ (s t : State) (readers readers' : List (Option Hold)) (work : Work) (a : Answer) (same : readers' ≡ readers) (turn : WorkTurn s work a t) where
-  pub turn_worked : Turn (record { store = s; readers = readers }) (steps.Work work) a (record { store = t; readers = readers' })
-  turn_worked = subst (λ (rs : List (Option Hold)). Turn (record { store = s; readers = readers }) (steps.Work work) a (record { store = t; readers = rs }))
-      (sym same) (worked turn)
+  pub turn_worked : ((log : ℕ) → LetsGo (steps.Work work) a log → IsUnread readers log)
+      → Turn (record { store = s; readers = readers }) (steps.Work work) a (record { store = t; readers = readers' })
+  turn_worked unread = subst (λ (rs : List (Option Hold)). Turn (record { store = s; readers = readers }) (steps.Work work) a (record { store = t; readers = rs }))
+      (sym same) (worked turn unread)
 
   pub goes_worked : ((p : Plain) → plain.Agrees s p → plain.Agrees t (after_work a p)) → AreOpenLeases t.keeper readers'
       → GoesOn s readers (steps.Work work) a t readers'

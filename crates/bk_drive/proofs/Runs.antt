@@ -30,7 +30,7 @@ use Rattle.bk_drive.specs.Headline.{Agrees, Run, first_desk, first_plain, reader
 use Rattle.bk_drive.specs.Headline.Run.{stop, step}
 use Rattle.bk_drive.specs.declared.step.Step.{Step}
 use Rattle.bk_drive.specs.declared.step.Answer.{Answer}
-use Rattle.bk_drive.proofs.Leases.{leases_first}
+use Rattle.bk_drive.proofs.Leases.{SameLogs, logs_same, leases_first}
 
 -- ---- steps that ask no device
 
@@ -63,23 +63,26 @@ module _ (s t : State) (p : Plain) (kept : IsKept s) (honest : IsTrue s.honest) 
 
 -- ---- what stays
 
-pub add_keeper : (s t : State) (payload : List ℕ) (r : Result Added AddFault) → AddTurn s payload r t → t.keeper ≡ s.keeper
-add_keeper s t payload (Err (add_faults.Bad fault)) turn = ap (λ (x : State). x.keeper) turn.1
-add_keeper s t payload (Err add_faults.Deleted) turn = ap (λ (x : State). x.keeper) turn.3
-add_keeper s t payload (Ok Held) turn = ap (λ (x : State). x.keeper) turn.1
-add_keeper s t payload (Err (add_faults.Full used limit)) turn = ap (λ (x : State). x.keeper) turn.4
-add_keeper s t payload (Err add_faults.Memory) turn = ap (λ (x : State). x.keeper) turn.2
-add_keeper s t payload (Ok Accepted) turn = ap (λ (x : State). x.keeper) turn.2
+logs_as : {s t u : State} → t ≡ u → SameLogs s u → SameLogs s t
+logs_as {s = s} is same = subst (λ (x : State). SameLogs s x) (sym is) same
 
-pub delete_keeper : (s t : State) (ledger : ℕ) (r : Result ℕ DeleteFault) → DeleteTurn s ledger r t → t.keeper ≡ s.keeper
-delete_keeper s t ledger (Err delete_faults.AlreadyDeleted) turn = ap (λ (x : State). x.keeper) turn.1
-delete_keeper s t ledger (Err delete_faults.Memory) turn = ap (λ (x : State). x.keeper) turn.1
-delete_keeper s t ledger (Ok n) turn = ap (λ (x : State). x.keeper) turn.2
+pub add_logs : (s t : State) (payload : List ℕ) (r : Result Added AddFault) → AddTurn s payload r t → SameLogs s t
+add_logs s t payload (Err (add_faults.Bad fault)) turn = logs_same s t turn.1
+add_logs s t payload (Err add_faults.Deleted) turn = logs_same s t turn.3
+add_logs s t payload (Ok Held) turn = logs_same s t turn.1
+add_logs s t payload (Err (add_faults.Full used limit)) turn = logs_same s t turn.4
+add_logs s t payload (Err add_faults.Memory) turn = logs_same s t turn.2
+add_logs s t payload (Ok Accepted) turn = logs_as turn.2 (record { keeper = refl; logs = refl; next = refl })
 
-pub swap_keeper : (s t : State) (r : SwapAnswer) → SwapTurn s r t → t.keeper ≡ s.keeper
-swap_keeper s t swaps.Running turn = ap (λ (x : State). x.keeper) turn.1
-swap_keeper s t swaps.Nothing turn = ap (λ (x : State). x.keeper) turn.2
-swap_keeper s t (swaps.Swapped n) turn = ap (λ (x : State). x.keeper) turn.3
+pub delete_logs : (s t : State) (ledger : ℕ) (r : Result ℕ DeleteFault) → DeleteTurn s ledger r t → SameLogs s t
+delete_logs s t ledger (Err delete_faults.AlreadyDeleted) turn = logs_same s t turn.1
+delete_logs s t ledger (Err delete_faults.Memory) turn = logs_same s t turn.1
+delete_logs s t ledger (Ok n) turn = logs_as turn.2 (record { keeper = refl; logs = refl; next = refl })
+
+pub swap_logs : (s t : State) (r : SwapAnswer) → SwapTurn s r t → SameLogs s t
+swap_logs s t swaps.Running turn = logs_same s t turn.1
+swap_logs s t swaps.Nothing turn = logs_same s t turn.2
+swap_logs s t (swaps.Swapped n) turn = logs_as turn.3 (record { keeper = refl; logs = refl; next = refl })
 
 pub add_settings : (s t : State) (payload : List ℕ) (r : Result Added AddFault) → AddTurn s payload r t → t.settings ≡ s.settings
 add_settings s t payload (Err (add_faults.Bad fault)) turn = ap (λ (x : State). x.settings) turn.1

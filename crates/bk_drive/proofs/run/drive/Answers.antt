@@ -3,7 +3,7 @@ use Rattle.std.proofs.lemmas.Result.{err_from_is_err_and}
 use Rattle.bk_store.specs.Opening.{OpenFails}
 use Rattle.std.proofs.lemmas.List.{take_all}
 use Rattle.std.proofs.lemmas.Grind.{common_steps}
-use Rattle.bk_drive.proofs.Driving.{driven_first, driven_on, driven_last, one_more, counted_none, counted_on, counted_never, even_on, closed_on}
+use Rattle.bk_drive.proofs.Driving.{driven_first, driven_on, driven_last, one_more, counted_none, counted_on, counted_never, even_on, shut_on}
 use Rattle.bk_drive.proofs.Leases.{leases_at}
 use Rattle.bk_drive.proofs.run.drive.Goals as goal
 
@@ -28,7 +28,7 @@ loop-step-preserved g c =
       counted_faults = λ sound. counted_on _ _ _ _ c.turn.result (c.loop-step.invariant.counted_faults sound) c.turn.ensures.later (c.turn.ensures.disk sound) items;
       even = even_on _ _ _ _ c.step-item.result c.turn.result c.loop-step.invariant.even more items;
       leases = c.turn.ensures.leases;
-      closed = closed_on _ _ _ _ c.step-item.result c.turn.result c.loop-step.invariant.even more items c.loop-step.store.keeper c.turn.new.store.keeper
+      closed = shut_on _ _ _ _ c.step-item.result c.turn.result c.loop-step.invariant.even more items c.loop-step.store c.turn.new.store
           c.loop-step.invariant.closed c.turn.ensures.closes c.turn.ensures.closed;
       driven = λ honest. driven_on _ _ _ _ _ _ _ _ _ _ _ c.step-item.result c.turn.result (c.loop-step.invariant.driven honest) c.turn.ensures.honest
           c.turn.ensures.settings c.turn.ensures.turn c.turn.ensures.plain more items;

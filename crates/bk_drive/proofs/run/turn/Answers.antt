@@ -1,13 +1,13 @@
 use Rattle.std.proofs.Common.{subst}
 use Rattle.bk_store.specs.Turns.{AddTurn}
 use Rattle.bk_drive.specs.Machine.Turn.{added, deleted, taken, fetched, released}
-use Rattle.bk_drive.proofs.Leases.{leases_same, closed_same, take_leases, take_closed, release_leases}
-use Rattle.bk_drive.proofs.Runs.{add_keeper, delete_keeper}
+use Rattle.bk_drive.proofs.Leases.{leases_same, shut_same, take_leases, take_shut, release_leases}
+use Rattle.bk_drive.proofs.Runs.{add_logs, delete_logs}
 use Rattle.bk_drive.proofs.PlainTurns.{turn_worked, goes_worked, goes_added, goes_deleted, goes_taken, goes_fetched, goes_released}
 use Rattle.bk_drive.proofs.run.turn.Goals as goal
 
 pub returns-in-Work-clause-turn : goal.returns-in-Work-clause-turn
-returns-in-Work-clause-turn g c = rw c.in-Work.is (turn_worked _ _ _ _ _ _ c.work_on.ensures.readers c.work_on.ensures.turn)
+returns-in-Work-clause-turn g c = rw c.in-Work.is (turn_worked _ _ _ _ _ _ c.work_on.ensures.readers c.work_on.ensures.turn c.work_on.ensures.unread)
 
 pub returns-in-Add-clause-turn : goal.returns-in-Add-clause-turn
 returns-in-Add-clause-turn g c =
@@ -26,10 +26,10 @@ pub returns-in-Release-clause-turn : goal.returns-in-Release-clause-turn
 returns-in-Release-clause-turn g c = rw c.in-Release.is (released c.release.ensures)
 
 pub returns-in-Add-clause-leases : goal.returns-in-Add-clause-leases
-returns-in-Add-clause-leases g c = leases_same _ _ (add_keeper c.args.store.now c.add.new.self _ _ c.add.ensures) _ c.requires
+returns-in-Add-clause-leases g c = leases_same _ _ (add_logs c.args.store.now c.add.new.self _ _ c.add.ensures).keeper _ c.requires
 
 pub returns-in-Delete-clause-leases : goal.returns-in-Delete-clause-leases
-returns-in-Delete-clause-leases g c = leases_same _ _ (delete_keeper c.args.store.now c.delete.new.self _ _ c.delete.ensures) _ c.requires
+returns-in-Delete-clause-leases g c = leases_same _ _ (delete_logs c.args.store.now c.delete.new.self _ _ c.delete.ensures).keeper _ c.requires
 
 pub returns-in-Take-clause-leases : goal.returns-in-Take-clause-leases
 returns-in-Take-clause-leases g c = take_leases _ _ _ _ _ c.promise.ensures c.take.ensures c.requires
@@ -38,13 +38,13 @@ pub returns-in-Release-clause-leases : goal.returns-in-Release-clause-leases
 returns-in-Release-clause-leases g c = release_leases _ _ _ _ _ c.release.ensures c.requires
 
 pub returns-in-Add-clause-closed : goal.returns-in-Add-clause-closed
-returns-in-Add-clause-closed g c = closed_same c.args.store.now.keeper c.add.new.self.keeper (add_keeper c.args.store.now c.add.new.self _ _ c.add.ensures)
+returns-in-Add-clause-closed g c = shut_same (add_logs c.args.store.now c.add.new.self _ _ c.add.ensures)
 
 pub returns-in-Delete-clause-closed : goal.returns-in-Delete-clause-closed
-returns-in-Delete-clause-closed g c = closed_same c.args.store.now.keeper c.delete.new.self.keeper (delete_keeper c.args.store.now c.delete.new.self _ _ c.delete.ensures)
+returns-in-Delete-clause-closed g c = shut_same (delete_logs c.args.store.now c.delete.new.self _ _ c.delete.ensures)
 
 pub returns-in-Take-clause-closed : goal.returns-in-Take-clause-closed
-returns-in-Take-clause-closed g c = take_closed _ _ _ _ _ c.take.ensures
+returns-in-Take-clause-closed g c = take_shut _ _ _ _ _ c.take.ensures
 
 pub returns-in-Work-clause-closes : goal.returns-in-Work-clause-closes
 returns-in-Work-clause-closes g c = rw c.in-Work.is c.work_on.ensures.closes
@@ -55,12 +55,12 @@ returns-in-Work-clause-plain g c = λ honest.
 
 pub returns-in-Add-clause-plain : goal.returns-in-Add-clause-plain
 returns-in-Add-clause-plain g c = λ honest.
-    rw c.in-Add.is (goes_added _ _ c.promise.ensures honest _ (leases_same _ _ (add_keeper c.args.store.now c.add.new.self _ _ c.add.ensures) _ c.requires) _ _
+    rw c.in-Add.is (goes_added _ _ c.promise.ensures honest _ (leases_same _ _ (add_logs c.args.store.now c.add.new.self _ _ c.add.ensures).keeper _ c.requires) _ _
     (subst (λ payload. AddTurn c.args.store.now payload c.add.result c.add.new.self) c.deref.ensures.value c.add.ensures))
 
 pub returns-in-Delete-clause-plain : goal.returns-in-Delete-clause-plain
 returns-in-Delete-clause-plain g c = λ honest.
-    rw c.in-Delete.is (goes_deleted _ _ c.promise.ensures honest _ (leases_same _ _ (delete_keeper c.args.store.now c.delete.new.self _ _ c.delete.ensures) _ c.requires) _ _ c.delete.ensures)
+    rw c.in-Delete.is (goes_deleted _ _ c.promise.ensures honest _ (leases_same _ _ (delete_logs c.args.store.now c.delete.new.self _ _ c.delete.ensures).keeper _ c.requires) _ _ c.delete.ensures)
 
 pub returns-in-Take-clause-plain : goal.returns-in-Take-clause-plain
 returns-in-Take-clause-plain g c = λ honest.
