@@ -132,9 +132,9 @@ module _ (s t : State) (work : Work) (a : Answer) (kept : IsKept s) (turn : Work
 
   pub open_shut : (log : ℕ) → IsShut s log → IsShut t log
   open_shut log shut = elim shut [
-    | inl closed ↦ elim (work_slots turn other) [
-      | inl removal ↦ removed_shut s t removal.log kept removal.turn log closed
-      | inr slots ↦ inl (closed_stays s.keeper t.keeper slots log closed)
+    | inl stands ↦ elim (work_slots turn other) [
+      | inl removal ↦ removed_shut s t removal.log kept removal.turn log stands
+      | inr slots ↦ inl (closed_stays s.keeper t.keeper slots log stands)
     ]
     | inr gone ↦ inr ((work_gone turn).gone log gone)
   ]

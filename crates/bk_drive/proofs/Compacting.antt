@@ -13,7 +13,7 @@ use Rattle.bk_store.specs.declared.job.Move.{Move}
 use Rattle.bk_store.specs.declared.job.Phase.{Phase}
 use Rattle.bk_store.specs.declared.job.Phase.TheVariants.{Copy, Switch}
 use Rattle.bk_store.specs.declared.log.LogState.{LogState}
-use Rattle.bk_store.specs.declared.log.LogState.TheVariants.{Readable, Retired}
+use Rattle.bk_store.specs.declared.log.LogState.TheVariants.{Copying, Readable, Retired}
 use Rattle.bk_compact.specs.Compacting.{BeginTurn, CopyTurn, EndTurn, SwitchTurn, FinishTurn, GiveUpTurn, GivesUp, GoesOn, Steps, StopsCopying, Copies, Examines, ExaminesAll, SealsCopy, ShowsCopy, TakesMoves, with_job}
 use Rattle.bk_compact.specs.declared.answer.Kind.{Kind}
 use Rattle.bk_compact.specs.declared.answer.BeginAnswer.{BeginAnswer}
@@ -55,8 +55,8 @@ pub begin_stays : (s t : State) (kind : Kind) (r : Result BeginAnswer CompactFau
 begin_stays s t kind (Ok begins.JobRunning) turn = stays_same s t turn.1
 begin_stays s t kind (Ok begins.NothingToDo) turn = stays_same s t turn.2
 begin_stays s t kind (Ok (begins.Chosen log)) turn =
-    then (make_stays s turn.1.1.0 (Ok turn.1.0) turn.1.1.1) (job_stays turn.1.1.0 t _ turn.1.1.2)
-begin_stays s t kind (Err fault) turn = make_stays s t (Err turn.1.0) turn.1.2
+    then (make_stays s turn.1.1.0 Copying (Ok turn.1.0) turn.1.1.1) (job_stays turn.1.1.0 t _ turn.1.1.2)
+begin_stays s t kind (Err fault) turn = make_stays s t Copying (Err turn.1.0) turn.1.2
 
 -- ---- copying
 

@@ -102,6 +102,11 @@ swap_settings s t swaps.Running turn = ap (λ (x : State). x.settings) turn.1
 swap_settings s t swaps.Nothing turn = ap (λ (x : State). x.settings) turn.2
 swap_settings s t (swaps.Swapped n) turn = ap (λ (x : State). x.settings) turn.3
 
+pub swap_failures : (s t : State) (r : SwapAnswer) → SwapTurn s r t → t.failures ≡ s.failures
+swap_failures s t swaps.Running turn = ap (λ (x : State). x.failures) turn.1
+swap_failures s t swaps.Nothing turn = ap (λ (x : State). x.failures) turn.2
+swap_failures s t (swaps.Swapped n) turn = ap (λ (x : State). x.failures) turn.3
+
 -- ---- a run goes on
 
 -- the machine and the plain one agree at its end

@@ -19,7 +19,7 @@ use Rattle.bk_store.specs.Meaning.{meaning_at, MeansTheSame}
 use Rattle.bk_store.specs.Doors.{IsMade, IsUnmade, MakeTurn, PutTurn, WriteTurn, SetTurn, Seals, Restarts, Ends, keeper_left, logs_left, noted, with_next}
 use Rattle.bk_store.specs.Plain.{Plain, Agrees, told_at}
 use Rattle.bk_store.specs.declared.log.LogState.{LogState}
-use Rattle.bk_store.specs.declared.log.LogState.TheVariants.{Retired}
+use Rattle.bk_store.specs.declared.log.LogState.TheVariants.{Writing, Retired}
 use Rattle.bk_store.specs.declared.answer.MakeFault.{MakeFault}
 use Rattle.bk_store.specs.declared.answer.MakeFault.TheVariants as makes
 use Rattle.bk_flush.specs.Flushing.{LeftBy, FillTurn, NoNewLog, IsRefused, ReadyTurn, StepTurn, ShowsThose, StopsShowing, Publishes, PublishTurn, RollTurn}
@@ -139,16 +139,16 @@ made_stays : (s t : State) {state : LogState} → IsMade s state t → Stays s t
 made_stays s t made =
     stays_as (record { settings = refl; dead = refl; active = refl; flush = refl; slots = slots_opened s.keeper made.slot _ made.free.1; gone = gone_made _ _ _ refl refl }) t made.left
 
-pub make_stays : (s t : State) {state : LogState} (r : Result ℕ MakeFault) → MakeTurn s state r t → Stays s t
-make_stays s t (Err makes.LogsFull) turn = stays_same s t turn.1
-make_stays s t (Err makes.NoMoreIds) turn = stays_same s t turn.2
-make_stays s t (Err makes.Memory) turn = elim turn.1 [
+pub make_stays : (s t : State) (state : LogState) (r : Result ℕ MakeFault) → MakeTurn s state r t → Stays s t
+make_stays s t state (Err makes.LogsFull) turn = stays_same s t turn.1
+make_stays s t state (Err makes.NoMoreIds) turn = stays_same s t turn.2
+make_stays s t state (Err makes.Memory) turn = elim turn.1 [
   | inl same ↦ stays_same s t same
   | inr unmade ↦ unmade_stays s t unmade
 ]
-make_stays s t (Err makes.Disk) turn = unmade_stays s t turn.1
-make_stays s t (Err makes.Odd) turn = unmade_stays s t turn.2
-make_stays s t (Ok id) turn = made_stays s t turn.2
+make_stays s t state (Err makes.Disk) turn = unmade_stays s t turn.1
+make_stays s t state (Err makes.Odd) turn = unmade_stays s t turn.2
+make_stays s t state (Ok id) turn = made_stays s t turn.2
 
 fill_stays : (s t : State) (filled : Option ℕ) (r : Result (Unit {0}) LogFault) → FillTurn s filled r t → Stays s t
 fill_stays s t None (Ok _) turn = stays_same s t turn
@@ -158,7 +158,7 @@ fill_stays s t (Some id) r turn = seals_stays turn
 refused_stays : (s t : State) (filled : Option ℕ) (fault : FlushFault) → IsRefused s filled fault t → Stays s t
 refused_stays s t filled fault refused = elim refused [
   | inl fill ↦ fill_stays s t filled (Err fill.0) fill.2
-  | inr make ↦ then (fill_stays s make.0 filled (Ok tt) make.1) (make_stays make.0 t (Err make.2.0) make.2.2)
+  | inr make ↦ then (fill_stays s make.0 filled (Ok tt) make.1) (make_stays make.0 t Writing (Err make.2.0) make.2.2)
 ]
 
 unready_stays : (s t : State) (payload : List ℕ) (fault : FlushFault) → NoNewLog s payload fault t → Stays s t
@@ -167,7 +167,7 @@ unready_stays s t payload fault unready = then (refused_stays s unready.mid unre
 ready_stays : (s t : State) (payload : List ℕ) (r : Result ℕ FlushFault) → ReadyTurn s payload r t → Stays s t
 ready_stays s t payload (Ok id) turn = elim turn [
   | inl has ↦ stays_same s t has.1
-  | inr new ↦ then (fill_stays s new.mid new.filled (Ok tt) new.sealed) (make_stays new.mid t (Ok id) new.made)
+  | inr new ↦ then (fill_stays s new.mid new.filled (Ok tt) new.sealed) (make_stays new.mid t Writing (Ok id) new.made)
 ]
 ready_stays s t payload (Err flush_faults.LogsFull) turn = stays_same s t turn.3
 ready_stays s t payload (Err flush_faults.NoMoreIds) turn = stays_same s t turn.4
@@ -407,8 +407,8 @@ module _ (s t : State) (p : Plain) (agrees : Agrees s p) (means : MeansTheSame s
   pub agrees_still : Stays s t → Agrees t p
   agrees_still stays = agrees_after s t p p agrees means refl (stays.dead ∙ agrees.dead) (stays.active ∙ agrees.active) (stays.flush ∙ agrees.flush)
 
-  pub close_agrees : Beside s t → Agrees t p
-  close_agrees beside = agrees_after s t p p agrees means refl (beside.dead ∙ agrees.dead) (ap (λ (c : CacheState). c.active) beside.caches ∙ agrees.active)
+  pub beside_agrees : Beside s t → Agrees t p
+  beside_agrees beside = agrees_after s t p p agrees means refl (beside.dead ∙ agrees.dead) (ap (λ (c : CacheState). c.active) beside.caches ∙ agrees.active)
       (ap (λ (c : CacheState). c.flush) beside.caches ∙ agrees.flush)
 
   pub publish_agrees : (r : Result PublishAnswer FlushFault) → PublishTurn s r t → Agrees t (after_publish r p)

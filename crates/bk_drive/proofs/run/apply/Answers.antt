@@ -1,6 +1,7 @@
-use Rattle.bk_drive.specs.Machine.WorkTurn.{swapped, wrote, published, rolled, retired, rebuilt, closed}
-use Rattle.bk_drive.proofs.Working.{step_stays, roll_stays, retire_stays, rebuild_stays, retire_failures, rebuild_failures, close_beside, uncaused, publish_settings, agrees_still, close_agrees, publish_agrees}
-use Rattle.bk_drive.proofs.Runs.{swapped_plain, swap_settings}
+use Rattle.bk_drive.specs.Machine.WorkTurn.{swapped, wrote, published, rolled, retired, rebuilt, closed, removed, begun, copied, ended, switched, finished, given_up}
+use Rattle.bk_drive.proofs.Working.{step_stays, roll_stays, retire_stays, rebuild_stays, retire_failures, rebuild_failures, close_failures, close_beside, remove_beside, untold, told_of, publish_settings, agrees_still, beside_agrees, publish_agrees}
+use Rattle.bk_drive.proofs.Compacting.{begin_stays, copy_stays, end_stays, switch_stays, finish_stays, give_up_stays, switch_failures, finish_failures, give_up_failures}
+use Rattle.bk_drive.proofs.Runs.{swapped_plain, swap_settings, swap_failures}
 use Rattle.bk_drive.proofs.run.apply.Goals as goal
 
 pub returns-in-Swap-clause-turn : goal.returns-in-Swap-clause-turn
@@ -24,6 +25,27 @@ returns-in-Rebuild-clause-turn g c = rw c.in-Rebuild.is (rebuilt c.rebuild.ensur
 pub returns-in-Close-clause-turn : goal.returns-in-Close-clause-turn
 returns-in-Close-clause-turn g c = rw c.in-Close.is (closed c.close.ensures.turn)
 
+pub returns-in-Remove-clause-turn : goal.returns-in-Remove-clause-turn
+returns-in-Remove-clause-turn g c = rw c.in-Remove.is (removed c.remove.ensures.turn)
+
+pub returns-in-Begin-clause-turn : goal.returns-in-Begin-clause-turn
+returns-in-Begin-clause-turn g c = rw c.in-Begin.is (begun c.begin.ensures.turn)
+
+pub returns-in-Copy-clause-turn : goal.returns-in-Copy-clause-turn
+returns-in-Copy-clause-turn g c = rw c.in-Copy.is (copied c.copy.ensures.turn)
+
+pub returns-in-EndCopy-clause-turn : goal.returns-in-EndCopy-clause-turn
+returns-in-EndCopy-clause-turn g c = rw c.in-EndCopy.is (ended c.end_copy.ensures.turn)
+
+pub returns-in-Switch-clause-turn : goal.returns-in-Switch-clause-turn
+returns-in-Switch-clause-turn g c = rw c.in-Switch.is (switched c.switch.ensures.turn)
+
+pub returns-in-Finish-clause-turn : goal.returns-in-Finish-clause-turn
+returns-in-Finish-clause-turn g c = rw c.in-Finish.is (finished c.finish.ensures.turn)
+
+pub returns-in-GiveUp-clause-turn : goal.returns-in-GiveUp-clause-turn
+returns-in-GiveUp-clause-turn g c = rw c.in-GiveUp.is (given_up c.give_up.ensures.turn)
+
 pub returns-in-Swap-clause-settings : goal.returns-in-Swap-clause-settings
 returns-in-Swap-clause-settings g c = swap_settings _ _ _ c.swap.ensures
 
@@ -45,14 +67,120 @@ returns-in-Rebuild-clause-settings g c = (rebuild_stays _ _ _ c.rebuild.ensures.
 pub returns-in-Close-clause-settings : goal.returns-in-Close-clause-settings
 returns-in-Close-clause-settings g c = (close_beside _ _ _ _ c.close.ensures.turn).settings
 
-pub returns-in-Close-clause-cause : goal.returns-in-Close-clause-cause
-returns-in-Close-clause-cause g c = uncaused _ _ _ (close_beside _ _ _ _ c.close.ensures.turn).failures (λ never. never)
+pub returns-in-Remove-clause-settings : goal.returns-in-Remove-clause-settings
+returns-in-Remove-clause-settings g c = (remove_beside _ _ _ _ c.remove.ensures.turn).settings
+
+pub returns-in-Begin-clause-settings : goal.returns-in-Begin-clause-settings
+returns-in-Begin-clause-settings g c = (begin_stays _ _ _ _ c.begin.ensures.turn).settings
+
+pub returns-in-Copy-clause-settings : goal.returns-in-Copy-clause-settings
+returns-in-Copy-clause-settings g c = (copy_stays _ _ _ _ c.copy.ensures.turn).settings
+
+pub returns-in-EndCopy-clause-settings : goal.returns-in-EndCopy-clause-settings
+returns-in-EndCopy-clause-settings g c = (end_stays _ _ _ c.end_copy.ensures.turn).settings
+
+pub returns-in-Switch-clause-settings : goal.returns-in-Switch-clause-settings
+returns-in-Switch-clause-settings g c = (switch_stays _ _ _ _ c.switch.ensures.turn).settings
+
+pub returns-in-Finish-clause-settings : goal.returns-in-Finish-clause-settings
+returns-in-Finish-clause-settings g c = (finish_stays _ _ _ c.finish.ensures.turn).settings
+
+pub returns-in-GiveUp-clause-settings : goal.returns-in-GiveUp-clause-settings
+returns-in-GiveUp-clause-settings g c = (give_up_stays _ _ _ c.give_up.ensures.turn).settings
+
+pub returns-in-Swap-clause-cause : goal.returns-in-Swap-clause-cause
+returns-in-Swap-clause-cause g c = untold _ _ _ (swap_failures _ _ _ c.swap.ensures) (λ never. never)
+
+pub returns-in-WriteOne-clause-cause : goal.returns-in-WriteOne-clause-cause
+returns-in-WriteOne-clause-cause g c = told_of _ _ _ _ c.write_one.ensures.cause (λ is. is) (λ is. is)
+
+pub returns-in-Publish-clause-cause : goal.returns-in-Publish-clause-cause
+returns-in-Publish-clause-cause g c = told_of _ _ _ _ c.publish.ensures.cause (λ is. is) (λ is. is)
+
+pub returns-in-Roll-clause-cause : goal.returns-in-Roll-clause-cause
+returns-in-Roll-clause-cause g c = told_of _ _ _ _ c.roll.ensures.cause (λ is. is) (λ is. is)
 
 pub returns-in-Retire-clause-cause : goal.returns-in-Retire-clause-cause
-returns-in-Retire-clause-cause g c = uncaused _ _ _ (retire_failures _ _ _ _ c.retire.ensures.turn) (λ never. never)
+returns-in-Retire-clause-cause g c = untold _ _ _ (retire_failures _ _ _ _ c.retire.ensures.turn) (λ never. never)
 
 pub returns-in-Rebuild-clause-cause : goal.returns-in-Rebuild-clause-cause
-returns-in-Rebuild-clause-cause g c = uncaused _ _ _ (rebuild_failures _ _ _ c.rebuild.ensures.turn) (λ never. never)
+returns-in-Rebuild-clause-cause g c = untold _ _ _ (rebuild_failures _ _ _ c.rebuild.ensures.turn) (λ never. never)
+
+pub returns-in-Close-clause-cause : goal.returns-in-Close-clause-cause
+returns-in-Close-clause-cause g c = untold _ _ _ (close_failures _ _ _ _ c.close.ensures.turn) (λ never. never)
+
+pub returns-in-Remove-clause-cause : goal.returns-in-Remove-clause-cause
+returns-in-Remove-clause-cause g c = told_of _ _ _ _ c.remove.ensures.cause (λ is. is) (λ is. is)
+
+pub returns-in-Begin-clause-cause : goal.returns-in-Begin-clause-cause
+returns-in-Begin-clause-cause g c = told_of _ _ _ _ c.begin.ensures.cause (λ is. is) (λ is. is)
+
+pub returns-in-Copy-clause-cause : goal.returns-in-Copy-clause-cause
+returns-in-Copy-clause-cause g c = record {
+  later = c.copy.ensures.cause.later;
+  once = c.copy.ensures.cause.once;
+  told = c.copy.ensures.cause.told_so;
+  failed = λ never. absurd never;
+}
+
+pub returns-in-EndCopy-clause-cause : goal.returns-in-EndCopy-clause-cause
+returns-in-EndCopy-clause-cause g c = record {
+  later = c.end_copy.ensures.cause.later;
+  once = c.end_copy.ensures.cause.once;
+  told = c.end_copy.ensures.cause.told_so;
+  failed = λ never. absurd never;
+}
+
+pub returns-in-Switch-clause-cause : goal.returns-in-Switch-clause-cause
+returns-in-Switch-clause-cause g c = untold _ _ _ (switch_failures _ _ _ _ c.switch.ensures.turn) (λ never. never)
+
+pub returns-in-Finish-clause-cause : goal.returns-in-Finish-clause-cause
+returns-in-Finish-clause-cause g c = untold _ _ _ (finish_failures _ _ _ c.finish.ensures.turn) (λ never. never)
+
+pub returns-in-GiveUp-clause-cause : goal.returns-in-GiveUp-clause-cause
+returns-in-GiveUp-clause-cause g c = untold _ _ _ (give_up_failures _ _ _ c.give_up.ensures.turn) (λ never. never)
+
+pub returns-in-Swap-clause-sound : goal.returns-in-Swap-clause-sound
+returns-in-Swap-clause-sound g c = λ sound is. absurd is
+
+pub returns-in-WriteOne-clause-sound : goal.returns-in-WriteOne-clause-sound
+returns-in-WriteOne-clause-sound g c = λ sound is. c.write_one.ensures.cause.failed is
+
+pub returns-in-Publish-clause-sound : goal.returns-in-Publish-clause-sound
+returns-in-Publish-clause-sound g c = λ sound is. c.publish.ensures.cause.failed is
+
+pub returns-in-Roll-clause-sound : goal.returns-in-Roll-clause-sound
+returns-in-Roll-clause-sound g c = λ sound is. c.roll.ensures.cause.failed is
+
+pub returns-in-Retire-clause-sound : goal.returns-in-Retire-clause-sound
+returns-in-Retire-clause-sound g c = λ sound is. absurd is
+
+pub returns-in-Rebuild-clause-sound : goal.returns-in-Rebuild-clause-sound
+returns-in-Rebuild-clause-sound g c = λ sound is. absurd (c.rebuild.ensures.sound sound is)
+
+pub returns-in-Close-clause-sound : goal.returns-in-Close-clause-sound
+returns-in-Close-clause-sound g c = λ sound is. absurd is
+
+pub returns-in-Remove-clause-sound : goal.returns-in-Remove-clause-sound
+returns-in-Remove-clause-sound g c = λ sound is. c.remove.ensures.cause.failed is
+
+pub returns-in-Begin-clause-sound : goal.returns-in-Begin-clause-sound
+returns-in-Begin-clause-sound g c = λ sound is. c.begin.ensures.cause.failed is
+
+pub returns-in-Copy-clause-sound : goal.returns-in-Copy-clause-sound
+returns-in-Copy-clause-sound g c = λ sound is. (c.copy.ensures.sound sound).failed is
+
+pub returns-in-EndCopy-clause-sound : goal.returns-in-EndCopy-clause-sound
+returns-in-EndCopy-clause-sound g c = λ sound is. (c.end_copy.ensures.sound sound).failed is
+
+pub returns-in-Switch-clause-sound : goal.returns-in-Switch-clause-sound
+returns-in-Switch-clause-sound g c = λ sound is. absurd is
+
+pub returns-in-Finish-clause-sound : goal.returns-in-Finish-clause-sound
+returns-in-Finish-clause-sound g c = λ sound is. absurd is
+
+pub returns-in-GiveUp-clause-sound : goal.returns-in-GiveUp-clause-sound
+returns-in-GiveUp-clause-sound g c = λ sound is. absurd is
 
 pub returns-in-Swap-clause-plain : goal.returns-in-Swap-clause-plain
 returns-in-Swap-clause-plain g c = λ honest p agrees. swapped_plain _ _ p c.promise.ensures honest agrees _ c.swap.ensures
@@ -73,4 +201,25 @@ pub returns-in-Rebuild-clause-plain : goal.returns-in-Rebuild-clause-plain
 returns-in-Rebuild-clause-plain g c = λ honest p agrees. agrees_still _ _ p agrees (c.rebuild.ensures.meaning honest) (rebuild_stays _ _ _ c.rebuild.ensures.turn)
 
 pub returns-in-Close-clause-plain : goal.returns-in-Close-clause-plain
-returns-in-Close-clause-plain g c = λ honest p agrees. close_agrees _ _ p agrees (c.close.ensures.meaning honest) (close_beside _ _ _ _ c.close.ensures.turn)
+returns-in-Close-clause-plain g c = λ honest p agrees. beside_agrees _ _ p agrees (c.close.ensures.meaning honest) (close_beside _ _ _ _ c.close.ensures.turn)
+
+pub returns-in-Remove-clause-plain : goal.returns-in-Remove-clause-plain
+returns-in-Remove-clause-plain g c = λ honest p agrees. beside_agrees _ _ p agrees (c.remove.ensures.meaning honest) (remove_beside _ _ _ _ c.remove.ensures.turn)
+
+pub returns-in-Begin-clause-plain : goal.returns-in-Begin-clause-plain
+returns-in-Begin-clause-plain g c = λ honest p agrees. agrees_still _ _ p agrees (c.begin.ensures.meaning honest) (begin_stays _ _ _ _ c.begin.ensures.turn)
+
+pub returns-in-Copy-clause-plain : goal.returns-in-Copy-clause-plain
+returns-in-Copy-clause-plain g c = λ honest p agrees. agrees_still _ _ p agrees (c.copy.ensures.meaning honest) (copy_stays _ _ _ _ c.copy.ensures.turn)
+
+pub returns-in-EndCopy-clause-plain : goal.returns-in-EndCopy-clause-plain
+returns-in-EndCopy-clause-plain g c = λ honest p agrees. agrees_still _ _ p agrees (c.end_copy.ensures.meaning honest) (end_stays _ _ _ c.end_copy.ensures.turn)
+
+pub returns-in-Switch-clause-plain : goal.returns-in-Switch-clause-plain
+returns-in-Switch-clause-plain g c = λ honest p agrees. agrees_still _ _ p agrees (c.switch.ensures.meaning honest) (switch_stays _ _ _ _ c.switch.ensures.turn)
+
+pub returns-in-Finish-clause-plain : goal.returns-in-Finish-clause-plain
+returns-in-Finish-clause-plain g c = λ honest p agrees. agrees_still _ _ p agrees (c.finish.ensures.meaning honest) (finish_stays _ _ _ c.finish.ensures.turn)
+
+pub returns-in-GiveUp-clause-plain : goal.returns-in-GiveUp-clause-plain
+returns-in-GiveUp-clause-plain g c = λ honest p agrees. agrees_still _ _ p agrees (c.give_up.ensures.meaning honest) (give_up_stays _ _ _ c.give_up.ensures.turn)
