@@ -1,6 +1,6 @@
 -- What clap's contracts say of the program's command line.
 use Rattle.std.proofs.Common.{◌≡◌, ◌≢◌, ℕ, ◌+◌, ◌<◌, ◌≤◌, ◌^◌, zero, suc, Bool, true, false, ◌||◌, List, [], ◌∷◌, ◌++◌, length, map, take, get_or, inl, inr}
-use Rattle.std.proofs.Common.{Option, Some, None, option_map, Result, Ok, Err, Box, Bor, arith, refl, sym, ◌∙◌, ap, subst}
+use Rattle.std.proofs.Common.{Option, Some, None, option_map, Result, Ok, Err, Box, Bor, codes, arith, refl, sym, ◌∙◌, ap, subst}
 use Rattle.std.specs.Fmt.{decimal}
 use Rattle.std.specs.List.{AllZip}
 use Rattle.std.proofs.lemmas.List.{map-append, take_more}
@@ -92,6 +92,20 @@ module _ {Z : Type 0} where
     where
       unwrapped : {X : Type 0} {x y : X} → Some x ≡ Some y → x ≡ y
       unwrapped e = cc
+
+module _ {Z : Type 0} where
+  pub name_in : (o : Option (Box SubCommand Z)) (name : Text) (rows : List Row) → subcommand_rows o ≡ Some (name, rows)
+      → option_map (λ b. (out-SubCommand (box_value b)).name.now) o ≡ Some name
+  name_in None name rows e = cc
+  name_in (Some b) name rows e = ap (option_map (λ (p : Text × List Row). p.0)) e
+
+-- the rows of words that call `script` are those that they ask by
+pub asked_rows : (words : List Text) (settings : Settings) (dead : List ℕ) (asks : Asks words settings dead) (rows : List Row)
+    → subcommand_of program words ≡ Some (codes "script", rows) → asks.rows ≡ rows
+asked_rows words settings dead asks rows e =
+    let same : Some (codes "script", asks.rows) ≡ Some (codes "script", rows) = sym asks.called ∙ e in
+    let pair : (codes "script", asks.rows) ≡ (codes "script", rows) = cc in
+    ap (λ (p : Text × List Row). p.1) pair
 
 program_is_free : is_simple_and_free program ≡ true
 unfolding clap_on_literals

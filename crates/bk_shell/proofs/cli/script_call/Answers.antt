@@ -1,8 +1,10 @@
-use Rattle.std.proofs.Common.{rules, map, codes, sym, ◌∙◌}
+use Rattle.std.proofs.Common.{rules, ℕ, List, map, codes, sym, ◌∙◌, subst}
+use Rattle.std.proofs.lemmas.Bool.{false≢true}
 use Rattle.clap.specs.Matches.{found_of}
 use Rattle.clap.specs.Simple.{app_of}
-use Rattle.clap.specs.Walk.{rows_of}
-use Rattle.bk_shell.proofs.CommandLines.{taken, rows_met, pair_in, refused_by_parse, refused_for_memory}
+use Rattle.clap.specs.Walk.{Row, all_of, rows_of}
+use Rattle.bk_shell.specs.CommandLine.{AsksLedgers, AsksSettings}
+use Rattle.bk_shell.proofs.CommandLines.{taken, rows_met, pair_in, name_in, asked_rows, refused_by_parse, refused_for_memory}
 use Rattle.bk_shell.proofs.cli.script_call.Goals as goal
 
 pub returns-in_err-matches-clause-refused : goal.returns-in_err-matches-clause-refused
@@ -40,3 +42,26 @@ returns-in-Ok-2-clause-asked g c =
       asked = c.in-Ok.ensures.ok;
       ledgers = rw c.in-Ok-2.is at c.in_ok-dead.ensures;
     }
+
+pub returns-in_default-clause-refused : goal.returns-in_default-clause-refused
+returns-in_default-clause-refused g c = λ settings dead asks.
+    let words = map g.S.AsStr.text c.args.words.now in
+    let met = rows_met (app_of c.in_ok-command.command) words c.in_ok-matches.matches c.in_ok-command.ensures c.in_ok-matches.ensures.ok.2 in
+    absurd (false≢true (c.in_default.ensures.found.1 (name_in _ (codes "script") asks.rows (met ∙ asks.called))))
+
+pub returns-in-Err-clause-refused : goal.returns-in-Err-clause-refused
+returns-in-Err-clause-refused g c = λ settings dead asks.
+    let words = map g.S.AsStr.text c.args.words.now in
+    let rows = rows_of (found_of c.in-Some.script.now) in
+    let met = rows_met (app_of c.in_ok-command.command) words c.in_ok-matches.matches c.in_ok-command.ensures c.in_ok-matches.ensures.ok.2 in
+    let called = sym met ∙ pair_in _ (codes "script") rows (c.in-Some.ensures.found.0 (search rules)) c.in-Some.ensures.rows in
+    absurd (c.in-Err.ensures.err settings (subst (λ (r : List Row). AsksSettings r settings) (asked_rows words settings dead asks rows called) asks.asked))
+
+pub returns-clause-refused : goal.returns-clause-refused
+returns-clause-refused g c = λ settings dead asks.
+    let words = map g.S.AsStr.text c.args.words.now in
+    let rows = rows_of (found_of c.in-Some.script.now) in
+    let met = rows_met (app_of c.in_ok-command.command) words c.in_ok-matches.matches c.in_ok-command.ensures c.in_ok-matches.ensures.ok.2 in
+    let called = sym met ∙ pair_in _ (codes "script") rows (c.in-Some.ensures.found.0 (search rules)) c.in-Some.ensures.rows in
+    let refused = rw c.in-Err-2.is at c.in_ok-dead.ensures in
+    absurd (refused dead (subst (λ (r : List Row). AsksLedgers (all_of (codes "LEDGER") r) dead) (asked_rows words settings dead asks rows called) asks.ledgers))
