@@ -1,6 +1,7 @@
 -- The entries of the map of open logs, and the book that they are seen as, after each change.
-use Rattle.std.proofs.Common.{◌≡◌, ◌≢◌, ◌↔◌, ℕ, Bool, true, false, cond, ◌==◌, ◌||◌, eq-eqb, eqb-true, List, map, Some, None, Ok, Err, Option, if◌then◌else◌}
-use Rattle.std.proofs.Common.{IsSome, IsNone, IsErrAnd, OnErr, IfSome, nat_cmp, Bor, MutBor, BTreeMap, Result, IfOk, IfErr, refl, sym, ap, ◌∙◌, subst}
+use Rattle.std.proofs.Common.{◌≡◌, ◌≢◌, ◌↔◌, ℕ, true, false, cond, ◌==◌, ◌||◌, eq-eqb, eqb-true, List, map, Some, None, Ok, Err, Option, if◌then◌else◌}
+use Rattle.std.specs.Result.{is_err}
+use Rattle.std.proofs.Common.{IsSome, IsNone, IsErrAnd, OnOk, OnErr, IfSome, nat_cmp, Bor, MutBor, BTreeMap, Result, IfOk, IfErr, refl, sym, ap, ◌∙◌, subst}
 use Rattle.std.specs.BTreeMap.{WritesThrough, is_at}
 use Rattle.std.specs.Map.{lookup}
 use Rattle.std.specs.Option.{is_some, option_map, option_map_or, option_copied, option_copied_mut, ok_or}
@@ -88,6 +89,15 @@ no_log_closed book log r is none = (λ _. ap is_some none, λ _. is)
 pub on_err : {T E : Type 0} (r : Result T E) (P : Type 0) → P → OnErr r P
 on_err (Ok x) P holds = tt
 on_err (Err e) P holds = holds
+
+-- what holds of a success and what holds of a fault, where the answer was tested
+pub in_success : {T E : Type 0} (r : Result T E) (P : Type 0) → false ≡ is_err r → OnOk r P → P
+in_success (Ok x) P is holds = holds
+in_success (Err e) P is holds = cc
+
+pub in_fault : {T E : Type 0} (r : Result T E) (P : Type 0) → true ≡ is_err r → OnErr r P → P
+in_fault (Ok x) P is holds = cc
+in_fault (Err e) P is holds = holds
 
 -- no other answer at such a log, and no `NoLog` at an open one
 pub no_log_open : (book : Book) (log : ℕ) (account : Account) (r : Result (Unit {0}) AccountFault) → r ≢ Err NoLog → get book log ≡ Some account

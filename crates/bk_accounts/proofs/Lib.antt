@@ -6,6 +6,7 @@ pub mod Entries
 pub mod EntrySums
 pub mod FromScratch
 pub mod Histories
+pub mod Listings
 pub mod LogAccounts
 pub mod Maps
 pub mod Ratios

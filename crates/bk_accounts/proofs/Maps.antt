@@ -1,5 +1,5 @@
 -- Finite maps made of a `BTreeMap`'s entries, at keys that are numbers.
-use Rattle.std.proofs.Common.{◌≡◌, ℕ, true, false, cond, List, [], ◌∷◌, map, Some, None, Option, IsSome, nat_cmp}
+use Rattle.std.proofs.Common.{◌≡◌, ℕ, ◌<◌, length, arith, true, false, cond, List, [], ◌∷◌, map, Some, None, Option, IsSome, nat_cmp}
 use Rattle.std.proofs.Common.{MutBor, refl, sym, ap, ◌∙◌}
 use Rattle.std.specs.Cmp.{nat_cmp_total, eq_by_cmp_equiv}
 use Rattle.std.specs.Ordering.{eq_by_cmp}
@@ -57,7 +57,8 @@ pub lent : {X : Type 0} (r : Option (MutBor X)) (o : Option X) → option_copied
 lent None o is there = ap is_some is ∙ there
 lent (Some r) o is there = refl
 
-none_is : {X : Type 0} (o : Option X) → is_some o ≡ false → o ≡ None
+-- nothing is there
+pub none_is : {X : Type 0} (o : Option X) → is_some o ≡ false → o ≡ None
 none_is None h = refl
 none_is (Some x) h = cc
 
@@ -81,3 +82,8 @@ get-mapped f es q = get-entries (map (λ e. (e.0, f e.1)) es) q ∙ lookup-map_v
 -- what the map has is what a query of its entries finds
 pub get-lookup : {X : Type 0} (m : FinMap nat_cmp X) (q : ℕ) → get m q ≡ lookup (is_at (nat_cmp q)) (finmap.entries m)
 get-lookup m q = finmap.get-entries m q ∙ find-lookup (finmap.entries m) q
+
+-- a map made of no entries has no value
+pub get-nothing : {X : Type 0} (es : List (ℕ × X)) (k : ℕ) → (0 < length es → ⊥) → get (from_entries {R = nat_cmp} es) k ≡ None
+get-nothing [] k none = get-entries [] k
+get-nothing (e ∷ es) k none = absurd (none (omega arith))

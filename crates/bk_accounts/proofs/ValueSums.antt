@@ -68,7 +68,8 @@ sum-insert m k v =
     ∙ ap (λ o. sum (values_in (put nat_cmp k v (entries m))) + unwrap_or o 0) (get-entries m k)
     ∙ sum-put k v (entries m) (entries_sorted m)
 
-kept_absent : (m : FinMap nat_cmp ℕ) (k q : ℕ) → get m k ≡ None → get (remove m k) q ≡ get m q
+-- a key that is not there is removed for nothing
+pub kept_absent : (m : FinMap nat_cmp ℕ) (k q : ℕ) → get m k ≡ None → get (remove m k) q ≡ get m q
 kept_absent m k q none = get-remove nat_cmp_total m k q
     ∙ elim (eq_by_cmp nat_cmp q k) as (λ b. eq_by_cmp nat_cmp q k ≡ b → cond b None (get m q) ≡ get m q) [
       | true ↦ λ h. sym (ap (get m) (tells_apart nat_cmp-IsAntisymmetric q k h) ∙ none)

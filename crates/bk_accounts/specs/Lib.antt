@@ -6,3 +6,4 @@ pub mod Rows
 pub mod Sums
 pub mod Parts
 pub mod Usage
+pub mod Listed

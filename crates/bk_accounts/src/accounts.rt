@@ -1,16 +1,19 @@
 //! The accounts of all open logs. Each call finds the log's account and changes it alone, but for
-//! `forget`, which goes through all of them.
-ghost use Rattle.std.specs.Prelude.{◌≡◌, ◌+◌, ◌^◌, ◌<◌, ◌↔◌, All, IfSome, MatchOption, IsOk, IfOk, IfErr, OnOk, OnErr, IsOkUnless, IsErrOf};
+//! `forget`, which goes through those in which the ledger has room.
+ghost use Rattle.std.specs.Prelude.{◌≡◌, ℕ, ◌+◌, ◌^◌, ◌<◌, ◌↔◌, true, false, All, IfSome, IfNone, MatchOption, IsOk, IfOk, IfErr, OnOk, OnErr, IsOkUnless, IsErrOf};
 ghost use Rattle.std.specs.FinMap as finmap;
+ghost use Rattle.std.specs.BTreeSet.{contains};
 ghost use Rattle.std.specs.Option.{ok_or};
 ghost use Rattle.bk_accounts.specs.Choice.{IsChoice, NoneBelow};
+ghost use Rattle.bk_accounts.specs.Listed.{room_cmp};
 
 use crate::fault::AccountFault;
 use crate::log_account::LogAccount;
 use crate::usage::Usage;
 use std::alloc::Global;
-use std::collections::BTreeMap;
+use std::collections::{BTreeMap, BTreeSet};
 use std::marker::Model;
+use std::ops::Bound;
 
 /// For each open log: the bytes of its entries by ledger, what of them is left to ledgers that were
 /// not forgotten, and how many keys name the log.
@@ -20,17 +23,22 @@ use std::marker::Model;
 pub struct Accounts {
     alloc: Global,
     logs: BTreeMap<u32, LogAccount>,
+    // The ledgers that have room, each with the logs in which it has it.
+    rooms: BTreeSet<(u64, u32)>,
 }
 
 impl Model for Accounts {
     ghost use Rattle.std.specs.FinMap as finmap;
     ghost use Rattle.bk_accounts.specs.Book.{Book, book_code};
+    ghost use Rattle.bk_accounts.specs.Listed.{AreListed};
 
     ghost Value = { Book };
 
     ghost coded = { book_code };
 
     ghost view = { λ a. finmap.from_entries a.logs.entries };
+
+    ghost invariant = { λ a. AreListed (finmap.from_entries a.logs.entries) a.rooms };
 }
 
 impl Accounts {
@@ -43,6 +51,7 @@ impl Accounts {
         Accounts {
             alloc,
             logs: BTreeMap::new(alloc),
+            rooms: BTreeSet::new(alloc),
         }
     }
 
@@ -74,7 +83,14 @@ impl Accounts {
         let Some(account) = self.logs.get_mut(&log) else {
             return Err(AccountFault::NoLog);
         };
-        account.ready(ledger)?;
+        if account.has_room(ledger) {
+            return Ok(());
+        }
+        self.rooms.insert((ledger, log))?;
+        if account.add_room(ledger).is_err() {
+            let _ = self.rooms.remove(&(ledger, log));
+            return Err(AccountFault::Memory);
+        }
         Ok(())
     }
 
@@ -135,11 +151,12 @@ impl Accounts {
     pub fn forget(&mut self, ledger: u64)
         ensures { self.new ≡ after_forget self.old ledger }
     {
-        // Of a map's methods that write to each value, `retain` alone has a contract that says what was written.
-        self.logs.retain(|_, account| {
-            account.forget(ledger);
-            true
-        });
+        while let Some(log) = first_room(&self.rooms, ledger) {
+            let _ = self.rooms.remove(&(ledger, log));
+            if let Some(account) = self.logs.get_mut(&log) {
+                account.forget(ledger);
+            }
+        }
     }
 
     /// The bytes of all entries counted in a log, or `NoLog` where it is not open.
@@ -189,7 +206,12 @@ impl Accounts {
     pub fn drop_log(&mut self, log: u32)
         ensures { self.new ≡ after_drop self.old log }
     {
-        let _ = self.logs.remove(&log);
+        let Some(mut account) = self.logs.remove(&log) else {
+            return;
+        };
+        while let Some(ledger) = account.pop() {
+            let _ = self.rooms.remove(&(ledger, log));
+        }
     }
 
     fn account(&self, log: u32) -> Result<&LogAccount, AccountFault>
@@ -212,4 +234,16 @@ impl Accounts {
             remaining: account.remaining(),
         }
     }
+}
+
+// The first log in which the ledger has room. The rooms of a ledger stand together, so that no other
+// is looked at but the one behind them.
+fn first_room(rooms: &BTreeSet<(u64, u32)>, ledger: u64) -> Option<u32>
+    ensures some { IfSome result (λ log. contains room_cmp rooms.now (ledger, log) ≡ true) }
+    ensures none { IfNone result ((log : ℕ) → contains room_cmp rooms.now (ledger, log) ≡ false) }
+{
+    let (first, log) = rooms
+        .range((Bound::Included((ledger, 0)), Bound::Unbounded))
+        .next()?;
+    if *first == ledger { Some(*log) } else { None }
 }

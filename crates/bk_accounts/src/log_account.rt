@@ -1,6 +1,6 @@
 //! One open log's sums. What remains is kept as a number, and is always the sum of the live ledgers'
 //! parts, so that it is read in one step and a forgotten ledger takes its part out of it.
-ghost use Rattle.std.specs.Prelude.{◌≡◌, ◌+◌, ◌^◌, ◌<◌, IsTrue, IsOk, OnOk, OnErr};
+ghost use Rattle.std.specs.Prelude.{◌≡◌, ℕ, ◌+◌, ◌^◌, ◌<◌, true, false, IsTrue, IfSome, IfNone, OnOk, OnErr};
 
 use std::alloc::{AllocError, Global};
 use std::collections::BTreeMap;
@@ -64,17 +64,20 @@ impl LogAccount {
         self.named
     }
 
-    /// Makes room for a ledger's sum.
-    pub(crate) fn ready(&mut self, ledger: u64) -> Result<(), AllocError>
+    /// Whether there is room for a ledger's sum.
+    pub(crate) fn has_room(&self, ledger: u64) -> bool
+        ensures { result ≡ has_room self.now ledger }
+    {
+        self.parts.contains_key(&ledger)
+    }
+
+    /// Makes room for the sum of a ledger that has none. The only error is want of memory.
+    pub(crate) fn add_room(&mut self, ledger: u64) -> Result<(), AllocError>
+        requires { has_room self.old ledger ≡ false }
         ensures ok { OnOk result (self.new ≡ with_room ledger self.old) }
         ensures err { OnErr result (self.new ≡ self.old) }
-
-        // Only new room takes memory.
-        ensures room { IsTrue (has_room self.old ledger) → IsOk result }
     {
-        if !self.parts.contains_key(&ledger) {
-            self.parts.insert(ledger, 0)?;
-        }
+        self.parts.insert(ledger, 0)?;
         Ok(())
     }
 
@@ -121,5 +124,15 @@ impl LogAccount {
         if let Some(part) = self.parts.remove(&ledger) {
             self.remaining -= part;
         }
+    }
+
+    /// Takes one of the ledgers that have room out of what remains, as `forget` does.
+    pub(crate) fn pop(&mut self) -> Option<u64>
+        ensures some { IfSome result (λ ledger. (has_room self.old ledger ≡ true) × (self.new ≡ without_ledger ledger self.old)) }
+        ensures none { IfNone result ((ledger : ℕ) → has_room self.old ledger ≡ false) }
+    {
+        let (ledger, part) = self.parts.pop_first()?;
+        self.remaining -= part;
+        Some(ledger)
     }
 }
