@@ -1,2 +1,6 @@
 mod Positions
 mod Stored
+mod Copied
+mod Ended
+mod Chosen
+mod Chosen

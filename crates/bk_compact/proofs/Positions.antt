@@ -51,6 +51,11 @@ pieces_behind (suc most) from bytes at payload there =
       ]
     ] there
 
+-- a record of a log stands behind its header
+pub record_behind : (bytes : List ℕ) (at : ℕ) (payload : List ℕ) → In (at, payload) (records_of bytes) → header_length < at
+unfolding records_of
+record_behind bytes at payload there = pieces_behind (length bytes) header_length (drop header_length bytes) at payload there
+
 -- ---- the part behind the header
 
 whole_part : (bytes : List ℕ) → part bytes header_length (view_end bytes) ≡ drop header_length bytes

@@ -24,7 +24,8 @@ use Rattle.bk_store.specs.Jobs.{Job}
 use Rattle.bk_store.specs.JobKept.{IsJob, IsReadTo, entries_from}
 use Rattle.bk_store.specs.Kept.{IsHeld, IsBacked}
 use Rattle.bk_store.specs.Plain.{IsKept}
-use Rattle.bk_compact.specs.Compacting.{IsFound, behind, place_of, entries_left}
+use Rattle.bk_compact.specs.Compacting.{behind, place_of, entries_left}
+use Rattle.bk_compact.specs.Going.{IsNextFound}
 use Rattle.bk_compact.proofs.Positions.{read_on, entry_ahead, ahead_behind, ahead_stands, drop_next, take_next, entries_passed}
 
 pub dishonest : (honest : Bool) → (IsTrue honest → ⊥) → honest ≡ false
@@ -86,14 +87,6 @@ module _ (s : State) (kept : IsKept s) (job : Job) (is : IsJob s job) (view : Vi
   source_unhonest never = dishonest s.honest (λ honest. never (source_honest honest))
 
 -- ---- the next entry of a log
-
--- the first entry of a log from the position on, and what is behind it
-pub record IsNextFound (bytes : List ℕ) (at : ℕ) (found : Found) : Type 0 where
-  pub payload : List ℕ
-  pub listed : entries_from bytes at ≡ (found.at, payload) ∷ entries_from bytes (behind found)
-  pub found_is : IsFound (found.at, payload) found
-  pub stands : HasEntryAt bytes found.at found.key payload
-  pub read : IsReadTo bytes (behind found)
 
 pub behind_is : (found : Found) (n : ℕ) → found.size ≡ 4 + n → found.at + n ≡ behind found
 behind_is found n sized = omega (arith, sized)

@@ -1,6 +1,14 @@
 //! The entries of a source are examined one by one, and copied.
 
-ghost use Rattle.std.specs.Prelude.{◌≡◌, IsTrue};
+ghost use Rattle.std.specs.Prelude.{◌≡◌, ◌+◌, ◌<◌, ◌≤◌, ◌^◌, IsTrue, Ok, Some, length};
+ghost use Rattle.std.specs.FinMap as finite;
+ghost use Rattle.bk_log.specs.Writing.{Writing};
+ghost use Rattle.bk_store.specs.Doors.{IsIn, SetTurn, writer_of};
+ghost use Rattle.bk_store.specs.Putting.{next_place};
+ghost use Rattle.bk_store.specs.Logs.{last_view, view_of};
+ghost use Rattle.bk_store.specs.declared.log.LogState.TheVariants.{Copying as CopyingState, Readable as ReadableState};
+ghost use Rattle.bk_compact.specs.Compacting.{behind, place_of};
+ghost use Rattle.bk_compact.specs.Going.{CopiesAll, CopiesEntry, ExaminesOne, IsAhead, IsCopying, IsEntry, Stays};
 
 use crate::scanning::scan_from;
 use bk_disk::LogDisk;
@@ -28,7 +36,12 @@ pub(crate) fn copy_entries<D: LogDisk>(
     view: &D::View,
     job: &mut Job,
     count: u64,
-) -> Result<u64, Stopped> {
+) -> Result<u64, Stopped>
+    requires copying { IsCopying store.old job.old }
+    requires view { last_view store.old.logs job.old.source ≡ Some (view_of D.View.bytes D.View.honest D.View.sound view.now) }
+    ensures turn { CopiesAll store.old job.old count result store.new job.new }
+    ensures stays { Stays store.old store.new }
+{
     let Some(mut scanner) = scan_from(view, store.alloc(), job.at()) else {
         return Err(odd(store, job));
     };
@@ -57,7 +70,14 @@ fn examine<D: LogDisk>(
     view: &D::View,
     job: &mut Job,
     found: &Found,
-) -> Result<bool, Stopped> {
+) -> Result<bool, Stopped>
+    requires copying { IsCopying store.old job.old }
+    requires view { last_view store.old.logs job.old.source ≡ Some (view_of D.View.bytes D.View.honest D.View.sound view.now) }
+    requires ahead { IsAhead store.old job.old found.now }
+    ensures turn { ExaminesOne store.old job.old found.now result store.new job.new }
+    ensures stays { Stays store.old store.new }
+{
+    store.promise();
     let behind = found.at + u64::from(found.size - 4);
     if behind > u64::from(u32::MAX) {
         return Err(odd(store, job));
@@ -78,7 +98,17 @@ fn copy_entry<D: LogDisk>(
     job: &mut Job,
     found: &Found,
     from: Location,
-) -> Result<(), Stopped> {
+) -> Result<(), Stopped>
+    requires copying { IsCopying store.old job.old }
+    requires view { last_view store.old.logs job.old.source ≡ Some (view_of D.View.bytes D.View.honest D.View.sound view.now) }
+    requires ahead { IsAhead store.old job.old found.now }
+    requires near { behind found.now < 2 ^ 32 }
+    requires place { from ≡ place_of job.old found.now }
+    requires sent { finite.get store.old.index found.now.key ≡ Some from }
+    ensures turn { CopiesEntry store.old job.old found.now result store.new job.new }
+    ensures stays { Stays store.old store.new }
+{
+    store.promise();
     let payload = match fetch(view, store.alloc(), from, found.key) {
         Ok(payload) => payload,
         Err(FetchFault::Memory) => return Err(Stopped::Memory(0)),
@@ -88,7 +118,7 @@ fn copy_entry<D: LogDisk>(
     if !is_entry(&payload, found) {
         return Err(odd(store, job));
     }
-    let to = next_place(store, job);
+    let to = place_in(store, job.copy());
     let key = found.key;
     let Ok(()) = job.note(Move { key, from, to }) else {
         return Err(Stopped::Memory(0));
@@ -105,21 +135,40 @@ fn copy_entry<D: LogDisk>(
 }
 
 /// Whether these bytes are a payload of the entry's key and size, as they are beside an honest disk.
-fn is_entry(payload: &[u8], found: &Found) -> bool {
-    let size = payload.len() as u64;
-    size + 4 == u64::from(found.size) && size <= i32::MAX as u64 && key_of(payload) == Ok(found.key)
+fn is_entry(payload: &[u8], found: &Found) -> bool
+    requires { 20 ≤ found.now.size }
+    ensures entry { IsTrue result → IsEntry payload.now found.now }
+    ensures honest { IsEntry payload.now found.now → IsTrue result }
+{
+    if payload.len() as u64 != u64::from(found.size - 4) || payload.len() > i32::MAX as usize {
+        return false;
+    }
+    match key_of(payload) {
+        Ok(key) => key == found.key,
+        Err(_) => false,
+    }
 }
 
 /// Where the next payload that is put in the copy will stand.
-fn next_place<D: LogDisk>(store: &Store<D>, job: &Job) -> Location {
-    let Some(writer) = store.writer(job.copy()) else {
+fn place_in<D: LogDisk>(store: &Store<D>, copy: u32) -> Location
+    requires copying { IsIn store.now copy CopyingState }
+    requires room { (w : Writing) → writer_of store.now.logs copy ≡ Some w → w.end + 4 < 2 ^ 32 }
+    ensures { (w : Writing) × (writer_of store.now.logs copy ≡ Some w) × (result ≡ next_place w) }
+{
+    store.promise();
+    let Some(writer) = store.writer(copy) else {
         unreachable!();
     };
-    Location::pack(job.copy(), (writer.length() + 4) as u32).unwrap()
+    Location::pack(copy, (writer.length() + 4) as u32).unwrap()
 }
 
 /// The disk is odd, so the copy is read as it is.
-fn odd<D: LogDisk>(store: &mut Store<D>, job: &Job) -> Stopped {
+fn odd<D: LogDisk>(store: &mut Store<D>, job: &Job) -> Stopped
+    requires { IsCopying store.old job.now }
+    ensures value { result ≡ Stopped.Odd }
+    ensures turn { SetTurn store.old job.now.copy ReadableState store.new }
+    ensures stays { Stays store.old store.new }
+{
     store.set_log_state(job.copy(), LogState::Readable);
     Stopped::Odd
 }
