@@ -101,6 +101,10 @@ least_is : (s : State) (threshold : ℕ) (chosen : Option ℕ) (allowed : List �
 least_is s threshold None allowed is = is
 least_is s threshold (Some id) allowed is = is
 
+pub candidate_held : (s : State) (best : Option ℕ) → IfSome best (IsCandidate s) → IfSome best (λ id. IsSome (finite.get s.logs id))
+candidate_held s None is = tt
+candidate_held s (Some id) is = ap is_some is.state.held
+
 module _ (s : State) (threshold : ℕ) where
   pub choosing_starts : IsChoosing s threshold 0 None
   choosing_starts = record {
@@ -120,12 +124,9 @@ module _ (s : State) (threshold : ℕ) where
     so_far.choice honest,
   )
 
-  candidate_chosen : (from : ℕ) (best : Option ℕ) → IsChoosing s threshold from best → IfSome best (IsCandidate s)
-  candidate_chosen from None so_far = tt
-  candidate_chosen from (Some id) so_far = so_far.candidate.0
-
   pub chosen_candidate : (from : ℕ) (best : Option ℕ) → IsChoosing s threshold from best → IfSome best (IsCandidate s)
-  chosen_candidate = candidate_chosen
+  chosen_candidate from None so_far = tt
+  chosen_candidate from (Some id) so_far = so_far.candidate.0
 
   module _ (from log : ℕ) (next : IsNextHeld s.logs from (Some log)) where
     -- a log behind those that were looked at, and no further, is the next one

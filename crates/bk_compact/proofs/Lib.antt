@@ -3,4 +3,5 @@ mod Stored
 mod Copied
 mod Ended
 mod Chosen
-mod Chosen
+mod Begun
+mod Finished

@@ -46,6 +46,10 @@ module _ (s : State) (kept : IsKept s) where
   pub kept_ids : s.next ≤ 2 ^ 31
   kept_ids = subst (λ (t : State). t.next ≤ 2 ^ 31) kept.seen kept.keeps.fits.ids
 
+  pub kept_headed : (id : ℕ) (log : Log) → finite.get s.logs id ≡ Some log → header_length ≤ log.acknowledged
+  kept_headed = subst (λ (t : State). (id : ℕ) (log : Log) → finite.get t.logs id ≡ Some log → header_length ≤ log.acknowledged) kept.seen
+      (λ id log held. let least = kept.keeps.fits.total id log held in omega (arith, least))
+
   pub kept_backed : IsTrue s.honest → (id : ℕ) (log : Log) → finite.get s.logs id ≡ Some log → IsBacked s.files id log
   kept_backed = subst (λ (t : State). IsTrue t.honest → (id : ℕ) (log : Log) → finite.get t.logs id ≡ Some log → IsBacked t.files id log) kept.seen
       (λ honest. (kept.keeps.promises honest).backed)

@@ -48,6 +48,7 @@ pub record IsCopying (s : State) (job : Job) : Type 0 where
 pub record ScansFrom (bytes : List ℕ) (honest sound : Bool) (at : ℕ) (scan : Scan) : Type 0 where
   pub end : ℕ
   pub later : at ≤ end
+  pub fits : end < 2 ^ 64
   pub whole : IsTrue honest → end ≡ view_end bytes
   pub is : scan ≡ new_scan bytes honest sound at end
 
@@ -85,6 +86,20 @@ pub record IsEntry (payload : List ℕ) (found : Found) : Type 0 where
   pub legal : IsPayload payload
   pub sized : found.size ≡ 4 + length payload
   pub keyed : key_of payload ≡ Some found.key
+
+-- a put that was refused
+abbrev pub told_put : LogFault → Stopped
+told_put log_faults.Memory = stops.Memory 0
+told_put log_faults.Disk = stops.Failed
+told_put log_faults.Failed = stops.Odd
+told_put log_faults.Odd = stops.Odd
+
+-- when so many entries were copied before
+abbrev pub told_after : ℕ → Stopped → Stopped
+told_after copied (stops.Memory done) = stops.Memory copied
+told_after copied stops.Unread = stops.Unread
+told_after copied stops.Failed = stops.Failed
+told_after copied stops.Odd = stops.Odd
 
 -- an entry was not copied, for this reason
 abbrev pub StopsAt : State → Job → Found → Stopped → State → Job → Type 0

@@ -72,6 +72,7 @@ fn chosen<D: LogDisk>(store: &Store<D>, threshold: u32) -> Option<u32>
 
 /// The better one of the best log so far and the next one that is held.
 fn best_of<D: LogDisk>(store: &Store<D>, threshold: u32, best: Option<u32>, log: u32) -> Option<u32>
+    requires { IfSome best (IsCandidate store.now) }
     ensures { (from : ℕ) → IsNextHeld store.now.logs from (Some log) → IsChoosing store.now threshold from best
         → IsChoosing store.now threshold (log + 1) result }
 {

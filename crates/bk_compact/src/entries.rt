@@ -8,7 +8,7 @@ ghost use Rattle.bk_store.specs.Putting.{next_place};
 ghost use Rattle.bk_store.specs.Logs.{last_view, view_of};
 ghost use Rattle.bk_store.specs.declared.log.LogState.TheVariants.{Copying as CopyingState, Readable as ReadableState};
 ghost use Rattle.bk_compact.specs.Compacting.{behind, place_of};
-ghost use Rattle.bk_compact.specs.Going.{CopiesAll, CopiesEntry, ExaminesOne, IsAhead, IsCopying, IsEntry, Stays};
+ghost use Rattle.bk_compact.specs.Going.{CopiesAll, CopiesEntry, ExaminesOne, IsAhead, IsCopying, IsEntry, Stays, told_after, told_put};
 
 use crate::scanning::scan_from;
 use bk_disk::LogDisk;
@@ -29,6 +29,20 @@ pub(crate) enum Stopped {
     Odd,
 }
 
+impl Stopped {
+    /// The same, when so many entries were copied before.
+    fn after(self, copied: u64) -> Stopped
+        ensures { result ≡ told_after copied self }
+    {
+        match self {
+            Stopped::Memory(_) => Stopped::Memory(copied),
+            Stopped::Unread => Stopped::Unread,
+            Stopped::Failed => Stopped::Failed,
+            Stopped::Odd => Stopped::Odd,
+        }
+    }
+}
+
 /// Examines so many entries of what a view of the source shows, from the job's position on, or those that are left, and
 /// answers how many were copied.
 pub(crate) fn copy_entries<D: LogDisk>(
@@ -46,18 +60,18 @@ pub(crate) fn copy_entries<D: LogDisk>(
         return Err(odd(store, job));
     };
     let mut copied = 0;
-    for _ in 0..count {
+    for _number in 0..count {
         match scanner.next() {
-            Ok(None) => break,
+            Ok(None) => return Ok(copied),
             Ok(Some(found)) => match examine(store, view, job, &found) {
                 Ok(true) => copied += 1,
                 Ok(false) => {}
-                Err(Stopped::Memory(_)) => return Err(Stopped::Memory(copied)),
-                Err(stopped) => return Err(stopped),
+                Err(stopped) => return Err(stopped.after(copied)),
             },
             Err(ScanFault::Memory) => return Err(Stopped::Memory(copied)),
             Err(ScanFault::Disk) => return Err(Stopped::Unread),
-            Err(ScanFault::BadLength { .. } | ScanFault::Odd) => return Err(odd(store, job)),
+            Err(ScanFault::BadLength { .. }) => return Err(odd(store, job)),
+            Err(ScanFault::Odd) => return Err(odd(store, job)),
         }
     }
     Ok(copied)
@@ -78,17 +92,30 @@ fn examine<D: LogDisk>(
     ensures stays { Stays store.old store.new }
 {
     store.promise();
+    // No log of an honest disk has more bytes than a location can say.
+    store.disk().bounds();
     let behind = found.at + u64::from(found.size - 4);
     if behind > u64::from(u32::MAX) {
         return Err(odd(store, job));
     }
     let from = Location::pack(job.source(), found.at as u32).unwrap();
-    let named = store.index().get(&found.key) == Some(from);
+    let named = is_sent(store, found.key, from);
     if named {
         copy_entry(store, view, job, found, from)?;
     }
     job.go_to(behind);
     Ok(named)
+}
+
+/// Whether the index sends the key to this place.
+fn is_sent<D: LogDisk>(store: &Store<D>, key: Key, place: Location) -> bool
+    ensures sent { IsTrue result → finite.get store.now.index key ≡ Some place }
+    ensures unsent { finite.get store.now.index key ≡ Some place → IsTrue result }
+{
+    match store.index().get(&key) {
+        Some(at) => at.log() == place.log() && at.at() == place.at(),
+        None => false,
+    }
 }
 
 /// Copies an entry of the source, and notes its move.
@@ -113,7 +140,8 @@ fn copy_entry<D: LogDisk>(
         Ok(payload) => payload,
         Err(FetchFault::Memory) => return Err(Stopped::Memory(0)),
         Err(FetchFault::Disk) => return Err(Stopped::Unread),
-        Err(FetchFault::NotThere | FetchFault::Odd) => return Err(odd(store, job)),
+        Err(FetchFault::NotThere) => return Err(odd(store, job)),
+        Err(FetchFault::Odd) => return Err(odd(store, job)),
     };
     if !is_entry(&payload, found) {
         return Err(odd(store, job));
@@ -127,11 +155,18 @@ fn copy_entry<D: LogDisk>(
         return Ok(());
     };
     job.take_back();
-    Err(match fault {
+    Err(put_fault(fault))
+}
+
+/// What a fault of the copy means: but for want of memory, it is Readable.
+fn put_fault(fault: LogFault) -> Stopped
+    ensures { result ≡ told_put fault }
+{
+    match fault {
         LogFault::Memory => Stopped::Memory(0),
         LogFault::Disk => Stopped::Failed,
         LogFault::Failed | LogFault::Odd => Stopped::Odd,
-    })
+    }
 }
 
 /// Whether these bytes are a payload of the entry's key and size, as they are beside an honest disk.
