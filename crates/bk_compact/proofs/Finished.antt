@@ -14,11 +14,23 @@ use Rattle.bk_store.specs.declared.job.Phase.TheVariants.{Copy, Switch}
 use Rattle.bk_store.specs.declared.log.LogState.{LogState}
 use Rattle.bk_store.specs.declared.log.LogState.TheVariants.{Copying, Readable}
 use Rattle.bk_compact.specs.Compacting.{IsRunning, IsSwitched, IsUndisturbed, with_job}
+use Rattle.bk_compact.specs.Going.{IsOut}
+use Rattle.bk_store.proofs.JobStays.{job_stays, stays_same}
 use Rattle.bk_compact.proofs.Ended.{source_unnamed}
 
 -- the job that a store has is kept
 pub kept_job : (s : State) → IsKept s → (job : Job) → s.job ≡ Some job → IsJob s job
 kept_job s kept = subst (λ (t : State). (job : Job) → t.job ≡ Some job → IsJob t job) kept.seen kept.keeps.job
+
+-- and so it is when it is taken out
+pub taken_out : (s t : State) → IsKept s → (job : Job) → s.job ≡ Some job → t ≡ with_job s None → IsOut t job
+taken_out s t kept job runs out = record {
+  none = ap (λ (x : State). x.job) out;
+  keeps = job_stays s t job
+      (stays_same s t job (ap (λ (x : State). x.honest) out) (ap (λ (x : State). x.logs) out) (ap (λ (x : State). x.index) out)
+      (λ _. ap (λ (x : State). x.files) out))
+      (kept_job s kept job runs);
+}
 
 -- the copy of a job that was taken out while entries are copied may become Readable
 pub may_abandon : (s t : State) → IsKept s → (job : Job) → IsRunning s Copy job → t ≡ with_job s None → (id : ℕ) → id ≡ job.copy → MaySet t id Readable

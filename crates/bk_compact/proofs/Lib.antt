@@ -5,3 +5,6 @@ mod Ended
 mod Chosen
 mod Begun
 mod Finished
+mod Stepping
+mod Switched
+mod Sealed

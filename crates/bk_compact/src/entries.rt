@@ -56,16 +56,21 @@ pub(crate) fn copy_entries<D: LogDisk>(
     ensures turn { CopiesAll store.old job.old count result store.new job.new }
     ensures stays { Stays store.old store.new }
 {
+    store.promise();
     let Some(mut scanner) = scan_from(view, store.alloc(), job.at()) else {
         return Err(odd(store, job));
     };
     let mut copied = 0;
     for _number in 0..count {
+        store.promise();
         match scanner.next() {
             Ok(None) => return Ok(copied),
             Ok(Some(found)) => match examine(store, view, job, &found) {
-                Ok(true) => copied += 1,
-                Ok(false) => {}
+                Ok(is_copied) => {
+                    if is_copied {
+                        copied += 1;
+                    }
+                }
                 Err(stopped) => return Err(stopped.after(copied)),
             },
             Err(ScanFault::Memory) => return Err(Stopped::Memory(copied)),
@@ -74,6 +79,7 @@ pub(crate) fn copy_entries<D: LogDisk>(
             Err(ScanFault::Odd) => return Err(odd(store, job)),
         }
     }
+    store.promise();
     Ok(copied)
 }
 
