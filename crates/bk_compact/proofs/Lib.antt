@@ -8,3 +8,5 @@ mod Finished
 mod Stepping
 mod Switched
 mod Sealed
+mod SourceEnds
+mod Turns

@@ -1,5 +1,5 @@
 -- Entries are examined one after another, as a scan of the source gives them.
-use Rattle.std.proofs.Common.{◌≡◌, ◌≢◌, ◌⊎◌, inl, inr, ℕ, zero, suc, ◌+◌, ◌-◌, ◌<◌, ◌≤◌, ◌^◌, Bool, true, false, cond, if◌then◌else◌, IsTrue, List, [], ◌∷◌, ◌++◌, length, take, drop, Option, Some, None, Result, Ok, Err, refl, sym, ap, subst, ◌∙◌, arith, length-append}
+use Rattle.std.proofs.Common.{◌≡◌, ◌≢◌, ◌⊎◌, inl, inr, ℕ, zero, suc, ◌+◌, ◌-◌, ◌<◌, ◌≤◌, ◌^◌, Bool, true, false, cond, if◌then◌else◌, IsTrue, List, [], ◌∷◌, ◌++◌, length, take, drop, slice_get, not, is_some, Option, Some, None, Result, Ok, Err, refl, sym, ap, subst, ◌∙◌, arith, length-append}
 use Rattle.std.specs.Option.{option_and_then}
 use Rattle.std.proofs.lemmas.List.{take_all}
 use Rattle.std.specs.FinMap as finite
@@ -25,8 +25,8 @@ use Rattle.bk_store.proofs.LogMaps.{log-insert_else}
 use Rattle.bk_store.proofs.JobStays.{job_stays, stays_same}
 use Rattle.bk_compact.specs.declared.entries.Stopped.{Stopped}
 use Rattle.bk_compact.specs.declared.entries.Stopped.TheVariants as stops
-use Rattle.bk_compact.specs.Compacting.{AreFound, Copies, Examines, ExaminesAll, HasUnsoundSource, IsFound, Steps, behind, entries_left, place_of, with_job}
-use Rattle.bk_compact.specs.Going.{CopiesAll, ExaminesOne, IsAhead, IsCopying, IsNextFound, IsOut, ScansFrom, Stays, StopsAt, told_after}
+use Rattle.bk_compact.specs.Compacting.{AreFound, Copies, Examines, ExaminesAll, HasUnsoundSource, IsFound, ReadFails, Steps, behind, entries_left, place_of, with_job}
+use Rattle.bk_compact.specs.Going.{CopiesAll, ExaminesOne, IsAhead, IsAtEnd, IsCopying, IsNextFound, IsOut, ScansFrom, Stays, StopsAt, told_after, told_read}
 use Rattle.bk_compact.proofs.Positions.{none_bad}
 use Rattle.bk_compact.proofs.Stored.{dishonest, scan_found, scan_come, scan_taken, shown_last, source_bytes, source_honest, source_spelled, source_unhonest}
 
@@ -39,7 +39,7 @@ found_push [] (f ∷ founds) entry found all is = absurd all
 found_push (e ∷ entries) [] entry found all is = absurd all
 found_push (e ∷ entries) (f ∷ founds) entry found all is = (all.0, found_push entries founds entry found all.1 is)
 
-abbrev one : Bool → ℕ
+abbrev pub one : Bool → ℕ
 one is_copied = if is_copied then 1 else 0
 
 pub examined_push : (s : State) (job : Job) (founds : List Found) (copied : ℕ) (mid : State) (next : Job) (found : Found) (is_copied : Bool) (t : State) (after : Job)
@@ -426,3 +426,85 @@ module _ (view : View) (s : State) (kept : IsKept s) (job : Job) (is : IsCopying
       ),
     ),
   )
+
+-- ---- whether an entry is left
+
+module _ (view : View) (s : State) (kept : IsKept s) (job : Job) (is : IsJob s job) (last : last_view s.logs job.source ≡ Some view)
+    (scan : Scan) (begins : ScansFrom view.bytes view.is_honest view.is_sound job.at scan) where
+  first_truth : IsTrue s.honest → IsTrue scan.honest
+  first_truth honest = ap (λ (x : Scan). x.honest) begins.is ∙ source_honest s kept job is view last honest
+
+  first_file : scan.file ≡ view.bytes
+  first_file = ap (λ (x : Scan). x.file) begins.is
+
+  first_ends : IsTrue s.honest → scan.end ≡ view_end scan.file
+  first_ends honest = ap (λ (x : Scan). x.end) begins.is ∙ begins.whole (source_honest s kept job is view last honest) ∙ ap view_end (sym first_file)
+
+  first_list : entries_from scan.file scan.from ≡ entries_left s job
+  first_list = ap (λ (b : List ℕ). entries_from b scan.from) (first_file ∙ sym (source_bytes s kept job is view last))
+      ∙ ap (entries_from (open_parts s.logs job.source)) (ap (λ (x : Scan). x.from) begins.is)
+
+  part_list : IsTrue s.honest → entries_in scan.from (part_of scan) ≡ entries_left s job
+  part_list honest = ap (λ k. entries_in scan.from (part scan.file scan.from k)) (first_ends honest) ∙ first_list
+
+  none_given : scan.given ≡ 0
+  none_given = ap (λ (x : Scan). x.given) begins.is
+
+  pub at_end_none : (scan' : Scan) → NextMoves scan (Ok None) scan' → (IsTrue scan.honest → NextTurn scan (Ok None) scan') → IsAtEnd s job true
+  at_end_none scan' moves turn = λ honest.
+      let is' = turn (first_truth honest) in
+      let shape = moves.1 in
+      let list : entries_in scan'.from (part_of scan') ≡ entries_left s job =
+      (λ i. entries_in (ap (λ (x : Scan). x.from) shape i)
+      (part (ap (λ (x : Scan). x.file) shape i) (ap (λ (x : Scan). x.from) shape i) (ap (λ (x : Scan). x.end) shape i)))
+      ∙ part_list honest in
+      let count : 0 ≡ length (entries_left s job) = sym none_given ∙ sym (ap (λ (x : Scan). x.given) shape) ∙ is'.given ∙ ap length list in
+      empty (entries_left s job) (omega (arith, count))
+    where
+      empty : (l : List (ℕ × List ℕ)) → length l ≤ 0 → l ≡ []
+      empty [] few = refl
+      empty (x ∷ l) few = absurd (omega arith)
+
+  pub at_end_some : (found : Found) (scan' : Scan) → (IsTrue scan.honest → NextTurn scan (Ok (Some found)) scan') → IsAtEnd s job false
+  at_end_some found scan' turn = λ honest none.
+      let is' = turn (first_truth honest) in
+      let listed : slice_get (entries_left s job) 0 ≡ Some (found.at, is'.payload) =
+      ap (λ (l : List (ℕ × List ℕ)). slice_get l 0) (sym (part_list honest)) ∙ ap (slice_get (entries_in scan.from (part_of scan))) (sym none_given) ∙ is'.listed in
+      not_there (entries_left s job) (found.at, is'.payload) none listed
+    where
+      not_there : (l : List (ℕ × List ℕ)) (e : ℕ × List ℕ) → l ≡ [] → slice_get l 0 ≡ Some e → ⊥
+      not_there [] e none wrong = cc
+      not_there (x ∷ l) e none wrong = cc
+
+  pub at_end : (o : Option Found) (answer : Bool) → is_some o ≡ not answer → (scan' : Scan) → NextMoves scan (Ok o) scan'
+      → (IsTrue scan.honest → NextTurn scan (Ok o) scan') → IsAtEnd s job answer
+  at_end None true told scan' moves turn = at_end_none scan' moves turn
+  at_end None false told scan' moves turn = cc
+  at_end (Some found) true told scan' moves turn = cc
+  at_end (Some found) false told scan' moves turn = at_end_some found scan' turn
+
+  pub read_fails : (fault : ScanFault) (scan' : Scan) → NextMoves scan (Err fault) scan' → (IsTrue scan.honest → NextTurn scan (Err fault) scan')
+      → (fault ≡ scans.Disk → scan.sound ≡ false) → ReadFails s job (told_read fault)
+  read_fails scans.Disk scan' moves turn cause = (view, last, sym (ap (λ (x : Scan). x.sound) begins.is) ∙ cause refl)
+  read_fails scans.Memory scan' moves turn cause = refl
+  read_fails scans.Odd scan' moves turn cause = dishonest s.honest (λ honest. turn (first_truth honest))
+  read_fails (scans.BadLength at value) scan' moves turn cause = dishonest s.honest (λ honest.
+      let bad = (turn (first_truth honest)).1 in
+      let list : part_of scan' ≡ part scan.file scan.from (view_end scan.file) =
+      (λ i. part (ap (λ (x : Scan). x.file) moves i) (ap (λ (x : Scan). x.from) moves i) (ap (λ (x : Scan). x.end) moves i))
+      ∙ ap (part scan.file scan.from) (first_ends honest) in
+      let spelled = source_spelled s kept job is view last honest in
+      let bytes : open_parts s.logs job.source ≡ scan.file = source_bytes s kept job is view last ∙ sym first_file in
+      let read = subst (λ (b : List ℕ). IsReadTo b scan.from) bytes
+      (subst (IsReadTo (open_parts s.logs job.source)) (sym (ap (λ (x : Scan). x.from) begins.is)) (is.honest honest).read) in
+      none_bad scan.file scan.from read (subst HasNoBadLength (sym first_file) spelled) at value
+      (subst (λ (b : List ℕ). IsBadAt scan.from b at value) list
+      (subst (λ n. IsBadAt n (part_of scan') at value) (ap (λ (x : Scan). x.from) moves) bad)))
+
+-- a view that ends before the job's position is of no honest disk
+pub ends_before : (view : View) (s : State) → IsKept s → (job : Job) → IsJob s job → last_view s.logs job.source ≡ Some view
+    → (IsTrue view.is_honest → view_end view.bytes < job.at) → s.honest ≡ false
+ends_before view s kept job is last before = dishonest s.honest (λ honest.
+    let within : job.at ≤ view_end view.bytes =
+    subst (λ (b : List ℕ). job.at ≤ view_end b) (source_bytes s kept job is view last) (is.honest honest).read.within in
+    omega (arith, within, before (source_honest s kept job is view last honest)))

@@ -50,6 +50,9 @@ module _ (s : State) (kept : IsKept s) where
   kept_headed = subst (λ (t : State). (id : ℕ) (log : Log) → finite.get t.logs id ≡ Some log → header_length ≤ log.acknowledged) kept.seen
       (λ id log held. let least = kept.keeps.fits.total id log held in omega (arith, least))
 
+  pub kept_job : (job : Job) → s.job ≡ Some job → IsJob s job
+  kept_job = subst (λ (t : State). (job : Job) → t.job ≡ Some job → IsJob t job) kept.seen kept.keeps.job
+
   pub kept_backed : IsTrue s.honest → (id : ℕ) (log : Log) → finite.get s.logs id ≡ Some log → IsBacked s.files id log
   kept_backed = subst (λ (t : State). IsTrue t.honest → (id : ℕ) (log : Log) → finite.get t.logs id ≡ Some log → IsBacked t.files id log) kept.seen
       (λ honest. (kept.keeps.promises honest).backed)

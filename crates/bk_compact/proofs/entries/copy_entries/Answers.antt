@@ -10,8 +10,9 @@ use Rattle.bk_compact.specs.declared.entries.Stopped.TheVariants as stops
 use Rattle.bk_disk.specs.Disk.{view_end}
 use Rattle.bk_compact.specs.Compacting.{with_job}
 use Rattle.bk_compact.specs.Going.{CopiesAll, ExaminesOne, ScansFrom, told_after}
-use Rattle.bk_compact.proofs.Stepping.{IsGoing, copied_few, going_starts, going_ahead, going_on, going_stops, going_done, going_ends, going_memory, going_unread, going_odd, never_bad, never_odd, short_odd, stays_on}
+use Rattle.bk_compact.proofs.Stepping.{IsGoing, copied_few, going_starts, going_ahead, going_on, going_stops, going_done, going_ends, going_memory, going_unread, going_odd, never_bad, never_odd, one, short_odd, stays_on}
 use Rattle.bk_compact.proofs.entries.copy_entries.Goals as goal
+use Rattle.bk_compact.proofs.entries.copy_entries.Goals.{then-is_copied, else-is_copied}
 
 pub returns-in_default-clause-turn : goal.returns-in_default-clause-turn
 returns-in_default-clause-turn g c =
@@ -35,7 +36,14 @@ loop-number-preserved g c =
     let turn = subst (λ (o : Option Found). IsTrue c.loop-number.scanner.honest → NextTurn c.loop-number.scanner (Ok o) c.next.new.self) is c.in-Ok-Some.ensures.turn in
     let on = going_on view c.args.store.now c.args.job.now c.loop-number._number c.loop-number.scanner c.loop-number.copied c.loop-number.store c.promise-in-loop-number.ensures c.loop-number.job c.loop-number.invariant
     c.in-Ok-Some.found c.next.new.self moves turn c.in-Ok.is_copied c.examine.new.store c.examine.new.job c.in-Ok.ensures.turn c.examine.ensures.stays in
-    ?
+    let count : c.if-is_copied.copied ≡ c.loop-number.copied + one c.in-Ok.is_copied = elim c.if-is_copied.branch [
+      | then-is_copied w ↦ w.copied-is ∙ ap (λ (b : Bool). c.loop-number.copied + one b) (sym w.if-is_copied.true)
+      | else-is_copied w ↦ w.copied-is ∙ none c.loop-number.copied ∙ ap (λ (b : Bool). c.loop-number.copied + one b) (sym w.if-is_copied.false)
+    ] in
+    subst (λ (n : ℕ). IsGoing view c.args.store.now c.args.job.now (c.loop-number._number + 1) c.next.new.self n c.examine.new.store c.examine.new.job) (sym count) on
+  where
+    none : (n : ℕ) → n ≡ n + 0
+    none n = omega arith
 
 pub returns-in-Ok-None-clause-turn : goal.returns-in-Ok-None-clause-turn
 returns-in-Ok-None-clause-turn g c =
