@@ -1,0 +1,12 @@
+mod Positions
+mod Stored
+mod Copied
+mod Ended
+mod Chosen
+mod Begun
+mod Finished
+mod Stepping
+mod Switched
+mod Sealed
+mod SourceEnds
+mod Turns

@@ -1,8 +1,11 @@
 //! The begin of a compaction: a log is chosen, and the log that its entries are copied to is made.
 
-ghost use Rattle.std.specs.Prelude.{◌≡◌, IsTrue, IfSome};
+ghost use Rattle.std.specs.Prelude.{◌≡◌, ◌↔◌, ◌+◌, ℕ, Some, IsTrue, IfSome, IsSome};
+ghost use Rattle.std.specs.FinMap as finite;
+ghost use Rattle.bk_store.specs.Logs.{IsNextHeld};
 ghost use Rattle.bk_store.specs.Meaning.{MeansTheSame};
 ghost use Rattle.bk_compact.specs.Compacting.{BeginTurn, Chooses, IsCandidate, IsCaused, threshold_of};
+ghost use Rattle.bk_compact.specs.Going.{IsBetter, IsChoosing};
 
 use crate::faults::making_fault;
 use crate::{BeginAnswer, CompactFault, Kind};
@@ -61,12 +64,23 @@ fn chosen<D: LogDisk>(store: &Store<D>, threshold: u32) -> Option<u32>
     let mut best = None;
     let mut from = 0;
     while let Some(log) = store.log_from(from) {
-        if is_candidate(store, log) && is_better(store, threshold, best, log) {
-            best = Some(log);
-        }
+        best = best_of(store, threshold, best, log);
         from = log + 1;
     }
     best
+}
+
+/// The better one of the best log so far and the next one that is held.
+fn best_of<D: LogDisk>(store: &Store<D>, threshold: u32, best: Option<u32>, log: u32) -> Option<u32>
+    requires { IfSome best (IsCandidate store.now) }
+    ensures { (from : ℕ) → IsNextHeld store.now.logs from (Some log) → IsChoosing store.now threshold from best
+        → IsChoosing store.now threshold (log + 1) result }
+{
+    if is_candidate(store, log) && is_better(store, threshold, best, log) {
+        Some(log)
+    } else {
+        best
+    }
 }
 
 /// Whether the log may be compacted: it is Readable, and the index sends a key to it.
@@ -80,7 +94,11 @@ fn is_candidate<D: LogDisk>(store: &Store<D>, log: u32) -> bool
 }
 
 /// Whether the log is to be chosen rather than the best one so far.
-fn is_better<D: LogDisk>(store: &Store<D>, threshold: u32, best: Option<u32>, log: u32) -> bool {
+fn is_better<D: LogDisk>(store: &Store<D>, threshold: u32, best: Option<u32>, log: u32) -> bool
+    requires held { IsSome (finite.get store.now.logs log) }
+    requires best { IfSome best (λ id. IsSome (finite.get store.now.logs id)) }
+    ensures { IsTrue store.now.honest → IsBetter store.now threshold best log result }
+{
     let first = match best {
         None => store.least_used(threshold, &[log]),
         Some(best) => store.least_used(threshold, &[best, log]),

@@ -3,15 +3,19 @@
 //! The job is out of the store while this goes on. It is given back unless the device failed while an entry was put in the
 //! copy, or the disk is odd: then the compaction is over, and the copy is read as it is.
 
-ghost use Rattle.std.specs.Prelude.{◌≡◌, IsTrue, IsErrOf};
+ghost use Rattle.std.specs.Prelude.{◌≡◌, false, IsTrue};
+ghost use Rattle.bk_store.specs.Jobs.{Job as JobState};
 ghost use Rattle.bk_store.specs.Meaning.{MeansTheSame};
-ghost use Rattle.bk_compact.specs.Compacting.{AreSound, CopyTurn, IsCaused, TellsFailures};
+ghost use Rattle.bk_store.specs.declared.job.Phase.TheVariants.{Copy as CopyPhase};
+ghost use Rattle.bk_compact.specs.Compacting.{AreSound, CopyTurn, IsCaused, IsRunning, TellsFailures};
+ghost use Rattle.bk_compact.specs.Going.{IsAtEnd, Stays};
 
 use crate::entries::{Stopped, copy_entries};
+use crate::finishing::abandon;
 use crate::scanning::is_at_end;
 use crate::{CompactFault, CopyAnswer};
 use bk_disk::LogDisk;
-use bk_store::{LogState, Phase, Store};
+use bk_store::{Phase, Store};
 
 /// Examines the next `count` entries of what the source shows, or those that are left, and copies each that the index sends
 /// its key to; the answer tells how many were copied. Foreign records are passed over.
@@ -38,13 +42,22 @@ pub fn copy<D: LogDisk>(store: &mut Store<D>, count: u64) -> Result<CopyAnswer, 
     match is_at_end(store, job) {
         Ok(true) => Ok(CopyAnswer::AtEnd),
         Ok(false) => go_on(store, count),
-        Err(CompactFault::Odd) => Err(stop(store)),
+        Err(CompactFault::Odd) => {
+            abandon(store);
+            Err(CompactFault::Odd)
+        }
         Err(fault) => Err(fault),
     }
 }
 
 /// Takes the job out, copies, and gives the job back where it goes on.
-fn go_on<D: LogDisk>(store: &mut Store<D>, count: u64) -> Result<CopyAnswer, CompactFault> {
+fn go_on<D: LogDisk>(store: &mut Store<D>, count: u64) -> Result<CopyAnswer, CompactFault>
+    requires { (job : JobState) × IsRunning store.old CopyPhase job × IsAtEnd store.old job false }
+    ensures turn { CopyTurn store.old count result store.new }
+    ensures sound { AreSound D.View.sound → IsCaused store.old result store.new }
+    ensures stays { Stays store.old store.new }
+{
+    store.promise();
     let Some(job) = store.job() else {
         unreachable!();
     };
@@ -73,13 +86,4 @@ fn go_on<D: LogDisk>(store: &mut Store<D>, count: u64) -> Result<CopyAnswer, Com
         Err(Stopped::Failed) => Err(CompactFault::Disk),
         Err(Stopped::Odd) => Err(CompactFault::Odd),
     }
-}
-
-/// The compaction is over, since the disk is odd; the copy is read as it is.
-fn stop<D: LogDisk>(store: &mut Store<D>) -> CompactFault {
-    let Some(job) = store.take_job() else {
-        unreachable!();
-    };
-    store.set_log_state(job.copy(), LogState::Readable);
-    CompactFault::Odd
 }

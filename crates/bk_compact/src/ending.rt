@@ -1,10 +1,14 @@
 //! The end of copying: the copy is sealed and shown, so that keys may be sent to it.
 
-ghost use Rattle.std.specs.Prelude.{◌≡◌, IsTrue};
+ghost use Rattle.std.specs.Prelude.{◌≡◌, true, IsTrue};
+ghost use Rattle.bk_store.specs.Jobs.{Job as JobState};
 ghost use Rattle.bk_store.specs.Meaning.{MeansTheSame};
-ghost use Rattle.bk_compact.specs.Compacting.{AreSound, EndTurn, IsCaused, TellsFailures};
+ghost use Rattle.bk_store.specs.declared.job.Phase.TheVariants.{Copy as CopyPhase};
+ghost use Rattle.bk_compact.specs.Compacting.{AreSound, EndTurn, IsCaused, IsRunning, TellsFailures};
+ghost use Rattle.bk_compact.specs.Going.{IsAtEnd, Stays};
 
 use crate::faults::fault_of_log;
+use crate::finishing::abandon;
 use crate::scanning::is_at_end;
 use crate::{CompactFault, EndAnswer};
 use bk_disk::LogDisk;
@@ -35,17 +39,20 @@ pub fn end_copy<D: LogDisk>(store: &mut Store<D>) -> Result<EndAnswer, CompactFa
         Ok(false) => Ok(EndAnswer::NotAtEnd),
         Ok(true) => seal_copy(store),
         Err(fault) => {
-            let Some(job) = store.take_job() else {
-                unreachable!();
-            };
-            store.set_log_state(job.copy(), LogState::Readable);
+            abandon(store);
             Err(fault)
         }
     }
 }
 
 /// Seals and shows the copy, all entries being examined.
-fn seal_copy<D: LogDisk>(store: &mut Store<D>) -> Result<EndAnswer, CompactFault> {
+fn seal_copy<D: LogDisk>(store: &mut Store<D>) -> Result<EndAnswer, CompactFault>
+    requires { (job : JobState) × IsRunning store.old CopyPhase job × IsAtEnd store.old job true }
+    ensures turn { EndTurn store.old result store.new }
+    ensures cause { IsCaused store.old result store.new }
+    ensures stays { Stays store.old store.new }
+{
+    store.promise();
     let Some(mut job) = store.take_job() else {
         unreachable!();
     };

@@ -1,6 +1,14 @@
 //! The entries of a source are examined one by one, and copied.
 
-ghost use Rattle.std.specs.Prelude.{◌≡◌, IsTrue};
+ghost use Rattle.std.specs.Prelude.{◌≡◌, ◌+◌, ◌<◌, ◌≤◌, ◌^◌, IsTrue, Ok, Some, length};
+ghost use Rattle.std.specs.FinMap as finite;
+ghost use Rattle.bk_log.specs.Writing.{Writing};
+ghost use Rattle.bk_store.specs.Doors.{IsIn, SetTurn, writer_of};
+ghost use Rattle.bk_store.specs.Putting.{next_place};
+ghost use Rattle.bk_store.specs.Logs.{last_view, view_of};
+ghost use Rattle.bk_store.specs.declared.log.LogState.TheVariants.{Copying as CopyingState, Readable as ReadableState};
+ghost use Rattle.bk_compact.specs.Compacting.{behind, place_of};
+ghost use Rattle.bk_compact.specs.Going.{CopiesAll, CopiesEntry, ExaminesOne, IsAhead, IsCopying, IsEntry, Stays, told_after, told_put};
 
 use crate::scanning::scan_from;
 use bk_disk::LogDisk;
@@ -21,6 +29,20 @@ pub(crate) enum Stopped {
     Odd,
 }
 
+impl Stopped {
+    /// The same, when so many entries were copied before.
+    fn after(self, copied: u64) -> Stopped
+        ensures { result ≡ told_after copied self }
+    {
+        match self {
+            Stopped::Memory(_) => Stopped::Memory(copied),
+            Stopped::Unread => Stopped::Unread,
+            Stopped::Failed => Stopped::Failed,
+            Stopped::Odd => Stopped::Odd,
+        }
+    }
+}
+
 /// Examines so many entries of what a view of the source shows, from the job's position on, or those that are left, and
 /// answers how many were copied.
 pub(crate) fn copy_entries<D: LogDisk>(
@@ -28,25 +50,36 @@ pub(crate) fn copy_entries<D: LogDisk>(
     view: &D::View,
     job: &mut Job,
     count: u64,
-) -> Result<u64, Stopped> {
+) -> Result<u64, Stopped>
+    requires copying { IsCopying store.old job.old }
+    requires view { last_view store.old.logs job.old.source ≡ Some (view_of D.View.bytes D.View.honest D.View.sound view.now) }
+    ensures turn { CopiesAll store.old job.old count result store.new job.new }
+    ensures stays { Stays store.old store.new }
+{
+    store.promise();
     let Some(mut scanner) = scan_from(view, store.alloc(), job.at()) else {
         return Err(odd(store, job));
     };
     let mut copied = 0;
-    for _ in 0..count {
+    for _number in 0..count {
+        store.promise();
         match scanner.next() {
-            Ok(None) => break,
+            Ok(None) => return Ok(copied),
             Ok(Some(found)) => match examine(store, view, job, &found) {
-                Ok(true) => copied += 1,
-                Ok(false) => {}
-                Err(Stopped::Memory(_)) => return Err(Stopped::Memory(copied)),
-                Err(stopped) => return Err(stopped),
+                Ok(is_copied) => {
+                    if is_copied {
+                        copied += 1;
+                    }
+                }
+                Err(stopped) => return Err(stopped.after(copied)),
             },
             Err(ScanFault::Memory) => return Err(Stopped::Memory(copied)),
             Err(ScanFault::Disk) => return Err(Stopped::Unread),
-            Err(ScanFault::BadLength { .. } | ScanFault::Odd) => return Err(odd(store, job)),
+            Err(ScanFault::BadLength { .. }) => return Err(odd(store, job)),
+            Err(ScanFault::Odd) => return Err(odd(store, job)),
         }
     }
+    store.promise();
     Ok(copied)
 }
 
@@ -57,18 +90,38 @@ fn examine<D: LogDisk>(
     view: &D::View,
     job: &mut Job,
     found: &Found,
-) -> Result<bool, Stopped> {
+) -> Result<bool, Stopped>
+    requires copying { IsCopying store.old job.old }
+    requires view { last_view store.old.logs job.old.source ≡ Some (view_of D.View.bytes D.View.honest D.View.sound view.now) }
+    requires ahead { IsAhead store.old job.old found.now }
+    ensures turn { ExaminesOne store.old job.old found.now result store.new job.new }
+    ensures stays { Stays store.old store.new }
+{
+    store.promise();
+    // No log of an honest disk has more bytes than a location can say.
+    store.disk().bounds();
     let behind = found.at + u64::from(found.size - 4);
     if behind > u64::from(u32::MAX) {
         return Err(odd(store, job));
     }
     let from = Location::pack(job.source(), found.at as u32).unwrap();
-    let named = store.index().get(&found.key) == Some(from);
+    let named = is_sent(store, found.key, from);
     if named {
         copy_entry(store, view, job, found, from)?;
     }
     job.go_to(behind);
     Ok(named)
+}
+
+/// Whether the index sends the key to this place.
+fn is_sent<D: LogDisk>(store: &Store<D>, key: Key, place: Location) -> bool
+    ensures sent { IsTrue result → finite.get store.now.index key ≡ Some place }
+    ensures unsent { finite.get store.now.index key ≡ Some place → IsTrue result }
+{
+    match store.index().get(&key) {
+        Some(at) => at.log() == place.log() && at.at() == place.at(),
+        None => false,
+    }
 }
 
 /// Copies an entry of the source, and notes its move.
@@ -78,17 +131,28 @@ fn copy_entry<D: LogDisk>(
     job: &mut Job,
     found: &Found,
     from: Location,
-) -> Result<(), Stopped> {
+) -> Result<(), Stopped>
+    requires copying { IsCopying store.old job.old }
+    requires view { last_view store.old.logs job.old.source ≡ Some (view_of D.View.bytes D.View.honest D.View.sound view.now) }
+    requires ahead { IsAhead store.old job.old found.now }
+    requires near { behind found.now < 2 ^ 32 }
+    requires place { from ≡ place_of job.old found.now }
+    requires sent { finite.get store.old.index found.now.key ≡ Some from }
+    ensures turn { CopiesEntry store.old job.old found.now result store.new job.new }
+    ensures stays { Stays store.old store.new }
+{
+    store.promise();
     let payload = match fetch(view, store.alloc(), from, found.key) {
         Ok(payload) => payload,
         Err(FetchFault::Memory) => return Err(Stopped::Memory(0)),
         Err(FetchFault::Disk) => return Err(Stopped::Unread),
-        Err(FetchFault::NotThere | FetchFault::Odd) => return Err(odd(store, job)),
+        Err(FetchFault::NotThere) => return Err(odd(store, job)),
+        Err(FetchFault::Odd) => return Err(odd(store, job)),
     };
     if !is_entry(&payload, found) {
         return Err(odd(store, job));
     }
-    let to = next_place(store, job);
+    let to = place_in(store, job.copy());
     let key = found.key;
     let Ok(()) = job.note(Move { key, from, to }) else {
         return Err(Stopped::Memory(0));
@@ -97,29 +161,55 @@ fn copy_entry<D: LogDisk>(
         return Ok(());
     };
     job.take_back();
-    Err(match fault {
+    Err(put_fault(fault))
+}
+
+/// What a fault of the copy means: but for want of memory, it is Readable.
+fn put_fault(fault: LogFault) -> Stopped
+    ensures { result ≡ told_put fault }
+{
+    match fault {
         LogFault::Memory => Stopped::Memory(0),
         LogFault::Disk => Stopped::Failed,
         LogFault::Failed | LogFault::Odd => Stopped::Odd,
-    })
+    }
 }
 
 /// Whether these bytes are a payload of the entry's key and size, as they are beside an honest disk.
-fn is_entry(payload: &[u8], found: &Found) -> bool {
-    let size = payload.len() as u64;
-    size + 4 == u64::from(found.size) && size <= i32::MAX as u64 && key_of(payload) == Ok(found.key)
+fn is_entry(payload: &[u8], found: &Found) -> bool
+    requires { 20 ≤ found.now.size }
+    ensures entry { IsTrue result → IsEntry payload.now found.now }
+    ensures honest { IsEntry payload.now found.now → IsTrue result }
+{
+    if payload.len() as u64 != u64::from(found.size - 4) || payload.len() > i32::MAX as usize {
+        return false;
+    }
+    match key_of(payload) {
+        Ok(key) => key == found.key,
+        Err(_) => false,
+    }
 }
 
 /// Where the next payload that is put in the copy will stand.
-fn next_place<D: LogDisk>(store: &Store<D>, job: &Job) -> Location {
-    let Some(writer) = store.writer(job.copy()) else {
+fn place_in<D: LogDisk>(store: &Store<D>, copy: u32) -> Location
+    requires copying { IsIn store.now copy CopyingState }
+    requires room { (w : Writing) → writer_of store.now.logs copy ≡ Some w → w.end + 4 < 2 ^ 32 }
+    ensures { (w : Writing) × (writer_of store.now.logs copy ≡ Some w) × (result ≡ next_place w) }
+{
+    store.promise();
+    let Some(writer) = store.writer(copy) else {
         unreachable!();
     };
-    Location::pack(job.copy(), (writer.length() + 4) as u32).unwrap()
+    Location::pack(copy, (writer.length() + 4) as u32).unwrap()
 }
 
 /// The disk is odd, so the copy is read as it is.
-fn odd<D: LogDisk>(store: &mut Store<D>, job: &Job) -> Stopped {
+fn odd<D: LogDisk>(store: &mut Store<D>, job: &Job) -> Stopped
+    requires { IsCopying store.old job.now }
+    ensures value { result ≡ Stopped.Odd }
+    ensures turn { SetTurn store.old job.now.copy ReadableState store.new }
+    ensures stays { Stays store.old store.new }
+{
     store.set_log_state(job.copy(), LogState::Readable);
     Stopped::Odd
 }

@@ -1,10 +1,13 @@
 //! A compaction ends: its source is retired where no key names it any more, or the compaction is given up.
 
-ghost use Rattle.std.specs.Prelude.{◌≡◌, IsTrue, []};
-ghost use Rattle.bk_store.specs.Jobs.{Job};
+ghost use Rattle.std.specs.Prelude.{◌≡◌, ℕ, None, IsTrue};
+ghost use Rattle.bk_store.specs.Doors.{SetTurn};
+ghost use Rattle.bk_store.specs.Jobs.{Job as JobState};
 ghost use Rattle.bk_store.specs.Meaning.{MeansTheSame};
-ghost use Rattle.bk_store.specs.declared.job.Phase.TheVariants.{Switch};
-ghost use Rattle.bk_compact.specs.Compacting.{FinishTurn, GiveUpTurn, IsUndisturbed};
+ghost use Rattle.bk_store.specs.declared.job.Phase.TheVariants.{Copy as CopyPhase};
+ghost use Rattle.bk_store.specs.declared.log.LogState.TheVariants.{Readable as ReadableState};
+ghost use Rattle.bk_compact.specs.Compacting.{FinishTurn, GiveUpTurn, IsRunning, IsUndisturbed, with_job};
+ghost use Rattle.bk_compact.specs.Going.{Stays};
 
 use crate::{FinishAnswer, GiveUpAnswer};
 use bk_disk::LogDisk;
@@ -50,11 +53,27 @@ pub fn give_up<D: LogDisk>(store: &mut Store<D>) -> GiveUpAnswer
     ensures meaning { IsTrue store.old.honest → MeansTheSame store.old store.new }
 {
     store.promise();
-    let Some(job) = store.take_job() else {
+    let Some(job) = store.job() else {
         return GiveUpAnswer::NoJob;
     };
-    if matches!(job.phase(), Phase::Copy) {
-        store.set_log_state(job.copy(), LogState::Readable);
+    match job.phase() {
+        Phase::Copy => abandon(store),
+        Phase::Switch => {
+            let _ = store.take_job();
+        }
     }
     GiveUpAnswer::GivenUp
+}
+
+/// The compaction is over while entries are copied: the copy is Readable as it is.
+pub(crate) fn abandon<D: LogDisk>(store: &mut Store<D>)
+    requires { (job : JobState) × IsRunning store.old CopyPhase job }
+    ensures turn { (job : JobState) → IsRunning store.old CopyPhase job → SetTurn (with_job store.old None) job.copy ReadableState store.new }
+    ensures stays { Stays store.old store.new }
+{
+    store.promise();
+    let Some(job) = store.take_job() else {
+        unreachable!();
+    };
+    store.set_log_state(job.copy(), LogState::Readable);
 }

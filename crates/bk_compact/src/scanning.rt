@@ -1,6 +1,11 @@
 //! A job's source, read from where the job has come to.
 
-ghost use Rattle.std.specs.Prelude.{◌≡◌, ◌≤◌, IsTrue};
+ghost use Rattle.std.specs.Prelude.{◌≡◌, ◌<◌, ◌≤◌, IsTrue, IfOk, IfErr, IfSome, IfNone, IsErrOf};
+ghost use Rattle.bk_record.specs.Files.{header_length};
+ghost use Rattle.bk_disk.specs.Disk.{view_end};
+ghost use Rattle.bk_store.specs.JobKept.{IsJob};
+ghost use Rattle.bk_compact.specs.Compacting.{AreSound, ReadFails};
+ghost use Rattle.bk_compact.specs.Going.{IsAtEnd, ScansFrom, told_read};
 
 use crate::CompactFault;
 use bk_disk::{LogDisk, LogView};
@@ -9,7 +14,11 @@ use bk_store::{Job, Store};
 use std::alloc::Global;
 
 /// A scan of what a view shows from this position on. `None` where the view ends before, as no honest one does.
-pub(crate) fn scan_from<V: LogView>(view: &V, alloc: Global, at: u64) -> Option<Scanner<'_, V>> {
+pub(crate) fn scan_from<V: LogView>(view: &V, alloc: Global, at: u64) -> Option<Scanner<'_, V>>
+    requires { header_length ≤ at }
+    ensures some { IfSome result (ScansFrom (V.bytes view.now) (V.honest view.now) (V.sound view.now) at) }
+    ensures none { IfNone result (IsTrue (V.honest view.now) → view_end (V.bytes view.now) < at) }
+{
     let end = view.end();
     if end < at {
         return None;
@@ -18,7 +27,13 @@ pub(crate) fn scan_from<V: LogView>(view: &V, alloc: Global, at: u64) -> Option<
 }
 
 /// Whether no entry of the source is left to examine.
-pub(crate) fn is_at_end<D: LogDisk>(store: &Store<D>, job: &Job) -> Result<bool, CompactFault> {
+pub(crate) fn is_at_end<D: LogDisk>(store: &Store<D>, job: &Job) -> Result<bool, CompactFault>
+    requires { IsJob store.now job.now }
+    ensures ok { IfOk result (IsAtEnd store.now job.now) }
+    ensures fails { IfErr result (ReadFails store.now job.now) }
+    ensures sound { AreSound D.View.sound → ¬ (IsErrOf result CompactFault.Disk) }
+{
+    store.promise();
     let Some(view) = store.log_view(job.source()) else {
         unreachable!();
     };
@@ -27,15 +42,17 @@ pub(crate) fn is_at_end<D: LogDisk>(store: &Store<D>, job: &Job) -> Result<bool,
     };
     match scanner.next() {
         Ok(found) => Ok(found.is_none()),
-        Err(fault) => Err(scan_fault(fault, 0)),
+        Err(fault) => Err(scan_fault(fault)),
     }
 }
 
-/// Why no further entry was read, when so many were copied. What a source shows has no bad length, beside an honest disk.
-pub(crate) fn scan_fault(fault: ScanFault, done: u64) -> CompactFault {
+/// Why the source could not be read. What it shows has no bad length, beside an honest disk.
+fn scan_fault(fault: ScanFault) -> CompactFault
+    ensures { result ≡ told_read fault }
+{
     match fault {
         ScanFault::Disk => CompactFault::Disk,
-        ScanFault::Memory => CompactFault::Memory { done },
+        ScanFault::Memory => CompactFault::Memory { done: 0 },
         ScanFault::BadLength { .. } | ScanFault::Odd => CompactFault::Odd,
     }
 }

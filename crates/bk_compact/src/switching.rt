@@ -2,7 +2,9 @@
 
 ghost use Rattle.std.specs.Prelude.{◌≡◌, IsTrue};
 ghost use Rattle.bk_store.specs.Meaning.{MeansTheSame};
+ghost use Rattle.bk_store.specs.declared.job.Phase.TheVariants.{Switch as SwitchPhase};
 ghost use Rattle.bk_compact.specs.Compacting.{SwitchTurn};
+ghost use Rattle.bk_compact.specs.Going.{IsOut, Stays, Switches};
 
 use crate::SwitchAnswer;
 use bk_disk::LogDisk;
@@ -33,7 +35,13 @@ pub fn switch<D: LogDisk>(store: &mut Store<D>, count: u64) -> SwitchAnswer
 }
 
 /// Takes so many moves of the job, or those that wait, and answers how many keys were sent to their copies.
-fn take_moves<D: LogDisk>(store: &mut Store<D>, job: &mut Job, count: u64) -> u64 {
+fn take_moves<D: LogDisk>(store: &mut Store<D>, job: &mut Job, count: u64) -> u64
+    requires out { IsOut store.old job.old }
+    requires switching { job.old.phase ≡ SwitchPhase }
+    ensures turn { Switches store.old job.old count result store.new job.new }
+    ensures out { IsOut store.new job.new }
+    ensures stays { Stays store.old store.new }
+{
     let mut moved = 0;
     for _ in 0..count {
         let Some(next) = job.next_move() else {

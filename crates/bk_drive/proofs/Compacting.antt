@@ -1,5 +1,5 @@
 -- What a call of a compaction leaves: the settings, the dead ledgers, the write caches, the slots that were taken.
-use Rattle.std.proofs.Common.{◌≡◌, inl, inr, ℕ, List, [], ◌∷◌, Bool, true, false, Option, Some, None, Result, Ok, Err, refl, ap, ◌∙◌}
+use Rattle.std.proofs.Common.{◌≡◌, inl, inr, ℕ, List, [], ◌∷◌, Bool, true, false, Option, None, Result, Ok, Err, refl, ap, ◌∙◌}
 use Rattle.bk_record.specs.Key.{EntryKey}
 use Rattle.bk_record.specs.Location.{Place}
 use Rattle.bk_log.specs.declared.found.Found.{Found}

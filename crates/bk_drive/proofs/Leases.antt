@@ -87,7 +87,6 @@ module _ (old new : SlotTable) (same : new ≡ old) where
   pub leases_same : (readers : List (Option Hold)) → AreOpenLeases old readers → AreOpenLeases new readers
   leases_same = leases_stay old new (slots_same old new same)
 
-
 -- a log that is closed, or gone, stays so
 pub shut_stays : {s t : State} → SlotsStay s.keeper t.keeper → GoneStays s t → (log : ℕ) → IsShut s log → IsShut t log
 shut_stays {s = s} {t = t} slots gone log shut = elim shut [
@@ -304,8 +303,7 @@ module _ (s t : State) (id : ℕ) (kept : IsKept s) (turn : RemoveTurn s id (Ok 
   removed_gone =
       let is = kept.seen in
       let held : finite.get kept.parts.state.logs id ≡ Some turn.1.0 = ap (λ (x : State). finite.get x.logs id) is ∙ turn.1.1 in
-      let below = (kept.keeps.fits.held id turn.1.0 held).below in
-      (
+      let below = (kept.keeps.fits.held id turn.1.0 held).below in (
         ap (λ (x : State). finite.get x.logs id) turn.1.3 ∙ get-remove_here nat_cmp_total nat_cmp-IsAntisymmetric s.logs id,
         subst (λ n. id < n) (ap (λ (x : State). x.next) is ∙ sym (ap (λ (x : State). x.next) turn.1.3)) below,
       )

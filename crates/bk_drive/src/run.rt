@@ -1,6 +1,6 @@
 //! The machine: a store and its readers take the steps of a script, one after another.
 
-ghost use Rattle.std.specs.Prelude.{◌≡◌, ◌↔◌, ◌<◌, ◌≤◌, ℕ, List, Option, IsTrue, IfOk, IfErr, IsErrOf, IfSome, IfNone, length};
+ghost use Rattle.std.specs.Prelude.{◌≡◌, ◌↔◌, ◌<◌, ◌≤◌, ℕ, Option, IsTrue, IfOk, IfErr, IsErrOf, IfSome, IfNone, length};
 ghost use Rattle.bk_collect.specs.Collecting.{AreSound};
 ghost use Rattle.bk_store.specs.Limits.{IsAllowed};
 ghost use Rattle.bk_store.specs.Opening.{OpenFails};

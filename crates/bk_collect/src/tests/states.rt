@@ -43,8 +43,11 @@ fn logs_in_use_stay(rt: HostRuntime) -> Result<(), Fail> {
     Ok(())
 }
 
-/// Shows a log again that is read; whether it was shown.
+/// Shows a log again that is read, where no compaction runs; whether it was shown.
 fn show_again<D: LogDisk>(store: &mut Store<D>, log: u32) -> bool {
+    let None = store.job() else {
+        return false;
+    };
     match store.log_state(log) {
         Some(LogState::Readable) => store.show(log).is_ok(),
         _ => false,

@@ -1,0 +1,477 @@
+-- A job that is out of the store goes on by an entry, and keeps what a job keeps.
+use Rattle.std.proofs.Common.{◌≡◌, ◌≢◌, ◌⊎◌, inl, inr, ℕ, zero, suc, ◌+◌, ◌-◌, ◌<◌, ◌≤◌, ◌^◌, Bool, true, false, IsTrue, List, [], ◌∷◌, ◌++◌, length, Option, Some, None, Result, Ok, Err, unwrap_or, refl, sym, ap, subst, ◌∙◌, arith}
+use Rattle.std.specs.Option.{option_and_then}
+use Rattle.std.proofs.lemmas.Option.{same_Some}
+use Rattle.std.specs.FinMap as finite
+use Rattle.bk_record.specs.Key.{EntryKey}
+use Rattle.bk_record.specs.Location.{Place}
+use Rattle.bk_record.specs.Record.{key_of, record_of}
+use Rattle.bk_record.specs.Files.{Files, file_of, header_length, records_of, In}
+use Rattle.bk_record.proofs.Growth.{In-append_left, In-append_right, In-append_cases}
+use Rattle.bk_record.proofs.Places.{same_place}
+use Rattle.bk_record.proofs.SortedPairs.{Some-same}
+use Rattle.bk_log.specs.Growing.{Gains, put_record}
+use Rattle.bk_log.specs.Places.{HasEntryAt, FetchFails}
+use Rattle.bk_log.specs.declared.fault.FetchFault.{FetchFault}
+use Rattle.bk_log.specs.declared.fault.FetchFault.TheVariants as fetches
+use Rattle.bk_log.specs.Writing as writers
+use Rattle.bk_log.specs.Writing.{with_put}
+use Rattle.bk_log.proofs.Gains.{put_gains}
+use Rattle.bk_log.proofs.OneRecord.{stands_once}
+use Rattle.bk_log.specs.declared.found.Found.{Found}
+use Rattle.bk_log.specs.declared.fault.LogFault.{LogFault}
+use Rattle.bk_log.specs.declared.fault.LogFault.TheVariants as log_faults
+use Rattle.std.specs.List.{All}
+use Rattle.std.proofs.lemmas.List.Elements.{All-head, All-tail}
+use Rattle.bk_record.specs.Spelling.{IsBytes}
+use Rattle.bk_log.proofs.Fetches.{record_fits}
+use Rattle.bk_disk.specs.Disk.{AreLogFiles, grown}
+use Rattle.bk_store.specs.Entries.{HasEntry, Places}
+use Rattle.bk_store.specs.Logs.{Log, Logs, View, is_written, open_parts, last_view}
+use Rattle.bk_store.specs.State.{State}
+use Rattle.bk_store.specs.Jobs.{Job, with_move, Waits}
+use Rattle.bk_store.specs.JobKept.{IsJob, IsCopied, IsMoveOf, IsReadTo, entries_from, copied_in, copy_state}
+use Rattle.bk_store.specs.Putting.{next_place, grown_log}
+use Rattle.bk_store.specs.Doors.{IsIn, IsWriter, CanTake, IsIdle, PutTurn, SetTurn, with_log, writer_of}
+use Rattle.bk_store.specs.Copying.{MayCopy}
+use Rattle.bk_store.specs.Plain.{IsKept}
+use Rattle.bk_store.specs.declared.job.Move.{Move}
+use Rattle.bk_store.specs.declared.job.Phase.{Phase}
+use Rattle.bk_store.specs.declared.job.Phase.TheVariants.{Copy, Switch}
+use Rattle.bk_store.specs.declared.log.LogState.TheVariants.{Copying, Readable}
+use Rattle.bk_store.proofs.Cases.{some_value, same_or_apart}
+use Rattle.bk_store.proofs.Growing.{entry_same}
+use Rattle.bk_store.proofs.LogMaps.{log-inserted, log-insert_else}
+use Rattle.bk_store.proofs.JobStays.{job_stays, stays_same, part_same, view_same, in_same}
+use Rattle.bk_compact.specs.declared.entries.Stopped.{Stopped}
+use Rattle.bk_compact.specs.declared.entries.Stopped.TheVariants as stops
+use Rattle.bk_compact.specs.Compacting.{Copies, Examines, behind, entries_left, place_of}
+use Rattle.bk_compact.specs.Going.{CopiesEntry, IsAhead, IsCopying, IsEntry, IsNextFound, IsOut, StopsAt, told_put}
+use Rattle.bk_compact.proofs.Stored.{dishonest, kept_backed, kept_headed, kept_held, kept_ids, kept_shows, named_ahead, next_entry, source_bytes, source_honest, behind_is}
+
+-- ---- the copy and its writer
+
+pub record HasWriter (s : State) (id : ℕ) : Type 0 where
+  pub log : Log
+  pub w : writers.Writing
+  pub held : finite.get s.logs id ≡ Some log
+  pub state_is : log.state ≡ Copying
+  pub writer : log.writer ≡ Some w
+  pub own : w.log ≡ id
+  pub headed : header_length ≤ w.end
+  pub id_fits : id < 2 ^ 31
+  pub backed : IsTrue s.honest → writers.Writes s.files w
+
+pub writer_is : (logs : Logs) (id : ℕ) (log : Log) → finite.get logs id ≡ Some log → writer_of logs id ≡ log.writer
+writer_is logs id log held = ap (λ (o : Option Log). option_and_then (λ (l : Log). l.writer) o) held
+
+pub copy_writer : (s : State) → IsKept s → (id : ℕ) → IsIn s id Copying → HasWriter s id
+copy_writer s kept id is =
+    let old = kept_held s kept id is.log is.held in
+    let found = some_value is.log.writer (old.written (copying is.log is.state_is)) in
+    record {
+      log = is.log;
+      w = found.0;
+      held = is.held;
+      state_is = is.state_is;
+      writer = found.1;
+      own = (old.by found.0 found.1).own;
+      headed = let long = (old.by found.0 found.1).long in let least = kept_headed s kept id is.log is.held in omega (arith, long, least);
+      id_fits = let most = kept_ids s kept in omega (arith, old.below, most);
+      backed = λ honest. (kept_backed s kept honest id is.log is.held).writes found.0 found.1;
+    }
+  where
+    copying : (log : Log) → log.state ≡ Copying → is_written log.state ≡ true
+    copying log state_is = ap is_written state_is
+
+-- the place behind the length field of its next record
+pub place_next : (s : State) (id : ℕ) (has : HasWriter s id) (w : writers.Writing) → writer_of s.logs id ≡ Some w → (place : Place) (end : ℕ) → end ≡ w.end
+    → place ≡ record { log = id; at = end + 4 } → (x : writers.Writing) × (writer_of s.logs id ≡ Some x) × (place ≡ next_place x)
+place_next s id has w there place end end_is is =
+    let one : has.w ≡ w = same_Some has.w w (sym (writer_is s.logs id has.log has.held ∙ has.writer) ∙ there) in
+    let own : w.log ≡ id = ap (λ (x : writers.Writing). x.log) (sym one) ∙ has.own in
+    (w, there, same_place place (next_place w) (ap (λ (p : Place). p.log) is ∙ sym own) (ap (λ (p : Place). p.at) is ∙ ap (λ n. n + 4) end_is))
+
+-- the copy can take the next entry
+module _ (s : State) (kept : IsKept s) (job : Job) (is : IsCopying s job) (found : Found) (ahead : IsAhead s job found) (near : behind found < 2 ^ 32)
+    (payload : List ℕ) (entry : IsEntry payload found) where
+  in_copy : IsIn s job.copy Copying
+  in_copy = subst (λ (p : Phase). IsIn s job.copy (copy_state p)) is.phase is.out.keeps.copy
+
+  copy_takes : CanTake s job.copy Copying payload
+  copy_takes =
+      let has = copy_writer s kept job.copy in_copy in
+      let room = is.out.keeps.room has.w (writer_is s.logs job.copy has.log has.held ∙ has.writer) in
+      let place = behind_is found (length payload) entry.sized in
+      record {
+        log = has.log;
+        w = has.w;
+        writer = record { held = has.held; writer = has.writer };
+        state_is = has.state_is;
+        room = omega (arith, room, place, near, ahead.ahead);
+      }
+
+  pub may_copy : finite.get s.index found.key ≡ Some (place_of job found)
+      → (IsTrue s.honest → HasEntry (file_of s.files) (place_of job found) found.key payload)
+      → MayCopy s job.copy found.key (place_of job found) payload
+  may_copy sent stands = record {
+    idle = λ other runs. absurd (none_some other (sym is.out.none ∙ runs));
+    sent = sent;
+    sized = entry.legal;
+    keyed = entry.keyed;
+    stands = stands;
+    takes = copy_takes;
+  }
+    where
+      none_some : (other : Job) → None ≡ Some other → ⊥
+      none_some other wrong = cc
+
+-- what was fetched of the entry is the one that the source shows
+module _ (s : State) (kept : IsKept s) (job : Job) (is : IsJob s job) (found : Found) (ahead : IsAhead s job found) (payload : List ℕ)
+    (fetched : HasEntryAt (open_parts s.logs job.source) found.at found.key payload) (honest : IsTrue s.honest) where
+  fetched_is : (ahead.next honest).payload ≡ payload
+  fetched_is =
+      (stands_once (open_parts s.logs job.source) found.at).one (ahead.next honest).payload payload (ahead.next honest).stands.here fetched.here
+
+  pub fetched_stands : HasEntry (open_parts s.logs) (place_of job found) found.key payload
+  fetched_stands =
+      subst (HasEntry (open_parts s.logs) (place_of job found) found.key) fetched_is
+      (next_entry s job found (is.honest honest).read (ahead.next honest))
+
+  pub fetched_filed : HasEntry (file_of s.files) (place_of job found) found.key payload
+  fetched_filed = (kept_shows s kept honest).stands (place_of job found) found.key payload fetched_stands
+
+  pub fetched_entry : IsEntry payload found
+  fetched_entry = record {
+    legal = fetched.here.begins.legal;
+    sized = subst (λ (p : List ℕ). found.size ≡ 4 + length p) fetched_is (ahead.next honest).found_is.sized;
+    keyed = fetched.keyed;
+  }
+
+-- the same of a fetch in a view of the source
+module _ (s : State) (kept : IsKept s) (job : Job) (is : IsCopying s job) (found : Found) (ahead : IsAhead s job found) (view : View)
+    (last : last_view s.logs job.source ≡ Some view) (from_place : Place) (place : from_place ≡ place_of job found) where
+  whole : open_parts s.logs job.source ≡ view.bytes
+  whole = source_bytes s kept job is.out.keeps view last
+
+  there : (payload : List ℕ) → HasEntryAt view.bytes from_place.at found.key payload → HasEntryAt (open_parts s.logs job.source) found.at found.key payload
+  there payload entry =
+      subst (λ (b : List ℕ). HasEntryAt b found.at found.key payload) (sym whole)
+      (subst (λ n. HasEntryAt view.bytes n found.key payload) (ap (λ (p : Place). p.at) place) entry)
+
+  -- a fetch that finds no such record, or an odd one, is of a disk that is not honest
+  pub never_missing : (fault : FetchFault) → (IsTrue view.is_honest → FetchFails view.bytes from_place.at found.key fault)
+      → (fault ≡ fetches.NotThere) ⊎ (fault ≡ fetches.Odd) → s.honest ≡ false
+  never_missing fetches.NotThere fails is_so = dishonest s.honest (λ honest.
+      let next = ahead.next honest in
+      let here : HasEntryAt view.bytes found.at found.key next.payload = subst (λ (b : List ℕ). HasEntryAt b found.at found.key next.payload) whole next.stands in
+      fails (source_honest s kept job is.out.keeps view last honest) next.payload
+      (subst (λ n. HasEntryAt view.bytes n found.key next.payload) (sym (ap (λ (p : Place). p.at) place)) here))
+  never_missing fetches.Odd fails is_so = dishonest s.honest (λ honest. fails (source_honest s kept job is.out.keeps view last honest))
+  never_missing fetches.Disk fails is_so = absurd (elim is_so [ inl wrong ↦ other wrong | inr wrong ↦ another wrong ])
+    where
+      other : fetches.Disk ≡ fetches.NotThere → ⊥
+      other wrong = cc
+
+      another : fetches.Disk ≡ fetches.Odd → ⊥
+      another wrong = cc
+  never_missing fetches.Memory fails is_so = absurd (elim is_so [ inl wrong ↦ other wrong | inr wrong ↦ another wrong ])
+    where
+      other : fetches.Memory ≡ fetches.NotThere → ⊥
+      other wrong = cc
+
+      another : fetches.Memory ≡ fetches.Odd → ⊥
+      another wrong = cc
+
+  -- and what it finds is the entry
+  module _ (payload : List ℕ) (fetched : IsTrue view.is_honest → HasEntryAt view.bytes from_place.at found.key payload) where
+    pub found_entry : IsTrue s.honest → IsEntry payload found
+    found_entry honest = fetched_entry s kept job is.out.keeps found ahead payload
+        (there payload (fetched (source_honest s kept job is.out.keeps view last honest))) honest
+
+    pub found_stands : IsTrue s.honest → HasEntry (open_parts s.logs) (place_of job found) found.key payload
+    found_stands honest = fetched_stands s kept job is.out.keeps found ahead payload
+        (there payload (fetched (source_honest s kept job is.out.keeps view last honest))) honest
+
+    pub found_filed : IsTrue s.honest → HasEntry (file_of s.files) (place_of job found) found.key payload
+    found_filed honest = fetched_filed s kept job is.out.keeps found ahead payload
+        (there payload (fetched (source_honest s kept job is.out.keeps view last honest))) honest
+
+-- the disk is odd, so the copy is read as it is
+pub stops_odd : (s t : State) (job : Job) (found : Found) (stopped : Stopped) → stopped ≡ stops.Odd → s.honest ≡ false → SetTurn s job.copy Readable t
+    → StopsAt s job found stopped t job
+stops_odd s t job found stopped is honest turn = subst (λ (r : Stopped). StopsAt s job found r t job) (sym is) (honest, inl turn)
+
+-- the next entry lies in the first 2^32 bytes of an honest disk's log
+pub next_near : (s : State) → IsKept s → (job : Job) → IsJob s job → (found : Found) → IsAhead s job found → (IsTrue s.honest → AreLogFiles s.files)
+    → IsTrue s.honest → behind found < 2 ^ 32
+next_near s kept job is found ahead files honest =
+    let next = ahead.next honest in
+    let place = place_of job found in
+    let entry = next_entry s job found (is.honest honest).read next in
+    let stands = (kept_shows s kept honest).stands place found.key next.payload entry in
+    let held = kept_backed s kept honest job.source is.shown.log is.shown.held in
+    let file = some_value (finite.get s.files job.source) held.stands in
+    let legal = (files honest).each job.source file.0 file.1 in
+    let same : file_of s.files job.source ≡ file.0 = ap (λ (o : Option (List ℕ)). unwrap_or o []) file.1 in
+    let there = subst (λ (b : List ℕ). In (found.at, next.payload) (records_of b)) same stands.stands in
+    let fits = record_fits file.0 next.payload found.at ((stands_once file.0 found.at).computed next.payload (each_byte file.0 legal.bytes) there) in
+    let size = legal.size in
+    let end = behind_is found (length next.payload) next.found_is.sized in
+    omega (arith, fits, size, end)
+  where
+    each_byte : (bytes : List ℕ) → All (λ b. b < 2 ^ 8) bytes → IsBytes bytes
+    each_byte [] all i = omega arith
+    each_byte (b ∷ bytes) all zero = All-head (λ x. x < 2 ^ 8) b bytes all
+    each_byte (b ∷ bytes) all (suc i) = each_byte bytes (All-tail (λ x. x < 2 ^ 8) b bytes all) i
+
+-- an entry was put where the job has noted it
+pub put_copies : (s t : State) (job after : Job) (found : Found) (payload : List ℕ) (place noted : Place) → (result : Result Place LogFault) → result ≡ Ok place
+    → finite.get s.index found.key ≡ Some (place_of job found)
+    → (IsTrue s.honest → HasEntry (open_parts s.logs) (place_of job found) found.key payload) → PutTurn s job.copy payload result t
+    → IsEntry payload found → (x : writers.Writing) × (writer_of s.logs job.copy ≡ Some x) × (noted ≡ next_place x)
+    → after ≡ with_move job (record { key = found.key; from = place_of job found; to = noted }) → CopiesEntry s job found (Ok tt) t after
+put_copies s t job after found payload place noted result is sent stands turn entry at moved =
+    let put : PutTurn s job.copy payload (Ok place) t = subst (λ (r : Result Place LogFault). PutTurn s job.copy payload r t) is turn in
+    let one : put.1.0 ≡ at.0 = same_Some put.1.0 at.0 (sym (writer_is s.logs job.copy put.0 put.1.1.held ∙ put.1.1.writer) ∙ at.1) in
+    let same : noted ≡ place = at.2 ∙ ap next_place (sym one) ∙ sym put.1.2 in (
+      payload,
+      (
+        place,
+        record { sent = sent; stands = stands; put = put },
+        entry,
+        moved ∙ ap (λ (p : Place). with_move job (record { key = found.key; from = place_of job found; to = p })) same,
+      ),
+    )
+
+-- what a refused put leaves
+pub put_stops : (s t : State) (job : Job) (found : Found) (payload : List ℕ) (fault : LogFault) → finite.get s.index found.key ≡ Some (place_of job found)
+    → (IsTrue s.honest → HasEntry (open_parts s.logs) (place_of job found) found.key payload) → PutTurn s job.copy payload (Err fault) t
+    → StopsAt s job found (told_put fault) t job
+put_stops s t job found payload log_faults.Memory sent stands turn = (turn.0, turn.1, refl)
+put_stops s t job found payload log_faults.Disk sent stands turn = (payload, record { sent = sent; stands = stands; put = turn })
+put_stops s t job found payload log_faults.Failed sent stands never = absurd never
+put_stops s t job found payload log_faults.Odd sent stands turn = (turn.0, inr (payload, record { sent = sent; stands = stands; put = turn }))
+
+-- ---- the files after an entry was put
+
+gained : (files files' : Files) (log : ℕ) (others : List (ℕ × List ℕ)) → Gains files log others files' → (place : Place) (key : EntryKey) (payload : List ℕ)
+    → HasEntry (file_of files) place key payload → HasEntry (file_of files') place key payload
+gained files files' log others gains place key payload entry = elim (same_or_apart place.log log) [
+  | inr apart ↦ entry_same place key payload (ap (λ (o : Option (List ℕ)). unwrap_or o []) (sym (gains.only place.log apart))) entry
+  | inl here ↦ record {
+    stands =
+        let old = subst (λ id. In (place.at, payload) (records_of (file_of files id))) here entry.stands in
+        let there = subst (λ rs. In (place.at, payload) rs) (sym gains.records) (In-append_left (place.at, payload) (records_of (file_of files log)) others old) in
+        subst (λ id. In (place.at, payload) (records_of (file_of files' id))) (sym here) there;
+    keyed = entry.keyed;
+  }
+]
+
+gained_new : (files files' : Files) (w : writers.Writing) (payload : List ℕ) (key : EntryKey) → Gains files w.log (put_record w payload) files'
+    → key_of payload ≡ Some key → HasEntry (file_of files') (next_place w) key payload
+gained_new files files' w payload key gains keyed = record {
+  stands = subst (λ rs. In (w.end + 4, payload) rs) (sym gains.records)
+      (In-append_right (w.end + 4, payload) (records_of (file_of files w.log)) (put_record w payload) (inl refl));
+  keyed = keyed;
+}
+
+-- ---- the job behind an entry that was copied
+
+module _ (s : State) (kept : IsKept s) (job : Job) (is : IsCopying s job) (found : Found) (ahead : IsAhead s job found) where
+  pub behind_later : job.at ≤ behind found
+  behind_later = omega (arith, ahead.ahead, ahead.long)
+
+  -- an entry that the index does not name
+  module _ (unsent : ¬ (finite.get s.index found.key ≡ Some (place_of job found))) where
+    passed_by : Job
+    passed_by = record job { at = behind found }
+
+    pub passed_keeps : IsCopying s (record job { at = behind found })
+    passed_keeps =
+        let old = is.out.keeps in
+        record {
+          out = record {
+            none = is.out.none;
+            keeps = record {
+              source = old.source;
+              shown = old.shown;
+              copy = old.copy;
+              copy_shown = old.copy_shown;
+              later = old.later;
+              begun = omega (arith, old.begun, behind_later);
+              room = λ w writer. let room = old.room w writer in omega (arith, room, behind_later);
+              moves = λ m there. let move = old.moves m there in record { from_source = move.from_source; to_copy = move.to_copy };
+              honest = λ honest.
+                  let was = old.honest honest in
+                  let next = ahead.next honest in
+                  record {
+                    read = next.read;
+                    copied = was.copied;
+                    examined = λ new key place named here. elim (was.examined new key place named here) [
+                      | inr waits ↦ inr waits
+                      | inl later ↦ elim (named_ahead s kept job found honest was.read next key place named here later) [
+                        | inr past ↦ inl past
+                        | inl own ↦ absurd (unsent (ap (finite.get s.index) (sym own.0) ∙ named ∙ ap Some own.1))
+                      ]
+                    ];
+                    ended = λ switch. absurd (not_both (sym is.phase ∙ switch));
+                  };
+            };
+          };
+          phase = is.phase;
+        }
+      where
+        not_both : Copy ≡ Switch → ⊥
+        not_both wrong = cc
+
+  -- an entry that was put in the copy
+  module _ (t : State) (payload : List ℕ) (to_place : Place) (copies : Copies s job found payload (Ok to_place) t) (entry : IsEntry payload found) where
+    abbrev noted : Move
+    noted = record { key = found.key; from = place_of job found; to = to_place }
+
+    abbrev next_job : Job
+    next_job = with_move (record job { at = behind found }) noted
+
+    abbrev log : Log
+    log = copies.put.0
+
+    abbrev w : writers.Writing
+    w = copies.put.1.0
+
+    same_logs : t.logs ≡ finite.insert s.logs job.copy (grown_log log w payload)
+    same_logs = ap (λ (x : State). x.logs) copies.put.1.4
+
+    same_index : t.index ≡ s.index
+    same_index = ap (λ (x : State). x.index) copies.put.1.4
+
+    same_honest : t.honest ≡ s.honest
+    same_honest = ap (λ (x : State). x.honest) copies.put.1.4
+
+    apart : job.source ≢ job.copy
+    apart same = omega (arith, is.out.keeps.later, same)
+
+    source_same : finite.get t.logs job.source ≡ finite.get s.logs job.source
+    source_same = ap (λ (l : Logs). finite.get l job.source) same_logs ∙ log-insert_else s.logs job.copy (grown_log log w payload) job.source apart
+
+    copy_now : finite.get t.logs job.copy ≡ Some (grown_log log w payload)
+    copy_now = ap (λ (l : Logs). finite.get l job.copy) same_logs ∙ log-inserted s.logs job.copy (grown_log log w payload) job.copy refl
+
+    own : w.log ≡ job.copy
+    own = ((kept_held s kept job.copy log copies.put.1.1.held).by w copies.put.1.1.writer).own
+
+    was_copying : log.state ≡ Copying
+    was_copying =
+        let here = subst (λ (p : Phase). IsIn s job.copy (copy_state p)) is.phase is.out.keeps.copy in
+        ap (λ (l : Log). l.state) (same_Some log here.log (sym copies.put.1.1.held ∙ here.held)) ∙ here.state_is
+
+    grows : IsTrue s.honest → Gains s.files job.copy (put_record w payload) t.files
+    grows honest =
+        let writes = (kept_backed s kept honest job.copy log copies.put.1.1.held).writes w copies.put.1.1.writer in
+        subst (λ id. Gains s.files id (put_record w payload) t.files) own
+        (put_gains s.files t.files w payload (Ok to_place) writes entry.legal
+        (copies.put.1.3 honest ∙ ap (λ id. grown s.files id (record_of payload)) (sym own)))
+
+    was_room : w.end ≤ job.at
+    was_room = is.out.keeps.room w (writer_is s.logs job.copy log copies.put.1.1.held ∙ copies.put.1.1.writer)
+
+    still_copied : IsTrue s.honest → (m : Move) → In m (job.moves ++ noted ∷ []) → (old : List ℕ) × HasEntry (file_of t.files) m.to m.key old
+    still_copied honest m there = elim (In-append_cases m job.moves (noted ∷ []) there) [
+      | inl before ↦
+          let old = (is.out.keeps.honest honest).copied m before in
+          let filed = subst (λ (p : Phase). HasEntry (copied_in s p) m.to m.key old.0) is.phase old.1 in
+          (old.0, gained s.files t.files job.copy (put_record w payload) (grows honest) m.to m.key old.0 filed)
+      | inr new ↦ elim new [
+        | inr never ↦ absurd never
+        | inl here ↦ (
+          payload,
+          subst (λ (x : Move). HasEntry (file_of t.files) x.to x.key payload) here
+              (subst (λ (p : Place). HasEntry (file_of t.files) p found.key payload) (sym copies.put.1.2)
+              (gained_new s.files t.files w payload found.key (subst (λ id. Gains s.files id (put_record w payload) t.files) (sym own) (grows honest)) entry.keyed)),
+        )
+      ]
+    ]
+
+    still_examined : IsTrue s.honest → job.rebuilt ≡ false → (key : EntryKey) (place : Place) → finite.get s.index key ≡ Some place → place.log ≡ job.source
+        → (behind found < place.at) ⊎ Waits (job.moves ++ noted ∷ []) key place
+    still_examined honest kept_so key place named here =
+        let was = is.out.keeps.honest honest in
+        elim (was.examined kept_so key place named here) [
+          | inr waits ↦ inr (waits.0, In-append_left waits.0 job.moves (noted ∷ []) waits.1, waits.2, waits.3)
+          | inl later ↦ elim (named_ahead s kept job found honest was.read (ahead.next honest) key place named here later) [
+            | inr past ↦ inl past
+            | inl same ↦ inr (noted, In-append_right noted job.moves (noted ∷ []) (inl refl), sym same.0, sym same.1)
+          ]
+        ]
+
+    pub copied_keeps : IsCopying t next_job
+    copied_keeps =
+        let old = is.out.keeps in
+        let part : open_parts s.logs job.source ≡ open_parts t.logs job.source = sym (part_same s.logs t.logs job.source source_same) in
+        record {
+          out = record {
+            none = ap (λ (x : State). x.job) copies.put.1.4 ∙ is.out.none;
+            keeps = record {
+              source = in_same s t job.source Readable source_same old.source;
+              shown = view_same s.logs t.logs job.source source_same old.shown;
+              copy = record { log = grown_log log w payload; held = copy_now; state_is = was_copying ∙ ap copy_state (sym is.phase) };
+              copy_shown = λ switch. absurd (not_both (sym is.phase ∙ switch));
+              later = old.later;
+              begun = omega (arith, old.begun, behind_later);
+              room = λ x writer.
+                  let one : with_put w payload ≡ x = same_Some (with_put w payload) x
+                  (sym (ap (option_and_then (λ (l : Log). l.writer)) copy_now) ∙ writer) in
+                  let long : w.end + 4 + length payload ≡ x.end = ap (λ (y : writers.Writing). y.end) one in
+                  let place = behind_is found (length payload) entry.sized in
+                  omega (arith, long, was_room, ahead.ahead, place);
+              moves = λ m there. elim (In-append_cases m job.moves (noted ∷ []) there) [
+                | inl before ↦ let move = old.moves m before in record { from_source = move.from_source; to_copy = move.to_copy }
+                | inr new ↦ elim new [
+                  | inr never ↦ absurd never
+                  | inl here ↦ record {
+                    from_source = ap (λ (x : Move). x.from.log) (sym here);
+                    to_copy = ap (λ (x : Move). x.to.log) (sym here) ∙ ap (λ (p : Place). p.log) copies.put.1.2 ∙ own;
+                  }
+                ]
+              ];
+              honest = λ honest'.
+                  let honest : IsTrue s.honest = sym same_honest ∙ honest' in
+                  record {
+                    read = subst (λ (b : List ℕ). IsReadTo b (behind found)) part (ahead.next honest).read;
+                    copied = λ m there.
+                        let entry' = still_copied honest m there in
+                        (entry'.0, subst (λ (p : Phase). HasEntry (copied_in t p) m.to m.key entry'.0) (sym is.phase) entry'.1);
+                    examined = λ new key place named here.
+                        still_examined honest new key place (ap (λ (i : Places). finite.get i key) (sym same_index) ∙ named) here;
+                    ended = λ switch. absurd (not_both (sym is.phase ∙ switch));
+                  };
+            };
+          };
+          phase = is.phase;
+        }
+      where
+        not_both : Copy ≡ Switch → ⊥
+        not_both wrong = cc
+
+-- ---- an entry was examined
+
+pub examined_copied : (s : State) → IsKept s → (job : Job) → IsCopying s job → (found : Found) → IsAhead s job found → (t : State) (mid after : Job)
+    → CopiesEntry s job found (Ok tt) t mid → after ≡ record mid { at = behind found } → Examines s job found true t after × IsCopying t after
+examined_copied s kept job is found ahead t mid after copied moved =
+    let payload = copied.0 in
+    let place = copied.1.0 in
+    let copies = copied.1.1 in
+    let job_is : after ≡ with_move (record job { at = behind found }) (record { key = found.key; from = place_of job found; to = place }) =
+    moved ∙ ap (λ (j : Job). record j { at = behind found }) copied.1.3 in (
+      (payload, (place, copies, job_is)),
+      subst (IsCopying t) (sym job_is) (copied_keeps s kept job is found ahead t payload place copies copied.1.2),
+    )
+
+pub examined_past : (s : State) → IsKept s → (job : Job) → IsCopying s job → (found : Found) → IsAhead s job found → (t : State) (mid after : Job)
+    → ¬ (finite.get s.index found.key ≡ Some (place_of job found)) → t ≡ s → mid ≡ job → after ≡ record mid { at = behind found }
+    → Examines s job found false t after × IsCopying t after
+examined_past s kept job is found ahead t mid after unsent same mid_is moved =
+    let job_is : after ≡ record job { at = behind found } = moved ∙ ap (λ (j : Job). record j { at = behind found }) mid_is in (
+      (unsent, same, job_is),
+      subst (λ (u : State). IsCopying u after) (sym same) (subst (IsCopying s) (sym job_is) (passed_keeps s kept job is found ahead unsent)),
+    )

@@ -1,0 +1,319 @@
+-- A job that is out of the store begins, is sealed and shown, and is switched, and keeps what a job keeps.
+use Rattle.std.proofs.Common.{◌≡◌, ◌≢◌, ◌⊎◌, inl, inr, ℕ, zero, suc, ◌+◌, ◌-◌, ◌<◌, ◌≤◌, Bool, true, false, IsTrue, List, [], ◌∷◌, ◌++◌, length, not, is_some, Option, Some, None, Result, Ok, Err, unwrap_or, refl, sym, ap, subst, ◌∙◌, arith}
+use Rattle.std.specs.Option.{option_and_then}
+use Rattle.std.proofs.lemmas.Option.{same_Some}
+use Rattle.std.specs.FinMap as finite
+use Rattle.bk_record.specs.Key.{EntryKey}
+use Rattle.bk_record.specs.Location.{Place}
+use Rattle.bk_record.specs.Record.{key_of, is_foreign}
+use Rattle.bk_record.specs.Files.{file_of, header_length, records_of, In}
+use Rattle.bk_record.specs.Scan.{entries_of}
+use Rattle.bk_record.specs.Keyed.{log_count}
+use Rattle.bk_record.proofs.KeyedCounts.{log_count-none}
+use Rattle.bk_log.specs.Writing as writers
+use Rattle.bk_log.specs.declared.fault.LogFault.TheVariants as log_faults
+use Rattle.bk_store.specs.Entries.{HasEntry, Places}
+use Rattle.bk_store.specs.Logs.{Log, Logs, View, HasOpenView, closed_log, is_open, made_log, open_parts, with_view}
+use Rattle.bk_store.specs.State.{State}
+use Rattle.bk_store.specs.Jobs.{Job, Waits, new_job, waits_from}
+use Rattle.bk_store.specs.JobKept.{IsJob, IsCopied, IsReadTo, entries_from, copied_in, copy_state}
+use Rattle.bk_store.specs.Doors.{IsIn, MakeTurn, Seals, ShowTurn}
+use Rattle.bk_store.specs.Copying.{MayRename, RenameTurn}
+use Rattle.bk_store.specs.Plain.{IsKept}
+use Rattle.bk_store.specs.declared.job.Move.{Move}
+use Rattle.bk_store.specs.declared.job.Phase.{Phase}
+use Rattle.bk_store.specs.declared.job.Phase.TheVariants.{Copy, Switch}
+use Rattle.bk_store.specs.declared.log.LogState.TheVariants.{Copying, Readable}
+use Rattle.bk_store.proofs.Cases.{some_or_none}
+use Rattle.bk_store.proofs.LogMaps.{log-inserted, log-insert_else}
+use Rattle.bk_store.proofs.KeyMaps.{inserted_cases}
+use Rattle.bk_store.proofs.JobStays.{part_same, view_same, in_same}
+use Rattle.bk_record.proofs.Entries.{In-filter, filter-In}
+use Rattle.bk_compact.specs.Compacting.{IsCandidate, entries_left}
+use Rattle.bk_compact.specs.Going.{IsCopying, IsOut}
+use Rattle.bk_compact.proofs.Positions.{read_start, record_behind}
+use Rattle.bk_compact.proofs.Stored.{kept_held, kept_sent, kept_shows, shown_part, none_ahead}
+
+switch_copy : {A : Type 0} → Copy ≡ Switch → A
+switch_copy wrong = absurd (never wrong)
+  where
+    never : Copy ≡ Switch → ⊥
+    never wrong = cc
+
+-- ---- a log's entries
+
+listed : (file : List ℕ) (at : ℕ) (payload : List ℕ) (key : EntryKey) → key_of payload ≡ Some key → In (at, payload) (records_of file)
+    → In (at, payload) (entries_of file)
+unfolding entries_of
+listed file at payload key keyed there =
+    In-filter (λ r. not (is_foreign r.1)) (at, payload) (records_of file) there (ap (λ (o : Option EntryKey). not (not (is_some o))) keyed)
+
+unlisted : (file : List ℕ) (at : ℕ) (payload : List ℕ) → In (at, payload) (entries_of file) → In (at, payload) (records_of file)
+unfolding entries_of
+unlisted file at payload there = filter-In (λ r. not (is_foreign r.1)) (at, payload) (records_of file) there
+
+-- ---- the begin
+
+module _ (s : State) (kept : IsKept s) (source : ℕ) (is : IsCandidate s source) where
+  -- a log that keys are sent to has a view
+  pub candidate_shown : HasOpenView s.logs source
+  candidate_shown = elim (some_or_none is.state.log.view) [
+    | inr view ↦ record {
+      log = is.state.log;
+      view = view.0;
+      held = is.state.held;
+      opened = ap is_open is.state.state_is;
+      view_is = view.1;
+    }
+    | inl none ↦
+        let unnamed = log_count-none s.index source (λ key place named here.
+        let has = kept_sent s kept key place named in
+        let same : is.state.log ≡ has.log = same_Some is.state.log has.log (sym is.state.held ∙ ap (finite.get s.logs) (sym here) ∙ has.held) in
+        absent has.view (sym none ∙ ap (λ (l : Log). l.view) same ∙ has.view_is)) in
+        absurd (omega (arith, unnamed, is.named))
+  ]
+    where
+      absent : (v : View) → None ≡ Some v → ⊥
+      absent v wrong = cc
+
+  module _ (t : State) (copy : ℕ) (made : MakeTurn s Copying (Ok copy) t) where
+    abbrev new_log : Log
+    new_log = made_log Copying s.next made.2.slot
+
+    same_logs : t.logs ≡ finite.insert s.logs s.next new_log
+    same_logs = ap (λ (x : State). x.logs) made.2.left
+
+    older : source < s.next
+    older = (kept_held s kept source is.state.log is.state.held).below
+
+    source_same : finite.get t.logs source ≡ finite.get s.logs source
+    source_same = ap (λ (l : Logs). finite.get l source) same_logs
+        ∙ log-insert_else s.logs s.next new_log source (λ same. omega (arith, older, same))
+
+    copy_now : finite.get t.logs copy ≡ Some new_log
+    copy_now = ap (λ (l : Logs). finite.get l copy) same_logs ∙ log-inserted s.logs s.next new_log copy made.1
+
+    pub begun_keeps : IsJob t (new_job source copy)
+    begun_keeps =
+        let part : open_parts t.logs source ≡ open_parts s.logs source = part_same s.logs t.logs source source_same in
+        record {
+          source = in_same s t source Readable source_same is.state;
+          shown = view_same s.logs t.logs source source_same candidate_shown;
+          copy = record { log = new_log; held = copy_now; state_is = refl };
+          copy_shown = λ wrong. switch_copy wrong;
+          later = omega (arith, older, made.1);
+          begun = omega arith;
+          room = λ w writer.
+              let one : writers.new_writing s.next ≡ w = same_Some (writers.new_writing s.next) w
+              (sym (ap (option_and_then (λ (l : Log). l.writer)) copy_now) ∙ writer) in
+              let long : header_length ≡ w.end = ap (λ (x : writers.Writing). x.end) one in
+              omega (arith, long);
+          moves = λ m never. absurd never;
+          honest = λ honest'.
+              let honest : IsTrue s.honest = sym (ap (λ (x : State). x.honest) made.2.left) ∙ honest' in
+              record {
+                read = read_start (open_parts t.logs source);
+                copied = λ m never. absurd never;
+                examined = λ _ key place named here.
+                    let named_so : finite.get s.index key ≡ Some place = ap (λ (i : Places). finite.get i key) (sym (ap (λ (x : State). x.index) made.2.left)) ∙ named in
+                    let entry = (kept_shows s kept honest).shown key place named_so in
+                    inl (record_behind (open_parts s.logs place.log) place.at entry.0 entry.1.stands);
+                ended = λ wrong. switch_copy wrong;
+              };
+        }
+
+-- ---- the copy is sealed and shown
+
+module _ (s mid t : State) (job : Job) (is : IsCopying s job) (all : IsTrue s.honest → entries_left s job ≡ [])
+    (seals : Seals s job.copy Readable (Ok tt) mid) (shows : ShowTurn mid job.copy (Ok tt) t) where
+  abbrev shown_log : Log
+  shown_log = with_view shows.2.0 shows.0
+
+  apart : job.source ≢ job.copy
+  apart same = omega (arith, is.out.keeps.later, same)
+
+  closed_now : shows.0 ≡ closed_log Readable seals.log
+  closed_now = same_Some shows.0 (closed_log Readable seals.log)
+      (sym shows.1 ∙ ap (λ (x : State). finite.get x.logs job.copy) seals.left
+      ∙ log-inserted s.logs job.copy (closed_log Readable seals.log) job.copy refl)
+
+  shown_now : finite.get t.logs job.copy ≡ Some shown_log
+  shown_now = ap (λ (x : State). finite.get x.logs job.copy) shows.2.3 ∙ log-inserted mid.logs job.copy shown_log job.copy refl
+
+  source_stays : finite.get t.logs job.source ≡ finite.get s.logs job.source
+  source_stays = ap (λ (x : State). finite.get x.logs job.source) shows.2.3 ∙ log-insert_else mid.logs job.copy shown_log job.source apart
+      ∙ ap (λ (x : State). finite.get x.logs job.source) seals.left ∙ log-insert_else s.logs job.copy (closed_log Readable seals.log) job.source apart
+
+  honest_stays : t.honest ≡ s.honest
+  honest_stays = ap (λ (x : State). x.honest) shows.2.3 ∙ ap (λ (x : State). x.honest) seals.left
+
+  index_stays : t.index ≡ s.index
+  index_stays = ap (λ (x : State). x.index) shows.2.3 ∙ ap (λ (x : State). x.index) seals.left
+
+  is_readable : shown_log.state ≡ Readable
+  is_readable = ap (λ (l : Log). l.state) closed_now
+
+  copy_shown : HasOpenView t.logs job.copy
+  copy_shown = record { log = shown_log; view = shows.2.0; held = shown_now; opened = ap is_open is_readable; view_is = refl }
+
+  -- what was copied is shown
+  filed_shown : IsTrue s.honest → (place : Place) (key : EntryKey) (payload : List ℕ) → place.log ≡ job.copy
+      → HasEntry (file_of s.files) place key payload → HasEntry (open_parts t.logs) place key payload
+  filed_shown honest place key payload here entry =
+      let was : In (place.at, payload) (entries_of (file_of s.files job.copy)) =
+      listed (file_of s.files job.copy) place.at payload key entry.keyed
+      (subst (λ id. In (place.at, payload) (records_of (file_of s.files id))) here entry.stands) in
+      let now : In (place.at, payload) (entries_of (file_of mid.files job.copy)) =
+      subst (In (place.at, payload)) (sym ((seals.sealed honest).entries job.copy)) was in
+      let mid_honest : IsTrue mid.honest = ap (λ (x : State). x.honest) seals.left ∙ honest in
+      let whole : file_of mid.files job.copy ≡ open_parts t.logs job.copy =
+      ap (λ (o : Option (List ℕ)). unwrap_or o []) (shows.2.1 mid_honest).1
+      ∙ sym (shown_part t.logs job.copy shown_log shows.2.0 shown_now (ap is_open is_readable) refl) in
+      record {
+        stands = subst (λ id. In (place.at, payload) (records_of (open_parts t.logs id))) (sym here)
+            (subst (λ (b : List ℕ). In (place.at, payload) (records_of b)) whole (unlisted (file_of mid.files job.copy) place.at payload now));
+        keyed = entry.keyed;
+      }
+
+  pub sealed_keeps : IsJob t (record job { phase = Switch })
+  sealed_keeps =
+      let old = is.out.keeps in
+      let part : open_parts s.logs job.source ≡ open_parts t.logs job.source = sym (part_same s.logs t.logs job.source source_stays) in
+      record {
+        source = in_same s t job.source Readable source_stays old.source;
+        shown = view_same s.logs t.logs job.source source_stays old.shown;
+        copy = record { log = shown_log; held = shown_now; state_is = is_readable };
+        copy_shown = λ _. copy_shown;
+        later = old.later;
+        begun = old.begun;
+        room = λ w writer.
+            absurd (no_writer w (sym (ap (λ (l : Log). l.writer) closed_now) ∙ sym (ap (option_and_then (λ (l : Log). l.writer)) shown_now) ∙ writer));
+        moves = λ m there. let move = old.moves m there in record { from_source = move.from_source; to_copy = move.to_copy };
+        honest = λ honest'.
+            let honest : IsTrue s.honest = sym honest_stays ∙ honest' in
+            let was = old.honest honest in
+            record {
+              read = subst (λ (b : List ℕ). IsReadTo b job.at) part was.read;
+              copied = λ m there.
+                  let entry = was.copied m there in
+                  let filed = subst (λ (p : Phase). HasEntry (copied_in s p) m.to m.key entry.0) is.phase entry.1 in
+                  (entry.0, filed_shown honest m.to m.key entry.0 (old.moves m there).to_copy filed);
+              examined = λ new key place named here.
+                  was.examined new key place (ap (λ (i : Places). finite.get i key) (sym index_stays) ∙ named) here;
+              ended = λ _. subst (λ (b : List ℕ). entries_from b job.at ≡ []) part (all honest);
+            };
+      }
+    where
+      no_writer : (w : writers.Writing) → None ≡ Some w → ⊥
+      no_writer w wrong = cc
+
+-- ---- a move is taken
+
+module _ (s t : State) (job rest : Job) (first : Move) (is : IsOut s job) (phase : job.phase ≡ Switch) (waits : waits_from job first rest) where
+  first_move : In first job.moves
+  first_move = subst (In first) (sym waits.0) (inl refl)
+
+  same_source : rest.source ≡ job.source
+  same_source = ap (λ (x : Job). x.source) waits.1
+
+  pub may_rename : MayRename s first.key first.from first.to
+  may_rename =
+      let old = is.keeps in
+      let move = old.moves first first_move in
+      record {
+        no_job = is.none;
+        later = omega (arith, old.later, move.from_source, move.to_copy);
+        seen = subst (HasOpenView s.logs) (sym move.to_copy) (old.copy_shown phase);
+        stands = λ honest.
+            let entry = (old.honest honest).copied first first_move in
+            (entry.0, subst (λ (p : Phase). HasEntry (copied_in s p) first.to first.key entry.0) phase entry.1);
+      }
+
+  -- of the index and the moves that wait: what the job owes
+  abbrev owes : State → Job → Type 0
+  owes u j = (key : EntryKey) (place : Place) → finite.get u.index key ≡ Some place → place.log ≡ job.source → (job.at < place.at) ⊎ Waits j.moves key place
+
+  module _ (same_logs : t.logs ≡ s.logs) (same_honest : t.honest ≡ s.honest) (same_job : t.job ≡ s.job)
+      (examined : IsTrue s.honest → job.rebuilt ≡ false → owes t rest) where
+    taken_keeps : IsJob t (record job { moves = rest.moves })
+    taken_keeps =
+        let old = is.keeps in
+        let source_stays : finite.get t.logs job.source ≡ finite.get s.logs job.source = ap (λ (l : Logs). finite.get l job.source) same_logs in
+        let copy_stays : finite.get t.logs job.copy ≡ finite.get s.logs job.copy = ap (λ (l : Logs). finite.get l job.copy) same_logs in
+        let part : open_parts s.logs job.source ≡ open_parts t.logs job.source = sym (part_same s.logs t.logs job.source source_stays) in
+        let still : (m : Move) → In m rest.moves → In m job.moves = λ m there. subst (In m) (sym waits.0) (inr there) in
+        record {
+          source = in_same s t job.source Readable source_stays old.source;
+          shown = view_same s.logs t.logs job.source source_stays old.shown;
+          copy = in_same s t job.copy (copy_state job.phase) copy_stays old.copy;
+          copy_shown = λ switch. view_same s.logs t.logs job.copy copy_stays (old.copy_shown switch);
+          later = old.later;
+          begun = old.begun;
+          room = λ w writer. old.room w (sym (ap (option_and_then (λ (l : Log). l.writer)) copy_stays) ∙ writer);
+          moves = λ m there. let move = old.moves m (still m there) in record { from_source = move.from_source; to_copy = move.to_copy };
+          honest = λ honest'.
+              let honest : IsTrue s.honest = sym same_honest ∙ honest' in
+              let was = old.honest honest in
+              record {
+                read = subst (λ (b : List ℕ). IsReadTo b job.at) part was.read;
+                copied = λ m there.
+                    let entry = was.copied m (still m there) in
+                    let shown = subst (λ (p : Phase). HasEntry (copied_in s p) m.to m.key entry.0) phase entry.1 in (
+                      entry.0,
+                      subst (λ (p : Phase). HasEntry (copied_in t p) m.to m.key entry.0) (sym phase)
+                          (subst (λ (l : Logs). HasEntry (open_parts l) m.to m.key entry.0) (sym same_logs) shown),
+                    );
+                examined = λ new. examined honest new;
+                ended = λ switch. subst (λ (b : List ℕ). entries_from b job.at ≡ []) part (was.ended switch);
+              };
+        }
+
+    pub taken_out : IsOut t rest
+    taken_out = record { none = same_job ∙ is.none; keeps = subst (IsJob t) (sym waits.1) taken_keeps }
+
+-- the index was sent on, or was sent elsewhere before
+pub switched_out : (s t : State) (job rest : Job) (first : Move) → IsOut s job → job.phase ≡ Switch → waits_from job first rest → (moved : Bool)
+    → RenameTurn s first.key first.from first.to moved t → IsOut t rest
+switched_out s t job rest first is phase waits true turn =
+    taken_out s t job rest first is phase waits
+    (ap (λ (x : State). x.logs) turn.1) (ap (λ (x : State). x.honest) turn.1) (ap (λ (x : State). x.job) turn.1)
+    (λ honest new key place named here.
+    elim (inserted_cases s.index first.key first.to key place (ap (λ (x : State). finite.get x.index key) (sym turn.1) ∙ named)) [
+      | inl sent ↦
+          let to_copy = (is.keeps.moves first (first_move s t job rest first is phase waits)).to_copy in
+          let log : first.to.log ≡ place.log = ap (λ (p : Place). p.log) sent.1 in
+          absurd (omega (arith, is.keeps.later, to_copy, log, here))
+      | inr old ↦ elim ((is.keeps.honest honest).examined new key place old.1 here) [
+        | inl ahead ↦ inl ahead
+        | inr waiting ↦ elim (subst (In waiting.0) waits.0 waiting.1) [
+          | inr later ↦ inr (waiting.0, later, waiting.2, waiting.3)
+          | inl own ↦ absurd (old.0 (sym waiting.2 ∙ ap (λ (m : Move). m.key) (sym own)))
+        ]
+      ]
+    ])
+switched_out s t job rest first is phase waits false turn =
+    taken_out s t job rest first is phase waits
+    (ap (λ (x : State). x.logs) turn.1) (ap (λ (x : State). x.honest) turn.1) (ap (λ (x : State). x.job) turn.1)
+    (λ honest new key place named here.
+    let named_so : finite.get s.index key ≡ Some place = ap (λ (x : State). finite.get x.index key) (sym turn.1) ∙ named in
+    elim ((is.keeps.honest honest).examined new key place named_so here) [
+      | inl ahead ↦ inl ahead
+      | inr waiting ↦ elim (subst (In waiting.0) waits.0 waiting.1) [
+        | inr later ↦ inr (waiting.0, later, waiting.2, waiting.3)
+        | inl own ↦ absurd (turn.0
+            (ap (finite.get s.index) (ap (λ (m : Move). m.key) own ∙ waiting.2) ∙ named_so
+            ∙ ap Some (sym (ap (λ (m : Move). m.from) own ∙ waiting.3))))
+      ]
+    ])
+
+-- ---- the finish
+
+-- beside an honest disk the index names nothing in the source where every move was taken and no rebuild came
+pub source_unnamed : (s : State) → IsKept s → (job : Job) → IsJob s job → job.phase ≡ Switch → job.moves ≡ [] → job.rebuilt ≡ false → IsTrue s.honest
+    → log_count s.index job.source ≡ 0
+source_unnamed s kept job is phase none new honest = log_count-none s.index job.source (λ key place named here.
+    let was = is.honest honest in
+    elim (was.examined new key place named here) [
+      | inl ahead ↦ none_ahead s kept job honest was.read (was.ended phase) key place named here ahead
+      | inr waits ↦ subst (In waits.0) none waits.1
+    ])

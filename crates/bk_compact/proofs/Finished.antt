@@ -1,0 +1,67 @@
+-- A compaction ends: what its calls owe, and that a source which nobody disturbed is named by no key.
+use Rattle.std.proofs.Common.{◌≡◌, ◌≢◌, ◌⊎◌, ℕ, ◌+◌, ◌<◌, ◌≤◌, IsTrue, List, [], ◌∷◌, take, drop, Option, Some, None, option_map, refl, sym, ap, subst, ◌∙◌, arith}
+use Rattle.std.proofs.lemmas.Option.{none-some}
+use Rattle.std.specs.FinMap as finite
+use Rattle.bk_record.specs.Keyed.{log_count}
+use Rattle.bk_store.specs.Jobs.{Job}
+use Rattle.bk_store.specs.JobKept.{IsJob, copy_state}
+use Rattle.bk_store.specs.Logs.{Log, Logs}
+use Rattle.bk_store.specs.State.{State}
+use Rattle.bk_store.specs.Doors.{IsIn, MaySet}
+use Rattle.bk_store.specs.Plain.{IsKept}
+use Rattle.bk_store.specs.declared.job.Phase.{Phase}
+use Rattle.bk_store.specs.declared.job.Phase.TheVariants.{Copy, Switch}
+use Rattle.bk_store.specs.declared.log.LogState.{LogState}
+use Rattle.bk_store.specs.declared.log.LogState.TheVariants.{Copying, Readable}
+use Rattle.bk_compact.specs.Compacting.{IsRunning, IsSwitched, IsUndisturbed, with_job}
+use Rattle.bk_compact.specs.Going.{IsOut}
+use Rattle.bk_store.proofs.JobStays.{job_stays, stays_same}
+use Rattle.bk_compact.proofs.Ended.{source_unnamed}
+
+-- the job that a store has is kept
+pub kept_job : (s : State) → IsKept s → (job : Job) → s.job ≡ Some job → IsJob s job
+kept_job s kept = subst (λ (t : State). (job : Job) → t.job ≡ Some job → IsJob t job) kept.seen kept.keeps.job
+
+-- and so it is when it is taken out
+pub taken_out : (s t : State) → IsKept s → (job : Job) → s.job ≡ Some job → t ≡ with_job s None → IsOut t job
+taken_out s t kept job runs out = record {
+  none = ap (λ (x : State). x.job) out;
+  keeps = job_stays s t job
+      (stays_same s t job (ap (λ (x : State). x.honest) out) (ap (λ (x : State). x.logs) out) (ap (λ (x : State). x.index) out)
+      (λ _. ap (λ (x : State). x.files) out))
+      (kept_job s kept job runs);
+}
+
+-- the copy of a job that was taken out while entries are copied may become Readable
+pub may_abandon : (s t : State) → IsKept s → (job : Job) → IsRunning s Copy job → t ≡ with_job s None → (id : ℕ) → id ≡ job.copy → MaySet t id Readable
+may_abandon s t kept job running out id own =
+    let copy = (kept_job s kept job running.runs).copy in
+    let state : copy_state job.phase ≡ Copying = ap copy_state running.phase_is in (
+      record {
+        log = copy.log;
+        held = ap (λ (l : Logs). finite.get l id) (ap (λ (x : State). x.logs) out) ∙ ap (finite.get s.logs) own ∙ copy.held;
+        state_is = copy.state_is ∙ state;
+      },
+      (λ j runs. absurd (none-some j (sym (ap (λ (x : State). x.job) out) ∙ runs))),
+    )
+
+-- beside an honest disk no key is sent to the source of a compaction that only has to be finished, and whose index was not made anew
+pub undisturbed_unnamed : (s : State) → IsKept s → (source : ℕ) → IsUndisturbed s source → IsTrue s.honest → log_count s.index source ≡ 0
+undisturbed_unnamed s kept source is honest =
+    ap (log_count s.index) (sym is.source_is)
+    ∙ source_unnamed s kept is.job (kept_job s kept is.job is.switched.running.runs) is.switched.running.phase_is is.switched.none is.kept honest
+
+-- so it is not told to be named
+pub still_named : (s : State) → IsKept s → (job : Job) → s.job ≡ Some job → (named : ℕ) → 0 < named
+    → Some named ≡ option_map (λ (_ : Log). log_count s.index job.source) (finite.get s.logs job.source)
+    → IsTrue s.honest → (source : ℕ) → IsUndisturbed s source → ⊥
+still_named s kept job runs named some is honest source whole =
+    let one : Some job ≡ Some whole.job = sym runs ∙ whole.switched.running.runs in
+    let same : job ≡ whole.job = cc in
+    let here : job.source ≡ source = ap (λ (j : Job). j.source) same ∙ whole.source_is in
+    let none = undisturbed_unnamed s kept source whole honest in
+    counted (finite.get s.logs job.source) (ap (log_count s.index) here ∙ none) is
+  where
+    counted : (o : Option Log) → log_count s.index job.source ≡ 0 → Some named ≡ option_map (λ (_ : Log). log_count s.index job.source) o → ⊥
+    counted None zero wrong = cc
+    counted (Some l) zero same = let equal : named ≡ log_count s.index job.source = cc in omega (arith, equal, zero, some)

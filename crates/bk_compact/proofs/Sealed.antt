@@ -1,0 +1,80 @@
+-- The copy is sealed and shown, the job being out of the store.
+use Rattle.std.proofs.Common.{◌≡◌, ◌⊎◌, inl, inr, ℕ, ◌+◌, ◌<◌, ◌≤◌, true, false, IsTrue, List, [], length, Option, Some, None, Result, Ok, Err, refl, sym, ap, subst, ◌∙◌, arith}
+use Rattle.std.proofs.lemmas.Option.{none-some}
+use Rattle.std.specs.FinMap as finite
+use Rattle.bk_log.specs.declared.fault.LogFault.{LogFault}
+use Rattle.bk_store.specs.Jobs.{Job}
+use Rattle.bk_store.specs.JobKept.{IsJob}
+use Rattle.bk_store.specs.Logs.{Log, Logs, closed_log}
+use Rattle.bk_store.specs.State.{State}
+use Rattle.bk_store.specs.Doors.{IsIn, MayShow, Seals, ShowTurn}
+use Rattle.bk_store.specs.Plain.{IsKept}
+use Rattle.bk_store.specs.declared.job.Phase.TheVariants.{Copy, Switch}
+use Rattle.bk_store.specs.declared.log.LogState.TheVariants.{Readable}
+use Rattle.bk_store.proofs.LogMaps.{log-inserted}
+use Rattle.bk_compact.specs.Compacting.{IsRunning, EndTurn, SealsCopy, ShowsCopy, entries_left, told, with_job}
+use Rattle.bk_compact.specs.Going.{IsAtEnd, IsCopying}
+use Rattle.bk_compact.specs.declared.answer.EndAnswer.TheVariants as ends
+use Rattle.bk_compact.specs.declared.answer.CompactFault.{CompactFault}
+use Rattle.bk_compact.proofs.Ended.{sealed_keeps}
+use Rattle.bk_compact.proofs.Finished.{taken_out}
+
+-- a log that was just sealed may be shown, where no job has it
+pub may_show_sealed : (s mid : State) (id : ℕ) → s.job ≡ None → Seals s id Readable (Ok tt) mid → MayShow mid id
+may_show_sealed s mid id none seals =
+    let held : finite.get mid.logs id ≡ Some (closed_log Readable seals.log) =
+    ap (λ (x : State). finite.get x.logs id) seals.left ∙ log-inserted s.logs id (closed_log Readable seals.log) id refl in
+    record {
+      open_is = record { log = closed_log Readable seals.log; held = held; opened = refl };
+      idle = λ job runs. absurd (none-some job (sym none ∙ sym (ap (λ (x : State). x.job) seals.left) ∙ runs));
+    }
+
+module _ (s out : State) (kept : IsKept s) (job own : Job) (running : IsRunning s Copy job) (same : own ≡ job) (left : out ≡ with_job s None)
+    (all : IsAtEnd s job true) (id : ℕ) (copy_is : id ≡ own.copy) where
+  own_runs : s.job ≡ Some own
+  own_runs = running.runs ∙ ap (λ (j : Job). Some j) (sym same)
+
+  copying : IsCopying out own
+  copying = record { out = taken_out s out kept own own_runs left; phase = ap (λ (j : Job). j.phase) same ∙ running.phase_is }
+
+  none_left : IsTrue out.honest → entries_left out own ≡ []
+  none_left honest = (λ i. entries_left (left i) (same i)) ∙ all (sym (ap (λ (x : State). x.honest) left) ∙ honest)
+
+  -- with the copy sealed and shown the job is kept
+  pub switch_keeps : (mid t : State) → Seals out id Readable (Ok tt) mid → ShowTurn mid id (Ok tt) t → (next : Job) → next ≡ record own { phase = Switch } → IsJob t next
+  switch_keeps mid t seals shows next begins =
+      subst (IsJob t) (sym begins)
+      (sealed_keeps out mid t own copying none_left (subst (λ n. Seals out n Readable (Ok tt) mid) copy_is seals)
+      (subst (λ n. ShowTurn mid n (Ok tt) t) copy_is shows))
+
+  copy_same : id ≡ job.copy
+  copy_same = copy_is ∙ ap (λ (j : Job). j.copy) same
+
+  pub seals_copy : (result : Result (Unit {0}) LogFault) (mid : State) → Seals out id Readable result mid → SealsCopy s job result mid
+  seals_copy result mid seals = record {
+    all = all;
+    sealed = subst (λ x. Seals x job.copy Readable result mid) left (subst (λ n. Seals out n Readable result mid) copy_same seals);
+  }
+
+  pub shows_copy : (result : Result (Unit {0}) LogFault) (mid t : State) → Seals out id Readable (Ok tt) mid → ShowTurn mid id result t → ShowsCopy s job result t
+  shows_copy result mid t seals shows = (mid, seals_copy (Ok tt) mid seals, subst (λ n. ShowTurn mid n result t) copy_same shows)
+
+  pub ended : (mid shown t : State) → Seals out id Readable (Ok tt) mid → ShowTurn mid id (Ok tt) shown → (next : Job) → next ≡ record own { phase = Switch }
+      → t ≡ record shown { job = Some next } → (k : ℕ) → k ≡ length next.moves → EndTurn s (Ok (ends.Ended k)) t
+  ended mid shown t seals shows next begins set k count = (
+    job,
+    running,
+    count ∙ ap (λ (j : Job). length j.moves) (begins ∙ ap (λ (j : Job). record j { phase = Switch }) same),
+    (
+      shown,
+      shows_copy (Ok tt) mid shown seals shows,
+      set ∙ ap (λ (j : Job). record shown { job = Some j }) (begins ∙ ap (λ (j : Job). record j { phase = Switch }) same),
+    ),
+  )
+
+  pub not_sealed : (cause : LogFault) (fault : CompactFault) (t : State) → fault ≡ told cause → Seals out id Readable (Err cause) t → EndTurn s (Err fault) t
+  not_sealed cause fault t told_so seals = (job, running, inr (cause, told_so, inl (seals_copy (Err cause) t seals)))
+
+  pub not_shown : (cause : LogFault) (fault : CompactFault) (mid t : State) → fault ≡ told cause → Seals out id Readable (Ok tt) mid
+      → ShowTurn mid id (Err cause) t → EndTurn s (Err fault) t
+  not_shown cause fault mid t told_so seals shows = (job, running, inr (cause, told_so, inr (shows_copy (Err cause) mid t seals shows)))

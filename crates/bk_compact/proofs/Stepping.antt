@@ -1,0 +1,510 @@
+-- Entries are examined one after another, as a scan of the source gives them.
+use Rattle.std.proofs.Common.{◌≡◌, ◌≢◌, ◌⊎◌, inl, inr, ℕ, zero, suc, ◌+◌, ◌-◌, ◌<◌, ◌≤◌, ◌^◌, Bool, true, false, cond, if◌then◌else◌, IsTrue, List, [], ◌∷◌, ◌++◌, length, take, drop, slice_get, not, is_some, Option, Some, None, Result, Ok, Err, refl, sym, ap, subst, ◌∙◌, arith, length-append}
+use Rattle.std.specs.Option.{option_and_then}
+use Rattle.std.proofs.lemmas.List.{take_all}
+use Rattle.std.specs.FinMap as finite
+use Rattle.bk_disk.specs.Disk.{view_end}
+use Rattle.bk_record.specs.Body.{IsBadAt}
+use Rattle.bk_log.specs.Growing.{HasNoBadLength}
+use Rattle.bk_log.specs.Ranges.{entries_in, part}
+use Rattle.bk_log.specs.Scanned.{new_scan}
+use Rattle.bk_log.specs.Scanning.{Scan, IsWithin, NextMoves, NextTurn, part_of}
+use Rattle.bk_log.specs.declared.found.Found.{Found}
+use Rattle.bk_log.specs.declared.fault.ScanFault.{ScanFault}
+use Rattle.bk_log.specs.declared.fault.ScanFault.TheVariants as scans
+use Rattle.bk_log.specs.declared.fault.LogFault.TheVariants as log_faults
+use Rattle.bk_store.specs.Logs.{Log, Logs, View, last_view, open_parts}
+use Rattle.bk_store.specs.State.{State}
+use Rattle.bk_store.specs.Jobs.{Job}
+use Rattle.bk_store.specs.JobKept.{IsJob, IsReadTo, entries_from}
+use Rattle.bk_store.specs.Doors.{SetTurn}
+use Rattle.bk_store.specs.Plain.{IsKept}
+use Rattle.bk_store.specs.declared.job.Phase.TheVariants.{Copy, Switch}
+use Rattle.bk_store.specs.declared.log.LogState.TheVariants.{Readable}
+use Rattle.bk_store.proofs.LogMaps.{log-insert_else}
+use Rattle.bk_store.proofs.JobStays.{job_stays, stays_same}
+use Rattle.bk_compact.specs.declared.entries.Stopped.{Stopped}
+use Rattle.bk_compact.specs.declared.entries.Stopped.TheVariants as stops
+use Rattle.bk_compact.specs.Compacting.{AreFound, Copies, Examines, ExaminesAll, HasUnsoundSource, IsFound, ReadFails, Steps, behind, entries_left, place_of, with_job}
+use Rattle.bk_compact.specs.Going.{CopiesAll, ExaminesOne, IsAhead, IsAtEnd, IsCopying, IsNextFound, IsOut, ScansFrom, Stays, StopsAt, told_after, told_read}
+use Rattle.bk_compact.proofs.Positions.{none_bad}
+use Rattle.bk_compact.proofs.Stored.{dishonest, scan_found, scan_come, scan_taken, shown_last, source_bytes, source_honest, source_spelled, source_unhonest}
+
+-- ---- one entry more
+
+pub found_push : (entries : List (ℕ × List ℕ)) (founds : List Found) (entry : ℕ × List ℕ) (found : Found) → AreFound entries founds → IsFound entry found
+    → AreFound (entries ++ entry ∷ []) (founds ++ found ∷ [])
+found_push [] [] entry found all is = (is, tt)
+found_push [] (f ∷ founds) entry found all is = absurd all
+found_push (e ∷ entries) [] entry found all is = absurd all
+found_push (e ∷ entries) (f ∷ founds) entry found all is = (all.0, found_push entries founds entry found all.1 is)
+
+abbrev pub one : Bool → ℕ
+one is_copied = if is_copied then 1 else 0
+
+pub examined_push : (s : State) (job : Job) (founds : List Found) (copied : ℕ) (mid : State) (next : Job) (found : Found) (is_copied : Bool) (t : State) (after : Job)
+    → ExaminesAll s job founds copied mid next → Examines mid next found is_copied t after
+    → ExaminesAll s job (founds ++ found ∷ []) (copied + one is_copied) t after
+examined_push s job [] copied mid next found is_copied t after all last =
+    let here : Examines s job found is_copied t after =
+    subst (λ (j : Job). Examines s j found is_copied t after) all.2 (subst (λ (u : State). Examines u next found is_copied t after) all.1 last) in
+    (is_copied, (t, (after, here, (0, omega (arith, all.0), (refl, refl, refl)))))
+examined_push s job (f ∷ founds) copied mid next found is_copied t after all last =
+    let rest = all.1.1.2 in (
+      all.0,
+      (
+        all.1.0,
+        (
+          all.1.1.0,
+          all.1.1.1,
+          (
+            rest.0 + one is_copied,
+            omega (arith, rest.1),
+            examined_push all.1.0 all.1.1.0 founds rest.0 mid next found is_copied t after rest.2 last,
+          ),
+        ),
+      ),
+    )
+
+-- no more were copied than were examined
+pub copied_few : (s : State) (job : Job) (founds : List Found) (copied : ℕ) (t : State) (after : Job) → ExaminesAll s job founds copied t after
+    → copied ≤ length founds
+copied_few s job [] copied t after all = omega (arith, all.0)
+copied_few s job (f ∷ founds) copied t after all =
+    let rest = all.1.1.2 in
+    let few = copied_few all.1.0 all.1.1.0 founds rest.0 t after rest.2 in
+    omega (arith, rest.1, few, at_most all.0)
+  where
+    at_most : (b : Bool) → one b ≤ 1
+    at_most true = omega arith
+    at_most false = omega arith
+
+pub out_same : (s : State) → s.job ≡ None → s ≡ with_job s None
+out_same s none = ap (λ j. with_job s j) none
+
+pub stays_on : (s t u : State) → Stays s t → Stays t u → Stays s u
+stays_on s t u first second = record {
+  honest = second.honest ∙ first.honest;
+  meaning = λ honest key. second.meaning (first.honest ∙ honest) key ∙ first.meaning honest key;
+}
+
+pub stays_itself : (s : State) → Stays s s
+stays_itself s = record { honest = refl; meaning = λ _ key. refl }
+
+-- ---- the copying so far
+
+-- So many entries were examined, as the scan gave them, which is one of what the source shows from where the job was.
+pub record IsGoing (view : View) (s : State) (job : Job) (number : ℕ) (scan : Scan) (copied : ℕ) (t : State) (after : Job) : Type 0 where
+  pub copying : IsCopying t after
+  pub steps : Steps s job number copied t after
+  pub long : length steps.founds ≡ number
+  pub last : last_view t.logs after.source ≡ Some view
+  pub was : last_view s.logs job.source ≡ Some view
+  pub source : after.source ≡ job.source
+  pub copy : after.copy ≡ job.copy
+  pub stays : Stays s t
+  pub from : scan.from ≡ job.at
+  pub file : scan.file ≡ view.bytes
+  pub is_honest : scan.honest ≡ view.is_honest
+  pub is_sound : scan.sound ≡ view.is_sound
+  pub fits : scan.end < 2 ^ 64
+  pub whole : IsTrue view.is_honest → scan.end ≡ view_end view.bytes
+  pub given : scan.given ≡ number
+  pub placed : after.at + scan.left ≤ scan.end
+  pub parts : open_parts s.logs job.source ≡ view.bytes
+  pub truth : IsTrue s.honest → IsTrue view.is_honest
+  pub read : IsTrue s.honest → IsReadTo view.bytes job.at
+  pub come : IsTrue s.honest → entries_from view.bytes after.at ≡ drop scan.given (entries_from view.bytes job.at)
+
+pub going_starts : (view : View) (s : State) → IsKept s → (job : Job) → (is : IsCopying s job) → last_view s.logs job.source ≡ Some view
+    → (scan : Scan) → ScansFrom view.bytes view.is_honest view.is_sound job.at scan → IsGoing view s job 0 scan 0 s job
+going_starts view s kept job is last scan scans =
+    let parts = source_bytes s kept job is.out.keeps view last in
+    let file = ap (λ (x : Scan). x.file) scans.is in
+    let end : scan.end ≡ scans.end = ap (λ (x : Scan). x.end) scans.is in
+    let left : scan.left ≡ scans.end - job.at = ap (λ (x : Scan). x.left) scans.is in
+    let given : scan.given ≡ 0 = ap (λ (x : Scan). x.given) scans.is in
+    record {
+      copying = is;
+      steps = record {
+        founds = [];
+        bound = omega arith;
+        first = λ _. tt;
+        examined = (refl, out_same s is.out.none, refl);
+      };
+      long = refl;
+      last = last;
+      was = last;
+      source = refl;
+      copy = refl;
+      stays = stays_itself s;
+      from = ap (λ (x : Scan). x.from) scans.is;
+      file = file;
+      is_honest = ap (λ (x : Scan). x.honest) scans.is;
+      is_sound = ap (λ (x : Scan). x.sound) scans.is;
+      fits = omega (arith, end, scans.fits);
+      whole = λ truth. end ∙ scans.whole truth;
+      given = given;
+      placed = omega (arith, end, left, scans.later);
+      parts = parts;
+      truth = source_honest s kept job is.out.keeps view last;
+      read = λ honest. subst (λ (b : List ℕ). IsReadTo b job.at) parts (is.out.keeps.honest honest).read;
+      come = λ _. ap (λ n. drop n (entries_from view.bytes job.at)) (sym given);
+    }
+
+module _ (view : View) (s : State) (job : Job) (number : ℕ) (scan : Scan) (copied : ℕ) (t : State) (kept : IsKept t) (after : Job)
+    (so_far : IsGoing view s job number scan copied t after) where
+  was_honest : IsTrue t.honest → IsTrue s.honest
+  was_honest honest = sym so_far.stays.honest ∙ honest
+
+  view_truth : IsTrue t.honest → IsTrue scan.honest
+  view_truth honest = so_far.is_honest ∙ so_far.truth (was_honest honest)
+
+  ends : IsTrue t.honest → scan.end ≡ view_end scan.file
+  ends honest = so_far.whole (so_far.truth (was_honest honest)) ∙ ap view_end (sym so_far.file)
+
+  scan_read : IsTrue t.honest → IsReadTo scan.file scan.from
+  scan_read honest =
+      subst (λ (b : List ℕ). IsReadTo b scan.from) (sym so_far.file) (subst (IsReadTo view.bytes) (sym so_far.from) (so_far.read (was_honest honest)))
+
+  -- the entries that were left when the copying began
+  all_left : entries_from scan.file scan.from ≡ entries_left s job
+  all_left = ap (λ (b : List ℕ). entries_from b scan.from) (so_far.file ∙ sym so_far.parts) ∙ ap (entries_from (open_parts s.logs job.source)) so_far.from
+
+  -- ---- an entry was found
+
+  module _ (found : Found) (scan' : Scan) (moves : NextMoves scan (Ok (Some found)) scan') (turn : IsTrue scan.honest → NextTurn scan (Ok (Some found)) scan') where
+    next_found : IsTrue t.honest → IsNextFound scan.file after.at found
+    next_found honest =
+        scan_found scan scan'.foreign found (ends honest) (scan_read honest) (turn (view_truth honest)) after.at
+        (ap (λ (b : List ℕ). entries_from b after.at) so_far.file ∙ so_far.come (was_honest honest)
+        ∙ ap (λ (b : List ℕ). drop scan.given (entries_from b job.at)) (sym so_far.file) ∙ ap (λ n. drop scan.given (entries_from scan.file n)) (sym so_far.from))
+
+    pub going_ahead : IsAhead t after found
+    going_ahead =
+        let within = moves.1 in
+        record {
+          long = within.long;
+          ahead = omega (arith, within.ends, within.fewer, so_far.placed);
+          fits = omega (arith, within.ends, within.long, so_far.fits);
+          next = λ honest.
+              subst (λ (b : List ℕ). IsNextFound b after.at found)
+              (so_far.file ∙ sym (source_bytes t kept after so_far.copying.out.keeps view so_far.last)) (next_found honest);
+        }
+
+    -- and examined
+    module _ (is_copied : Bool) (u : State) (later : Job) (examined : ExaminesOne t after found (Ok is_copied) u later) (stays : Stays t u) where
+      same_source : (b : Bool) → Examines t after found b u later → (later.source ≡ after.source) × (later.copy ≡ after.copy) × (later.at ≡ behind found)
+          × (last_view u.logs after.source ≡ last_view t.logs after.source)
+      same_source true turn' =
+          let copies = turn'.1.1 in
+          let put = copies.put in
+          let apart : after.source ≢ after.copy = λ same. omega (arith, so_far.copying.out.keeps.later, same) in (
+            ap (λ (j : Job). j.source) turn'.1.2,
+            ap (λ (j : Job). j.copy) turn'.1.2,
+            ap (λ (j : Job). j.at) turn'.1.2,
+            ap (λ (l : Logs). last_view l after.source) (ap (λ (x : State). x.logs) put.1.4)
+                ∙ ap (option_and_then (λ (l : Log). l.view)) (log-insert_else t.logs after.copy _ after.source apart),
+          )
+      same_source false turn' = (
+        ap (λ (j : Job). j.source) turn'.2,
+        ap (λ (j : Job). j.copy) turn'.2,
+        ap (λ (j : Job). j.at) turn'.2,
+        ap (λ (x : State). last_view x.logs after.source) turn'.1,
+      )
+
+      pub going_on : IsGoing view s job (number + 1) scan' (copied + one is_copied) u later
+      going_on =
+          let same = same_source is_copied examined.0 in
+          let within = moves.1 in
+          let shape = moves.2 in
+          let end : scan'.end ≡ scan.end = ap (λ (x : Scan). x.end) shape in
+          let file : scan'.file ≡ scan.file = ap (λ (x : Scan). x.file) shape in
+          let from : scan'.from ≡ scan.from = ap (λ (x : Scan). x.from) shape in
+          let given : scan'.given ≡ scan.given + 1 = ap (λ (x : Scan). x.given) shape in
+          let size : length (so_far.steps.founds ++ found ∷ []) ≡ number + 1 =
+          omega (arith, length-append so_far.steps.founds (found ∷ []), so_far.long) in
+          let back : IsTrue s.honest → IsTrue t.honest = λ honest. so_far.stays.honest ∙ honest in
+          record {
+            copying = examined.1;
+            steps = record {
+              founds = so_far.steps.founds ++ found ∷ [];
+              bound = omega (arith, size);
+              first = λ honest.
+                  let is = turn (view_truth (back honest)) in
+                  let taken = scan_taken scan scan'.foreign found (ends (back honest)) (scan_read (back honest)) is in
+                  let count : length so_far.steps.founds ≡ scan.given = so_far.long ∙ sym so_far.given in
+                  let before : AreFound (take scan.given (entries_from scan.file scan.from)) so_far.steps.founds =
+                  subst (λ n. AreFound (take n (entries_from scan.file scan.from)) so_far.steps.founds) count
+                  (subst (λ (l : List (ℕ × List ℕ)). AreFound (take (length so_far.steps.founds) l) so_far.steps.founds) (sym all_left)
+                  (so_far.steps.first honest)) in
+                  let pushed = found_push (take scan.given (entries_from scan.file scan.from)) so_far.steps.founds (found.at, is.payload) found before
+                  (record { at_is = refl; keyed = is.stands.keyed; sized = is.sized }) in
+                  let all : AreFound (take (scan.given + 1) (entries_from scan.file scan.from)) (so_far.steps.founds ++ found ∷ []) =
+                  subst (λ (l : List (ℕ × List ℕ)). AreFound l (so_far.steps.founds ++ found ∷ [])) (sym taken) pushed in
+                  let count' : scan.given + 1 ≡ length (so_far.steps.founds ++ found ∷ []) = omega (arith, size, so_far.given) in
+                  subst (λ n. AreFound (take n (entries_left s job)) (so_far.steps.founds ++ found ∷ [])) count'
+                  (subst (λ (l : List (ℕ × List ℕ)). AreFound (take (scan.given + 1) l) (so_far.steps.founds ++ found ∷ [])) all_left all);
+              examined = examined_push (with_job s None) job so_far.steps.founds copied t after found is_copied u later so_far.steps.examined examined.0;
+            };
+            long = size;
+            last = ap (λ n. last_view u.logs n) same.0 ∙ same.3 ∙ so_far.last;
+            was = so_far.was;
+            source = same.0 ∙ so_far.source;
+            copy = same.1 ∙ so_far.copy;
+            stays = stays_on s t u so_far.stays stays;
+            from = from ∙ so_far.from;
+            file = file ∙ so_far.file;
+            is_honest = ap (λ (x : Scan). x.honest) shape ∙ so_far.is_honest;
+            is_sound = ap (λ (x : Scan). x.sound) shape ∙ so_far.is_sound;
+            fits = omega (arith, end, so_far.fits);
+            whole = λ truth. end ∙ so_far.whole truth;
+            given = omega (arith, given, so_far.given);
+            placed = omega (arith, end, same.2, within.ends, within.long);
+            parts = so_far.parts;
+            truth = so_far.truth;
+            read = so_far.read;
+            come = λ honest.
+                let is = turn (view_truth (back honest)) in
+                let come = scan_come scan scan'.foreign found (ends (back honest)) (scan_read (back honest)) is in
+                ap (entries_from view.bytes) same.2 ∙ ap (λ (b : List ℕ). entries_from b (behind found)) (sym so_far.file) ∙ come
+                ∙ ap (λ n. drop n (entries_from scan.file scan.from)) (sym given)
+                ∙ ap (λ (b : List ℕ). drop scan'.given (entries_from b scan.from)) so_far.file
+                ∙ ap (λ n. drop scan'.given (entries_from view.bytes n)) so_far.from;
+          }
+
+    -- or it was refused
+    module _ (stopped : Stopped) (u : State) (later : Job) (n : ℕ) (within_n : number ≤ n) where
+      pub going_stops : StopsAt t after found stopped u later → CopiesAll s job n (Err (told_after copied stopped)) u later
+      going_stops = by stopped
+        where
+          steps_n : Steps s job n copied t after
+          steps_n = record {
+            founds = so_far.steps.founds;
+            bound = omega (arith, so_far.long, within_n);
+            first = so_far.steps.first;
+            examined = so_far.steps.examined;
+          }
+
+          unsound : HasUnsoundSource t after → HasUnsoundSource s job
+          unsound is = (is.0, so_far.was ∙ sym so_far.last ∙ is.1, is.2)
+
+          by : (r : Stopped) → StopsAt t after found r u later → CopiesAll s job n (Err (told_after copied r)) u later
+          by (stops.Memory done) turn' = (
+            (t, subst (Steps s job n copied t) (sym turn'.2) steps_n, turn'.0, turn'.1),
+            subst (IsOut u) (sym turn'.2) (record {
+              none = ap (λ (x : State). x.job) turn'.1 ∙ so_far.copying.out.none;
+              keeps = job_stays t u after
+                  (stays_same t u after (ap (λ (x : State). x.honest) turn'.1) (ap (λ (x : State). x.logs) turn'.1) (ap (λ (x : State). x.index) turn'.1) turn'.0)
+                  so_far.copying.out.keeps;
+            }),
+          )
+          by stops.Unread turn' = (
+            (copied, subst (λ (x : State). Steps s job n copied x later) (sym turn'.1) (subst (Steps s job n copied t) (sym turn'.2) steps_n)),
+            unsound turn'.0,
+            subst (λ (x : State). IsOut x later) (sym turn'.1) (subst (IsOut t) (sym turn'.2) so_far.copying.out),
+          )
+          by stops.Failed turn' = (copied, (t, (after, steps_n, (found, (turn'.0, turn'.1)))))
+          by stops.Odd turn' = (
+            sym so_far.stays.honest ∙ turn'.0,
+            (
+              copied,
+              (
+                t,
+                (
+                  after,
+                  steps_n,
+                  elim turn'.1 [
+                    | inl set ↦ inl (subst (λ (n' : ℕ). SetTurn t n' Readable u) so_far.copy set)
+                    | inr put ↦ inr (found, (put.0, put.1))
+                  ],
+                ),
+              ),
+            ),
+          )
+
+  -- ---- no entry was found
+
+  module _ (n : ℕ) (within_n : number ≤ n) where
+    steps_at : Steps s job n copied t after
+    steps_at = record {
+      founds = so_far.steps.founds;
+      bound = omega (arith, so_far.long, within_n);
+      first = so_far.steps.first;
+      examined = so_far.steps.examined;
+    }
+
+    -- so many were examined as were to be
+    pub going_done : number ≡ n → CopiesAll s job n (Ok copied) t after
+    unfolding steps_at
+    going_done all = (
+      (
+        steps_at,
+        λ honest. subst (λ k. AreFound (take k (entries_left s job)) so_far.steps.founds) (so_far.long ∙ all) (so_far.steps.first honest),
+      ),
+      so_far.copying.out,
+    )
+
+    -- none is left
+    pub going_ends : (scan' : Scan) → NextMoves scan (Ok None) scan' → (IsTrue scan.honest → NextTurn scan (Ok None) scan')
+        → CopiesAll s job n (Ok copied) t after
+    unfolding steps_at
+    going_ends scan' moves turn = (
+      (
+        steps_at,
+        λ honest.
+            let is = turn (view_truth (so_far.stays.honest ∙ honest)) in
+            let shape = moves.1 in
+            let list : entries_in scan'.from (part_of scan') ≡ entries_left s job =
+            (λ i. entries_in (ap (λ (x : Scan). x.from) shape i)
+            (part (ap (λ (x : Scan). x.file) shape i) (ap (λ (x : Scan). x.from) shape i) (ap (λ (x : Scan). x.end) shape i)))
+            ∙ ap (λ k. entries_in scan.from (part scan.file scan.from k)) (ends (so_far.stays.honest ∙ honest)) ∙ all_left in
+            let count : scan'.given ≡ length (entries_left s job) = is.given ∙ ap length list in
+            let same : scan'.given ≡ scan.given = ap (λ (x : Scan). x.given) shape in
+            let all : length so_far.steps.founds ≡ length (entries_left s job) = so_far.long ∙ sym so_far.given ∙ sym same ∙ count in
+            subst (λ (l : List (ℕ × List ℕ)). AreFound l so_far.steps.founds)
+            (take_all (length so_far.steps.founds) (entries_left s job) (omega (arith, all))
+            ∙ sym (take_all n (entries_left s job) (omega (arith, all, so_far.long, within_n))))
+            (so_far.steps.first honest),
+      ),
+      so_far.copying.out,
+    )
+
+    -- the source could not be read
+    pub going_memory : CopiesAll s job n (Err (stops.Memory copied)) t after
+    going_memory = ((t, steps_at, (λ _. refl), refl), so_far.copying.out)
+
+    pub going_unread : scan.sound ≡ false → CopiesAll s job n (Err stops.Unread) t after
+    going_unread unsound = ((copied, steps_at), (view, so_far.was, sym so_far.is_sound ∙ unsound), so_far.copying.out)
+
+    -- the disk is odd
+    pub going_odd : (u : State) (later : Job) → t.honest ≡ false → SetTurn t after.copy Readable u → CopiesAll s job n (Err stops.Odd) u later
+    going_odd u later odd set = (
+      sym so_far.stays.honest ∙ odd,
+      (copied, (t, (after, steps_at, inl (subst (λ (n' : ℕ). SetTurn t n' Readable u) so_far.copy set)))),
+    )
+
+  -- what an honest view never answers
+  pub never_bad : (at : ℕ) (value : _) (scan' : Scan) → NextMoves scan (Err (scans.BadLength at value)) scan'
+      → (IsTrue scan.honest → NextTurn scan (Err (scans.BadLength at value)) scan') → t.honest ≡ false
+  never_bad at value scan' moves turn = dishonest t.honest (λ honest.
+      let bad = (turn (view_truth honest)).1 in
+      let list : part_of scan' ≡ part scan.file scan.from (view_end scan.file) =
+      (λ i. part (ap (λ (x : Scan). x.file) moves i) (ap (λ (x : Scan). x.from) moves i) (ap (λ (x : Scan). x.end) moves i))
+      ∙ ap (part scan.file scan.from) (ends honest) in
+      let spelled = source_spelled t kept after so_far.copying.out.keeps view so_far.last honest in
+      none_bad scan.file scan.from (scan_read honest) (subst HasNoBadLength (sym so_far.file) spelled) at value
+      (subst (λ (b : List ℕ). IsBadAt scan.from b at value) list
+      (subst (λ n. IsBadAt n (part_of scan') at value) (ap (λ (x : Scan). x.from) moves) bad)))
+
+  pub never_odd : (scan' : Scan) → (IsTrue scan.honest → NextTurn scan (Err scans.Odd) scan') → t.honest ≡ false
+  never_odd scan' turn = dishonest t.honest (λ honest. turn (view_truth honest))
+
+-- ---- the scan does not begin
+
+module _ (view : View) (s : State) (kept : IsKept s) (job : Job) (is : IsCopying s job) (last : last_view s.logs job.source ≡ Some view)
+    (before : IsTrue view.is_honest → view_end view.bytes < job.at) where
+  pub view_short : s.honest ≡ false
+  view_short = dishonest s.honest (λ honest.
+      let read = (is.out.keeps.honest honest).read in
+      let within : job.at ≤ view_end view.bytes =
+      subst (λ (b : List ℕ). job.at ≤ view_end b) (source_bytes s kept job is.out.keeps view last) read.within in
+      omega (arith, within, before (source_honest s kept job is.out.keeps view last honest)))
+
+  pub short_odd : (n : ℕ) (u : State) (later : Job) → SetTurn s job.copy Readable u → CopiesAll s job n (Err stops.Odd) u later
+  short_odd n u later set = (
+    view_short,
+    (
+      0,
+      (
+        s,
+        (
+          job,
+          record { founds = []; bound = omega arith; first = λ _. tt; examined = (refl, out_same s is.out.none, refl) },
+          inl set,
+        ),
+      ),
+    ),
+  )
+
+-- ---- whether an entry is left
+
+module _ (view : View) (s : State) (kept : IsKept s) (job : Job) (is : IsJob s job) (last : last_view s.logs job.source ≡ Some view)
+    (scan : Scan) (begins : ScansFrom view.bytes view.is_honest view.is_sound job.at scan) where
+  first_truth : IsTrue s.honest → IsTrue scan.honest
+  first_truth honest = ap (λ (x : Scan). x.honest) begins.is ∙ source_honest s kept job is view last honest
+
+  first_file : scan.file ≡ view.bytes
+  first_file = ap (λ (x : Scan). x.file) begins.is
+
+  first_ends : IsTrue s.honest → scan.end ≡ view_end scan.file
+  first_ends honest = ap (λ (x : Scan). x.end) begins.is ∙ begins.whole (source_honest s kept job is view last honest) ∙ ap view_end (sym first_file)
+
+  first_list : entries_from scan.file scan.from ≡ entries_left s job
+  first_list = ap (λ (b : List ℕ). entries_from b scan.from) (first_file ∙ sym (source_bytes s kept job is view last))
+      ∙ ap (entries_from (open_parts s.logs job.source)) (ap (λ (x : Scan). x.from) begins.is)
+
+  part_list : IsTrue s.honest → entries_in scan.from (part_of scan) ≡ entries_left s job
+  part_list honest = ap (λ k. entries_in scan.from (part scan.file scan.from k)) (first_ends honest) ∙ first_list
+
+  none_given : scan.given ≡ 0
+  none_given = ap (λ (x : Scan). x.given) begins.is
+
+  pub at_end_none : (scan' : Scan) → NextMoves scan (Ok None) scan' → (IsTrue scan.honest → NextTurn scan (Ok None) scan') → IsAtEnd s job true
+  at_end_none scan' moves turn = λ honest.
+      let is' = turn (first_truth honest) in
+      let shape = moves.1 in
+      let list : entries_in scan'.from (part_of scan') ≡ entries_left s job =
+      (λ i. entries_in (ap (λ (x : Scan). x.from) shape i)
+      (part (ap (λ (x : Scan). x.file) shape i) (ap (λ (x : Scan). x.from) shape i) (ap (λ (x : Scan). x.end) shape i)))
+      ∙ part_list honest in
+      let count : 0 ≡ length (entries_left s job) = sym none_given ∙ sym (ap (λ (x : Scan). x.given) shape) ∙ is'.given ∙ ap length list in
+      empty (entries_left s job) (omega (arith, count))
+    where
+      empty : (l : List (ℕ × List ℕ)) → length l ≤ 0 → l ≡ []
+      empty [] few = refl
+      empty (x ∷ l) few = absurd (omega arith)
+
+  pub at_end_some : (found : Found) (scan' : Scan) → (IsTrue scan.honest → NextTurn scan (Ok (Some found)) scan') → IsAtEnd s job false
+  at_end_some found scan' turn = λ honest none.
+      let is' = turn (first_truth honest) in
+      let listed : slice_get (entries_left s job) 0 ≡ Some (found.at, is'.payload) =
+      ap (λ (l : List (ℕ × List ℕ)). slice_get l 0) (sym (part_list honest)) ∙ ap (slice_get (entries_in scan.from (part_of scan))) (sym none_given) ∙ is'.listed in
+      not_there (entries_left s job) (found.at, is'.payload) none listed
+    where
+      not_there : (l : List (ℕ × List ℕ)) (e : ℕ × List ℕ) → l ≡ [] → slice_get l 0 ≡ Some e → ⊥
+      not_there [] e none wrong = cc
+      not_there (x ∷ l) e none wrong = cc
+
+  pub at_end : (o : Option Found) (answer : Bool) → is_some o ≡ not answer → (scan' : Scan) → NextMoves scan (Ok o) scan'
+      → (IsTrue scan.honest → NextTurn scan (Ok o) scan') → IsAtEnd s job answer
+  at_end None true told scan' moves turn = at_end_none scan' moves turn
+  at_end None false told scan' moves turn = cc
+  at_end (Some found) true told scan' moves turn = cc
+  at_end (Some found) false told scan' moves turn = at_end_some found scan' turn
+
+  pub read_fails : (fault : ScanFault) (scan' : Scan) → NextMoves scan (Err fault) scan' → (IsTrue scan.honest → NextTurn scan (Err fault) scan')
+      → (fault ≡ scans.Disk → scan.sound ≡ false) → ReadFails s job (told_read fault)
+  read_fails scans.Disk scan' moves turn cause = (view, last, sym (ap (λ (x : Scan). x.sound) begins.is) ∙ cause refl)
+  read_fails scans.Memory scan' moves turn cause = refl
+  read_fails scans.Odd scan' moves turn cause = dishonest s.honest (λ honest. turn (first_truth honest))
+  read_fails (scans.BadLength at value) scan' moves turn cause = dishonest s.honest (λ honest.
+      let bad = (turn (first_truth honest)).1 in
+      let list : part_of scan' ≡ part scan.file scan.from (view_end scan.file) =
+      (λ i. part (ap (λ (x : Scan). x.file) moves i) (ap (λ (x : Scan). x.from) moves i) (ap (λ (x : Scan). x.end) moves i))
+      ∙ ap (part scan.file scan.from) (first_ends honest) in
+      let spelled = source_spelled s kept job is view last honest in
+      let bytes : open_parts s.logs job.source ≡ scan.file = source_bytes s kept job is view last ∙ sym first_file in
+      let read = subst (λ (b : List ℕ). IsReadTo b scan.from) bytes
+      (subst (IsReadTo (open_parts s.logs job.source)) (sym (ap (λ (x : Scan). x.from) begins.is)) (is.honest honest).read) in
+      none_bad scan.file scan.from read (subst HasNoBadLength (sym first_file) spelled) at value
+      (subst (λ (b : List ℕ). IsBadAt scan.from b at value) list
+      (subst (λ n. IsBadAt n (part_of scan') at value) (ap (λ (x : Scan). x.from) moves) bad)))
+
+-- a view that ends before the job's position is of no honest disk
+pub ends_before : (view : View) (s : State) → IsKept s → (job : Job) → IsJob s job → last_view s.logs job.source ≡ Some view
+    → (IsTrue view.is_honest → view_end view.bytes < job.at) → s.honest ≡ false
+ends_before view s kept job is last before = dishonest s.honest (λ honest.
+    let within : job.at ≤ view_end view.bytes =
+    subst (λ (b : List ℕ). job.at ≤ view_end b) (source_bytes s kept job is view last) (is.honest honest).read.within in
+    omega (arith, within, before (source_honest s kept job is view last honest)))

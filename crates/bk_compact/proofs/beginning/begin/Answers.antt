@@ -1,0 +1,29 @@
+use Rattle.std.proofs.Common.{rules, ◌≡◌, Some, None, IsTrue, sym, ap, subst, ◌∙◌}
+use Rattle.bk_store.specs.State.{State}
+use Rattle.bk_store.specs.Jobs.{new_job}
+use Rattle.bk_store.specs.JobKept.{IsJob}
+use Rattle.bk_compact.specs.Compacting.{Chooses}
+use Rattle.bk_compact.proofs.Begun.{begun}
+use Rattle.bk_compact.proofs.beginning.begin.Goals as goal
+
+pub set_job-requires-clause-keeps : goal.set_job-requires-clause-keeps
+set_job-requires-clause-keeps g c = λ κs within.
+    let s = c.args.store.now in
+    let made = c.in-Ok.ensures.turn in
+    subst (IsJob c.make_log.new.self) (sym (c.new-job.ensures ∙ ap (new_job c.in-Some.source) made.1))
+    (begun s c.make_log.new.self c.promise.ensures c.in-Some.source c.in-Some.ensures.candidate made.2)
+
+pub returns-in-Ok-clause-turn : goal.returns-in-Ok-clause-turn
+returns-in-Ok-clause-turn g c =
+    let s = c.args.store.now in
+    let made = c.in-Ok.ensures.turn in (
+      record {
+        none = search rules;
+        candidate = c.in-Some.ensures.candidate;
+        choice = λ honest. subst (λ n. Chooses s n (Some c.in-Some.source)) c.threshold.ensures (c.in-Some.ensures.choice honest);
+      },
+      (
+        c.in-Ok.copy,
+        (c.make_log.new.self, made, c.set_job.ensures ∙ ap (λ j. record c.make_log.new.self { job = Some j }) c.new-job.ensures),
+      ),
+    )

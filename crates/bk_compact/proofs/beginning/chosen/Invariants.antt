@@ -1,0 +1,5 @@
+use Rattle.bk_compact.specs.Going.{IsChoosing}
+use Rattle.bk_compact.proofs.beginning.chosen.Given as goal
+
+abbrev pub invariant-loop-log : goal.invariant-loop-log
+invariant-loop-log g l = IsChoosing l.store l.threshold l.from l.best

@@ -1,0 +1,13 @@
+use Rattle.std.proofs.Common.{◌≡◌, Some, option_map, sym, ap, subst, ◌∙◌}
+use Rattle.std.specs.FinMap as finite
+use Rattle.bk_record.specs.Keyed.{log_count}
+use Rattle.bk_store.specs.Logs.{Log}
+use Rattle.bk_compact.proofs.Finished.{still_named}
+use Rattle.bk_compact.proofs.finishing.finish.Goals as goal
+
+pub returns-then-named-gt0-clause-retires : goal.returns-then-named-gt0-clause-retires
+returns-then-named-gt0-clause-retires g c = λ honest source whole.
+    let s = c.args.store.now in
+    absurd (still_named s c.promise.ensures c.in-Some.job.now (sym c.in-Some.ensures) c.in-Some-named.named c.if-named-gt0.true
+    (subst (λ n. Some c.in-Some-named.named ≡ option_map (λ (_ : Log). log_count s.index n) (finite.get s.logs n)) c.source-source.ensures c.in-Some-named.ensures)
+    honest source whole)

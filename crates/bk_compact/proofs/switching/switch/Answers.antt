@@ -1,0 +1,25 @@
+use Rattle.std.proofs.Common.{rules, ◌≡◌, Some, length, take, sym, ap, subst, ◌∙◌}
+use Rattle.bk_store.specs.Jobs.{Job}
+use Rattle.bk_store.specs.State.{State}
+use Rattle.bk_compact.specs.Compacting.{TakesMoves}
+use Rattle.bk_compact.proofs.Finished.{taken_out}
+use Rattle.bk_compact.proofs.switching.switch.Goals as goal
+
+pub take_moves-moved-requires-clause-out : goal.take_moves-moved-requires-clause-out
+take_moves-moved-requires-clause-out g c = λ κs within.
+    taken_out c.args.store.now c.take_job.new.self c.promise.ensures c.in-Some-take_job.job (sym c.take_job.ensures.job ∙ c.in-Some-take_job.is)
+    c.take_job.ensures.left
+
+pub returns-clause-turn : goal.returns-clause-turn
+returns-clause-turn g c =
+    let job = c.in-Some-take_job.job in
+    let turn = c.take_moves-moved.ensures.turn in (
+      job,
+      record { runs = sym c.take_job.ensures.job ∙ c.in-Some-take_job.is; phase_is = search rules },
+      c.left-left.ensures ∙ ap (λ (j : Job). length j.moves) turn.left,
+      (
+        c.take_moves-moved.new.store,
+        subst (λ (s : State). TakesMoves s (take c.args.count job.moves) c.take_moves-moved.result c.take_moves-moved.new.store) c.take_job.ensures.left turn.takes,
+        c.set_job.ensures ∙ ap (λ (j : Job). record c.take_moves-moved.new.store { job = Some j }) turn.left,
+      ),
+    )
