@@ -1,5 +1,5 @@
 -- Options whose value is read through a function.
-use Rattle.std.proofs.Common.{◌≡◌, Option, Some, None, option_map, refl, sym}
+use Rattle.std.proofs.Common.{◌≡◌, false, Option, Some, None, option_map, is_some, refl, sym}
 use Rattle.std.specs.Option.{option_copied, IfSome}
 use denote.Ref.{Bor}
 
@@ -13,3 +13,11 @@ pub IfSome-from_map : {A B : Type 0} (f : A → B) (P : B → Type 0) (r : Optio
     → IfSome r (λ x. P (f x))
 IfSome-from_map f P None o is holds = tt
 IfSome-from_map f P (Some x) o is holds = holds (f x) (sym is)
+
+pub is_some-option_map : {A B : Type 0} (f : A → B) (o : Option A) → is_some (option_map f o) ≡ is_some o
+is_some-option_map f None = refl
+is_some-option_map f (Some x) = refl
+
+pub none_is : {A : Type 0} (o : Option A) → is_some o ≡ false → o ≡ None
+none_is None is = refl
+none_is (Some x) is = cc

@@ -1,11 +1,11 @@
 -- What the two write caches keep together, through each change.
-use Rattle.std.proofs.Common.{◌≡◌, ℕ, ◌+◌, ◌≤◌, true, false, cond, eqb, List, length, Option, Some, None, IsSome, option_map, unwrap_or, is_some, Ok, refl, sym}
+use Rattle.std.proofs.Common.{◌≡◌, ℕ, ◌+◌, ◌≤◌, Bool, true, false, cond, eqb, List, length, Option, Some, None, IsSome, option_map, unwrap_or, is_some, Result, Ok, Err, refl, sym}
 use Rattle.std.proofs.Common.{ap, subst, ◌∙◌, arith}
 use mathlib.Core.Bool.{false≢true}
 use Rattle.std.specs.Ordering.{eq_by_cmp}
 use Rattle.std.specs.Cmp.{Equal-is}
-use Rattle.std.specs.Option.{option_or}
-use Rattle.std.specs.FinMap.{empty, get, get-empty, get-insert}
+use Rattle.std.specs.declared.alloc.AllocError.{AllocError}
+use Rattle.std.specs.FinMap.{empty, get, insert, get-empty, get-insert}
 use Rattle.bk_record.specs.Key.{EntryKey, key_cmp}
 use Rattle.bk_record.specs.Record.{read_added}
 use Rattle.bk_record.specs.Scan.{Payloads}
@@ -13,7 +13,8 @@ use Rattle.bk_record.specs.Keyed.{without_ledger}
 use Rattle.bk_record.proofs.Keys.{key_cmp_total, key_cmp_antisymmetric}
 use Rattle.bk_record.proofs.KeyedLaws.{get-without_ledger}
 use Rattle.bk_cache.specs.Recents.{Recents, without_recent}
-use Rattle.bk_cache.specs.Caches.{CacheState, used_of, flush_of, held, added_key, with_added, without, new_caches}
+use Rattle.bk_cache.specs.Caches.{CacheState, used_of, flush_of, without, new_caches}
+use Rattle.bk_cache.specs.Turns.{CacheTurn}
 use Rattle.bk_cache.specs.Kept.{IsSound}
 use Rattle.bk_cache.proofs.KeyedPayloads.{keyed_empty, keyed_insert, keyed_without, keyed_flush_without}
 use Rattle.bk_cache.proofs.Used.{used_of-empty, used_of-insert, used_of-without_ledger-le}
@@ -53,11 +54,6 @@ sound_swapped s sound =
       flush_keyed = sound.keyed;
     }
 
--- neither cache has a key
-pub neither : (a b : Option (List ℕ)) → option_or a b ≡ None → (a ≡ None) × (b ≡ None)
-neither None b none = (refl, none)
-neither (Some x) b none = cc
-
 apart_added : (active flush : Payloads) (key : EntryKey) (payload : List ℕ) → ((q : EntryKey) → IsSome (get active q) → get flush q ≡ None)
     → get flush key ≡ None → (q : EntryKey) → IsSome (cond (eq_by_cmp key_cmp q key) (Some payload) (get active q)) → get flush q ≡ None
 apart_added active flush key payload apart none q =
@@ -66,19 +62,29 @@ apart_added active flush key payload apart none q =
       | false ↦ λ _ has. apart q has
     ] refl
 
-pub sound_added : (s : CacheState) (payload : List ℕ) → IsSound s → read_added payload ≡ Ok (added_key payload) → held s (added_key payload) ≡ None
-    → used_of s.active + length payload ≤ s.limit → IsSound (with_added s payload)
-sound_added s payload sound own absent fits =
-    let none = neither (get s.active (added_key payload)) (get (flush_of s) (added_key payload)) absent in
+sound_inserted : (s : CacheState) (key : EntryKey) (payload : List ℕ) → IsSound s → read_added payload ≡ Ok key → get s.active key ≡ None
+    → get (flush_of s) key ≡ None → used_of s.active + length payload ≤ s.limit → IsSound (record s { active = insert s.active key payload })
+sound_inserted s key payload sound own absent unflushed fits =
     record {
-      within = rw (used_of-insert s.active (added_key payload) payload none.0) fits;
+      within = rw (used_of-insert s.active key payload absent) fits;
       flush_within = sound.flush_within;
       limited = sound.limited;
-      apart = λ q has. apart_added s.active (flush_of s) (added_key payload) payload sound.apart none.1 q
-          (ap is_some (sym (get-insert key_cmp_total s.active (added_key payload) payload q)) ∙ has);
-      keyed = keyed_insert s.active (added_key payload) payload sound.keyed own;
+      apart = λ q has. apart_added s.active (flush_of s) key payload sound.apart unflushed q
+          (ap is_some (sym (get-insert key_cmp_total s.active key payload q)) ∙ has);
+      keyed = keyed_insert s.active key payload sound.keyed own;
       flush_keyed = sound.flush_keyed;
     }
+
+-- a payload that the flush has not is offered to the active cache, which has room for it
+pub sound_added : (s : CacheState) (key : EntryKey) (payload : List ℕ) (result : Result Bool AllocError) (active : Payloads) → IsSound s
+    → read_added payload ≡ Ok key → get (flush_of s) key ≡ None → used_of s.active + length payload ≤ s.limit → CacheTurn s.active key payload result active
+    → IsSound (record s { active = active })
+sound_added s key payload (Ok true) active sound own unflushed fits turn =
+    subst (λ (m : Payloads). IsSound (record s { active = m })) (sym turn.1) (sound_inserted s key payload sound own turn.0 unflushed fits)
+sound_added s key payload (Ok false) active sound own unflushed fits turn =
+    subst (λ (m : Payloads). IsSound (record s { active = m })) (sym turn.1) sound
+sound_added s key payload (Err fault) active sound own unflushed fits turn =
+    subst (λ (m : Payloads). IsSound (record s { active = m })) (sym turn.1) sound
 
 apart_without : (active : Payloads) (flush : Option Payloads) (ledger : ℕ)
     → ((q : EntryKey) → IsSome (get active q) → get (unwrap_or flush empty) q ≡ None) → (q : EntryKey) → IsSome (get (without_ledger active ledger) q)

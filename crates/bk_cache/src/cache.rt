@@ -1,15 +1,17 @@
 //! One write cache: the payload of each key, shared, and how many bytes the payloads have together.
 
-ghost use Rattle.std.specs.Prelude.{◌≡◌, ◌↔◌, ◌+◌, ◌<◌, ◌^◌, Ok, None, length, option_map, IsSome, IfSome, IfNone, OnOk, OnErr};
+ghost use Rattle.std.specs.Prelude.{◌≡◌, ◌↔◌, ◌+◌, ◌<◌, ◌^◌, Ok, None, length, option_map, IsSome, IfSome, IfNone, IfOk};
 ghost use Rattle.std.specs.FinMap as map;
 ghost use Rattle.bk_record.specs.Record.{read_added};
 ghost use Rattle.bk_record.specs.Keyed.{without_ledger, ledger_count};
 ghost use Rattle.bk_cache.specs.Caches.{used_of, AllKeyed, first_after};
+ghost use Rattle.bk_cache.specs.Turns.{CacheTurn};
 
 use crate::Flushing;
 use bk_record::Key;
 use std::alloc::{AllocError, Global};
 use std::collections::BTreeMap;
+use std::collections::btree_map::Entry;
 use std::marker::Model;
 use std::ops::Bound;
 use std::sync::Arc;
@@ -71,18 +73,26 @@ impl Cache {
         self.pairs.get(key)
     }
 
-    /// Adds a payload under its own key, which the cache has not. Where memory is refused the cache stays as it was.
-    pub(crate) fn insert(&mut self, key: Key, payload: Arc<Vec<u8>>) -> Result<(), AllocError>
-        requires keyed { read_added payload.value.items ≡ Ok key }
-        requires absent { map.get self.old key ≡ None }
-        requires fits { used_of self.old + length payload.value.items < 2 ^ 64 }
-        ensures ok { OnOk result (self.new ≡ map.insert self.old key payload.value.items) }
-        ensures err { OnErr result (self.new ≡ self.old) }
+    /// Adds a copy of a payload under its own key, and answers whether it did: not where the cache has the key. The only
+    /// error is want of memory, for a key that the cache has not. Without an addition the cache stays as it was.
+    pub(crate) fn add(
+        &mut self,
+        alloc: Global,
+        key: Key,
+        payload: &[u8],
+    ) -> Result<bool, AllocError>
+        requires keyed { read_added payload.now ≡ Ok key }
+        requires fits { used_of self.old + length payload.now < 2 ^ 64 }
+        ensures turn { CacheTurn self.old key payload.now result self.new }
     {
-        let size = payload.len() as u64;
-        self.pairs.insert(key, payload)?;
-        self.used += size;
-        Ok(())
+        match self.pairs.entry(key)? {
+            Entry::Occupied(_) => Ok(false),
+            Entry::Vacant(room) => {
+                room.insert_entry(share(alloc, payload)?);
+                self.used += payload.len() as u64;
+                Ok(true)
+            }
+        }
     }
 
     /// Takes the entries of a ledger out, and answers how many there were.
@@ -150,4 +160,11 @@ impl Cache {
             .next()?;
         Some((*next, payload))
     }
+}
+
+// A copy of the payload, shared from then on.
+fn share(alloc: Global, payload: &[u8]) -> Result<Arc<Vec<u8>>, AllocError>
+    ensures { IfOk result (λ shared. shared.value.items ≡ payload.now) }
+{
+    Ok(Arc::new(alloc, payload.to_vec(alloc)?)?)
 }

@@ -1,20 +1,20 @@
 //! The two write caches and the recent entries. Adds go to the active cache; a swap makes it the flushing one, and what
 //! is flushed may be remembered. A key is in at most one of the write caches, and a read looks there first.
 
-ghost use Rattle.std.specs.Prelude.{◌≡◌, ◌↔◌, ◌⊎◌, ◌+◌, ◌≤◌, [], Some, None, Ok, Err, length, is_some, option_map, IsOk, IsSome, IsTrue, IfSome, IfOk, IfErr, OnOk, OnErr};
+ghost use Rattle.std.specs.Prelude.{◌≡◌, ◌↔◌, ◌⊎◌, ◌+◌, ◌≤◌, [], Some, None, Ok, length, is_some, option_map, IsSome, IsTrue, IfSome, IfOk};
 ghost use Rattle.std.specs.FinMap as map;
 ghost use Rattle.bk_record.specs.Key.{EntryKey};
 ghost use Rattle.bk_record.specs.Record.{read_added};
 ghost use Rattle.bk_record.specs.Keyed.{ledger_count};
 ghost use Rattle.bk_cache.specs.Recents.{recent_of, remembered, IsOldOrRemembered};
-ghost use Rattle.bk_cache.specs.Caches.{added_key, used_of, IsFull, flush_of, held, cached, AllKeyed, AreApart, first_after, new_caches, with_added, without};
+ghost use Rattle.bk_cache.specs.Caches.{used_of, flush_of, held, cached, AllKeyed, AreApart, first_after, new_caches, without};
 ghost use Rattle.bk_cache.specs.Kept.{IsSound};
-ghost use Rattle.bk_cache.specs.Turns.{SwapTurn, IsFaultOf};
+ghost use Rattle.bk_cache.specs.Turns.{AddTurn, SwapTurn};
 
 use crate::cache::Cache;
 use crate::recent::Recent;
-use crate::{CacheFault, Flushing, Swap};
-use bk_record::{Key, key_of};
+use crate::{CacheAdd, CacheFault, Flushing, Swap};
+use bk_record::Key;
 use std::alloc::{AllocError, Global};
 use std::marker::Model;
 use std::mem;
@@ -112,33 +112,43 @@ impl Caches {
         }
     }
 
-    /// Takes a payload that an add accepts into the active cache, under the key that it gives, which neither write
-    /// cache has.
+    /// Takes a payload that an add accepts, and the key that it gives, into the active cache, unless one of the two write
+    /// caches has the key: then it is `Held`, and nothing changes.
     ///
-    /// Faults, tried in this order: `Full` where the payload would take the active cache past its limit, told with the
-    /// cache's payload bytes and the limit; `Memory`. A refusal leaves the caches as they were.
-    pub fn add(&mut self, payload: &[u8]) -> Result<(), CacheFault>
-        requires valid { IsOk (read_added payload.now) }
-        requires new { held self.old (added_key payload.now) ≡ None }
-        ensures ok { OnOk result (self.new ≡ with_added self.old payload.now) }
-        ensures full { (result ≡ Err (CacheFault.Full (used_of self.old.active) self.old.limit)) ↔ IsFull self.old payload.now }
-        ensures only { IfErr result (IsFaultOf self.old) }
-        ensures err { OnErr result (self.new ≡ self.old) }
+    /// Faults of a key that neither write cache has, tried in this order: `Full` where the payload would take the active
+    /// cache past its limit, told with the cache's payload bytes and the limit; `Memory`. A refusal leaves the caches as
+    /// they were.
+    pub fn add(&mut self, key: Key, payload: &[u8]) -> Result<CacheAdd, CacheFault>
+        requires { read_added payload.now ≡ Ok key }
+        ensures turn { AddTurn self.old key payload.now result self.new }
         ensures sound { IsSound self.new }
     {
+        if self.is_in_flush(&key) {
+            return Ok(CacheAdd::Held);
+        }
         let used = self.active.used();
         let limit = self.limit;
         if used + payload.len() as u64 > limit {
-            return Err(CacheFault::Full { used, limit });
+            return match self.active.get(&key) {
+                Some(_) => Ok(CacheAdd::Held),
+                None => Err(CacheFault::Full { used, limit }),
+            };
         }
-        let key = key_of(payload).unwrap();
-        let Ok(shared) = share(self.alloc, payload) else {
-            return Err(CacheFault::Memory);
-        };
-        let Ok(()) = self.active.insert(key, shared) else {
-            return Err(CacheFault::Memory);
-        };
-        Ok(())
+        match self.active.add(self.alloc, key, payload) {
+            Ok(true) => Ok(CacheAdd::Taken),
+            Ok(false) => Ok(CacheAdd::Held),
+            Err(_) => Err(CacheFault::Memory),
+        }
+    }
+
+    // Whether the running flush has the key.
+    fn is_in_flush(&self, key: &Key) -> bool
+        ensures { result ≡ is_some (map.get (flush_of self.now) key.now) }
+    {
+        match &self.flush {
+            Some(flush) => flush.get(key).is_some(),
+            None => false,
+        }
     }
 
     /// Makes the active cache the flushing one, and answers how many entries it has. `Running` where a flush runs, also
@@ -248,11 +258,4 @@ impl Caches {
             None => active,
         }
     }
-}
-
-// A copy of the payload, shared from then on.
-fn share(alloc: Global, payload: &[u8]) -> Result<Arc<Vec<u8>>, AllocError>
-    ensures { IfOk result (λ shared. shared.value.items ≡ payload.now) }
-{
-    Ok(Arc::new(alloc, payload.to_vec(alloc)?)?)
 }

@@ -2,12 +2,14 @@
 #![tactic(auto)]
 
 mod cache;
+mod cache_add;
 mod caches;
 mod fault;
 mod flushing;
 mod recent;
 mod swap;
 
+pub use cache_add::CacheAdd;
 pub use caches::Caches;
 pub use fault::CacheFault;
 pub use flushing::Flushing;

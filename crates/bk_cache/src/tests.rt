@@ -4,7 +4,7 @@ mod memory;
 mod sizes;
 mod worked;
 
-use crate::{CacheFault, Caches, Swap};
+use crate::{CacheAdd, CacheFault, Caches, Swap};
 use bk_record::{Key, check_add};
 use std::alloc::{AllocError, Global};
 use std::sync::Arc;
@@ -59,11 +59,9 @@ fn add(caches: &mut Caches, ledger: u64, entry: u64, mark: u8, size: usize) -> A
     let Ok(key) = check_add(payload) else {
         return Answer::Nothing;
     };
-    if caches.holds(&key) {
-        return Answer::Held;
-    }
-    match caches.add(payload) {
-        Ok(()) => Answer::Taken,
+    match caches.add(key, payload) {
+        Ok(CacheAdd::Taken) => Answer::Taken,
+        Ok(CacheAdd::Held) => Answer::Held,
         Err(CacheFault::Full { used, .. }) => Answer::Full(used),
         Err(CacheFault::Memory) => Answer::Memory,
     }

@@ -2,23 +2,15 @@
 
 ghost use Rattle.std.specs.Prelude.{◌≡◌};
 ghost use Rattle.bk_store.specs.Turns.{AddTurn, SwapTurn};
-ghost use Rattle.bk_store.specs.Meaning.{holds};
 ghost use Rattle.bk_store.specs.Kept.{Keeps};
 
 use crate::fields::Fields;
 use crate::{AddFault, Added, SwapAnswer};
-use bk_cache::{CacheFault, Swap};
+use bk_cache::{CacheAdd, CacheFault, Swap};
 use bk_disk::LogDisk;
-use bk_record::{Key, check_add};
+use bk_record::check_add;
 
 impl<D: LogDisk> Fields<D> {
-    /// Whether there is an entry of the key.
-    fn holds(&self, key: &Key) -> bool
-        ensures { result ≡ holds self.now.state key.now }
-    {
-        self.caches.holds(key) || self.index.get(key).is_some()
-    }
-
     pub fn add(&mut self, payload: &[u8]) -> Result<Added, AddFault>
         ensures turn { AddTurn self.old.state payload.now result self.new.state }
         ensures beside { self.new ≡ record self.old { state = self.new.state } }
@@ -30,11 +22,12 @@ impl<D: LogDisk> Fields<D> {
         if self.dead.contains(key.ledger()) {
             return Err(AddFault::Deleted);
         }
-        if self.holds(&key) {
+        if self.index.get(&key).is_some() {
             return Ok(Added::Held);
         }
-        match self.caches.add(payload) {
-            Ok(()) => Ok(Added::Accepted),
+        match self.caches.add(key, payload) {
+            Ok(CacheAdd::Taken) => Ok(Added::Accepted),
+            Ok(CacheAdd::Held) => Ok(Added::Held),
             Err(CacheFault::Full { used, limit }) => Err(AddFault::Full { used, limit }),
             Err(CacheFault::Memory) => Err(AddFault::Memory),
         }

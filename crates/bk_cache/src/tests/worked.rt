@@ -9,10 +9,11 @@ use crate::Caches;
 use std::test::Fail;
 
 // Caches of a hundred bytes, with room for two recent entries.
-const CALLS: [(Call, Answer); 39] = [
+const CALLS: [(Call, Answer); 40] = [
     (Swap, Nothing),
     (Add(1, 5, 7, 20), Taken),
     (Add(1, 2, 7, 40), Taken),
+    (Add(1, 5, 8, 16), Held),
     (Add(2, 0, 7, 40), Taken),
     // At the limit, exactly.
     (Add(3, 0, 7, 16), Full(100)),
