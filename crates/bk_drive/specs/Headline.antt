@@ -64,7 +64,8 @@ first_plain files dead = record {
 }
 
 -- From these files, with these ledgers dead, these steps were answered so, and left this store and these readers: a run leads
--- there from a store that was opened on the files; and no reader holds a lease of a log that was answered Closed, or Removed.
+-- there from a store that was opened on the files, in which a log was closed, or removed, only where no reader held a lease
+-- of it (`Turn`); and no reader holds a lease of such a log now.
 pub record Headline (settings : Settings) (files : Files) (dead : List ℕ) (steps : List Step) (answers : List Answer) (store : State) (readers : List (Option Hold)) : Type 0 where
   pub first : State
   pub opened : IsOpened true files settings dead first

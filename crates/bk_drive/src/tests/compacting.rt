@@ -4,7 +4,7 @@
 use super::collecting::two_logs;
 use super::{PUBLISH, Plan, ROLL, SETTINGS, SWAP, Told, WRITE, first_other, step_of};
 use crate::{Answer, CollectFault, CompactFault, Kind, Ran, Settings, Work, drive};
-use bk_disk::{FaultDisk, LogDisk, MemDisk};
+use bk_disk::{FaultDisk, MemDisk};
 use bk_log::FetchFault;
 use std::alloc::Global;
 use std::test::Fail;
@@ -131,10 +131,15 @@ const REBUILT_FIRST: Part = &[
     (FINISH, ("retired", 0)),
 ];
 
+/// A disk that never fails.
+fn sound(disk: MemDisk) -> FaultDisk<MemDisk> {
+    FaultDisk::new(disk, 0, 0)
+}
+
 /// The answers of a run of these parts, with ledger 4 dead, and what they are to tell.
-fn answers_of<D: LogDisk>(
+fn answers_of(
     alloc: Global,
-    disk: D,
+    disk: FaultDisk<MemDisk>,
     settings: Settings,
     parts: &[Part],
 ) -> Result<(Vec<Answer>, Vec<Told>), Fail> {
@@ -152,7 +157,7 @@ fn answers_of<D: LogDisk>(
 
 /// The number of the first step that tells something else, over a disk in memory that has no log.
 fn first_wrong(alloc: Global, parts: &[Part]) -> Result<Option<usize>, Fail> {
-    let (answers, told) = answers_of(alloc, MemDisk::new(alloc), SETTINGS, parts)?;
+    let (answers, told) = answers_of(alloc, sound(MemDisk::new(alloc)), SETTINGS, parts)?;
     Ok(first_other(&answers, &told))
 }
 
@@ -205,14 +210,14 @@ const FULL: Part = &[(MINOR, ("logs full", 0)), (COPY, ("no job", 0))];
 
 #[test]
 fn a_log_that_was_found_is_compacted(rt: HostRuntime) -> Result<(), Fail> {
-    let disk = two_logs(rt.alloc())?;
+    let disk = sound(two_logs(rt.alloc())?);
     let (answers, told) = answers_of(rt.alloc(), disk, SETTINGS, &[FULL])?;
     assert_eq!(rt; first_other(&answers, &told), None);
     let settings = Settings {
         slots: 3,
         ..SETTINGS
     };
-    let (answers, told) = answers_of(rt.alloc(), two_logs(rt.alloc())?, settings, &[FOUND])?;
+    let (answers, told) = answers_of(rt.alloc(), sound(two_logs(rt.alloc())?), settings, &[FOUND])?;
     assert_eq!(rt; first_other(&answers, &told), None);
     Ok(())
 }

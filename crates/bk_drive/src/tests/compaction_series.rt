@@ -80,6 +80,12 @@ struct Trial {
     tally: Tally,
 }
 
+/// The word that an answer tells.
+fn word_of(answer: &Answer) -> &'static str {
+    let (word, _) = told(answer);
+    word
+}
+
 /// A lease, and the entry's location.
 type Leased = (Lease<View>, Location);
 
@@ -98,9 +104,10 @@ impl Trial {
     /// What a step of the store tells, and whether it was refused.
     fn once(&mut self, name: &'static str, work: Work) -> (Answer, bool) {
         let answer = apply(&mut self.store, work);
-        let is_refused = told(&answer).0 == "another fault";
+        let is_refused = word_of(&answer) == "another fault";
         if is_disk_fault(&answer) {
-            self.check(name, self.tally.failed == "none");
+            let is_first = self.tally.failed == "none";
+            self.check(name, is_first);
             self.tally.failed = name;
         } else if is_refused {
             self.note_refusal();
@@ -150,12 +157,12 @@ impl Trial {
         self.step("swap", Work::Swap, ("swapped", entries));
         for _ in 0..entries {
             let answer = self.again("write", Work::WriteOne);
-            self.check("write", told(&answer).0 == "wrote");
+            self.check("write", word_of(&answer) == "wrote");
         }
         // Where a write failed, the flush began again.
         for _ in 0..4 {
             let answer = self.again("write", Work::WriteOne);
-            self.check("write", matches!(told(&answer).0, "wrote" | "all written"));
+            self.check("write", matches!(word_of(&answer), "wrote" | "all written"));
         }
         self.step("publish", Work::Publish, ("published", entries));
     }
@@ -193,7 +200,7 @@ impl Trial {
         for _ in 0..2 {
             let (answer, is_refused) = self.once(name, work);
             if !is_refused {
-                self.check(name, told(&answer).0 == word);
+                self.check(name, word_of(&answer) == word);
                 return true;
             }
             if self.store.job().is_none() {
@@ -264,9 +271,10 @@ impl Trial {
         self.step("retire", Work::Retire(source), ("in use", 0));
         self.step("retire", Work::Retire(copy), ("in use", 0));
         let answer = self.again("switch", Work::Switch(1));
-        self.check("switch", told(&answer).1 % 100 == 1);
+        let (_, moved) = told(&answer);
+        self.check("switch", moved % 100 == 1);
         let answer = self.again("finish", Work::Finish);
-        self.check("finish", told(&answer).0 == "left");
+        self.check("finish", word_of(&answer) == "left");
         self.step("switch", Work::Switch(5), ("moved", 1));
         self.step("finish", Work::Finish, ("retired", u64::from(source)));
     }
@@ -290,7 +298,7 @@ impl Trial {
         }
         self.flush(4);
         let (rolled, is_refused) = self.once("roll", Work::Roll);
-        self.check("roll", is_refused || told(&rolled).0 == "sealed");
+        self.check("roll", is_refused || word_of(&rolled) == "sealed");
         self.delete(6, 1);
         let leased = self.lease(5, 0);
         let source = self.copy_all();
