@@ -10,3 +10,4 @@ mod Switched
 mod Sealed
 mod SourceEnds
 mod Turns
+mod Causes
