@@ -135,13 +135,9 @@ module _ (s : State) (job : Job) (running : IsRunning s Copy job) (n : ℕ) wher
   pub refused_turn : CopyTurn s n (Err (faults.Memory 0)) s
   refused_turn = (job, running, (with_job s None, (job, unbegun s job n, record { files = λ _. refl; left = back_same s job running.runs })))
 
-  pub read_turn : (fault : CompactFault) → fault ≢ faults.Odd → ReadFails s job fault → CopyTurn s n (Err fault) s
-  read_turn (faults.Memory done) not fails = subst (λ d. CopyTurn s n (Err (faults.Memory d)) s) (sym fails) refused_turn
-  read_turn faults.Disk not fails =
-      (job, running, (0, (with_job s None, (job, unbegun s job n, inl (fails, back_same s job running.runs)))))
-  read_turn faults.Odd not fails = absurd (not refl)
-  read_turn faults.LogsFull not fails = absurd fails
-  read_turn faults.NoMoreIds not fails = absurd fails
+  pub unsound_turn : HasUnsoundSource s job → CopyTurn s n (Err faults.Disk) s
+  unsound_turn unsound =
+      (job, running, (0, (with_job s None, (job, unbegun s job n, inl (unsound, back_same s job running.runs)))))
 
   pub abandoned_turn : (t : State) → s.honest ≡ false → SetTurn (with_job s None) job.copy Readable t → CopyTurn s n (Err faults.Odd) t
   abandoned_turn t odd set = (job, running, (odd, (0, (with_job s None, (job, unbegun s job n, inl set)))))

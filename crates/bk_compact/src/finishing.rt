@@ -25,8 +25,9 @@ pub fn finish<D: LogDisk>(store: &mut Store<D>) -> FinishAnswer
     let Some(job) = store.job() else {
         return FinishAnswer::NoJob;
     };
-    if matches!(job.phase(), Phase::Copy) {
-        return FinishAnswer::NotNow;
+    match job.phase() {
+        Phase::Copy => return FinishAnswer::NotNow,
+        Phase::Switch => {}
     }
     let left = job.left();
     if left > 0 {

@@ -22,8 +22,9 @@ pub fn switch<D: LogDisk>(store: &mut Store<D>, count: u64) -> SwitchAnswer
     let Some(job) = store.job() else {
         return SwitchAnswer::NoJob;
     };
-    if matches!(job.phase(), Phase::Copy) {
-        return SwitchAnswer::NotNow;
+    match job.phase() {
+        Phase::Copy => return SwitchAnswer::NotNow,
+        Phase::Switch => {}
     }
     let Some(mut job) = store.take_job() else {
         unreachable!();
@@ -43,9 +44,9 @@ fn take_moves<D: LogDisk>(store: &mut Store<D>, job: &mut Job, count: u64) -> u6
     ensures stays { Stays store.old store.new }
 {
     let mut moved = 0;
-    for _ in 0..count {
+    for _number in 0..count {
         let Some(next) = job.next_move() else {
-            break;
+            return moved;
         };
         if store.rename(next.key, next.from, next.to) {
             moved += 1;
