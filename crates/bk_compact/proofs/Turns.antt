@@ -23,9 +23,11 @@ use Rattle.bk_compact.specs.declared.answer.CopyAnswer.TheVariants as copies
 use Rattle.bk_compact.specs.declared.answer.CompactFault.{CompactFault}
 use Rattle.bk_compact.specs.declared.answer.CompactFault.TheVariants as faults
 use Rattle.bk_compact.specs.declared.entries.Stopped.{Stopped}
+use Rattle.bk_compact.specs.declared.scanning.Unread.{Unread}
+use Rattle.bk_compact.specs.declared.scanning.Unread.TheVariants as unreads
 use Rattle.bk_compact.specs.declared.entries.Stopped.TheVariants as stops
-use Rattle.bk_compact.specs.Compacting.{AreFound, CopyTurn, Copies, Examines, ExaminesAll, HasUnsoundSource, IsRunning, ReadFails, Steps, TellsFailures, entries_left, with_job}
-use Rattle.bk_compact.specs.Going.{CopiesAll, IsAtEnd, IsCopying, IsOut, Stays}
+use Rattle.bk_compact.specs.Compacting.{AreFound, CopyTurn, Copies, EndTurn, Examines, ExaminesAll, HasUnsoundSource, IsCaused, IsRunning, ReadFails, Steps, TellsFailures, entries_left, with_job}
+use Rattle.bk_compact.specs.Going.{CopiesAll, IsAtEnd, IsCopying, IsOut, Stays, told_unread}
 use Rattle.bk_compact.proofs.Stored.{kept_job}
 
 -- ---- a job that runs
@@ -228,3 +230,36 @@ pub failed_once : (s : State) (job : Job) (n : ℕ) (t : State) (after : Job) �
 failed_once s job n t after all =
     let same = steps_failures (with_job s None) job n all.0 all.1.0 all.1.1.0 all.1.1.1 in
     once_caused s.failures t.failures (ap (λ (x : State). x.failures) all.1.1.2.1.1.put.3 ∙ ap (λ k. k + 1) same) refl
+
+-- ---- a compaction that is abandoned since its source could not be read
+
+module _ (s t : State) (job : Job) (running : IsRunning s Copy job) (set : SetTurn (with_job s None) job.copy Readable t) (unread : Unread) (fault : CompactFault)
+    (told_so : fault ≡ told_unread unread) where
+  pub abandoned_end : ReadFails s job (told_unread unread) → EndTurn s (Err fault) t
+  abandoned_end fails = subst (λ (f : CompactFault). EndTurn s (Err f) t) (sym told_so) (job, running, inl (fails, set))
+
+  same_count : t.failures ≡ s.failures
+  same_count = set_failures (with_job s None) t job.copy set
+
+  pub abandoned_tells : {T : Type 0} → TellsFailures {T = T} s (Err fault) t
+  abandoned_tells = record {
+    later = omega (arith, same_count);
+    once = omega (arith, same_count);
+    told_so = λ more. absurd (omega (arith, more, same_count));
+  }
+
+  pub abandoned_cause : {T : Type 0} → ¬ (IsErrOf {T = Bool} (Err unread) unreads.Disk) → IsCaused {T = T} s (Err fault) t
+  abandoned_cause never = record {
+    later = omega (arith, same_count);
+    once = omega (arith, same_count);
+    failed = λ told. absurd (no_disk unread never (sym told_so ∙ one told));
+    told = λ more. absurd (omega (arith, more, same_count));
+  }
+    where
+      one : {T : Type 0} → IsErrOf {T = T} (Err fault) faults.Disk → fault ≡ faults.Disk
+      one same = cc
+
+      no_disk : (r : Unread) → ¬ (IsErrOf {T = Bool} (Err r) unreads.Disk) → told_unread r ≡ faults.Disk → ⊥
+      no_disk unreads.Disk not told = not refl
+      no_disk unreads.Memory not told = cc
+      no_disk unreads.Odd not told = cc

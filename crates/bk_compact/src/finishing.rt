@@ -25,9 +25,8 @@ pub fn finish<D: LogDisk>(store: &mut Store<D>) -> FinishAnswer
     let Some(job) = store.job() else {
         return FinishAnswer::NoJob;
     };
-    match job.phase() {
-        Phase::Copy => return FinishAnswer::NotNow,
-        Phase::Switch => {}
+    if matches!(job.phase(), Phase::Copy) {
+        return FinishAnswer::NotNow;
     }
     let left = job.left();
     if left > 0 {

@@ -22,9 +22,8 @@ pub fn switch<D: LogDisk>(store: &mut Store<D>, count: u64) -> SwitchAnswer
     let Some(job) = store.job() else {
         return SwitchAnswer::NoJob;
     };
-    match job.phase() {
-        Phase::Copy => return SwitchAnswer::NotNow,
-        Phase::Switch => {}
+    if matches!(job.phase(), Phase::Copy) {
+        return SwitchAnswer::NotNow;
     }
     let Some(mut job) = store.take_job() else {
         unreachable!();
@@ -44,9 +43,9 @@ fn take_moves<D: LogDisk>(store: &mut Store<D>, job: &mut Job, count: u64) -> u6
     ensures stays { Stays store.old store.new }
 {
     let mut moved = 0;
-    for _number in 0..count {
+    for _ in 0..count {
         let Some(next) = job.next_move() else {
-            return moved;
+            break;
         };
         if store.rename(next.key, next.from, next.to) {
             moved += 1;
