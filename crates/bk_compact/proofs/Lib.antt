@@ -8,5 +8,4 @@ mod Finished
 mod Stepping
 mod Switched
 mod Sealed
-mod SourceEnds
 mod Turns

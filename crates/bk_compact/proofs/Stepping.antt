@@ -26,7 +26,7 @@ use Rattle.bk_store.proofs.JobStays.{job_stays, stays_same}
 use Rattle.bk_compact.specs.declared.entries.Stopped.{Stopped}
 use Rattle.bk_compact.specs.declared.entries.Stopped.TheVariants as stops
 use Rattle.bk_compact.specs.Compacting.{AreFound, Copies, Examines, ExaminesAll, HasUnsoundSource, IsFound, ReadFails, Steps, behind, entries_left, place_of, with_job}
-use Rattle.bk_compact.specs.Going.{CopiesAll, ExaminesOne, IsAhead, IsAtEnd, IsCopying, IsNextFound, IsOut, ScansFrom, Stays, StopsAt, told_after, told_read}
+use Rattle.bk_compact.specs.Going.{CopiesAll, ExaminesOne, IsAhead, IsAtEnd, IsCopying, IsNextFound, IsOut, ScansFrom, Stays, StopsAt, told_after, told_read, told_unread}
 use Rattle.bk_compact.proofs.Positions.{none_bad}
 use Rattle.bk_compact.proofs.Stored.{dishonest, scan_found, scan_come, scan_taken, shown_last, source_bytes, source_honest, source_spelled, source_unhonest}
 
@@ -484,7 +484,7 @@ module _ (view : View) (s : State) (kept : IsKept s) (job : Job) (is : IsJob s j
   at_end (Some found) false told scan' moves turn = at_end_some found scan' turn
 
   pub read_fails : (fault : ScanFault) (scan' : Scan) → NextMoves scan (Err fault) scan' → (IsTrue scan.honest → NextTurn scan (Err fault) scan')
-      → (fault ≡ scans.Disk → scan.sound ≡ false) → ReadFails s job (told_read fault)
+      → (fault ≡ scans.Disk → scan.sound ≡ false) → ReadFails s job (told_unread (told_read fault))
   read_fails scans.Disk scan' moves turn cause = (view, last, sym (ap (λ (x : Scan). x.sound) begins.is) ∙ cause refl)
   read_fails scans.Memory scan' moves turn cause = refl
   read_fails scans.Odd scan' moves turn cause = dishonest s.honest (λ honest. turn (first_truth honest))

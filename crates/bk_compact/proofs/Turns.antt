@@ -1,13 +1,13 @@
 -- The turns of the calls, from what their parts did while the job was out of the store.
 use Rattle.std.proofs.Common.{◌≡◌, ◌≢◌, ◌⊎◌, inl, inr, ℕ, zero, suc, ◌+◌, ◌-◌, ◌<◌, ◌≤◌, Bool, true, false, cond, if◌then◌else◌, IsTrue, List, [], ◌∷◌, ◌++◌, length, take, drop, Option, Some, None, Result, Ok, Err, IsErrOf, refl, sym, ap, subst, ◌∙◌, arith}
-use Rattle.std.specs.Option.{option_map}
+use Rattle.std.proofs.lemmas.Option.{same_Some}
 use Rattle.std.specs.FinMap as finite
 use Rattle.bk_disk.specs.Disk.{IsCaused as IsDeviceCaused}
 use Rattle.bk_log.specs.declared.found.Found.{Found}
 use Rattle.bk_log.specs.declared.fault.LogFault.{LogFault}
 use Rattle.bk_log.specs.declared.fault.LogFault.TheVariants as log_faults
 use Rattle.bk_record.specs.Location.{Place}
-use Rattle.bk_store.specs.Logs.{Log, Logs, View, last_view, open_parts}
+use Rattle.bk_store.specs.Logs.{Log, Logs, View, last_view, open_parts, view_of}
 use Rattle.bk_store.specs.State.{State}
 use Rattle.bk_store.specs.Meaning.{MeansTheSame}
 use Rattle.bk_store.specs.Jobs.{Job}
@@ -23,9 +23,11 @@ use Rattle.bk_compact.specs.declared.answer.CopyAnswer.TheVariants as copies
 use Rattle.bk_compact.specs.declared.answer.CompactFault.{CompactFault}
 use Rattle.bk_compact.specs.declared.answer.CompactFault.TheVariants as faults
 use Rattle.bk_compact.specs.declared.entries.Stopped.{Stopped}
+use Rattle.bk_compact.specs.declared.scanning.Unread.{Unread}
+use Rattle.bk_compact.specs.declared.scanning.Unread.TheVariants as unreads
 use Rattle.bk_compact.specs.declared.entries.Stopped.TheVariants as stops
-use Rattle.bk_compact.specs.Compacting.{AreFound, CopyTurn, Copies, Examines, ExaminesAll, HasUnsoundSource, IsRunning, Steps, TellsFailures, entries_left, with_job}
-use Rattle.bk_compact.specs.Going.{CopiesAll, IsAtEnd, IsCopying, IsOut, Stays}
+use Rattle.bk_compact.specs.Compacting.{AreFound, CopyTurn, Copies, EndTurn, Examines, ExaminesAll, HasUnsoundSource, IsCaused, IsRunning, ReadFails, Steps, TellsFailures, entries_left, with_job}
+use Rattle.bk_compact.specs.Going.{CopiesAll, IsAtEnd, IsCopying, IsOut, Stays, told_unread}
 use Rattle.bk_compact.proofs.Stored.{kept_job}
 
 -- ---- a job that runs
@@ -70,6 +72,7 @@ steps_back s job n copied t after steps = record { founds = steps.founds; bound 
 module _ (s : State) (job : Job) (running : IsRunning s Copy job) (n : ℕ) (mid : State) (after : Job) (t : State) where
   pub copied_turn : (k : ℕ) → IsAtEnd s job false → CopiesAll (with_job s None) job n (Ok k) mid after → t ≡ with_job mid (Some after)
       → CopyTurn s n (Ok (copies.Copied k)) t
+  unfolding steps_back
   copied_turn k left all back = (
     job,
     running,
@@ -125,3 +128,138 @@ module _ (s : State) (job : Job) (running : IsRunning s Copy job) (n : ℕ) (mid
 -- a read of the source that failed before anything was examined
 pub unbegun : (s : State) (job : Job) (n : ℕ) → Steps s job n 0 (with_job s None) job
 unbegun s job n = record { founds = []; bound = omega arith; first = λ _. tt; examined = (refl, refl, refl) }
+
+pub back_same : (s : State) (job : Job) → s.job ≡ Some job → s ≡ with_job s (Some job)
+back_same s job runs = ap (λ j. with_job s j) runs
+
+-- the copying did not begin
+module _ (s : State) (job : Job) (running : IsRunning s Copy job) (n : ℕ) where
+  pub refused_turn : CopyTurn s n (Err (faults.Memory 0)) s
+  refused_turn = (job, running, (with_job s None, (job, unbegun s job n, record { files = λ _. refl; left = back_same s job running.runs })))
+
+  pub unsound_turn : HasUnsoundSource s job → CopyTurn s n (Err faults.Disk) s
+  unsound_turn unsound =
+      (job, running, (0, (with_job s None, (job, unbegun s job n, inl (unsound, back_same s job running.runs)))))
+
+  pub abandoned_turn : (t : State) → s.honest ≡ false → SetTurn (with_job s None) job.copy Readable t → CopyTurn s n (Err faults.Odd) t
+  abandoned_turn t odd set = (job, running, (odd, (0, (with_job s None, (job, unbegun s job n, inl set)))))
+
+-- ---- how often the device failed
+
+examined_failures : (s : State) (job : Job) (founds : List Found) (copied : ℕ) (t : State) (after : Job) → ExaminesAll s job founds copied t after
+    → t.failures ≡ s.failures
+examined_failures s job [] copied t after all = ap (λ (x : State). x.failures) all.1
+examined_failures s job (f ∷ founds) copied t after all =
+    examined_failures all.1.0 all.1.1.0 founds all.1.1.2.0 t after all.1.1.2.2 ∙ one all.0 all.1.1.1
+  where
+    one : (b : Bool) → Examines s job f b all.1.0 all.1.1.0 → all.1.0.failures ≡ s.failures
+    one true turn = ap (λ (x : State). x.failures) turn.1.1.put.1.4
+    one false turn = ap (λ (x : State). x.failures) turn.1
+
+steps_failures : (s : State) (job : Job) (n copied : ℕ) (t : State) (after : Job) → Steps s job n copied t after → t.failures ≡ s.failures
+steps_failures s job n copied t after steps = examined_failures (with_job s None) job steps.founds copied t after steps.examined
+
+set_failures : (s t : State) (id : ℕ) → SetTurn s id Readable t → t.failures ≡ s.failures
+set_failures s t id turn = ap (λ (x : State). x.failures) turn.2
+
+-- the count rises by one, or not at all
+copy_counts : (s : State) (n : ℕ) (result : Result CopyAnswer CompactFault) (t : State) → CopyTurn s n result t
+    → (t.failures ≡ s.failures) ⊎ ((t.failures ≡ s.failures + 1) × (result ≡ Err faults.Disk))
+copy_counts s n (Ok copies.NoJob) t turn = inl (ap (λ (x : State). x.failures) turn.1)
+copy_counts s n (Ok copies.NotNow) t turn = inl (ap (λ (x : State). x.failures) turn.1)
+copy_counts s n (Ok copies.AtEnd) t turn = inl (ap (λ (x : State). x.failures) turn.3)
+copy_counts s n (Ok (copies.Copied k)) t turn =
+    let mid = turn.2.0 in
+    inl (ap (λ (x : State). x.failures) turn.2.1.3 ∙ steps_failures s turn.0 n k mid turn.2.1.0 turn.2.1.1.0)
+copy_counts s n (Err (faults.Memory done)) t turn =
+    let mid = turn.2.0 in
+    inl (ap (λ (x : State). x.failures) turn.2.1.2.left ∙ steps_failures s turn.0 n done mid turn.2.1.0 turn.2.1.1)
+copy_counts s n (Err faults.Disk) t turn =
+    let mid = turn.2.1.0 in
+    let same = steps_failures s turn.0 n turn.2.0 mid turn.2.1.1.0 turn.2.1.1.1 in
+    elim turn.2.1.1.2 [
+      | inl read ↦ inl (ap (λ (x : State). x.failures) read.1 ∙ same)
+      | inr put ↦ inr (ap (λ (x : State). x.failures) put.1.1.put.3 ∙ ap (λ k. k + 1) same, refl)
+    ]
+copy_counts s n (Err faults.Odd) t turn =
+    let odd = turn.2.1 in
+    let mid = odd.1.0 in
+    let same = steps_failures s turn.0 n odd.0 mid odd.1.1.0 odd.1.1.1 in
+    elim odd.1.1.2 [
+      | inl set ↦ inl (set_failures mid t turn.0.copy set ∙ same)
+      | inr put ↦ inl (ap (λ (x : State). x.failures) put.1.1.put.1.2 ∙ same)
+    ]
+copy_counts s n (Err faults.LogsFull) t turn = absurd turn.2
+copy_counts s n (Err faults.NoMoreIds) t turn = absurd turn.2
+
+pub copy_tells : (s : State) (n : ℕ) (result : Result CopyAnswer CompactFault) (t : State) → CopyTurn s n result t → TellsFailures s result t
+copy_tells s n result t turn = elim (copy_counts s n result t turn) [
+  | inl same ↦ record { later = omega (arith, same); once = omega (arith, same); told_so = λ more. absurd (omega (arith, same, more)) }
+  | inr once ↦ record { later = omega (arith, once.0); once = omega (arith, once.0); told_so = λ _. once.1 }
+]
+
+-- an answer that is not `Disk`
+pub copy_caused : (s : State) (n : ℕ) (result : Result CopyAnswer CompactFault) (t : State) → CopyTurn s n result t → ¬ (result ≡ Err faults.Disk)
+    → IsDeviceCaused s.failures t.failures (result ≡ Err faults.Disk)
+copy_caused s n result t turn not = elim (copy_counts s n result t turn) [
+  | inl same ↦ record {
+    later = omega (arith, same);
+    once = omega (arith, same);
+    failed = λ told. absurd (not told);
+    told = λ more. absurd (omega (arith, same, more));
+  }
+  | inr once ↦ absurd (not once.1)
+]
+
+-- the device failed once
+pub once_caused : (before now : ℕ) {Told : Type 0} → now ≡ before + 1 → Told → IsDeviceCaused before now Told
+once_caused before now once told = record { later = omega (arith, once); once = omega (arith, once); failed = λ _. omega (arith, once); told = λ _. told }
+
+-- a source of a type of views that can all be read is not unsound
+pub never_unsound : {V : Type 0} (bytes : V → List ℕ) (honest sound : V → Bool) → ((view : V) → IsTrue (sound view)) → (s : State) (job : Job) (v : V)
+    → last_view s.logs job.source ≡ Some (view_of bytes honest sound v) → HasUnsoundSource s job → ⊥
+never_unsound bytes honest sound all s job v last is =
+    let same : is.0 ≡ view_of bytes honest sound v = same_Some is.0 (view_of bytes honest sound v) (sym is.1 ∙ last) in
+    not_both (sound v) (all v) (sym (ap (λ (x : View). x.is_sound) same) ∙ is.2)
+  where
+    not_both : (b : Bool) → b ≡ true → b ≡ false → ⊥
+    not_both b one other = cc
+
+pub failed_once : (s : State) (job : Job) (n : ℕ) (t : State) (after : Job) → CopiesAll (with_job s None) job n (Err stops.Failed) t after
+    → IsDeviceCaused s.failures t.failures (IsErrOf {T = CopyAnswer} (Err faults.Disk) faults.Disk)
+failed_once s job n t after all =
+    let same = steps_failures (with_job s None) job n all.0 all.1.0 all.1.1.0 all.1.1.1 in
+    once_caused s.failures t.failures (ap (λ (x : State). x.failures) all.1.1.2.1.1.put.3 ∙ ap (λ k. k + 1) same) refl
+
+-- ---- a compaction that is abandoned since its source could not be read
+
+module _ (s t : State) (job : Job) (running : IsRunning s Copy job) (set : SetTurn (with_job s None) job.copy Readable t) (unread : Unread) (fault : CompactFault)
+    (told_so : fault ≡ told_unread unread) where
+  pub abandoned_end : ReadFails s job (told_unread unread) → EndTurn s (Err fault) t
+  abandoned_end fails = subst (λ (f : CompactFault). EndTurn s (Err f) t) (sym told_so) (job, running, inl (fails, set))
+
+  same_count : t.failures ≡ s.failures
+  same_count = set_failures (with_job s None) t job.copy set
+
+  pub abandoned_tells : {T : Type 0} → TellsFailures {T = T} s (Err fault) t
+  abandoned_tells = record {
+    later = omega (arith, same_count);
+    once = omega (arith, same_count);
+    told_so = λ more. absurd (omega (arith, more, same_count));
+  }
+
+  pub abandoned_cause : {T : Type 0} → ¬ (IsErrOf {T = Bool} (Err unread) unreads.Disk) → IsCaused {T = T} s (Err fault) t
+  abandoned_cause never = record {
+    later = omega (arith, same_count);
+    once = omega (arith, same_count);
+    failed = λ told. absurd (no_disk unread never (sym told_so ∙ one told));
+    told = λ more. absurd (omega (arith, more, same_count));
+  }
+    where
+      one : {T : Type 0} → IsErrOf {T = T} (Err fault) faults.Disk → fault ≡ faults.Disk
+      one same = cc
+
+      no_disk : (r : Unread) → ¬ (IsErrOf {T = Bool} (Err r) unreads.Disk) → told_unread r ≡ faults.Disk → ⊥
+      no_disk unreads.Disk not told = not refl
+      no_disk unreads.Memory not told = cc
+      no_disk unreads.Odd not told = cc

@@ -24,6 +24,8 @@ use Rattle.bk_store.specs.declared.log.LogState.TheVariants.{Readable}
 use Rattle.bk_compact.specs.declared.answer.CompactFault.{CompactFault}
 use Rattle.bk_compact.specs.declared.answer.CompactFault.TheVariants as faults
 use Rattle.bk_compact.specs.declared.entries.Stopped.{Stopped}
+use Rattle.bk_compact.specs.declared.scanning.Unread.{Unread}
+use Rattle.bk_compact.specs.declared.scanning.Unread.TheVariants as unreads
 use Rattle.bk_compact.specs.declared.entries.Stopped.TheVariants as stops
 use Rattle.bk_compact.specs.Compacting.{AreFound, Copies, Examines, HasUnsoundSource, IsCandidate, IsFound, Steps, TakesMoves, behind, entries_left, place_of}
 
@@ -53,11 +55,17 @@ pub record ScansFrom (bytes : List ℕ) (honest sound : Bool) (at : ℕ) (scan :
   pub is : scan ≡ new_scan bytes honest sound at end
 
 -- a refused scan of a source: beside an honest disk it has no bad length
-abbrev pub told_read : ScanFault → CompactFault
-told_read (scan_faults.BadLength at value) = faults.Odd
-told_read scan_faults.Disk = faults.Disk
-told_read scan_faults.Memory = faults.Memory 0
-told_read scan_faults.Odd = faults.Odd
+abbrev pub told_read : ScanFault → Unread
+told_read (scan_faults.BadLength at value) = unreads.Odd
+told_read scan_faults.Disk = unreads.Disk
+told_read scan_faults.Memory = unreads.Memory
+told_read scan_faults.Odd = unreads.Odd
+
+-- and as a compaction tells it
+abbrev pub told_unread : Unread → CompactFault
+told_unread unreads.Memory = faults.Memory 0
+told_unread unreads.Disk = faults.Disk
+told_unread unreads.Odd = faults.Odd
 
 -- whether no entry of the source is left, beside an honest disk
 abbrev pub IsAtEnd : State → Job → Bool → Type 0

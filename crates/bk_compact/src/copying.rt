@@ -12,7 +12,7 @@ ghost use Rattle.bk_compact.specs.Going.{IsAtEnd, Stays};
 
 use crate::entries::{Stopped, copy_entries};
 use crate::finishing::abandon;
-use crate::scanning::is_at_end;
+use crate::scanning::{Unread, is_at_end};
 use crate::{CompactFault, CopyAnswer};
 use bk_disk::LogDisk;
 use bk_store::{Phase, Store};
@@ -36,17 +36,19 @@ pub fn copy<D: LogDisk>(store: &mut Store<D>, count: u64) -> Result<CopyAnswer, 
     let Some(job) = store.job() else {
         return Ok(CopyAnswer::NoJob);
     };
-    if matches!(job.phase(), Phase::Switch) {
-        return Ok(CopyAnswer::NotNow);
+    match job.phase() {
+        Phase::Switch => return Ok(CopyAnswer::NotNow),
+        Phase::Copy => {}
     }
     match is_at_end(store, job) {
         Ok(true) => Ok(CopyAnswer::AtEnd),
         Ok(false) => go_on(store, count),
-        Err(CompactFault::Odd) => {
+        Err(Unread::Memory) => Err(CompactFault::Memory { done: 0 }),
+        Err(Unread::Disk) => Err(CompactFault::Disk),
+        Err(Unread::Odd) => {
             abandon(store);
             Err(CompactFault::Odd)
         }
-        Err(fault) => Err(fault),
     }
 }
 

@@ -32,15 +32,16 @@ pub fn end_copy<D: LogDisk>(store: &mut Store<D>) -> Result<EndAnswer, CompactFa
     let Some(job) = store.job() else {
         return Ok(EndAnswer::NoJob);
     };
-    if matches!(job.phase(), Phase::Switch) {
-        return Ok(EndAnswer::NotNow);
+    match job.phase() {
+        Phase::Switch => return Ok(EndAnswer::NotNow),
+        Phase::Copy => {}
     }
     match is_at_end(store, job) {
         Ok(false) => Ok(EndAnswer::NotAtEnd),
         Ok(true) => seal_copy(store),
-        Err(fault) => {
+        Err(unread) => {
             abandon(store);
-            Err(fault)
+            Err(unread.told())
         }
     }
 }
