@@ -11,8 +11,6 @@ mod faults;
 mod finishing;
 mod scanning;
 mod switching;
-#[cfg(test)]
-mod tests;
 
 pub use answer::{
     BeginAnswer, CompactFault, CopyAnswer, EndAnswer, FinishAnswer, GiveUpAnswer, Kind,
