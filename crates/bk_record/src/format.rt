@@ -21,5 +21,8 @@ pub const MAX_ADDED: usize = 1_048_576;
 /// The most bytes of a log, since a location has 32 bits for a position.
 pub const MAX_LOG_LENGTH: u64 = 4_294_967_295;
 
+/// The last id that a ledger, or an entry in its ledger, can have (this project's rule).
+pub const LAST_ID: u64 = 9_223_372_036_854_775_807;
+
 /// The last id that a log can have, since a location with a higher one would be a negative number.
 pub const LAST_LOG: u32 = 2_147_483_647;

@@ -4,12 +4,10 @@ ghost use Rattle.std.specs.Prelude.{◌≡◌, ◌<◌, ◌^◌, OnOk, OnErr, If
 ghost use Rattle.std.specs.List.{filter};
 ghost use Rattle.std.specs.FinSet as set;
 
+use bk_record::LAST_ID;
 use std::alloc::{AllocError, Global};
 use std::collections::BTreeSet;
 use std::marker::Model;
-
-/// The greatest ledger id (this project's rule).
-const LAST_LEDGER: u64 = (1 << 63) - 1;
 
 /// A set of ledgers.
 #[derive(Drop)]
@@ -39,7 +37,7 @@ impl DeadLedgers {
     {
         let mut ledgers = BTreeSet::new(alloc);
         for ledger in listed {
-            if *ledger <= LAST_LEDGER {
+            if *ledger <= LAST_ID {
                 ledgers.insert(*ledger)?;
             }
         }

@@ -8,14 +8,8 @@ use crate::line::payload::{add, pad};
 use crate::line::words::{split_number, split_word, three_numbers};
 use crate::number;
 use bk_drive::{Step, Work};
-use bk_record::Key;
+use bk_record::{Key, LAST_ID, LAST_LOG};
 use std::alloc::Global;
-
-/// The greatest ledger or entry id (this project's rule).
-const MAX_ID: u64 = i64::MAX as u64;
-
-/// The greatest id of a log (this project's rule).
-const MAX_LOG: u64 = i32::MAX as u64;
 
 /// The greatest number of a reader.
 const MAX_READER: u64 = 3;
@@ -33,11 +27,11 @@ pub(crate) fn read_add(alloc: Global, text: &str) -> Result<Step, LineFault>
     ensures ok { IfOk result (Spells (codes "add" ++ 32 ∷ text.now)) }
     ensures bad { result ≡ Err LineFault.Bad → (step : _) → ¬ (Spells (codes "add" ++ 32 ∷ text.now) step) }
 {
-    let Some((ledger, text)) = split_number(text, MAX_ID) else {
+    let Some((ledger, text)) = split_number(text, LAST_ID) else {
         return Err(LineFault::Bad);
     };
     let (entry, data) = split_word(text);
-    let Some(entry) = number(entry, MAX_ID) else {
+    let Some(entry) = number(entry, LAST_ID) else {
         return Err(LineFault::Bad);
     };
     match data {
@@ -52,7 +46,7 @@ pub(crate) fn read_pad(alloc: Global, text: &str) -> Result<Step, LineFault>
     ensures ok { IfOk result (Spells (codes "pad" ++ 32 ∷ text.now)) }
     ensures bad { result ≡ Err LineFault.Bad → (step : _) → ¬ (Spells (codes "pad" ++ 32 ∷ text.now) step) }
 {
-    match three_numbers(text, MAX_ID, MAX_ID, MAX_PAD) {
+    match three_numbers(text, LAST_ID, LAST_ID, MAX_PAD) {
         Some((ledger, entry, size)) => pad(alloc, ledger, entry, size as usize),
         None => Err(LineFault::Bad),
     }
@@ -63,7 +57,7 @@ pub(crate) fn read_take(text: &str) -> Result<Step, LineFault>
     ensures ok { IfOk result (Spells (codes "take" ++ 32 ∷ text.now)) }
     ensures err { OnErr result ((step : _) → ¬ (Spells (codes "take" ++ 32 ∷ text.now) step)) }
 {
-    let Some((reader, ledger, entry)) = three_numbers(text, MAX_READER, MAX_ID, MAX_ID) else {
+    let Some((reader, ledger, entry)) = three_numbers(text, MAX_READER, LAST_ID, LAST_ID) else {
         return Err(LineFault::Bad);
     };
     match Key::new(ledger, entry) {
@@ -99,7 +93,7 @@ pub(crate) fn read_delete(text: &str) -> Result<Step, LineFault>
     ensures ok { IfOk result (Spells (codes "delete" ++ 32 ∷ text.now)) }
     ensures err { OnErr result ((step : _) → ¬ (Spells (codes "delete" ++ 32 ∷ text.now) step)) }
 {
-    match number(text, MAX_ID) {
+    match number(text, LAST_ID) {
         Some(ledger) => Ok(Step::Delete(ledger)),
         None => Err(LineFault::Bad),
     }
@@ -110,7 +104,7 @@ pub(crate) fn read_retire(text: &str) -> Result<Step, LineFault>
     ensures ok { IfOk result (Spells (codes "retire" ++ 32 ∷ text.now)) }
     ensures err { OnErr result ((step : _) → ¬ (Spells (codes "retire" ++ 32 ∷ text.now) step)) }
 {
-    match number(text, MAX_LOG) {
+    match number(text, u64::from(LAST_LOG)) {
         Some(log) => Ok(Step::Work(Work::Retire(log as u32))),
         None => Err(LineFault::Bad),
     }
@@ -121,7 +115,7 @@ pub(crate) fn read_close(text: &str) -> Result<Step, LineFault>
     ensures ok { IfOk result (Spells (codes "close" ++ 32 ∷ text.now)) }
     ensures err { OnErr result ((step : _) → ¬ (Spells (codes "close" ++ 32 ∷ text.now) step)) }
 {
-    match number(text, MAX_LOG) {
+    match number(text, u64::from(LAST_LOG)) {
         Some(log) => Ok(Step::Work(Work::Close(log as u32))),
         None => Err(LineFault::Bad),
     }
@@ -132,7 +126,7 @@ pub(crate) fn read_remove(text: &str) -> Result<Step, LineFault>
     ensures ok { IfOk result (Spells (codes "remove" ++ 32 ∷ text.now)) }
     ensures err { OnErr result ((step : _) → ¬ (Spells (codes "remove" ++ 32 ∷ text.now) step)) }
 {
-    match number(text, MAX_LOG) {
+    match number(text, u64::from(LAST_LOG)) {
         Some(log) => Ok(Step::Work(Work::Remove(log as u32))),
         None => Err(LineFault::Bad),
     }

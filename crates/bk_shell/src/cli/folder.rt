@@ -5,7 +5,7 @@ ghost use Rattle.std.specs.Prelude.{◌≤◌, IfOk};
 mod help;
 
 use bk_dir::DirCommand;
-use bk_record::{Key, LAST_LOG};
+use bk_record::{Key, LAST_ID, LAST_LOG};
 use bk_script::number;
 use clap::error::ErrorKind;
 use clap::{Arg, ArgMatches, Command, Error};
@@ -15,9 +15,6 @@ use help::{
 };
 use std::alloc::{AllocError, Global};
 use std::convert::AsStr;
-
-/// The greatest ledger and entry id.
-const LAST_ID: u64 = 9_223_372_036_854_775_807;
 
 /// A call of a command that reads a folder.
 #[derive(Clone, Copy, Debug, PartialEq, Eq)]

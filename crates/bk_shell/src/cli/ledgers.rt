@@ -5,13 +5,11 @@ ghost use Rattle.clap.specs.Matches.{found_of};
 ghost use Rattle.clap.specs.Walk.{all_of, rows_of, rule_of, texts};
 ghost use Rattle.bk_shell.specs.CommandLine.{last_ledger, words_rule, AsksLedgers};
 
+use bk_record::LAST_ID;
 use bk_script::number;
 use clap::{Arg, ArgAction, ArgMatches};
 use std::alloc::{AllocError, Global};
 use thiserror::Error;
-
-/// The greatest ledger id.
-const LAST_LEDGER: u64 = 9_223_372_036_854_775_807;
 
 /// A word beside the options is no ledger's number.
 #[derive(Debug, Error, Drop)]
@@ -57,7 +55,7 @@ fn ledgers_of<'a>(
 {
     let mut dead = Vec::new(alloc);
     for text in words {
-        match number(text, LAST_LEDGER) {
+        match number(text, LAST_ID) {
             Some(ledger) => dead.push(ledger)?,
             None => return Ok(Err(BadLedger { text: *text })),
         }

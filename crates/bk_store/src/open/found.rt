@@ -13,12 +13,9 @@ use super::tally::Tally;
 use crate::log::HeldLog;
 use crate::{LogState, OpenFault};
 use bk_disk::{LogDisk, LogView};
-use bk_record::HEADER_LENGTH;
+use bk_record::{HEADER_LENGTH, MAX_LOG_LENGTH};
 use std::alloc::Global;
 use std::sync::Arc;
-
-/// The most bytes that a log's file may have (this project's rule).
-const MOST: u64 = u32::MAX as u64;
 
 /// Reads a log, which is to stand in this slot: its entries are taken in, and it is held as one that is written no more,
 /// with a view of its whole file.
@@ -45,7 +42,7 @@ pub(super) fn find<D: LogDisk>(
         Err(fault) => return Err(open_fault(fault)),
     };
     let end = view.end();
-    if end < HEADER_LENGTH as u64 || end > MOST {
+    if end < HEADER_LENGTH as u64 || end > MAX_LOG_LENGTH {
         return Err(OpenFault::Odd);
     }
     if tally.accounts.open(id).is_err() {
@@ -79,7 +76,7 @@ fn check_file<D: LogDisk>(disk: &mut D, alloc: Global, id: u32) -> Result<(), Op
         Ok(length) => length,
         Err(fault) => return Err(open_fault(fault)),
     };
-    if length > MOST {
+    if length > MAX_LOG_LENGTH {
         return Err(OpenFault::TooLong(id));
     }
     if length >= HEADER_LENGTH as u64 {

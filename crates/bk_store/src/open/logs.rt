@@ -13,10 +13,8 @@ use crate::OpenFault;
 use crate::logs::LogTable;
 use bk_disk::LogDisk;
 use bk_lease::Keeper;
+use bk_record::LAST_LOG;
 use std::alloc::Global;
-
-/// The greatest id of a log (this project's rule).
-const LAST: u32 = i32::MAX as u32;
 
 /// Reads the logs of these ids, which are seated one behind the other, the first in slot 0. It answers the next id that is
 /// free: one more than the greatest, 0 where there is none.
@@ -46,7 +44,7 @@ pub(super) fn find_all<D: LogDisk>(
     let mut next = 0;
     let mut slot = 0;
     for id in ids {
-        if *id < next || *id > LAST {
+        if *id < next || *id > LAST_LOG {
             return Err(OpenFault::Odd);
         }
         let log = find(disk, alloc, *id, slot, tally)?;

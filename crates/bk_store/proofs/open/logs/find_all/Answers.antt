@@ -7,7 +7,7 @@ use Rattle.bk_store.proofs.OpenedFinds.{none_taken, finding_closed, finding_on, 
 use Rattle.bk_store.specs.Seated.{slot_state}
 use Rattle.bk_store.proofs.Seating.{none_seated, may_seat, seat_on}
 use Rattle.bk_store.proofs.open.logs.find_all.Goals as goal
-use Rattle.bk_store.proofs.open.logs.find_all.Goals.{then-id-next-via-then-id-next, then-id-next-via-else-id-next+then-id-gt-LAST}
+use Rattle.bk_store.proofs.open.logs.find_all.Goals.{then-id-next-via-then-id-next, then-id-next-via-else-id-next+then-id-gt-LAST_LOG}
 
 pub returns-then-id-next-clause-err : goal.returns-then-id-next-clause-err
 returns-then-id-next-clause-err g c = λ honest.
@@ -15,7 +15,7 @@ returns-then-id-next-clause-err g c = λ honest.
     let least = finding_least c.loop-id.invariant.0 c.requires.listed 0 c.loop-id-test.true honest (c.bounds.ensures honest) in
     elim c.then-id-next.branch [
       | then-id-next-via-then-id-next w ↦ absurd (omega (arith, past, w.if-id-next.true))
-      | then-id-next-via-else-id-next+then-id-gt-LAST w ↦ absurd (omega (arith, least, w.if-id-gt-LAST.true))
+      | then-id-next-via-else-id-next+then-id-gt-LAST_LOG w ↦ absurd (omega (arith, least, w.if-id-gt-LAST_LOG.true))
     ]
 
 pub loop-id-init : goal.loop-id-init
@@ -51,7 +51,7 @@ loop-id-preserved g c =
     let one = c.in_ok-log.ensures.ok in
     let id = get_or c.args.ids.now c.loop-id.id-index 0 in (
       finding_on c.loop-id.invariant.0 0 c.loop-id.slot c.in_ok-log.log _ _ _ _ _ c.loop-id-test.true (omega (arith, c.if-id-next.false))
-          (omega (arith, c.if-id-gt-LAST.false))
+          (omega (arith, c.if-id-gt-LAST_LOG.false))
           c.in_ok-log.ensures.honest c.in_ok-log.ensures.failures c.in_ok-log.ensures.files one held,
       seat_on c.loop-id.invariant.1 id c.in_ok-log.log c.open.new.self c.hold.new.self
           (let at = c.loop-id.invariant.2 in let same = c.loop-id.invariant.1.same.slots in let room = c.requires.room in
