@@ -13,18 +13,6 @@ use Rattle.bk_cache.specs.Recents.{Recents, Entry, same_key, recent_of, remember
 use Rattle.bk_cache.specs.Caches.{first_after}
 use Rattle.bk_cache.proofs.RecentPuts.{same_key_exact}
 
-slice_get-drop : {A : Type 0} (xs : List A) (i : ℕ) → slice_get (drop i xs) 0 ≡ slice_get xs i
-slice_get-drop xs zero = refl
-slice_get-drop [] (suc i) = refl
-slice_get-drop (x ∷ xs) (suc i) = slice_get-drop xs i
-
--- the first pair behind the key of the i-th is the next one
-pub first_after-place : (m : Payloads) (i : ℕ) (e : Entry) → slice_get (entries.entries m) i ≡ Some e
-    → first_after (Some e.0) m ≡ slice_get (entries.entries m) (i + 1)
-first_after-place m i e at =
-    ap (λ pairs. slice_get pairs 0) (filter-behind key_cmp_total e.0 e.1 (entries.entries m) i (is_true _ (entries_sorted m)) at)
-    ∙ slice_get-drop (entries.entries m) (suc i) ∙ ap (slice_get (entries.entries m)) (sym (add-one i))
-
 -- a ledger's recent entries are gone, the others stay
 pub recent_of-without_recent : (r : Recents) (ledger : ℕ) (key : EntryKey)
     → recent_of (without_recent r ledger) key ≡ cond (not (eqb key.ledger ledger)) (recent_of r key) None

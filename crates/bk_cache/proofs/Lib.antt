@@ -10,6 +10,5 @@ pub mod RecentTurns
 pub mod RecentPuts
 pub mod Used
 pub mod Sound
-pub mod AddedKeys
 pub mod CallerLaws
 pub mod LedgerCounts

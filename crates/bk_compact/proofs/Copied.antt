@@ -284,8 +284,6 @@ module _ (s : State) (kept : IsKept s) (job : Job) (is : IsCopying s job) (found
 
   -- an entry that the index does not name
   module _ (unsent : ¬ (finite.get s.index found.key ≡ Some (place_of job found))) where
-    passed_by : Job
-    passed_by = record job { at = behind found }
 
     pub passed_keeps : IsCopying s (record job { at = behind found })
     passed_keeps =

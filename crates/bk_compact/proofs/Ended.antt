@@ -34,12 +34,6 @@ use Rattle.bk_compact.specs.Going.{IsCopying, IsOut}
 use Rattle.bk_compact.proofs.Positions.{read_start, record_behind}
 use Rattle.bk_compact.proofs.Stored.{kept_held, kept_sent, kept_shows, shown_part, none_ahead}
 
-switch_copy : {A : Type 0} → Copy ≡ Switch → A
-switch_copy wrong = absurd (never wrong)
-  where
-    never : Copy ≡ Switch → ⊥
-    never wrong = cc
-
 -- ---- a log's entries
 
 listed : (file : List ℕ) (at : ℕ) (payload : List ℕ) (key : EntryKey) → key_of payload ≡ Some key → In (at, payload) (records_of file)
@@ -92,35 +86,6 @@ module _ (s : State) (kept : IsKept s) (source : ℕ) (is : IsCandidate s source
 
     copy_now : finite.get t.logs copy ≡ Some new_log
     copy_now = ap (λ (l : Logs). finite.get l copy) same_logs ∙ log-inserted s.logs s.next new_log copy made.1
-
-    pub begun_keeps : IsJob t (new_job source copy)
-    begun_keeps =
-        let part : open_parts t.logs source ≡ open_parts s.logs source = part_same s.logs t.logs source source_same in
-        record {
-          source = in_same s t source Readable source_same is.state;
-          shown = view_same s.logs t.logs source source_same candidate_shown;
-          copy = record { log = new_log; held = copy_now; state_is = refl };
-          copy_shown = λ wrong. switch_copy wrong;
-          later = omega (arith, older, made.1);
-          begun = omega arith;
-          room = λ w writer.
-              let one : writers.new_writing s.next ≡ w = same_Some (writers.new_writing s.next) w
-              (sym (ap (option_and_then (λ (l : Log). l.writer)) copy_now) ∙ writer) in
-              let long : header_length ≡ w.end = ap (λ (x : writers.Writing). x.end) one in
-              omega (arith, long);
-          moves = λ m never. absurd never;
-          honest = λ honest'.
-              let honest : IsTrue s.honest = sym (ap (λ (x : State). x.honest) made.2.left) ∙ honest' in
-              record {
-                read = read_start (open_parts t.logs source);
-                copied = λ m never. absurd never;
-                examined = λ _ key place named here.
-                    let named_so : finite.get s.index key ≡ Some place = ap (λ (i : Places). finite.get i key) (sym (ap (λ (x : State). x.index) made.2.left)) ∙ named in
-                    let entry = (kept_shows s kept honest).shown key place named_so in
-                    inl (record_behind (open_parts s.logs place.log) place.at entry.0 entry.1.stands);
-                ended = λ wrong. switch_copy wrong;
-              };
-        }
 
 -- ---- the copy is sealed and shown
 

@@ -500,11 +500,3 @@ module _ (view : View) (s : State) (kept : IsKept s) (job : Job) (is : IsJob s j
       none_bad scan.file scan.from read (subst HasNoBadLength (sym first_file) spelled) at value
       (subst (λ (b : List ℕ). IsBadAt scan.from b at value) list
       (subst (λ n. IsBadAt n (part_of scan') at value) (ap (λ (x : Scan). x.from) moves) bad)))
-
--- a view that ends before the job's position is of no honest disk
-pub ends_before : (view : View) (s : State) → IsKept s → (job : Job) → IsJob s job → last_view s.logs job.source ≡ Some view
-    → (IsTrue view.is_honest → view_end view.bytes < job.at) → s.honest ≡ false
-ends_before view s kept job is last before = dishonest s.honest (λ honest.
-    let within : job.at ≤ view_end view.bytes =
-    subst (λ (b : List ℕ). job.at ≤ view_end b) (source_bytes s kept job is view last) (is.honest honest).read.within in
-    omega (arith, within, before (source_honest s kept job is view last honest)))

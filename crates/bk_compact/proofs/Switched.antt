@@ -39,9 +39,6 @@ none_left (y ∷ ys) (suc n) is = let rest = none_left ys n is in omega (arith, 
 
 -- ---- the moves that were taken
 
-one_of : Bool → ℕ
-one_of moved = if moved then 1 else 0
-
 takes_more : (s t u : State) (moves : List Move) (moved : ℕ) (first : Move) (is_moved : Bool) → TakesMoves s moves moved t
     → RenameTurn t first.key first.from first.to is_moved u → TakesMoves s (moves ++ first ∷ []) (moved + (if is_moved then 1 else 0)) u
 takes_more s t u [] moved first is_moved takes turn = (

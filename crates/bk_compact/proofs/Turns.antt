@@ -61,9 +61,6 @@ module _ (s : State) (kept : IsKept s) (job : Job) (running : IsRunning s Copy j
     pub may_abandon : MaySet t job.copy Readable
     may_abandon = (copy_there, no_job job.copy)
 
-    pub may_seal : MaySeal t job.copy Readable
-    may_seal = inl (copy_there, no_job job.copy)
-
 -- ---- copying
 
 steps_back : (s : State) (job : Job) (n copied : ℕ) (t : State) (after : Job) → Steps (with_job s None) job n copied t after → Steps s job n copied t after

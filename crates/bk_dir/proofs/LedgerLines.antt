@@ -25,9 +25,6 @@ pub record WroteSome (rest all : List (ℕ × ℕ)) (before now : Option (List �
   pub appended : Appends before now text
   pub whole : text ++ flat_map ledger_line rest ≡ flat_map ledger_line all
 
-pub wrote_none : (rest all : List (ℕ × ℕ)) (before : Option (List ℕ)) → rest ≡ all → WroteSome rest all before before
-wrote_none rest all before is = record { text = []; appended = appends_none before; whole = ap (flat_map ledger_line) is }
-
 pub wrote_more : (rest behind all : List (ℕ × ℕ)) (ledger : ℕ × ℕ) (before mid now : Option (List ℕ)) → rest ≡ ledger ∷ behind
     → WroteSome rest all before mid → Appends mid now (ledger_line ledger) → WroteSome behind all before now
 wrote_more rest behind all ledger before mid now is w line = record {
@@ -37,12 +34,6 @@ wrote_more rest behind all ledger before mid now is w line = record {
       ∙ ap (λ (x : List (ℕ × ℕ)). w.text ++ flat_map ledger_line x) (sym is)
       ∙ w.whole;
 }
-
-pub wrote_all : (rest all : List (ℕ × ℕ)) (before now : Option (List ℕ)) → rest ≡ [] → WroteSome rest all before now
-    → Appends before now (flat_map ledger_line all)
-wrote_all rest all before now is w =
-    let none_left = ap (λ (x : List (ℕ × ℕ)). w.text ++ flat_map ledger_line x) (sym is) in
-    subst (λ (x : List ℕ). Appends before now x) (sym (append-nil w.text) ∙ none_left ∙ w.whole) w.appended
 
 -- ---- a map's lines as what is shown of a log
 

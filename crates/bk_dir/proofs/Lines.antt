@@ -19,10 +19,6 @@ taken_none : (xs : List ℕ) → take 0 xs ≡ []
 taken_none [] = ap (λ (l : List ℕ). l) (append-nil [])
 taken_none (x ∷ xs) = append-nil []
 
--- no line for no log
-pub no_lines : (IsLine : ℕ → List ℕ → Type 0) (logs : List ℕ) (before : Option (List ℕ)) → WritesText (AreLines IsLine (take 0 logs)) before before
-no_lines IsLine logs before = ([], subst (λ l. AreLines IsLine l []) (sym (taken_none logs)) none, appends_none before)
-
 -- one line more for one log more
 pub line_more : (IsLine : ℕ → List ℕ → Type 0) (logs : List ℕ) (i : ℕ) (before mid after : Option (List ℕ)) → i < length logs
     → WritesText (AreLines IsLine (take i logs)) before mid → WritesText (IsLine (get_or logs i 0)) mid after

@@ -67,12 +67,6 @@ batch_more file offset at left count m n end some headed fits s has add =
     subst (λ k. SpellsMap (take k tail) n) (sym same) (spells_more tail pairs at m n (omega (arith, long)) s has
     (subst (λ (x : List ℕ). Adds s.pairs (take (16 * count) x) n) here (add s.pairs s.distinct s.map_is)))
 
--- the end of the view is the end of the bytes
-pub spells_all : (file : List ℕ) (offset at long : ℕ) (m : LedgersMap) → offset + long ≡ view_end file → 1024 ≤ offset → at ≤ long → ¬ (at < long)
-    → SpellsMap (take at (drop offset file)) m → SpellsMap (drop offset file) m
-spells_all file offset at long m end headed within done s =
-    subst (λ (x : List ℕ). SpellsMap x m) (take_all at (drop offset file) (omega (arith, end, done, length-drop offset file))) s
-
 -- ---- where the map is
 
 -- the offset of a map's place is the header's

@@ -30,14 +30,6 @@ taken_none : {X : Type 0} (xs : List X) → take 0 xs ≡ []
 taken_none [] = refl
 taken_none (x ∷ xs) = refl
 
-pub shown_none : (first : Scan) (before : Option (List ℕ)) → first.given ≡ 0 → Shown first first 0 before before
-shown_none first before none = record {
-  moved = ap (λ n. record first { given = n }) none;
-  room = omega arith;
-  written = λ honest.
-      subst (λ l. Appends before before (flat_map entry_line l)) (sym (taken_none (entries_in first.from (part_of first)))) (appends_none before);
-}
-
 -- the key of a payload has the ids that stand in it
 keyed_fields : (payload : List ℕ) (key : EntryKey) → key_of payload ≡ Some key → (key.ledger ≡ ledger_field payload) × (key.entry ≡ entry_field payload)
 unfolding key_of

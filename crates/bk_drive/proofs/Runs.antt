@@ -84,19 +84,6 @@ swap_logs s t swaps.Running turn = logs_same s t turn.1
 swap_logs s t swaps.Nothing turn = logs_same s t turn.2
 swap_logs s t (swaps.Swapped n) turn = logs_as turn.3 (record { keeper = refl; logs = refl; next = refl })
 
-pub add_settings : (s t : State) (payload : List ℕ) (r : Result Added AddFault) → AddTurn s payload r t → t.settings ≡ s.settings
-add_settings s t payload (Err (add_faults.Bad fault)) turn = ap (λ (x : State). x.settings) turn.1
-add_settings s t payload (Err add_faults.Deleted) turn = ap (λ (x : State). x.settings) turn.3
-add_settings s t payload (Ok Held) turn = ap (λ (x : State). x.settings) turn.1
-add_settings s t payload (Err (add_faults.Full used limit)) turn = ap (λ (x : State). x.settings) turn.4
-add_settings s t payload (Err add_faults.Memory) turn = ap (λ (x : State). x.settings) turn.2
-add_settings s t payload (Ok Accepted) turn = ap (λ (x : State). x.settings) turn.2
-
-pub delete_settings : (s t : State) (ledger : ℕ) (r : Result ℕ DeleteFault) → DeleteTurn s ledger r t → t.settings ≡ s.settings
-delete_settings s t ledger (Err delete_faults.AlreadyDeleted) turn = ap (λ (x : State). x.settings) turn.1
-delete_settings s t ledger (Err delete_faults.Memory) turn = ap (λ (x : State). x.settings) turn.1
-delete_settings s t ledger (Ok n) turn = ap (λ (x : State). x.settings) turn.2
-
 pub swap_settings : (s t : State) (r : SwapAnswer) → SwapTurn s r t → t.settings ≡ s.settings
 swap_settings s t swaps.Running turn = ap (λ (x : State). x.settings) turn.1
 swap_settings s t swaps.Nothing turn = ap (λ (x : State). x.settings) turn.2

@@ -26,9 +26,6 @@ IsNextLog s from (Some id) = HasPlace s id × (from ≤ id) × ((other : ℕ) �
 abbrev pub ArePast : List (EntryKey × Place) → ℕ → ℕ → Type 0
 ArePast es n from = (i : ℕ) (e : EntryKey × Place) → i < n → slice_get es i ≡ Some e → e.1.log < from
 
-pub none_past : (es : List (EntryKey × Place)) (from : ℕ) → ArePast es 0 from
-none_past es from i e within at = absurd (omega (arith, within))
-
 -- one place more is passed, whose log is below the id by now
 pub one_past : (es : List (EntryKey × Place)) (n from now : ℕ) (e : EntryKey × Place) → ArePast es n from → slice_get es n ≡ Some e → e.1.log < now → from ≤ now
     → ArePast es (n + 1) now

@@ -26,18 +26,6 @@ pub record IsShowing (s : State) (from : ℕ) (t : State) : Type 0 where
   pub failures : t.failures ≡ s.failures
   pub stays : Stays s t
 
-pub none_shown : (s : State) → IsShowing s 0 s
-none_shown s = record {
-  shown = record {
-    shown = λ id is. let below = is.1 in absurd (omega (arith, below));
-    others = λ id _. refl;
-    files = λ _. refl;
-    left = refl;
-  };
-  failures = refl;
-  stays = record { honest = refl; meaning = λ _ _. refl };
-}
-
 -- a log that a flush wrote is one that keys may be sent to
 flush_log_open : (logs : Logs) (id : ℕ) → IsFlushLog logs id → (log : Log) × (finite.get logs id ≡ Some log) × (is_open log.state ≡ true)
 flush_log_open logs id is = (
@@ -169,18 +157,6 @@ module _ (s t : State) (from : ℕ) (is : IsShowing s from t) where
             let never : IsTrue t.honest → ⊥ = λ honest. let wrong = sym turn.0 ∙ honest in cc in
             (sym is.stays.honest ∙ turn.0, stops_even u (λ honest. absurd (never honest)) turn.1)
         by_cause log_faults.Failed never = absurd never
-
-    pub not_shown_stays : (cause : LogFault) (u : State) → ShowTurn t log (Err cause) u → (IsTrue t.honest → MeansTheSame t u) → Stays s u
-    not_shown_stays cause u turn meaning = record {
-      honest = same_honest cause turn ∙ is.stays.honest;
-      meaning = λ honest key. meaning (is.stays.honest ∙ honest) key ∙ is.stays.meaning honest key;
-    }
-      where
-        same_honest : (cause : LogFault) → ShowTurn t log (Err cause) u → u.honest ≡ t.honest
-        same_honest log_faults.Disk turn = ap (λ (x : State). x.honest) turn.1
-        same_honest log_faults.Memory turn = ap (λ (x : State). x.honest) turn.1
-        same_honest log_faults.Odd turn = ap (λ (x : State). x.honest) turn.1
-        same_honest log_faults.Failed never = absurd never
 
   -- no log is left to be shown
   module _ (over : IsNextLog s from None) where

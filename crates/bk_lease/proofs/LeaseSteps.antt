@@ -74,9 +74,3 @@ meets id other i log v w both left register knows closed holds s ruled at apart 
     let kept = the_keeper s.words s.views id v register ruled at knows in
     let held : get_elem? s.views other ≡ some (Held i) = sym (set_else s.views id other both apart) ∙ there ∙ ap some holds in
     absurd (none_closed register s.words s.views kept.1 other i held log closed)
-
--- the first seat is a keeper's, so it makes no step as a spent one
-pub no_first_spent : (slots id : ℕ) (me : Sitter) → id ≡ 0 → me.0 ≡ Spent → Allows Rule slots id me 0 (λ word. word) (never (step slots 0 0 0 none) me)
-no_first_spent slots id me first spent s ruled _ at _ = let kept = ruled.1 in
-    let here : get_elem? s.views 0 ≡ some Spent = subst (λ (k : ℕ). get_elem? s.views k ≡ some Spent) first (at ∙ ap some spent) in
-    let same : Keeper ruled.0 ≡ Spent = some-injective _ _ (sym kept.keeper ∙ here) in absurd cc

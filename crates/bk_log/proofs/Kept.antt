@@ -245,39 +245,6 @@ kept_bad window from end given foreign torn ready room value ended fault kept go
       };
 }
 
--- a first record that stands at the position is the part's
-first_here : (window : Ahead) (from end : ℕ) → window.at ≡ from → (payload : List ℕ) → BeginsWith (here window end) payload
-    → BeginsWith (part window.bytes from end) payload
-first_here window from end place payload begins = subst (λ n. BeginsWith (take (end - n) (drop n window.bytes)) payload) place begins
-
-fails_here : (window : Ahead) (from end given foreign torn : ℕ) (ended : Bool) (still : Option ScanFault) (fault : ScanFault)
-    → (window.room ≡ 0 → (window.at ≡ from) × ((given ≡ 0) × (foreign ≡ 0))) → AheadFails window.room (here window end) fault
-    → ScanFails (scan_of window from end given foreign torn ended still) fault
-fails_here window from end given foreign torn ended still (BadLength at value) fresh never = absurd never
-fails_here window from end given foreign torn ended still Disk fresh fine = tt
-fails_here window from end given foreign torn ended still Memory fresh (none, (payload, begins)) =
-    let (place, (first, alone)) = fresh none in (first, (alone, (payload, first_here window from end place payload begins)))
-fails_here window from end given foreign torn ended still Odd fresh never = absurd never
-
--- the view could not be read, or no buffer was to be had
-pub kept_fault : (window : Ahead) (from end given foreign torn ready room : ℕ) (ended : Bool) (fault : Option ScanFault) (met : ScanFault)
-    → IsKept window from end given foreign torn ended fault → ended ≡ false → fault ≡ None → (met ≡ Disk → window.sound ≡ false)
-    → (IsTrue window.honest → AheadFails window.room (here window end) met)
-    → IsKept (record window { ready = ready; room = room }) from end given foreign torn ended (Some met)
-kept_fault window from end given foreign torn ready room ended fault met kept going calm cause fails = record {
-  placed = kept.placed;
-  told = λ e. cause (same_some _ _ e);
-  fresh = λ goes quiet. absurd (no_fault _ _ quiet refl);
-  headed = kept.headed;
-  in_view = kept.in_view;
-  scanned = λ h. record {
-    passed = (kept.scanned h).passed;
-    finished = λ e. absurd (false≢true (sym going ∙ e));
-    stopped = λ f e. subst (ScanFails (scan_of window from end given foreign torn ended (Some met))) (same_some _ _ e)
-        (fails_here window from end given foreign torn ended (Some met) met (kept.fresh going calm) (fails h));
-  };
-}
-
 -- what the window said, of the position as it is
 pub front_here : (window : Ahead) (end at : ℕ) (front shown : Front) → at ≡ window.at → front ≡ shown
     → (IsTrue window.honest → IsFront (take (end - at) (drop window.at window.bytes)) front) → IsTrue window.honest → IsFront (here window end) shown

@@ -56,9 +56,6 @@ header_put files w writes =
     subst (λ b. IsHeader b unsealed) (ap (λ b. b ++ drop 1024 writes.file) (sym writes.text.headed) ∙ take-append-drop 1024 writes.file)
     (header-append empty_header (drop 1024 writes.file) unsealed empty_is_header)
 
-abbrev sealed_header : Writing → Header
-sealed_header w = record { version = 1; map_offset = pos w.end; count = pos (len w.sizes) }
-
 -- a whole file whose header was patched
 map_stands : (files : Files) (w : Writing) (file : List ℕ) (writes : Writes files w) → IsWritable w.sizes
     → file ≡ patched_file (writes.file ++ map_bytes w) (patch_of w.end (len w.sizes)) → HasMap file

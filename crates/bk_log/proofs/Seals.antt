@@ -46,13 +46,6 @@ adds_nothing files log bytes room none =
 fits_when : (w : Writing) (bytes : List ℕ) → bytes ≡ map_bytes w → w.end + length bytes < 2 ^ 32 → map_fits w ≡ true
 fits_when w bytes is fits = lt-ltb (w.end + length (map_bytes w)) (2 ^ 32) (subst (λ b. w.end + length b < 2 ^ 32) is fits)
 
--- the map doesn't fit
-pub seal_left : (files : Files) (w now : Writing) (bytes : List ℕ) → w ≡ now → bytes ≡ map_bytes w → 2 ^ 32 ≤ w.end + length bytes → files ≡ sealed files now
-seal_left files w now bytes same is full =
-    subst (λ (v : Writing). files ≡ sealed files v) same
-    (sym (ap (λ b. cond b (patched (mapped files w) w.log (patch_of w.end (len w.sizes))) files)
-    (le-ltb (w.end + length (map_bytes w)) (2 ^ 32) (subst (λ b. 2 ^ 32 ≤ w.end + length b) is full))))
-
 -- the map could not be written
 append_failed : (files files' : Files) (w : Writing) (fault : LogFault) → map_fits w ≡ true → Adds files w.log (map_bytes w) (Err fault) files'
     → SealTurn files w (Err fault) files'

@@ -1,20 +1,19 @@
 -- The entries of a log as a list: as its file grows or its header is written over, and as they stand among files.
-use Rattle.std.proofs.Common.{◌≡◌, inl, inr, ℕ, zero, suc, ◌+◌, ◌≤◌, cond, Option, Some, None, is_some, List, [], ◌∷◌, ◌++◌, length, take, drop, true, false}
-use Rattle.std.proofs.Common.{not, refl, sym, ap, ◌∙◌, subst, arith, length-drop}
+use Rattle.std.proofs.Common.{◌≡◌, ℕ, zero, suc, ◌+◌, ◌≤◌, cond, Option, Some, is_some, List, [], ◌∷◌, ◌++◌, length, take, drop, true, false}
+use Rattle.std.proofs.Common.{not, refl, sym, ap, ◌∙◌, arith, length-drop}
 use Rattle.std.specs.List.{filter}
-use Rattle.std.proofs.lemmas.List.{append-nil}
 use Rattle.std.proofs.lemmas.List.Elements.{filter-append}
 use Rattle.bk_record.specs.Key.{EntryKey}
 use Rattle.bk_record.specs.Location.{Place}
-use Rattle.bk_record.specs.Record.{record_of, IsPayload, key_of, is_foreign, length_field}
-use Rattle.bk_record.specs.Body.{Body, starts_with_record, pieces}
-use Rattle.bk_record.specs.Files.{Files, file_of, header_length, records_of, In, IsWhole}
+use Rattle.bk_record.specs.Record.{key_of, is_foreign, length_field}
+use Rattle.bk_record.specs.Body.{starts_with_record, pieces}
+use Rattle.bk_record.specs.Files.{Files, file_of, header_length, records_of, In}
 use Rattle.bk_record.specs.Scan.{entries_of}
 use Rattle.bk_record.specs.Entry.{HasEntry}
 use Rattle.bk_record.proofs.Records.{starts_only, starts-nil}
 use Rattle.bk_record.proofs.Bodies.{pieces-stop}
 use Rattle.bk_record.proofs.Entries.{In-filter, filter-In}
-use Rattle.bk_record.proofs.Growth.{records_of-short, records_of-record}
+use Rattle.bk_record.proofs.Growth.{records_of-short}
 use Rattle.bk_record.proofs.Longer.{has-record, record-has}
 
 -- ---- the same bytes behind the header
@@ -48,13 +47,6 @@ records_of-same_body a b is =
     let same : length (drop header_length a) ≡ length (drop header_length b) = ap length is in
     pieces-enough (length a) (length b) header_length (drop header_length a) (omega arith) (omega arith) ∙ ap (pieces (length b) header_length) is
 
-pub whole-same_body : (a b : List ℕ) → drop header_length a ≡ drop header_length b → header_length ≤ length b → IsWhole a → IsWhole b
-whole-same_body a b is headed whole = record {
-  headed = headed;
-  records = whole.records;
-  spelled = subst (λ (bytes : List ℕ). Body header_length bytes whole.records []) is whole.spelled;
-}
-
 -- ---- the list of entries
 
 entries_of-is : (file : List ℕ) → entries_of file ≡ filter (λ r. not (is_foreign r.1)) (records_of file)
@@ -76,27 +68,6 @@ pub entries_of-more : (file bytes : List ℕ) (others : List (ℕ × List ℕ)) 
 unfolding entries_of
 entries_of-more file bytes others are =
     ap (filter (λ r. not (is_foreign r.1))) are ∙ filter-append (λ (r : ℕ × List ℕ). not (is_foreign r.1)) (records_of file) others
-
--- with the record of a payload that has a key
-pub entries_of-record : (file payload : List ℕ) (key : EntryKey) → IsWhole file → IsPayload payload → key_of payload ≡ Some key
-    → entries_of (file ++ record_of payload) ≡ entries_of file ++ (length file + 4, payload) ∷ []
-entries_of-record file payload key whole legal keyed =
-    entries_of-more file (file ++ record_of payload) ((length file + 4, payload) ∷ []) (records_of-record file payload whole legal)
-    ∙ ap (λ (o : Option EntryKey). entries_of file ++ cond (not (not (is_some o))) ((length file + 4, payload) ∷ []) []) keyed
-
--- with foreign records alone
-pub entries_of-foreign : (file bytes : List ℕ) (others : List (ℕ × List ℕ)) → records_of bytes ≡ records_of file ++ others
-    → ((at : ℕ) (payload : List ℕ) → In (at, payload) others → key_of payload ≡ None) → entries_of bytes ≡ entries_of file
-entries_of-foreign file bytes others are foreign =
-    entries_of-more file bytes others are ∙ ap (λ (l : List (ℕ × List ℕ)). entries_of file ++ l) (no_entries others foreign) ∙ append-nil (entries_of file)
-  where
-    no_entries : (rs : List (ℕ × List ℕ)) → ((at : ℕ) (payload : List ℕ) → In (at, payload) rs → key_of payload ≡ None)
-        → filter (λ r. not (is_foreign r.1)) rs ≡ []
-    no_entries [] none = refl
-    no_entries (r ∷ rs) none =
-        ap (λ (o : Option EntryKey). cond (not (not (is_some o))) (r ∷ filter (λ x. not (is_foreign x.1)) rs)
-        (filter (λ x. not (is_foreign x.1)) rs)) (none r.0 r.1 (inl refl))
-        ∙ no_entries rs (λ at payload there. none at payload (inr there))
 
 -- ---- an entry that stands is one of its log's list
 

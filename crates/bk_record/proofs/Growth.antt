@@ -1,6 +1,6 @@
 -- A log's records as its file grows.
 use Rattle.std.proofs.Common.{◌≡◌, ◌⊎◌, inl, inr, ℕ, zero, suc, ◌+◌, ◌≤◌, List, [], ◌∷◌, ◌++◌, length, take, drop}
-use Rattle.std.proofs.Common.{refl, sym, ap, ◌∙◌, subst, arith, length-append, length-drop}
+use Rattle.std.proofs.Common.{refl, sym, ap, ◌∙◌, subst, arith, length-drop}
 use Rattle.std.proofs.Math.Decide.{dec_le}
 use Rattle.std.proofs.lemmas.List.{append-nil, take_all, drop-append-le, drop_all}
 use Rattle.bk_record.specs.Record.{record_of, IsPayload}
@@ -25,13 +25,6 @@ pub records_of-short : (file : List ℕ) → length file ≤ header_length → r
 records_of-short file short =
     records_of-body file {rest = []} (subst (λ (b : List ℕ). Body header_length b [] []) (sym (drop_all header_length file short)) done)
 
-pub whole_header : (file : List ℕ) → length file ≡ header_length → IsWhole file
-whole_header file is = record {
-  headed = omega arith;
-  records = [];
-  spelled = subst (λ (b : List ℕ). Body header_length b [] []) (sym (drop_all header_length file (omega arith))) done;
-}
-
 pub records_of-whole : (file : List ℕ) (w : IsWhole file) → records_of file ≡ w.records
 records_of-whole file w = records_of-body file w.spelled
 
@@ -49,21 +42,10 @@ records_of-behind file w behind rest others next =
     records_of-body (file ++ behind) (grown_body file w behind rest others next)
     ∙ ap (λ (l : List (ℕ × List ℕ)). l ++ others) (sym (records_of-whole file w))
 
-pub whole_behind : (file : List ℕ) → IsWhole file → (behind : List ℕ) (others : List (ℕ × List ℕ)) → Body (length file) behind others []
-    → IsWhole (file ++ behind)
-whole_behind file w behind others next = record {
-  headed = omega (arith, w.headed, length-append file behind);
-  records = w.records ++ others;
-  spelled = grown_body file w behind [] others next;
-}
-
 -- one more record
 pub records_of-record : (file payload : List ℕ) → IsWhole file → IsPayload payload
     → records_of (file ++ record_of payload) ≡ records_of file ++ (length file + 4, payload) ∷ []
 records_of-record file payload w legal = records_of-behind file w (record_of payload) [] _ (body_record (length file) payload legal)
-
-pub whole_record : (file payload : List ℕ) → IsWhole file → IsPayload payload → IsWhole (file ++ record_of payload)
-whole_record file payload w legal = whole_behind file w (record_of payload) _ (body_record (length file) payload legal)
 
 -- a prefix of a record adds the record where it is all of it, and else nothing
 pub records_of-prefix : (file payload : List ℕ) (n : ℕ) → IsWhole file → IsPayload payload

@@ -1,15 +1,13 @@
 -- How many keys of a map are sent to a log, and how many are of a ledger, as keys come, move and go.
-use Rattle.std.proofs.Common.{◌≡◌, ◌≢◌, ℕ, ◌+◌, ◌<◌, ◌≤◌, cond, eqb, Option, Some, None, IsSome, length, Bool, true, false, not, refl, sym, ap, ◌∙◌, arith}
+use Rattle.std.proofs.Common.{◌≡◌, ◌≢◌, ℕ, ◌+◌, ◌<◌, ◌≤◌, cond, eqb, Option, Some, None, IsSome, Bool, true, false, not, refl, ap, ◌∙◌, arith}
 use Rattle.std.specs.Option.{option_or}
 use Rattle.std.specs.FinMap as finite
 use Rattle.std.proofs.lemmas.Bool.{eq-eqb, eqb-true}
-use Rattle.std.proofs.lemmas.List.Sums.{count_by-le-length, length-filter}
+use Rattle.std.proofs.lemmas.List.Sums.{count_by-le-length}
 use Rattle.bk_record.specs.Key.{EntryKey}
 use Rattle.bk_record.specs.Location.{Place}
 use Rattle.bk_record.specs.Keyed.{Keyed, Places, without_ledger, of_ledger, ledger_count, log_count, counted_in}
 use Rattle.bk_record.proofs.Keys.{key_cmp_total, key_cmp_antisymmetric}
-use Rattle.bk_record.proofs.KeyedLaws.{get-without_ledger, get-of_ledger}
-use Rattle.bk_record.proofs.SortedMaps.{entries-retain_keys}
 use Rattle.bk_record.proofs.Weights.{weight_at, weight-insert, weight-remove, weight-retain_keys, weight-union, weight-none, weight-empty, weight-le}
 
 -- ---- the keys that a log has
@@ -44,11 +42,6 @@ pub log_count-new : (m : Places) (key : EntryKey) (place : Place) (log : ℕ) �
     → log_count (finite.insert m key place) log ≡ log_count m log + counted_in (Some place) log
 log_count-new m key place log none = omega (arith, log_count-insert m key place log, ap (λ o. counted_in o log) none)
 
--- a key that moves
-pub log_count-moved : (m : Places) (key : EntryKey) (from to : Place) (log : ℕ) → finite.get m key ≡ Some from
-    → log_count (finite.insert m key to) log + counted_in (Some from) log ≡ log_count m log + counted_in (Some to) log
-log_count-moved m key from to log is = omega (arith, log_count-insert m key to log, ap (λ o. counted_in o log) is)
-
 -- a key that is taken out
 pub log_count-remove : (m : Places) (key : EntryKey) (log : ℕ) → log_count (finite.remove m key) log + counted_in (finite.get m key) log ≡ log_count m log
 log_count-remove m key log =
@@ -62,14 +55,6 @@ log_count-without_ledger m ledger log =
       weight-retain_keys key_cmp_total key_cmp_antisymmetric (in_log log) m (λ k. eqb k.ledger ledger) (λ k. not (eqb k.ledger ledger))
           (λ k. refl),
     )
-
--- a map that has the keys of two maps without a common one
-pub log_count-union : (u m n : Places) (log : ℕ) → ((q : EntryKey) → finite.get u q ≡ option_or (finite.get n q) (finite.get m q))
-    → ((q : EntryKey) → IsSome (finite.get n q) → finite.get m q ≡ None) → log_count u log ≡ log_count m log + log_count n log
-log_count-union u m n log is apart = weight-union key_cmp_total key_cmp_antisymmetric (in_log log) u m n is apart
-
-pub log_count-empty : (log : ℕ) → log_count finite.empty log ≡ 0
-log_count-empty log = weight-empty key_cmp_total key_cmp_antisymmetric (in_log log)
 
 pub log_count-le-len : (m : Places) (log : ℕ) → log_count m log ≤ finite.len m
 log_count-le-len m log = omega (arith, count_by-le-length (λ (e : EntryKey × Place). eqb e.1.log log) (finite.entries m), finite.len-entries m)
@@ -91,28 +76,6 @@ module _ {X : Type 0} where
   abbrev in_ledger : ℕ → EntryKey × X → ℕ
   in_ledger ledger e = cond (eqb e.0.ledger ledger) 1 0
 
-  -- a key that was not there
-  pub ledger_count-new : (m : Keyed X) (key : EntryKey) (v : X) (ledger : ℕ) → finite.get m key ≡ None
-      → ledger_count (finite.insert m key v) ledger ≡ ledger_count m ledger + cond (eqb key.ledger ledger) 1 0
-  ledger_count-new m key v ledger none =
-      omega (
-        arith,
-        weight-insert key_cmp_total key_cmp_antisymmetric (in_ledger ledger) m key v,
-        ap
-            (weight_at key_cmp_total key_cmp_antisymmetric (in_ledger ledger) key) none,
-      )
-
-  -- a key that was
-  pub ledger_count-held : (m : Keyed X) (key : EntryKey) (v w : X) (ledger : ℕ) → finite.get m key ≡ Some w
-      → ledger_count (finite.insert m key v) ledger ≡ ledger_count m ledger
-  ledger_count-held m key v w ledger is =
-      omega (
-        arith,
-        weight-insert key_cmp_total key_cmp_antisymmetric (in_ledger ledger) m key v,
-        ap
-            (weight_at key_cmp_total key_cmp_antisymmetric (in_ledger ledger) key) is,
-      )
-
   pub ledger_count-remove : (m : Keyed X) (key : EntryKey) (w : X) (ledger : ℕ) → finite.get m key ≡ Some w
       → ledger_count (finite.remove m key) ledger + cond (eqb key.ledger ledger) 1 0 ≡ ledger_count m ledger
   ledger_count-remove m key w ledger is =
@@ -129,37 +92,3 @@ module _ {X : Type 0} where
 
   pub ledger_count-of_empty : (m : Keyed X) (ledger : ℕ) → m ≡ finite.empty → ledger_count m ledger ≡ 0
   ledger_count-of_empty m ledger is = ap (λ n. ledger_count n ledger) is ∙ weight-empty key_cmp_total key_cmp_antisymmetric (in_ledger ledger)
-
-  pub ledger_count-le-len : (m : Keyed X) (ledger : ℕ) → ledger_count m ledger ≤ finite.len m
-  ledger_count-le-len m ledger = omega (arith, count_by-le-length (λ (e : EntryKey × X). eqb e.0.ledger ledger) (finite.entries m), finite.len-entries m)
-
-  -- the keys of a ledger alone are as many
-  pub len-of_ledger : (m : Keyed X) (ledger : ℕ) → finite.len (of_ledger m ledger) ≡ ledger_count m ledger
-  len-of_ledger m ledger =
-      finite.len-entries (of_ledger m ledger) ∙ ap length (entries-retain_keys key_cmp_total key_cmp_antisymmetric m (λ k. eqb k.ledger ledger))
-      ∙ length-filter (λ (e : EntryKey × X). eqb e.0.ledger ledger) (finite.entries m)
-
-  -- a ledger that is taken out has none left, the others keep theirs
-  pub ledger_count-without_ledger : (m : Keyed X) (ledger : ℕ) → ledger_count (without_ledger m ledger) ledger ≡ 0
-  ledger_count-without_ledger m ledger = weight-none key_cmp_total key_cmp_antisymmetric (in_ledger ledger) (without_ledger m ledger)
-      (λ key v is. elim (eqb key.ledger ledger) as (λ b. cond b None (finite.get m key) ≡ Some v → one_if b
-      ≡ 0) [ true ↦ λ e. cc | false ↦ λ _. refl ] (sym (get-without_ledger m ledger key) ∙ is))
-
-  pub ledger_count-without_other : (m : Keyed X) (ledger other : ℕ) → other ≢ ledger → ledger_count (without_ledger m ledger) other ≡ ledger_count m other
-  ledger_count-without_other m ledger other apart =
-      let parts = weight-retain_keys key_cmp_total key_cmp_antisymmetric (in_ledger other) m (λ k. eqb k.ledger ledger)
-      (λ k. not (eqb k.ledger ledger)) (λ k. refl) in
-      omega (arith, parts, none_of_other)
-    where
-      not_other : (key : EntryKey) (v : X) → finite.get (of_ledger m ledger) key ≡ Some v → one_if (eqb key.ledger other) ≡ 0
-      not_other key v is = elim (eqb key.ledger ledger) as (λ b. eqb key.ledger ledger ≡ b → cond b (finite.get m key) None ≡ Some v
-          → one_if (eqb key.ledger other) ≡ 0) [
-            | true ↦ λ here _. elim (eqb key.ledger other) as (λ c. eqb key.ledger other ≡ c → one_if c ≡ 0) [
-              | true ↦ λ there. absurd (apart (sym (eqb-true key.ledger other there) ∙ eqb-true key.ledger ledger here))
-              | false ↦ λ _. refl
-            ] refl
-            | false ↦ λ _ e. cc
-          ] refl (sym (get-of_ledger m ledger key) ∙ is)
-
-      none_of_other : ledger_count (of_ledger m ledger) other ≡ 0
-      none_of_other = weight-none key_cmp_total key_cmp_antisymmetric (in_ledger other) (of_ledger m ledger) not_other

@@ -1,5 +1,5 @@
 -- The last entry of a key, and that the scan gives its payload.
-use Rattle.std.proofs.Common.{◌≡◌, ◌⊎◌, inl, inr, ℕ, Some, None, List, ◌∷◌, refl, sym, ap, subst}
+use Rattle.std.proofs.Common.{◌≡◌, inl, inr, ℕ, Some, None, List, ◌∷◌, refl, sym, ap, subst}
 use Rattle.std.specs.FinMap as finite
 use Rattle.bk_record.specs.Key.{EntryKey}
 use Rattle.bk_record.specs.Location.{Place}
@@ -60,14 +60,6 @@ module _ (files : Files) (key : EntryKey) where
     | None ↦ λ _. refl
     | Some payload ↦ λ is. let found = scan-some files key payload is in absurd (none found.0 payload (record { stands = found.1.0; keyed = found.1.1 }))
   ] refl
-
-  -- a key has a last entry, or none
-  pub last_or_no_entry : ((place : Place) × ((payload : List ℕ) × IsLastEntry files place key payload)) ⊎ HasNoEntry files key
-  last_or_no_entry = elim (finite.get (scan_of files) key) as (λ o. finite.get (scan_of files) key ≡ o
-      → ((place : Place) × ((payload : List ℕ) × IsLastEntry files place key payload)) ⊎ HasNoEntry files key) [
-        | None ↦ λ is. inr (scan-no_entry is)
-        | Some payload ↦ λ is. let found = scan-entry payload is in inl (found.0, (payload, found.1))
-      ] refl
 
   pub entry-scan : (place : Place) (payload : List ℕ) → IsLastEntry files place key payload → finite.get (scan_of files) key ≡ Some payload
   entry-scan place payload l = elim (finite.get (scan_of files) key) as (λ o. finite.get (scan_of files) key ≡ o → o ≡ Some payload) [

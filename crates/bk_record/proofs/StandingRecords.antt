@@ -1,18 +1,16 @@
 -- The records that stand in files as a log gets other bytes, grows or goes.
-use Rattle.std.proofs.Common.{◌≡◌, ◌≢◌, ◌⊎◌, inl, inr, ℕ, ◌+◌, ◌≤◌, List, [], ◌∷◌, ◌++◌, length, take, Some, None, refl, sym, ap, ◌∙◌, subst, unwrap_or, lit≤}
+use Rattle.std.proofs.Common.{◌≡◌, ◌≢◌, ◌⊎◌, inl, inr, ℕ, ◌+◌, ◌≤◌, List, [], ◌∷◌, ◌++◌, length, take, refl, sym, ap, ◌∙◌, subst, unwrap_or, lit≤}
 use Rattle.std.specs.FinMap as finite
 use Rattle.std.specs.FinMap.{nat_cmp-IsAntisymmetric}
 use Rattle.std.proofs.lemmas.Cmp.{nat_cmp_total}
 use Rattle.std.proofs.lemmas.List.{append-nil}
 use Rattle.bk_record.specs.Location.{Place}
 use Rattle.bk_record.specs.Record.{record_of, IsPayload}
-use Rattle.bk_record.specs.Body.{IsTorn}
-use Rattle.bk_record.specs.Body.Body.{torn}
 use Rattle.bk_record.specs.Files.{Files, file_of, header_length, records_of, HasRecord, In, IsWhole}
-use Rattle.bk_record.specs.Longer.{IsLonger, AreLonger}
+use Rattle.bk_record.specs.Longer.{AreLonger}
 use Rattle.bk_record.proofs.Maps.{key_cases, get-insert_here, get-insert_else, get-remove_here, get-remove_else}
-use Rattle.bk_record.proofs.Growth.{records_of-short, records_of-behind, records_of-record, records_of-prefix, In-append_right, In-append_cases}
-use Rattle.bk_record.proofs.Longer.{records-longer, longer_same, longer_append, longer_empty, has-record, record-has}
+use Rattle.bk_record.proofs.Growth.{records_of-short, records_of-record, records_of-prefix, In-append_right, In-append_cases}
+use Rattle.bk_record.proofs.Longer.{records-longer, has-record, record-has}
 use Rattle.bk_record.proofs.Places.{same_place}
 
 -- ---- the bytes of a log
@@ -29,27 +27,6 @@ module _ (files : Files) (log : ℕ) where
 
   pub file-remove_else : (id : ℕ) → id ≢ log → file_of (finite.remove files log) id ≡ file_of files id
   file-remove_else id apart = ap (λ o. unwrap_or o []) (get-remove_else nat_cmp_total nat_cmp-IsAntisymmetric files log id apart)
-
-  pub file-some : (file : List ℕ) → finite.get files log ≡ Some file → file_of files log ≡ file
-  file-some file stands = ap (λ o. unwrap_or o []) stands
-
-  pub file-none : finite.get files log ≡ None → file_of files log ≡ []
-  file-none none = ap (λ o. unwrap_or o []) none
-
--- a log whose bytes begin as they did behind the header, among files of which all others stay
-pub longer-insert : (files : Files) (log : ℕ) (bytes : List ℕ) → IsLonger (file_of files log) bytes → AreLonger files (finite.insert files log bytes)
-longer-insert files log bytes longer id = elim (key_cases nat_cmp_total nat_cmp-IsAntisymmetric id log) [
-  | inl e ↦ subst (λ (k : ℕ). IsLonger (file_of files k) (file_of (finite.insert files log bytes) k)) (sym e)
-      (subst (IsLonger (file_of files log)) (sym (file-insert_here files log bytes)) longer)
-  | inr apart ↦ subst (IsLonger (file_of files id)) (sym (file-insert_else files log bytes id apart.1)) (longer_same (file_of files id))
-]
-
-pub longer-grown : (files : Files) (log : ℕ) (more : List ℕ) → AreLonger files (finite.insert files log (file_of files log ++ more))
-longer-grown files log more = longer-insert files log (file_of files log ++ more) (longer_append (file_of files log) more)
-
-pub longer-made : (files : Files) (log : ℕ) (bytes : List ℕ) → finite.get files log ≡ None → AreLonger files (finite.insert files log bytes)
-longer-made files log bytes none =
-    longer-insert files log bytes (subst (λ (file : List ℕ). IsLonger file bytes) (sym (file-none files log none)) (longer_empty bytes))
 
 -- what is longer has all records
 pub record-longer : (files later : Files) → AreLonger files later → (place : Place) (payload : List ℕ) → HasRecord files place payload
@@ -118,9 +95,6 @@ module _ (files : Files) (log : ℕ) (bytes : List ℕ) (place : Place) (payload
   ]
 
 -- ---- a log that grows by a record, or by a part of one
-
-pub records_of-torn : (file rest : List ℕ) → IsWhole file → IsTorn rest → records_of (file ++ rest) ≡ records_of file
-records_of-torn file rest whole is = records_of-behind file whole rest rest [] (torn is) ∙ append-nil (records_of file)
 
 -- where the next record of a log has its payload
 abbrev pub next_place : Files → ℕ → Place

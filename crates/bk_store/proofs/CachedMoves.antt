@@ -40,16 +40,6 @@ module _ {bytes : Bytes} {index : Places} {cached : Cached} {dead : Ledgers} {ma
   pub carries_same_cached : (cached' : Cached) → ((key : EntryKey) → cached' key ≡ cached key) → Carries bytes index cached' dead map
   carries_same_cached cached' same = carries_let_go cached' (λ key. inl (same key))
 
-  -- all these keys are let go, each of them indexed
-  pub carries_flushed : (cached' : Cached) (pairs : Payloads)
-      → ((key : EntryKey) (payload : List ℕ) → finite.get pairs key ≡ Some payload → (cached' key ≡ None) × IsSome (finite.get index key))
-      → ((key : EntryKey) → finite.get pairs key ≡ None → cached' key ≡ cached key)
-      → Carries bytes index cached' dead map
-  carries_flushed cached' pairs gone stay = carries_let_go cached' (λ key. elim (some_or_none (finite.get pairs key)) [
-    | inl none ↦ inl (stay key none)
-    | inr there ↦ inr (gone key there.0 there.1)
-  ])
-
   -- A key of a live ledger comes that is neither cached nor indexed.
   pub carries_added : (cached' : Cached) (key : EntryKey) (payload : List ℕ) → set.contains dead key.ledger ≡ false
       → cached key ≡ None → finite.get index key ≡ None

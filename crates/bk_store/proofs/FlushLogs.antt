@@ -60,9 +60,6 @@ abbrev pub ChangedSoFar : (LogState → Log → Log) → Logs → Logs → List 
 ChangedSoFar rule old now met = (id : ℕ)
     → (finite.get now id ≡ option_map (λ log. rule log.state log) (finite.get old id)) ⊎ ((finite.get now id ≡ finite.get old id) × ¬ (In id met))
 
-pub none_met : (rule : LogState → Log → Log) (logs : Logs) → ChangedSoFar rule logs logs []
-none_met rule logs id = inr (refl, λ never. never)
-
 behind-cases : (q id : ℕ) (xs : List ℕ) → In q (xs ++ id ∷ []) → In q xs ⊎ (id ≡ q)
 behind-cases q id [] (inl is) = inr is
 behind-cases q id [] (inr never) = absurd never

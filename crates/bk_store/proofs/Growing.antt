@@ -52,8 +52,6 @@ module _ {bytes bytes' : Bytes} {index : Places} {cached : Cached} {dead : Ledge
   }
 
 module _ {bytes bytes' : Bytes} (dead : Ledgers) (map : Payloads) where
-  pub grows_same : EntriesStay bytes bytes' → EntriesStay bytes' bytes → Grows dead map bytes bytes'
-  grows_same stood was = record { stood = stood; fresh = λ place key payload entry lives. inl (was place key payload entry) }
 
   -- In one log others stand behind the old records, and those of them that have keys of live ledgers have what the map has.
   pub grows_behind : (log : ℕ) → OnlyIn log bytes bytes' → (others : List (ℕ × List ℕ)) → records_of (bytes' log) ≡ records_of (bytes log) ++ others
@@ -81,22 +79,6 @@ module _ {bytes bytes' : Bytes} (dead : Ledgers) (map : Payloads) where
           ]
     ];
   }
-
-  -- the log has the records that it had
-  pub grows_as_is : (log : ℕ) → OnlyIn log bytes bytes' → records_of (bytes' log) ≡ records_of (bytes log) → Grows dead map bytes bytes'
-  grows_as_is log only are = grows_behind log only [] (are ∙ sym (append-nil (records_of (bytes log)))) (λ at payload key never. absurd never)
-
-  -- the log has one record more, with what the map has of its key
-  pub grows_by_one : (log : ℕ) → OnlyIn log bytes bytes' → (at : ℕ) (payload : List ℕ) (key : EntryKey)
-      → records_of (bytes' log) ≡ records_of (bytes log) ++ (at, payload) ∷ [] → key_of payload ≡ Some key → finite.get map key ≡ Some payload
-      → Grows dead map bytes bytes'
-  grows_by_one log only at payload key are keyed mapped = grows_behind log only ((at, payload) ∷ []) are (λ at' payload' key' there keyed' _. elim there [
-    | inr never ↦ absurd never
-    | inl here ↦
-        let same : payload ≡ payload' = ap (λ (r : ℕ × List ℕ). r.1) here in
-        let one : key ≡ key' = same_Some key key' (sym keyed ∙ ap key_of same ∙ keyed') in
-        ap (λ k. finite.get map k) (sym one) ∙ mapped ∙ ap Some same
-  ])
 
 -- ---- a log's bytes go
 

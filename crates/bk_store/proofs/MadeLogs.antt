@@ -36,10 +36,6 @@ pub not_made : (b : Bool) → not b ≡ true → b ≡ false
 not_made true wrong = sym wrong
 not_made false is = refl
 
-pub was_made : (b : Bool) → not b ≡ false → b ≡ true
-was_made true is = refl
-was_made false wrong = sym wrong
-
 -- ---- the slot
 
 -- a key that was not there is put in and taken out again

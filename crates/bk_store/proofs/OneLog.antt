@@ -98,9 +98,6 @@ module _ (logs : Logs) (id : ℕ) (log new : Log) (held : finite.get logs id ≡
   pub parts_here : open_parts (finite.insert logs id new) id ≡ cond (is_open new.state) (published_part new) []
   parts_here = ap (λ o. option_map_or (λ (l : Log). cond (is_open l.state) (published_part l) []) o []) (log-inserted logs id new id refl)
 
-  pub parts_were : open_parts logs id ≡ cond (is_open log.state) (published_part log) []
-  parts_were = ap (λ o. option_map_or (λ (l : Log). cond (is_open l.state) (published_part l) []) o []) held
-
   -- ---- the entries that are acknowledged
 
   pub entries_else : (files files' : Files) → ((q : ℕ) → q ≢ id → finite.get files' q ≡ finite.get files q)

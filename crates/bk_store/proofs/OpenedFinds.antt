@@ -217,10 +217,6 @@ module _ {honest : Bool} {files : Files} {failures : ℕ} {ids : List ℕ} {old 
         (taken_as honest honest' files files' (get_or ids k d) slot log now now' so_far.stays so_far.same one) above below held);
   }
 
-  -- all logs
-  pub finding_ends : k ≡ length ids → AreTaken honest files ids next old now before logs
-  finding_ends all = subst (λ l. AreTaken honest files l next old now before logs) (take_all k ids (omega (arith, all))) so_far.taken
-
   module _ (listed : IsTrue honest → ids ≡ finite.keys files) (d : ℕ) (within : k < length ids) where
     -- the next log is the first that is refused
     pub finding_refused : (fault : OpenFault)

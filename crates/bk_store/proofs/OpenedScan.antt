@@ -86,20 +86,6 @@ pub record IsScanning (log end : ℕ) (honest : Bool) (file : List ℕ) (old : T
   pub honest_is : s.honest ≡ honest
   pub stand : IsTrue honest → AreFoundAt (take s.given (entries_of file)) founds
 
-pub scanning_starts : (log end : ℕ) (honest sound : Bool) (file : List ℕ) (old : Tally) (s : Scan) → header_length ≤ end
-    → total_in old.accounts log ≡ Some 0 → s ≡ new_scan file honest sound header_length end → IsScanning log end honest file old s old
-scanning_starts log end honest sound file old s headed fresh is = record {
-  founds = [];
-  taken = refl;
-  total = fresh;
-  room = let left : s.left ≡ end - header_length = ap (λ (x : Scan). x.left) is in omega (arith, left, headed);
-  from = ap (λ (x : Scan). x.from) is;
-  to = ap (λ (x : Scan). x.end) is;
-  bytes = ap (λ (x : Scan). x.file) is;
-  honest_is = ap (λ (x : Scan). x.honest) is;
-  stand = λ _. let none : s.given ≡ 0 = ap (λ (x : Scan). x.given) is in subst (λ n. AreFoundAt (take n (entries_of file)) []) (sym none) tt;
-}
-
 -- the part of a view that is scanned to its end is all behind the header
 whole_part : (file : List ℕ) (end : ℕ) → end ≡ view_end file → part file header_length end ≡ drop header_length file
 whole_part file end is = take_all (end - header_length) (drop header_length file) (omega (arith, is, length-drop header_length file))
@@ -119,14 +105,8 @@ module _ (log end : ℕ) (honest : Bool) (file : List ℕ) (old : Tally) (s : Sc
     pub next_begins : 1028 ≤ found.at
     next_begins = omega (arith, so_far.from, moves.1.begins)
 
-    pub next_within : end < 2 ^ 32 → found.at < 2 ^ 32
-    next_within short = omega (arith, so_far.to, moves.1.long, moves.1.ends, short)
-
     pub next_open : IsOpen now.accounts log
     next_open = total_open (finite.get now.accounts log) (bytes_found so_far.founds) so_far.total
-
-    pub next_fits : end < 2 ^ 32 → IfSome (total_in now.accounts log) (λ total. total + found.size < 2 ^ 32)
-    next_fits short = subst (λ o. IfSome o (λ total. total + found.size < 2 ^ 32)) (sym so_far.total) (omega (arith, so_far.room, moves.1.fewer, short))
 
     pub scanning_on : (now' : Tally) → (IsTrue s.honest → NextTurn s (Ok (Some found)) s') → (IsTrue honest → end ≡ view_end file)
         → now' ≡ with_entry log now found → IsScanning log end honest file old s' now'

@@ -173,13 +173,6 @@ fewer_fit most (Some n) few within = omega (arith, few, within)
 pub name_fits : (most : ℕ) (book : Book) (log : ℕ) → most + 1 < 2 ^ 64 → NamedWithin most book → IfSome (named_in book log) (λ named. named + 1 < 2 ^ 64)
 name_fits most book log few within = fewer_fit most (named_in book log) few (within log)
 
-unnamed_none : (o : Option ℕ) → IfSome o (λ named. named ≡ 0) → IfSome o (λ named. named ≤ 0)
-unnamed_none None none = tt
-unnamed_none (Some n) none = omega (arith, none)
-
-pub within_none : (book : Book) → AreUnnamed book → NamedWithin 0 book
-within_none book none log = unnamed_none (named_in book log) (none log)
-
 -- ---- a walk over the pairs of an index that names their logs
 
 -- the pairs that are left name their logs as all of them do, and no log has more names than pairs were passed
@@ -188,9 +181,6 @@ pub record IsNaming (pairs : List (EntryKey × Place)) (old : Book) (left : List
   pub counted : passed + length left ≡ length pairs
   pub within : NamedWithin passed now
   pub named : named_by left now ≡ named_by pairs old
-
-pub naming_starts : (pairs : List (EntryKey × Place)) (old : Book) → AreUnnamed old → IsNaming pairs old pairs old
-naming_starts pairs old none = record { passed = 0; counted = omega arith; within = within_none old none; named = refl }
 
 module _ {pairs left : List (EntryKey × Place)} {old now : Book} {e : EntryKey × Place} (so_far : IsNaming pairs old (e ∷ left) now) where
   pub naming_fits : length pairs < 2 ^ 64 → IfSome (named_in now e.1.log) (λ named. named + 1 < 2 ^ 64)

@@ -52,16 +52,6 @@ precedes_cases first second = elim (dec_le second.log first.log) [
 
 -- ---- records in order
 
--- what stands before a record in the list stands at a place before it
-pub in_order_before : (place : Place) (payload : List ℕ) (before behind : List (Place × List ℕ)) (other : Place) (payload' : List ℕ)
-    → AreInOrder (before ++ (place, payload) ∷ behind) → In (other, payload') before → Precedes other place
-in_order_before place payload [] behind other payload' ordered there = absurd there
-in_order_before place payload (r ∷ before) behind other payload' ordered (inl here) =
-    subst (λ (x : Place × List ℕ). Precedes x.0 place) here
-    (ordered.0 place payload (In-append_right (place, payload) before ((place, payload) ∷ behind) (inl refl)))
-in_order_before place payload (r ∷ before) behind other payload' ordered (inr later) =
-    in_order_before place payload before behind other payload' ordered.1 later
-
 one_in_order : (place : Place) (first second : List ℕ) (records : List (Place × List ℕ)) → AreInOrder records
     → In (place, first) records → In (place, second) records → first ≡ second
 one_in_order place first second [] ordered one two = absurd one
@@ -98,7 +88,3 @@ one_record place first second bytes one two =
 pub one_payload : {bytes : Bytes} {place : Place} {key other : EntryKey} {first second : List ℕ}
     → HasEntry bytes place key first → HasEntry bytes place other second → first ≡ second
 one_payload {bytes = bytes} {place = place} {first = first} {second = second} one two = one_record place first second (bytes place.log) one.stands two.stands
-
-pub one_key : {bytes : Bytes} {place : Place} {key other : EntryKey} {first second : List ℕ}
-    → HasEntry bytes place key first → HasEntry bytes place other second → key ≡ other
-one_key {key = key} {other = other} one two = same_Some key other (sym one.keyed ∙ ap key_of (one_payload one two) ∙ two.keyed)

@@ -93,10 +93,6 @@ module _ (keeper : SlotTable) (logs : Logs) (seats : AreSeated keeper logs) wher
   not_stood slot id log free held same =
       slot_state-not_free id log.state (sym (seats.stands id log held) ∙ ap (state_at keeper.slots) same ∙ free.1)
 
-  -- as many logs are held as there are slots, at most
-  pub len_slots : finite.len logs ≤ length keeper.slots
-  len_slots = let few = taken_count-le keeper.slots in let same = seats.taken in omega arith
-
   -- ---- one log changes, and stands as before
   pub seats_one : (id : ℕ) (log new : Log) → finite.get logs id ≡ Some log → new.slot ≡ log.slot → slot_state id new.state ≡ slot_state id log.state
       → AreSeated keeper (finite.insert logs id new)
@@ -151,9 +147,6 @@ module _ (keeper : SlotTable) (logs : Logs) (seats : AreSeated keeper logs) wher
 -- ---- the table of a store
 
 module _ (settings : Settings) (keeper : SlotTable) (logs : Logs) (seated : IsSeated settings keeper logs) where
-  -- as many logs are held as there are slots, at most
-  pub slots_hold : finite.len logs ≤ settings.slots
-  slots_hold = let few = len_slots keeper logs seated.seats in let many = seated.slots in omega arith
 
   pub seated_one : (id : ℕ) (log new : Log) → finite.get logs id ≡ Some log → new.slot ≡ log.slot → slot_state id new.state ≡ slot_state id log.state
       → IsSeated settings keeper (finite.insert logs id new)

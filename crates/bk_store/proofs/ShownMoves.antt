@@ -68,10 +68,6 @@ module _ {bytes parts : Bytes} {index : Places} (shows : Shows bytes parts index
 
   -- ---- a log is hidden, and goes
 
-  -- no key is sent to a log that shows nothing
-  pub hidden_unnamed : (log : ℕ) → parts log ≡ [] → (key : EntryKey) (place : Place) → finite.get index key ≡ Some place → place.log ≢ log
-  hidden_unnamed log hidden key place named here = let e = shows.shown key place named in none_stands place key e.0 (ap parts here ∙ hidden) e.1
-
   pub shows_hidden : (parts' : Bytes) (log : ℕ) → OnlyIn log parts parts' → parts' log ≡ []
       → ((key : EntryKey) (place : Place) → finite.get index key ≡ Some place → place.log ≢ log) → Shows bytes parts' index
   shows_hidden parts' log only hidden unnamed = record {
@@ -82,14 +78,4 @@ module _ {bytes parts : Bytes} {index : Places} (shows : Shows bytes parts index
     shown = λ key place named.
         let old = shows.shown key place named in
         (old.0, entry_same place key old.0 (sym (only place.log (unnamed key place named))) old.1);
-  }
-
-  -- the bytes of a log change in any way where it shows nothing
-  pub shows_removed : (bytes' : Bytes) (log : ℕ) → OnlyIn log bytes bytes' → parts log ≡ [] → Shows bytes' parts index
-  shows_removed bytes' log only hidden = record {
-    stands = λ place key payload entry. elim (same_or_apart place.log log) [
-      | inl here ↦ absurd (none_stands place key payload (ap parts here ∙ hidden) entry)
-      | inr apart ↦ entry_same place key payload (sym (only place.log apart)) (shows.stands place key payload entry)
-    ];
-    shown = shows.shown;
   }

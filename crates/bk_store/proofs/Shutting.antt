@@ -42,10 +42,6 @@ module _ (logs : Logs) (old : SlotTable) (seats : AreSeated old logs) where
   one_log : (id : ℕ) (log l : Log) → finite.get logs id ≡ Some log → finite.get logs id ≡ Some l → log ≡ l
   one_log id log l held is = let both : Some log ≡ Some l = sym held ∙ is in cc
 
-  -- no slot is closed yet
-  none_shut : AreShut logs old old 0 0
-  none_shut = record { same = refl; long = refl; shut = λ id log _ _ less. absurd (omega (arith, less)); else_as = λ slot _. refl }
-
   module _ {now : SlotTable} {first end : ℕ} (so_far : AreShut logs old now first end) where
     -- the slot of a log that is not among those
     slot_kept : (id : ℕ) (log : Log) → finite.get logs id ≡ Some log → ((first ≤ id) → id < end → ⊥) → state_at now.slots log.slot ≡ state_at old.slots log.slot
@@ -155,9 +151,6 @@ module _ (logs : Logs) (old : SlotTable) (seats : AreSeated old logs) {now : Slo
   is_shut : state_at now.slots log.slot ≡ slots.Closed id
   is_shut = so_far.shut id log held behind below_end
 
-  may_reopen : MayOpen (state_at now.slots log.slot)
-  may_reopen = subst MayOpen (sym is_shut) tt
-
   reopen_inside : log.slot < length now.slots
   reopen_inside = inside_now logs old seats so_far id log held
 
@@ -244,12 +237,6 @@ pub record IsShutting (logs : Logs) (old now : SlotTable) (from : ℕ) : Type 0 
   pub unleased : AreUnleased old logs from
 
 module _ (logs : Logs) (old : SlotTable) (seats : AreSeated old logs) where
-  pub shutting_none : IsShutting logs old old 0
-  shutting_none = record {
-    shut = none_shut logs old seats;
-    meets = λ slot count met. met;
-    unleased = λ id less. absurd (omega (arith, less));
-  }
 
   module _ {now : SlotTable} {from : ℕ} (so_far : IsShutting logs old now from) (id : ℕ) (next : IsNextHeld logs from (Some id)) where
     module _ (slot : ℕ) (there : lent_slot logs id ≡ Some slot) where
@@ -313,10 +300,6 @@ module _ (logs : Logs) (old : SlotTable) (seats : AreSeated old logs) where
           ];
         }
 
-  -- all logs were closed
-  pub shutting_all : {now : SlotTable} {from : ℕ} → IsShutting logs old now from → IsNextHeld logs from None → (end : ℕ) → AreUnleased old logs end
-  shutting_all so_far none end id less there = so_far.unleased id (none id (ap is_some there.held)) there
-
 -- ---- and back again
 
 -- the slots of the logs from this id on are closed yet, whatever the table was before
@@ -347,11 +330,6 @@ module _ {logs : Logs} {begun now : SlotTable} {from end : ℕ} (so_far : IsReop
         stays_closed logs old seats (so_far old seats shut) id this.0 this.1 next.1 below next.2 this.2
 
     module _ (slot : ℕ) (there : lent_slot logs id ≡ Some slot) (was : (x : SlotTable) × AreSeated x logs × AreShut logs x begun 0 end) where
-      pub reopen_may : MayOpen (state_at now.slots slot)
-      reopen_may =
-          let this = open_in logs id slot there in
-          subst (λ n. MayOpen (state_at now.slots n)) this.at
-          (may_reopen logs was.0 was.1 (so_far was.0 was.1 was.2) id this.log this.held next.1 below next.2)
 
       pub reopen_within : slot < length now.slots
       reopen_within =
