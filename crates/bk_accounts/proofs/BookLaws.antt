@@ -3,7 +3,7 @@ use Rattle.std.proofs.Common.{◌≡◌, ℕ, ◌+◌, ◌-◌, Bool, true, fals
 use Rattle.std.specs.Option.{option_map}
 use Rattle.std.specs.Cmp.{nat_cmp_total, unsigned_tied}
 use Rattle.std.specs.FinMap.{get, get-insert, get-remove}
-use Rattle.bk_accounts.specs.Account.{Account, fresh, with_room, with_size, with_dead_size, with_name, without_name, without_ledger}
+use Rattle.bk_accounts.specs.Account.{Account, fresh, with_room, with_size, with_dead_size, with_name, without_name, without_size}
 use Rattle.bk_accounts.specs.Book.{Book, total_in, named_in, changed, after_open, after_ready, after_count, after_count_dead, after_name, after_unname}
 use Rattle.bk_accounts.specs.Book.{after_forget, after_drop}
 use Rattle.bk_accounts.proofs.Books.{get-changed, get-after_forget}
@@ -65,11 +65,11 @@ pub named_in-after_count_dead : (book : Book) (log size q : ℕ) → named_in (a
 named_in-after_count_dead book log size q = number-kept (λ a. a.named) (with_dead_size size) (λ _. refl) book log q
 
 -- a number that forgetting a ledger leaves
-number-forget : (number : Account → ℕ) (ledger : ℕ) → ((account : Account) → number (without_ledger ledger account) ≡ number account) → (book : Book) (q : ℕ)
+number-forget : (number : Account → ℕ) (ledger : ℕ) → ((account : Account) → number (without_size ledger account) ≡ number account) → (book : Book) (q : ℕ)
     → option_map number (get (after_forget book ledger) q) ≡ option_map number (get book q)
 number-forget number ledger is book q = ap (option_map number) (get-after_forget book ledger q) ∙ inside (get book q)
   where
-    inside : (o : Option Account) → option_map number (option_map (without_ledger ledger) o) ≡ option_map number o
+    inside : (o : Option Account) → option_map number (option_map (without_size ledger) o) ≡ option_map number o
     inside None = refl
     inside (Some account) = ap (λ n. Some n) (is account)
 

@@ -8,8 +8,8 @@ use Rattle.std.specs.Option.{is_some, option_map, option_map_or, option_copied, 
 use Rattle.std.specs.FinMap.{get, insert, from_entries, entries, get-insert}
 use Rattle.std.specs.Cmp.{nat_cmp_total, unsigned_tied}
 use Rattle.std.proofs.Math.Bool.{or-true}
-use Rattle.bk_accounts.specs.Account.{Account, has_room, with_room, without_ledger}
-use Rattle.bk_accounts.specs.Book.{Book, IsOpen, IsReady, changed, after_ready, after_forget}
+use Rattle.bk_accounts.specs.Account.{Account, has_room, with_room, without_size}
+use Rattle.bk_accounts.specs.Book.{Book, HasAccount, IsReady, changed, after_ready, after_forget}
 use Rattle.bk_accounts.specs.declared.fault.AccountFault.{AccountFault}
 use Rattle.bk_accounts.specs.declared.fault.AccountFault.TheVariants.{Memory, NoLog}
 use Rattle.bk_accounts.proofs.Maps.{get-entries, get-found, get-mapped, get-lookup, same_by_get, written, insert_same}
@@ -57,7 +57,7 @@ answered book log None result found is = subst (Answers book log) (sym is) (reco
 answered book log (Some account) result found is = subst (Answers book log) (sym is) (record { «open» = found; closed = tt })
 
 -- a log that is ready for a ledger is open
-pub ready_open : (book : Book) (log ledger : ℕ) → IsReady book log ledger → IsOpen book log
+pub ready_open : (book : Book) (log ledger : ℕ) → IsReady book log ledger → HasAccount book log
 ready_open book log ledger ready =
     elim (get book log) as (λ o. option_map_or (λ a. has_room a ledger) o false ≡ true → IsSome o) [
       | None ↦ λ h. h
@@ -105,16 +105,16 @@ pub no_log_open : (book : Book) (log : ℕ) (account : Account) (r : Result (Uni
 no_log_open book log account r other found = (λ is. absurd (other is), λ none. let there = ap is_some found in cc)
 
 -- the account of a log after a ledger is forgotten
-pub get-after_forget : (book : Book) (ledger log : ℕ) → get (after_forget book ledger) log ≡ option_map (without_ledger ledger) (get book log)
-get-after_forget book ledger log = get-mapped (without_ledger ledger) (entries book) log ∙ ap (option_map (without_ledger ledger)) (sym (get-lookup book log))
+pub get-after_forget : (book : Book) (ledger log : ℕ) → get (after_forget book ledger) log ≡ option_map (without_size ledger) (get book log)
+get-after_forget book ledger log = get-mapped (without_size ledger) (entries book) log ∙ ap (option_map (without_size ledger)) (sym (get-lookup book log))
 
 -- every account in place without the ledger
-pub forgotten : (es fs : List (ℕ × Account)) (book : Book) (ledger : ℕ) → from_entries es ≡ book → fs ≡ map (λ e. (e.0, without_ledger ledger e.1)) es
+pub forgotten : (es fs : List (ℕ × Account)) (book : Book) (ledger : ℕ) → from_entries es ≡ book → fs ≡ map (λ e. (e.0, without_size ledger e.1)) es
     → from_entries fs ≡ after_forget book ledger
 forgotten es fs book ledger view_is mapped =
     ap (λ l. from_entries l) mapped
     ∙ same_by_get _ _ (λ log.
-    get-mapped (without_ledger ledger) es log ∙ ap (option_map (without_ledger ledger)) (sym (get-entries es log) ∙ ap (λ b. get b log) view_is)
+    get-mapped (without_size ledger) es log ∙ ap (option_map (without_size ledger)) (sym (get-entries es log) ∙ ap (λ b. get b log) view_is)
     ∙ sym (get-after_forget book ledger log))
 
 -- nothing changed in place

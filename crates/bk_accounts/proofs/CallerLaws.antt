@@ -6,8 +6,8 @@ use Rattle.std.specs.Cmp.{nat_cmp_total, eq_by_cmp_equiv, unsigned_tied}
 use Rattle.std.specs.FinSet.{FinSet, contains, insert, contains-insert}
 use Rattle.std.specs.FinMap as finmap
 use Rattle.std.specs.FinMap.{get, remove, get-empty, get-insert, get-remove}
-use Rattle.bk_accounts.specs.Account.{Account, fresh, with_room, with_size, with_dead_size, with_name, without_name, without_ledger}
-use Rattle.bk_accounts.specs.Book.{Book, IsOpen, IsNotOpen, total_in, named_in, total_at, remaining_at, changed, after_open, after_ready, after_count}
+use Rattle.bk_accounts.specs.Account.{Account, fresh, with_room, with_size, with_dead_size, with_name, without_name, without_size}
+use Rattle.bk_accounts.specs.Book.{Book, HasAccount, IsNotOpen, total_in, named_in, total_at, remaining_at, changed, after_open, after_ready, after_count}
 use Rattle.bk_accounts.specs.Book.{after_count_dead, after_name, after_unname, after_forget, after_drop}
 use Rattle.bk_accounts.specs.Choice.{IsChoice, NoneBelow}
 use Rattle.bk_accounts.specs.Sums.{Measure, AreSums, all_bytes, live_bytes}
@@ -143,11 +143,11 @@ module _ {E : Type 0} (measure : Measure E) where
         → AreSums measure dead_now entries renamed left
     sums_left dead_now ledger renamed left more is = all dead_now entries renamed left (λ log.
         subst (Matches measure dead_now (entries log) (renamed log)) (sym (is log ∙ both (renamed log) (get book log)))
-        (match_named measure dead_now (entries log) (names log) (renamed log) (λ _. renamed log) refl (option_map (without_ledger ledger) (get book log))
+        (match_named measure dead_now (entries log) (names log) (renamed log) (λ _. renamed log) refl (option_map (without_size ledger) (get book log))
         (match_forget measure dead_now is_dead ledger more (entries log) (names log) (get book log) (each sums log))))
       where
         both : (n : ℕ) (o : Option Account) → option_map (λ (account : Account). record account { named = n; live = remove account.live ledger }) o
-            ≡ option_map (λ (account : Account). record account { named = n }) (option_map (without_ledger ledger) o)
+            ≡ option_map (λ (account : Account). record account { named = n }) (option_map (without_size ledger) o)
         both n None = refl
         both n (Some account) = refl
 
@@ -169,7 +169,7 @@ module _ {E : Type 0} (measure : Measure E) where
         (λ q apart. (refl, sym (is q ∙ ap (λ b. if b then renamed q + 1 else renamed q) apart)))
 
     -- a log with a list of entries is open, and one without is not
-    pub sums_is_open : (log : ℕ) (old : List E) → entries log ≡ Some old → IsOpen book log
+    pub sums_is_open : (log : ℕ) (old : List E) → entries log ≡ Some old → HasAccount book log
     sums_is_open log old was = somewhere (get book log) (sums.total log ∙ ap (option_map (all_bytes measure)) was)
       where
         somewhere : (o : Option Account) → option_map (λ account. account.total) o ≡ Some (all_bytes measure old) → IsSome o

@@ -3,7 +3,7 @@ use Rattle.std.proofs.Common.{◌≡◌, ℕ, true, false, cond, ◌==◌, Some,
 use Rattle.std.specs.Option.{option_map}
 use Rattle.std.specs.Cmp.{nat_cmp_total, unsigned_tied}
 use Rattle.std.specs.FinMap.{get, get-insert, get-remove}
-use Rattle.bk_accounts.specs.Account.{Account, fresh, with_room, with_size, with_dead_size, with_name, without_name, without_ledger}
+use Rattle.bk_accounts.specs.Account.{Account, fresh, with_room, with_size, with_dead_size, with_name, without_name, without_size}
 use Rattle.bk_accounts.specs.Book.{Book}
 use Rattle.bk_accounts.specs.History.{AccountCall, opens, readies, counts, counts_dead, names, unnames, forgets, drops, after, is_open_of, is_drop_of}
 use Rattle.bk_accounts.proofs.Books.{map_same, get-changed, get-after_forget}
@@ -17,7 +17,7 @@ effect log (counts other ledger size) account = if log == other then with_size l
 effect log (counts_dead other size) account = if log == other then with_dead_size size account else account
 effect log (names other) account = if log == other then with_name account else account
 effect log (unnames other) account = if log == other then without_name account else account
-effect log (forgets ledger) account = without_ledger ledger account
+effect log (forgets ledger) account = without_size ledger account
 
 -- the account of an open log after a call that neither opens nor drops it
 pub entry_after : (book : Book) (log : ℕ) (call : AccountCall) → is_open_of log call ≡ false → is_drop_of log call ≡ false

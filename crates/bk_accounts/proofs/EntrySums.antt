@@ -4,7 +4,7 @@ use Rattle.std.specs.Bool.{⊤}
 use Rattle.std.specs.List.{sum_by}
 use Rattle.std.specs.Option.{option_map}
 use Rattle.std.proofs.lemmas.List.Sums.{sum_by-cons}
-use Rattle.bk_accounts.specs.Account.{Account, fresh, ledger_size, remaining_size, with_room, with_size, with_dead_size, without_ledger}
+use Rattle.bk_accounts.specs.Account.{Account, fresh, ledger_size, remaining_size, with_room, with_size, with_dead_size, without_size}
 use Rattle.bk_accounts.specs.Rows.{Row, Tallies, forget_row}
 use Rattle.bk_accounts.specs.Sums.{Measure, all_bytes, live_bytes, live_bytes_of}
 use Rattle.bk_accounts.proofs.Tallies.{tallies_fresh, tallies_room, tallies_count, tallies_dead, tallies_forget}
@@ -119,12 +119,12 @@ module _ {E : Type 0} (measure : Measure E) where
 
   pub match_forget : (is_dead was_dead : ℕ → Bool) (ledger : ℕ) → ((l : ℕ) → is_dead l ≡ (was_dead l || ledger == l))
       → (entries : Option (List E)) (names : ℕ) (entry : Option Account)
-      → Matches was_dead entries names entry → Matches is_dead entries names (option_map (without_ledger ledger) entry)
+      → Matches was_dead entries names entry → Matches is_dead entries names (option_map (without_size ledger) entry)
   match_forget is_dead was_dead ledger more None names None match = tt
   match_forget is_dead was_dead ledger more None names (Some account) match = match
   match_forget is_dead was_dead ledger more (Some entries) names None match = match
   match_forget is_dead was_dead ledger more (Some entries) names (Some account) match = (
-    subst (λ rows. Tallies rows (without_ledger ledger account)) (rows-forget is_dead was_dead ledger more entries)
+    subst (λ rows. Tallies rows (without_size ledger account)) (rows-forget is_dead was_dead ledger more entries)
         (tallies_forget _ account ledger match.0),
     match.1,
   )

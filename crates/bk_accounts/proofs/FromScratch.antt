@@ -7,13 +7,13 @@ use Rattle.std.specs.Option.{is_some, option_map, option_map_or}
 use Rattle.std.specs.FinMap.{get, get-empty}
 use Rattle.std.proofs.lemmas.List.Sums.{sum_by_push}
 use Rattle.std.proofs.Math.Bool.{or-false}
-use Rattle.bk_accounts.specs.Account.{Account, fresh, has_room, with_room, with_size, with_dead_size, with_name, without_name, without_ledger, remaining_size}
+use Rattle.bk_accounts.specs.Account.{Account, fresh, has_room, with_room, with_size, with_dead_size, with_name, without_name, without_size, remaining_size}
 use Rattle.bk_accounts.specs.Book.{Book}
 use Rattle.bk_accounts.specs.Rows.{Row, Tallies, total_of, remaining_of}
 use Rattle.bk_accounts.specs.History.{AccountCall, opens, readies, counts, counts_dead, names, unnames, forgets, drops, after, IsDue, History, start, more}
 use Rattle.bk_accounts.specs.History.{is_open_of, is_drop_of, is_name_of, is_unname_of, is_forget_of, since_open, rows_of, named_of, is_readied, TellsOf}
 use Rattle.bk_accounts.proofs.Books.{ready_account, of_account}
-use Rattle.bk_accounts.proofs.Rooms.{room-with_room, room-with_size, room-without_ledger}
+use Rattle.bk_accounts.proofs.Rooms.{room-with_room, room-with_size, room-without_size}
 use Rattle.bk_accounts.proofs.Tallies.{tallies_fresh, tallies_room, tallies_count, tallies_dead, tallies_forget}
 use Rattle.bk_accounts.proofs.Histories.{since-opened, since-dropped, since_more, row_after, rows_more, readied_more}
 use Rattle.bk_accounts.proofs.Entries.{effect, entry_after, entry_opened, entry_dropped}
@@ -139,10 +139,10 @@ tells_more log later account (unnames other) tells due =
       | false ↦ λ apart. tells_same log later account (unnames other) tells (λ _. refl) refl refl apart (λ _. refl)
     ] refl
 tells_more log later account (forgets ledger) tells due =
-    tells_after log later (without_ledger ledger account) (forgets ledger)
+    tells_after log later (without_size ledger account) (forgets ledger)
     (rw append-nil (tallies_forget (rows_of log later) account ledger tells.tallies))
     (omega (arith, tells.naming))
-    (λ wanted. room-without_ledger account ledger wanted ∙ ap (λ b. b && not (ledger == wanted)) (tells.rooms wanted)
+    (λ wanted. room-without_size account ledger wanted ∙ ap (λ b. b && not (ledger == wanted)) (tells.rooms wanted)
     ∙ last (is_readied log wanted later && not (ledger == wanted)))
   where
     last : (b : Bool) → b ≡ (b || false)

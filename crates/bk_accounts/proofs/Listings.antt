@@ -16,12 +16,12 @@ use Rattle.std.specs.Option.{option_map, option_map_or}
 use Rattle.std.specs.FinMap.{get, from_entries, get-insert, get-remove, get-empty}
 use Rattle.std.proofs.lemmas.Bool.{false_from_ne_true}
 use Rattle.std.proofs.lemmas.Cmp.{ranked}
-use Rattle.bk_accounts.specs.Account.{Account, has_room, fresh, with_room, without_ledger}
+use Rattle.bk_accounts.specs.Account.{Account, has_room, fresh, with_room, without_size}
 use Rattle.bk_accounts.specs.Book.{Book, IsNotOpen, is_ready, changed, after_open, after_ready, after_forget, after_drop}
 use Rattle.bk_accounts.specs.Listed.{room_cmp, AreListed}
 use Rattle.bk_accounts.proofs.LogAccounts.{account_of}
 use Rattle.bk_accounts.proofs.Maps.{get-entries, same_by_get, none_is}
-use Rattle.bk_accounts.proofs.Rooms.{room-with_room, room-without_ledger}
+use Rattle.bk_accounts.proofs.Rooms.{room-with_room, room-without_size}
 use Rattle.bk_accounts.proofs.ValueSums.{kept_absent, get-removed}
 use Rattle.bk_accounts.proofs.Books.{changed_through, get-changed, get-after_forget}
 
@@ -135,19 +135,19 @@ listed_room book rooms new log ledger account listed found updates g l =
 
 -- a room less
 pub listed_forget : (book : Book) (rooms new : BTreeSet (ℕ × ℕ)) (log ledger : ℕ) → AreListed book rooms
-    → Updates room_cmp rooms new (ledger, log) false → AreListed (changed book log (without_ledger ledger)) new
+    → Updates room_cmp rooms new (ledger, log) false → AreListed (changed book log (without_size ledger)) new
 listed_forget book rooms new log ledger listed updates g l =
     listed_after rooms new ledger log false updates l g ∙ ap (cond (ledger == l && g == log) false) (listed g l)
     ∙ elim (g == log)
     as (λ b. cond (ledger == l && b) false (is_ready book g l)
-    ≡ option_map_or (λ a. has_room (if b then without_ledger ledger a else a) l) (get book g) false)
+    ≡ option_map_or (λ a. has_room (if b then without_size ledger a else a) l) (get book g) false)
     [ true ↦ gone (get book g) | false ↦ elsewhere (ledger == l) false (is_ready book g l) ]
-    ∙ sym (ready-changed book log g l (without_ledger ledger))
+    ∙ sym (ready-changed book log g l (without_size ledger))
   where
     gone : (o : Option Account) → cond (ledger == l && true) false (option_map_or (λ a. has_room a l) o false)
-        ≡ option_map_or (λ a. has_room (without_ledger ledger a) l) o false
+        ≡ option_map_or (λ a. has_room (without_size ledger a) l) o false
     gone None = went (ledger == l) false
-    gone (Some a) = went (ledger == l) (has_room a l) ∙ sym (room-without_ledger a ledger l)
+    gone (Some a) = went (ledger == l) (has_room a l) ∙ sym (room-without_size a ledger l)
 
 -- a room that comes and goes again
 pub listed_again : (book : Book) (rooms more new : BTreeSet (ℕ × ℕ)) (log ledger : ℕ) → AreListed book rooms → is_ready book log ledger ≡ false
@@ -186,13 +186,13 @@ left_first book log account rooms listed found g l =
     ∙ ap (λ r. if g == log then has_room account l else r) (sym (ready-dropped book log g l))
 
 pub left_less : (rest : Book) (log ledger : ℕ) (account : Account) (rooms new : BTreeSet (ℕ × ℕ)) → AreLeft rest log account rooms
-    → Updates room_cmp rooms new (ledger, log) false → AreLeft rest log (without_ledger ledger account) new
+    → Updates room_cmp rooms new (ledger, log) false → AreLeft rest log (without_size ledger account) new
 left_less rest log ledger account rooms new left updates g l =
     listed_after rooms new ledger log false updates l g ∙ ap (cond (ledger == l && g == log) false) (left g l)
     ∙ elim (g == log)
     as (λ b. cond (ledger == l && b) false (if b then has_room account l else is_ready rest g l)
-    ≡ (if b then has_room (without_ledger ledger account) l else is_ready rest g l)) [
-      | true ↦ went (ledger == l) (has_room account l) ∙ sym (room-without_ledger account ledger l)
+    ≡ (if b then has_room (without_size ledger account) l else is_ready rest g l)) [
+      | true ↦ went (ledger == l) (has_room account l) ∙ sym (room-without_size account ledger l)
       | false ↦ elsewhere (ledger == l) false (is_ready rest g l)
     ]
 
@@ -213,7 +213,7 @@ left_there rest log ledger account rooms left there =
     left log ledger ∙ ap (λ b. if b then has_room account ledger else is_ready rest log ledger) (eq-eqb log log refl) ∙ there
 
 -- an account that has no room for the ledger has nothing of it
-nothing_of : (account : Account) (ledger : ℕ) → get account.live ledger ≡ None → without_ledger ledger account ≡ account
+nothing_of : (account : Account) (ledger : ℕ) → get account.live ledger ≡ None → without_size ledger account ≡ account
 nothing_of account ledger none =
     ap (account_of account.total account.named) (same_by_get _ _ (λ q. kept_absent account.live ledger q none))
 
@@ -221,26 +221,26 @@ nothing_of account ledger none =
 pub unready-forget : (book : Book) (ledger : ℕ) → ((log : ℕ) → is_ready book log ledger ≡ false) → after_forget book ledger ≡ book
 unready-forget book ledger none = same_by_get _ _ (λ log. get-after_forget book ledger log ∙ same (get book log) (none log))
   where
-    same : (o : Option Account) → option_map_or (λ a. has_room a ledger) o false ≡ false → option_map (without_ledger ledger) o ≡ o
+    same : (o : Option Account) → option_map_or (λ a. has_room a ledger) o false ≡ false → option_map (without_size ledger) o ≡ o
     same None is = refl
     same (Some a) is = ap Some (nothing_of a ledger (none_is _ is))
 
 -- forgotten in one log, then in all
-pub forget-one : (book : Book) (log ledger : ℕ) → after_forget (changed book log (without_ledger ledger)) ledger ≡ after_forget book ledger
+pub forget-one : (book : Book) (log ledger : ℕ) → after_forget (changed book log (without_size ledger)) ledger ≡ after_forget book ledger
 forget-one book log ledger = same_by_get _ _ (λ g.
-    get-after_forget (changed book log (without_ledger ledger)) ledger g
-    ∙ ap (option_map (without_ledger ledger)) (get-changed book log g (without_ledger ledger)) ∙ twice (get book g) (g == log)
+    get-after_forget (changed book log (without_size ledger)) ledger g
+    ∙ ap (option_map (without_size ledger)) (get-changed book log g (without_size ledger)) ∙ twice (get book g) (g == log)
     ∙ sym (get-after_forget book ledger g))
   where
     twice : (o : Option Account) (b : Bool)
-        → option_map (without_ledger ledger) (option_map (λ a. if b then without_ledger ledger a else a) o) ≡ option_map (without_ledger ledger) o
+        → option_map (without_size ledger) (option_map (λ a. if b then without_size ledger a else a) o) ≡ option_map (without_size ledger) o
     twice None b = refl
-    twice (Some a) true = ap Some (nothing_of (without_ledger ledger a) ledger (get-removed a.live ledger))
+    twice (Some a) true = ap Some (nothing_of (without_size ledger a) ledger (get-removed a.live ledger))
     twice (Some a) false = refl
 
 -- a room of the ledger goes, and the ledger is forgotten in that log
 pub forgotten_one : (book new initial : Book) (rooms less : BTreeSet (ℕ × ℕ)) (log ledger : ℕ) → AreListed book rooms
-    → after_forget book ledger ≡ after_forget initial ledger → Updates room_cmp rooms less (ledger, log) false → new ≡ changed book log (without_ledger ledger)
+    → after_forget book ledger ≡ after_forget initial ledger → Updates room_cmp rooms less (ledger, log) false → new ≡ changed book log (without_size ledger)
     → AreListed new less × (after_forget new ledger ≡ after_forget initial ledger)
 forgotten_one book new initial rooms less log ledger listed same updates is = (
   subst (λ b. AreListed b less) (sym is) (listed_forget book rooms less log ledger listed updates),

@@ -2,7 +2,7 @@
 use Rattle.std.proofs.Common.{◌≡◌, ℕ, ◌+◌, ◌-◌, ◌≤◌, cond, Some, None, IsSome, nat_cmp, unwrap_or, sym, ap, ◌∙◌, arith}
 use Rattle.std.specs.Option.{is_some}
 use Rattle.std.specs.FinMap.{FinMap, get, insert, remove, empty}
-use Rattle.bk_accounts.specs.Account.{Account, with_room, with_size, without_ledger}
+use Rattle.bk_accounts.specs.Account.{Account, with_room, with_size, without_size}
 use Rattle.bk_accounts.specs.Parts.{IsSplit}
 use Rattle.bk_accounts.proofs.ValueSums.{sum-insert, sum-remove, sum-empty, get-le-sum}
 
@@ -47,9 +47,9 @@ viewed_count total named parts new account ledger part size view_is found new_is
 
 -- the account after a ledger is forgotten
 pub viewed_forget : (total named : ℕ) (parts new : FinMap nat_cmp ℕ) (account : Account) (ledger : ℕ)
-    → account_of total named parts ≡ account → new ≡ remove parts ledger → account_of total named new ≡ without_ledger ledger account
+    → account_of total named parts ≡ account → new ≡ remove parts ledger → account_of total named new ≡ without_size ledger account
 viewed_forget total named parts new account ledger view_is new_is =
-    ap (account_of total named) new_is ∙ ap (without_ledger ledger) view_is
+    ap (account_of total named) new_is ∙ ap (without_size ledger) view_is
 
 -- the account after new room
 pub viewed_room : (total named : ℕ) (parts new : FinMap nat_cmp ℕ) (account : Account) (ledger : ℕ)

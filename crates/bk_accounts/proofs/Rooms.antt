@@ -4,7 +4,7 @@ use Rattle.std.specs.Option.{is_some}
 use Rattle.std.specs.Cmp.{nat_cmp_total, eq_by_cmp_equiv, unsigned_tied}
 use Rattle.std.specs.FinMap.{FinMap, get, insert, get-insert, get-remove}
 use Rattle.std.proofs.Math.Bool.{or-false}
-use Rattle.bk_accounts.specs.Account.{Account, has_room, with_room, with_size, without_ledger}
+use Rattle.bk_accounts.specs.Account.{Account, has_room, with_room, with_size, without_size}
 
 -- an inserted key is there
 room-insert : (m : FinMap nat_cmp ℕ) (k v q : ℕ) → is_some (get (insert m k v) q) ≡ (is_some (get m q) || q == k)
@@ -37,9 +37,9 @@ pub room-with_size : (account : Account) (ledger size other : ℕ) → has_room 
     → has_room (with_size ledger size account) other ≡ has_room account other
 room-with_size account ledger size other there = room-insert account.live ledger _ other ∙ there_again account.live ledger other there
 
-pub room-without_ledger : (account : Account) (ledger other : ℕ)
-    → has_room (without_ledger ledger account) other ≡ (has_room account other && not (ledger == other))
-room-without_ledger account ledger other =
+pub room-without_size : (account : Account) (ledger other : ℕ)
+    → has_room (without_size ledger account) other ≡ (has_room account other && not (ledger == other))
+room-without_size account ledger other =
     ap is_some (get-remove nat_cmp_total account.live ledger other)
     ∙ ap (λ b. is_some (cond b None (get account.live other))) ((eq_by_cmp_equiv nat_cmp_total).symm other ledger ∙ unsigned_tied ledger other)
     ∙ bits (get account.live other) (ledger == other)

@@ -6,7 +6,7 @@ use Rattle.std.specs.Cmp.{nat_cmp_total, unsigned_tied}
 use Rattle.std.specs.FinMap.{FinMap, get, insert, remove, get-empty, get-insert, get-remove}
 use Rattle.std.proofs.lemmas.List.Sums.{sum_by-cons, sum_by_push}
 use Rattle.std.proofs.lemmas.Bool.Decides.{nat_tests}
-use Rattle.bk_accounts.specs.Account.{Account, fresh, ledger_size, with_room, with_size, with_dead_size, without_ledger}
+use Rattle.bk_accounts.specs.Account.{Account, fresh, ledger_size, with_room, with_size, with_dead_size, without_size}
 use Rattle.bk_accounts.specs.Rows.{Row, Tallies, total_of, remaining_of, remaining_of_ledger, forget_row}
 use Rattle.bk_accounts.proofs.ValueSums.{sum-empty, sum-insert, sum-remove}
 
@@ -164,7 +164,7 @@ remaining_of-forget other ledger (row ∷ rows) =
 
 -- a ledger forgotten is forgotten in each row
 pub tallies_forget : (rows : List Row) (account : Account) (ledger : ℕ) → Tallies rows account
-    → Tallies (map (forget_row ledger) rows) (without_ledger ledger account)
+    → Tallies (map (forget_row ledger) rows) (without_size ledger account)
 tallies_forget rows account ledger tallies = record {
   total = tallies.total ∙ sym (total-forget ledger rows);
   remaining = omega (arith, tallies.remaining, tallies.by_ledger ledger, sum-remove account.live ledger, remaining-forget ledger rows);

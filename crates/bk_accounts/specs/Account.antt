@@ -61,5 +61,5 @@ abbrev pub without_name : Account → Account
 without_name account = record account { named = account.named - 1 }
 
 -- with nothing left of the ledger; what it counted stays in the total
-abbrev pub without_ledger : ℕ → Account → Account
-without_ledger ledger account = record account { live = finmap.remove account.live ledger }
+abbrev pub without_size : ℕ → Account → Account
+without_size ledger account = record account { live = finmap.remove account.live ledger }

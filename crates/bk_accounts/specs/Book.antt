@@ -5,7 +5,7 @@ use Rattle.std.specs.FinMap as finmap
 use Rattle.std.specs.Option.{option_map, option_map_or, unwrap_or}
 use Rattle.std.specs.Ordering.{nat_cmp}
 use Rattle.bk_accounts.specs.Account.{Account, account_code, remaining_size, has_room, fresh, with_room, with_size, with_dead_size, with_name, without_name}
-use Rattle.bk_accounts.specs.Account.{without_ledger}
+use Rattle.bk_accounts.specs.Account.{without_size}
 
 -- each open log with its account
 abbrev pub Book : Type 0
@@ -16,8 +16,8 @@ abbrev pub book_code : Coded Book
 book_code = finmap.code coded_ℕ account_code
 
 -- the log is open
-abbrev pub IsOpen : Book → ℕ → Type 0
-IsOpen book log = IsSome (finmap.get book log)
+abbrev pub HasAccount : Book → ℕ → Type 0
+HasAccount book log = IsSome (finmap.get book log)
 
 -- the log is not open
 abbrev pub IsNotOpen : Book → ℕ → Type 0
@@ -81,7 +81,7 @@ after_unname book log = changed book log without_name
 
 -- after `forget`: no log has anything left of the ledger
 abbrev pub after_forget : Book → ℕ → Book
-after_forget book ledger = finmap.from_entries (map (λ e. (e.0, without_ledger ledger e.1)) (finmap.entries book))
+after_forget book ledger = finmap.from_entries (map (λ e. (e.0, without_size ledger e.1)) (finmap.entries book))
 
 -- after `drop_log`: the log is not open
 abbrev pub after_drop : Book → ℕ → Book

@@ -42,7 +42,7 @@ impl Model for Accounts {
 }
 
 impl Accounts {
-    ghost use Rattle.bk_accounts.specs.Book.{IsOpen, IsNotOpen, IsReady, total_in, remaining_in, named_in, total_at, remaining_at, after_open, after_ready, after_count, after_count_dead, after_name, after_unname, after_forget, after_drop};
+    ghost use Rattle.bk_accounts.specs.Book.{HasAccount, IsNotOpen, IsReady, total_in, remaining_in, named_in, total_at, remaining_at, after_open, after_ready, after_count, after_count_dead, after_name, after_unname, after_forget, after_drop};
 
     /// No log is open. It takes no memory; the allocator is for the calls that do.
     pub fn new(alloc: Global) -> Accounts
@@ -187,7 +187,7 @@ impl Accounts {
     /// Every allowed log is open. That a log is compacted when its usage falls below a threshold is
     /// BookKeeper's rule; thousandths, exact products and the order of ties are this project's.
     pub fn lowest_below(&self, threshold: u32, allowed: &[u32]) -> Option<u32>
-        requires { All (λ log. IsOpen self.now log) allowed.now }
+        requires { All (λ log. HasAccount self.now log) allowed.now }
         ensures { MatchOption result
             (NoneBelow (total_at self.now) (remaining_at self.now) threshold allowed.now)
             (IsChoice (total_at self.now) (remaining_at self.now) threshold allowed.now) }
@@ -222,7 +222,7 @@ impl Accounts {
     }
 
     fn usage(&self, log: u32) -> Usage
-        requires { IsOpen self.now log }
+        requires { HasAccount self.now log }
         ensures total { result.total ≡ total_at self.now log }
         ensures remaining { result.remaining ≡ remaining_at self.now log }
         ensures log { result.log ≡ log }

@@ -29,7 +29,7 @@ impl Model for LogAccount {
 }
 
 impl LogAccount {
-    ghost use Rattle.bk_accounts.specs.Account.{fresh, has_room, remaining_size, with_room, with_size, with_dead_size, with_name, without_name, without_ledger};
+    ghost use Rattle.bk_accounts.specs.Account.{fresh, has_room, remaining_size, with_room, with_size, with_dead_size, with_name, without_name, without_size};
 
     /// A log with nothing counted. It takes no memory.
     pub(crate) fn new(alloc: Global) -> LogAccount
@@ -119,7 +119,7 @@ impl LogAccount {
 
     /// Takes a ledger out of what remains.
     pub(crate) fn forget(&mut self, ledger: u64)
-        ensures { self.new ≡ without_ledger ledger self.old }
+        ensures { self.new ≡ without_size ledger self.old }
     {
         if let Some(part) = self.parts.remove(&ledger) {
             self.remaining -= part;
@@ -128,7 +128,7 @@ impl LogAccount {
 
     /// Takes one of the ledgers that have room out of what remains, as `forget` does.
     pub(crate) fn pop(&mut self) -> Option<u64>
-        ensures some { IfSome result (λ ledger. (has_room self.old ledger ≡ true) × (self.new ≡ without_ledger ledger self.old)) }
+        ensures some { IfSome result (λ ledger. (has_room self.old ledger ≡ true) × (self.new ≡ without_size ledger self.old)) }
         ensures none { IfNone result ((ledger : ℕ) → has_room self.old ledger ≡ false) }
     {
         let (ledger, part) = self.parts.pop_first()?;

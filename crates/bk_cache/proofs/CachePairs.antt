@@ -10,13 +10,13 @@ use Rattle.bk_record.specs.Record.{read_added}
 use Rattle.bk_record.specs.Scan.{Payloads}
 use Rattle.bk_record.proofs.Keys.{key_cmp_total}
 use Rattle.bk_record.proofs.SortedMaps.{get-sorted, insert-sorted}
-use Rattle.bk_cache.specs.Kept.{IsKept}
+use Rattle.bk_cache.specs.Kept.{KeepsPairs}
 use Rattle.bk_cache.specs.Caches.{used_of}
 use Rattle.bk_cache.proofs.Options.{is_some-option_map}
 use Rattle.bk_cache.proofs.Seen.{seen, put-seen, get-seen, insert_entry-put}
 use Rattle.bk_cache.proofs.KeptPairs.{used_of-kept, kept_put}
 
-module _ {X : Type 0} (f : X → List ℕ) (es : List (EntryKey × X)) (used : ℕ) (kept : IsKept (seen f es) used) (m : Payloads)
+module _ {X : Type 0} (f : X → List ℕ) (es : List (EntryKey × X)) (used : ℕ) (kept : KeepsPairs (seen f es) used) (m : Payloads)
     (view : from_sorted (seen f es) ≡ m) where
   pub used_seen : used_of m ≡ used
   used_seen = ap used_of (sym view) ∙ used_of-kept _ _ kept
@@ -26,10 +26,10 @@ module _ {X : Type 0} (f : X → List ℕ) (es : List (EntryKey × X)) (used : �
     seen_put : seen f new ≡ put key_cmp key (f payload) (seen f es)
     seen_put = ap (seen f) (is ∙ insert_entry-put key_cmp es key payload) ∙ put-seen f key_cmp es key payload
 
-    pub kept_inserted : read_added (f payload) ≡ Ok key → entries.get m key ≡ None → IsKept (seen f new) (used + length (f payload))
+    pub kept_inserted : read_added (f payload) ≡ Ok key → entries.get m key ≡ None → KeepsPairs (seen f new) (used + length (f payload))
     kept_inserted keyed absent =
         let none : find key_cmp key (seen f es) ≡ None = sym (get-sorted key_cmp _ kept.sorted key) ∙ ap (λ n. entries.get n key) view ∙ absent in
-        subst (λ pairs. IsKept pairs (used + length (f payload))) (sym seen_put) (kept_put _ _ kept key (f payload) keyed none)
+        subst (λ pairs. KeepsPairs pairs (used + length (f payload))) (sym seen_put) (kept_put _ _ kept key (f payload) keyed none)
 
     pub view_inserted : from_sorted (seen f new) ≡ entries.insert m key (f payload)
     view_inserted = ap from_sorted seen_put ∙ sym (insert-sorted key_cmp _ kept.sorted key_cmp_total key (f payload))

@@ -14,17 +14,17 @@ use Rattle.bk_record.specs.Scan.{Payloads}
 use Rattle.bk_record.proofs.Keys.{key_cmp_total}
 use Rattle.bk_record.proofs.SortedPairs.{find_at}
 use Rattle.bk_record.proofs.SortedMaps.{entries-sorted}
-use Rattle.bk_cache.specs.Kept.{IsKept}
+use Rattle.bk_cache.specs.Kept.{KeepsPairs}
 use Rattle.bk_cache.specs.Recents.{Entry}
 use Rattle.bk_cache.specs.Caches.{first_after}
 use Rattle.bk_cache.proofs.Seen.{seen, filter-seen}
 use Rattle.bk_cache.proofs.KeptPairs.{kept_filter}
 use Rattle.bk_cache.proofs.Used.{entries-empty}
 
-first_keyed : (pairs : List Entry) (used : ℕ) → IsKept pairs used → (e : Entry) → slice_get pairs 0 ≡ Some e → read_added e.1 ≡ Ok e.0
+first_keyed : (pairs : List Entry) (used : ℕ) → KeepsPairs pairs used → (e : Entry) → slice_get pairs 0 ≡ Some e → read_added e.1 ≡ Ok e.0
 first_keyed pairs used kept e at = kept.keyed e.0 e.1 (find_at key_cmp_total pairs 0 e.0 e.1 kept.sorted at)
 
-module _ {X : Type 0} (f : X → List ℕ) (es : List (EntryKey × X)) (used : ℕ) (kept : IsKept (seen f es) used) (m : Payloads)
+module _ {X : Type 0} (f : X → List ℕ) (es : List (EntryKey × X)) (used : ℕ) (kept : KeepsPairs (seen f es) used) (m : Payloads)
     (view : from_sorted (seen f es) ≡ m) where
   entries-seen : entries.entries m ≡ seen f es
   entries-seen = ap entries.entries (sym view) ∙ entries-sorted key_cmp _ kept.sorted

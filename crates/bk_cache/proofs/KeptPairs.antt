@@ -15,10 +15,10 @@ use Rattle.bk_record.proofs.SortedPairs.{Some-same, keys_rise, find-lookup, is_s
 use Rattle.bk_record.proofs.SortedMaps.{entries-sorted, get-sorted, is_sorted-filter}
 use Rattle.bk_cache.specs.Recents.{Entry}
 use Rattle.bk_cache.proofs.Seen.{insert_entry-put}
-use Rattle.bk_cache.specs.Kept.{IsKept}
+use Rattle.bk_cache.specs.Kept.{KeepsPairs}
 use Rattle.bk_cache.specs.Caches.{used_of, AllKeyed}
 
-module _ (pairs : List Entry) (used : ℕ) (kept : IsKept pairs used) where
+module _ (pairs : List Entry) (used : ℕ) (kept : KeepsPairs pairs used) where
   pub used_of-kept : used_of (from_sorted pairs) ≡ used
   used_of-kept = ap (λ es. sum_by length (values_of es)) (entries-sorted key_cmp pairs kept.sorted) ∙ sym kept.counted
 
@@ -27,7 +27,7 @@ module _ (pairs : List Entry) (used : ℕ) (kept : IsKept pairs used) where
 
   -- one more pair under the key that its payload gives
   pub kept_put : (key : EntryKey) (payload : List ℕ) → read_added payload ≡ Ok key → find key_cmp key pairs ≡ None
-      → IsKept (put key_cmp key payload pairs) (used + length payload)
+      → KeepsPairs (put key_cmp key payload pairs) (used + length payload)
   kept_put key payload keyed absent = record {
     sorted = is_sorted_put key_cmp_total key payload pairs kept.sorted;
     keyed = λ q p is. keyed_put key payload keyed q p (sym (find-put key_cmp key_cmp_total q key payload pairs) ∙ is);
@@ -48,7 +48,7 @@ module _ (pairs : List Entry) (used : ℕ) (kept : IsKept pairs used) where
           ] refl
 
   -- the pairs that a test of the keys leaves
-  pub kept_filter : (p : EntryKey → Bool) → IsKept (filter (λ e. p e.0) pairs) (sum_by length (values_of (filter (λ e. p e.0) pairs)))
+  pub kept_filter : (p : EntryKey → Bool) → KeepsPairs (filter (λ e. p e.0) pairs) (sum_by length (values_of (filter (λ e. p e.0) pairs)))
   kept_filter p = record {
     sorted = is_sorted-filter key_cmp pairs kept.sorted p;
     keyed = λ q bytes is. kept.keyed q bytes (left (p q) (sym (find-where_key key_cmp p q (λ x tied. ap p (sym (key_cmp_antisymmetric q x tied))) pairs) ∙ is));

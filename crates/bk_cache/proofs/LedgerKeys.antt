@@ -25,7 +25,7 @@ use Rattle.bk_record.proofs.Keys.{key_cmp_total, key_cmp_antisymmetric}
 use Rattle.bk_record.proofs.KeyedLaws.{get-without_ledger}
 use Rattle.bk_record.proofs.SortedPairs.{Some-same, find_at, filter-behind}
 use Rattle.bk_record.proofs.SortedMaps.{is_sorted-filter, get-sorted}
-use Rattle.bk_cache.specs.Kept.{IsKept}
+use Rattle.bk_cache.specs.Kept.{KeepsPairs}
 use Rattle.bk_cache.proofs.Seen.{seen, filter-seen}
 
 -- a map that has no key of the ledger stays as it is
@@ -190,7 +190,7 @@ module _ {X : Type 0} (pairs : List (EntryKey × X)) (sorted : IsTrue (is_sorted
       ]
 
 -- the same of a write cache, whose shared payloads are read through f
-module _ {X : Type 0} (f : X → List ℕ) (es : List (EntryKey × X)) (used : ℕ) (kept : IsKept (seen f es) used) (m : Payloads)
+module _ {X : Type 0} (f : X → List ℕ) (es : List (EntryKey × X)) (used : ℕ) (kept : KeepsPairs (seen f es) used) (m : Payloads)
     (view : from_sorted (seen f es) ≡ m) (ledger : ℕ) where
   has : (q : EntryKey) → get m q ≡ find key_cmp q (seen f es)
   has q = sym (ap (λ n. get n q) view) ∙ get-sorted key_cmp _ kept.sorted q

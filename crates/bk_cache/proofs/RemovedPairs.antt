@@ -15,7 +15,7 @@ use Rattle.bk_record.specs.Key.{EntryKey, key_cmp}
 use Rattle.bk_record.specs.Scan.{Payloads}
 use Rattle.bk_record.proofs.Keys.{key_cmp_total, key_cmp_antisymmetric}
 use Rattle.bk_record.proofs.SortedMaps.{retain_keys-sorted}
-use Rattle.bk_cache.specs.Kept.{IsKept}
+use Rattle.bk_cache.specs.Kept.{KeepsPairs}
 use Rattle.bk_cache.proofs.Seen.{seen, values_of-seen, sum_by-map}
 use Rattle.bk_cache.proofs.KeptPairs.{kept_filter}
 
@@ -81,7 +81,7 @@ len-removed m key there =
     positive zero some less = absurd (some refl)
     positive (suc n) some less = omega arith
 
-module _ {X : Type 0} (f : X → List ℕ) (es : List (EntryKey × X)) (used : ℕ) (kept : IsKept (seen f es) used) (m : Payloads)
+module _ {X : Type 0} (f : X → List ℕ) (es : List (EntryKey × X)) (used : ℕ) (kept : KeepsPairs (seen f es) used) (m : Payloads)
     (view : from_sorted (seen f es) ≡ m) where
   module _ (key : EntryKey) (new : List (EntryKey × X)) (is : new ≡ remove_entry (eq_by_cmp key_cmp key) es) (o : Option X)
       (value : o ≡ lookup (eq_by_cmp key_cmp key) es) where
@@ -108,13 +108,13 @@ module _ {X : Type 0} (f : X → List ℕ) (es : List (EntryKey × X)) (used : �
     pub removed-le : unwrap_or (option_map (λ p. length (f p)) o) 0 ≤ used
     removed-le = omega (arith, bytes)
 
-    pub kept_removed : (size : ℕ) → size ≡ unwrap_or (option_map (λ p. length (f p)) o) 0 → IsKept (seen f new) (used - size)
+    pub kept_removed : (size : ℕ) → size ≡ unwrap_or (option_map (λ p. length (f p)) o) 0 → KeepsPairs (seen f new) (used - size)
     kept_removed size size_is =
         let part = kept_filter _ _ kept (is_other key) in
-        let whole : IsKept (seen f new) (sum_by length (values_of (seen f new))) =
-        subst (λ pairs. IsKept pairs (sum_by length (values_of pairs))) (sym seen_others) part in
+        let whole : KeepsPairs (seen f new) (sum_by length (values_of (seen f new))) =
+        subst (λ pairs. KeepsPairs pairs (sum_by length (values_of pairs))) (sym seen_others) part in
         let left : sum_by length (values_of (seen f new)) ≡ used - size = omega (arith, bytes, size_is) in
-        subst (IsKept (seen f new)) left whole
+        subst (KeepsPairs (seen f new)) left whole
 
     pub view_removed : from_sorted (seen f new) ≡ remove m key
     view_removed =

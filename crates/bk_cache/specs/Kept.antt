@@ -8,7 +8,7 @@ use Rattle.bk_cache.specs.Recents.{Entry}
 use Rattle.bk_cache.specs.Caches.{CacheState, used_of, flush_of, AllKeyed, AreApart}
 
 -- the pairs are in the order of their keys, each payload stands under the key that it gives, and these are their bytes
-pub record IsKept (pairs : List Entry) (used : ℕ) : Type 0 where
+pub record KeepsPairs (pairs : List Entry) (used : ℕ) : Type 0 where
   pub sorted : IsTrue (is_sorted key_cmp pairs)
   pub keyed : (key : EntryKey) (payload : List ℕ) → find key_cmp key pairs ≡ Some payload → read_added payload ≡ Ok key
   pub counted : used ≡ sum_by length (values_of pairs)

@@ -28,7 +28,7 @@ impl Model for Cache {
     ghost use Rattle.std.specs.FinMap as entries;
     ghost use Rattle.bk_record.specs.Scan.{Payloads};
     ghost use Rattle.bk_cache.specs.Caches.{payloads_code};
-    ghost use Rattle.bk_cache.specs.Kept.{IsKept};
+    ghost use Rattle.bk_cache.specs.Kept.{KeepsPairs};
 
     ghost Value = { Payloads };
 
@@ -36,7 +36,7 @@ impl Model for Cache {
 
     ghost view = { λ cache. entries.from_sorted (map (λ e. (e.0, e.1.value.items)) cache.pairs.entries) };
 
-    ghost invariant = { λ cache. IsKept (map (λ e. (e.0, e.1.value.items)) cache.pairs.entries) cache.used };
+    ghost invariant = { λ cache. KeepsPairs (map (λ e. (e.0, e.1.value.items)) cache.pairs.entries) cache.used };
 }
 
 impl Cache {

@@ -12,7 +12,7 @@ use Rattle.bk_record.specs.Record.{key_of}
 use Rattle.bk_record.specs.Files.{records_of, In}
 use Rattle.bk_record.specs.Scan.{Ledgers, entries_of}
 use Rattle.bk_record.proofs.Growth.{records_of-short, In-append_left, In-append_right, In-append_cases}
-use Rattle.bk_store.specs.Entries.{Places}
+use Rattle.bk_record.specs.Keyed.{Places}
 use Rattle.bk_store.specs.Logs.{View, Log, Logs, HasOpenView, IsNextHeld, is_open, open_parts, published_part}
 use Rattle.bk_store.specs.State.{State}
 use Rattle.bk_store.specs.Doors.{MayReplace}
@@ -23,16 +23,16 @@ use Rattle.bk_store.proofs.EntryLists.{Listed, IsIndexOfList, list_empty, list_i
 use Rattle.bk_store.proofs.OpenedLists.{listed_entries_of}
 use Rattle.bk_store.proofs.Walks.{AreAscending, listed_of, walked, walked_lists, walked_push, walk_indexed, walk_passed, walk_foreign}
 use Rattle.bk_collect.specs.Collecting.{open_view}
-use Rattle.bk_collect.specs.Taking.{with_record, with_records, TakesIn}
+use Rattle.bk_collect.specs.Taking.{with_record_at, with_records, TakesIn}
 use Rattle.bk_collect.proofs.Views.{shows_open, part_is, view_honest}
 
 -- ---- the records of one log, one after another
 
 record_indexed : (front : Listed) (dead : Ledgers) (log : ℕ) (before : List (ℕ × List ℕ)) (index : Places) (r : ℕ × List ℕ)
     → IsIndexOfList (front ++ listed_of log before) dead index
-    → IsIndexOfList (front ++ listed_of log (before ++ r ∷ [])) dead (with_record dead log index r.0 (key_of r.1))
+    → IsIndexOfList (front ++ listed_of log (before ++ r ∷ [])) dead (with_record_at dead log index r.0 (key_of r.1))
 record_indexed front dead log before index r made =
-    elim (key_of r.1) as (λ o. key_of r.1 ≡ o → IsIndexOfList (front ++ listed_of log (before ++ r ∷ [])) dead (with_record dead log index r.0 o)) [
+    elim (key_of r.1) as (λ o. key_of r.1 ≡ o → IsIndexOfList (front ++ listed_of log (before ++ r ∷ [])) dead (with_record_at dead log index r.0 o)) [
       | None ↦ λ foreign. walk_foreign front log before made r.0 r.1 foreign
       | Some key ↦ λ keyed. elim (set.contains dead key.ledger) as (λ b. set.contains dead key.ledger ≡ b
           → IsIndexOfList (front ++ listed_of log (before ++ r ∷ [])) dead
@@ -48,7 +48,7 @@ records_indexed : (front : Listed) (dead : Ledgers) (log : ℕ) (before records 
 records_indexed front dead log before [] index made =
     subst (λ (l : List (ℕ × List ℕ)). IsIndexOfList (front ++ listed_of log l) dead index) (sym (append-nil before)) made
 records_indexed front dead log before (r ∷ later) index made =
-    let next = with_record dead log index r.0 (key_of r.1) in
+    let next = with_record_at dead log index r.0 (key_of r.1) in
     subst (λ (l : List (ℕ × List ℕ)). IsIndexOfList (front ++ listed_of log l) dead (with_records dead log next later)) (append_assoc before (r ∷ []) later)
     (records_indexed front dead log (before ++ r ∷ []) later next (record_indexed front dead log before index r made))
 

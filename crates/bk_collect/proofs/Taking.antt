@@ -15,19 +15,19 @@ use Rattle.bk_log.specs.Ranges.{entries_in, part}
 use Rattle.bk_log.specs.Scanned.{new_scan}
 use Rattle.bk_log.specs.Scanning.{Scan, part_of, NextMoves, NextTurn}
 use Rattle.bk_log.proofs.Ranges.{entries_in-file}
-use Rattle.bk_store.specs.Entries.{Places}
+use Rattle.bk_record.specs.Keyed.{Places}
 use Rattle.bk_store.specs.Logs.{View}
 use Rattle.bk_store.proofs.KeyMaps.{inserted_cases}
-use Rattle.bk_collect.specs.Taking.{with_key, with_record, with_records, TakesIn}
+use Rattle.bk_collect.specs.Taking.{with_key, with_record_at, with_records, TakesIn}
 
 -- ---- one record more
 
 records_push : (dead : Ledgers) (log : ℕ) (index : Places) (records : List (ℕ × List ℕ)) (at : ℕ) (payload : List ℕ) (key : EntryKey)
     → key_of payload ≡ Some key
     → with_records dead log index (records ++ (at, payload) ∷ []) ≡ with_key dead (with_records dead log index records) key (record { log = log; at = at })
-records_push dead log index [] at payload key keyed = ap (with_record dead log index at) keyed
+records_push dead log index [] at payload key keyed = ap (with_record_at dead log index at) keyed
 records_push dead log index (r ∷ records) at payload key keyed =
-    records_push dead log (with_record dead log index r.0 (key_of r.1)) records at payload key keyed
+    records_push dead log (with_record_at dead log index r.0 (key_of r.1)) records at payload key keyed
 
 -- a key that was sent somewhere by an entry more is the entry's, or was sent there before
 sent_on : (dead : Ledgers) (index : Places) (key : EntryKey) (place : Place) (k : EntryKey) (p : Place)

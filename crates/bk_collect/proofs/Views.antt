@@ -13,6 +13,7 @@ use Rattle.bk_record.specs.Files.{file_of, header_length, records_of, In}
 use Rattle.bk_record.specs.Scan.{Ledgers, entries_of}
 use Rattle.bk_record.specs.Spelling.{IsBytes}
 use Rattle.bk_record.proofs.Entries.{filter-In}
+use Rattle.bk_record.specs.Keyed.{Places}
 use Rattle.bk_disk.specs.Disk.{AreLogFiles, view_end}
 use Rattle.bk_log.specs.Growing.{HasNoBadLength}
 use Rattle.bk_log.specs.declared.found.Found.{Found}
@@ -22,14 +23,14 @@ use Rattle.bk_log.specs.declared.fault.ScanFault.{ScanFault}
 use Rattle.bk_log.specs.declared.fault.ScanFault.TheVariants as scans
 use Rattle.bk_log.proofs.Fetches.{record_fits}
 use Rattle.bk_log.proofs.OneRecord.{stands_once}
-use Rattle.bk_store.specs.Entries.{Places, HasEntry}
+use Rattle.bk_store.specs.Entries.{HasEntry}
 use Rattle.bk_store.specs.Logs.{View, Log, Logs, is_open, open_parts, published_part}
 use Rattle.bk_store.specs.State.{State, Parts}
 use Rattle.bk_store.specs.Kept.{Promises, IsBacked}
 use Rattle.bk_store.specs.Plain.{IsKept}
 use Rattle.bk_store.proofs.Cases.{some_value}
 use Rattle.bk_collect.specs.Collecting.{RebuildFails, open_view}
-use Rattle.bk_collect.specs.Taking.{EntryFails, told}
+use Rattle.bk_collect.specs.Taking.{EntryFails, collect_fault_of}
 use Rattle.bk_collect.specs.declared.answer.CollectFault.{CollectFault}
 use Rattle.bk_collect.specs.declared.answer.CollectFault.TheVariants as faults
 use Rattle.bk_collect.proofs.Taking.{IsTaking, scan_part, scan_honest, next_stands}
@@ -143,7 +144,7 @@ module _ (s : State) (kept : IsKept s) (id : ℕ) (view : View) (shown : open_vi
         (subst (λ (b : List ℕ). IsBadAt header_length b at value) (same ∙ scan_part so_far (whole is)) (subst (λ n. IsBadAt n (part_of scan') at value) from bad))
 
     pub scan_refused : (fault : ScanFault) (scan' : Scan) → NextMoves scan (Err fault) scan' → (IsTrue scan.honest → NextTurn scan (Err fault) scan')
-        → (fault ≡ scans.Disk → scan.sound ≡ false) → RebuildFails s (told id fault)
+        → (fault ≡ scans.Disk → scan.sound ≡ false) → RebuildFails s (collect_fault_of id fault)
     scan_refused (scans.BadLength at value) scan' moves turn cause = not_true s.honest (no_bad scan' at value moves turn)
     scan_refused scans.Disk scan' moves turn cause = (id, (view, shown, sym so_far.sound ∙ cause refl))
     scan_refused scans.Memory scan' moves turn cause = tt

@@ -1,11 +1,10 @@
 -- The calls of a collection, each a turn of the store: a log is retired, then closed, then removed; the index is rebuilt of
 -- what the logs show.
-use Rattle.std.specs.Prelude.{◌≡◌, ◌⊎◌, ℕ, ◌≤◌, Bool, false, if◌then◌else◌, IsTrue, Option, Some, None, Result, Ok, Err}
+use Rattle.std.specs.Prelude.{◌≡◌, ◌⊎◌, ℕ, ◌≤◌, false, if◌then◌else◌, Option, Some, None, Result, Ok, Err}
 use Rattle.std.specs.Option.{option_and_then}
 use Rattle.std.specs.FinMap as finite
-use Rattle.bk_record.specs.Keyed.{log_count}
+use Rattle.bk_record.specs.Keyed.{log_count, Places}
 use Rattle.bk_log.specs.declared.fault.LogFault.TheVariants as log_faults
-use Rattle.bk_store.specs.Entries.{Places}
 use Rattle.bk_store.specs.Logs.{View, Logs, is_open}
 use Rattle.bk_store.specs.State.{State}
 use Rattle.bk_store.specs.Copying as copying
@@ -38,17 +37,17 @@ abbrev pub IsPast : State → ℕ → Type 0
 IsPast s id = IsIn s id Retired ⊎ IsIn s id Closed
 
 -- the log is written no more, and no compaction has it
-abbrev pub IsAtRest : State → ℕ → Type 0
-IsAtRest s id = IsIn s id Readable × IsIdle s id
+abbrev pub IsOnlyRead : State → ℕ → Type 0
+IsOnlyRead s id = IsIn s id Readable × IsIdle s id
 
 -- A log that no key names is Retired from then on. One that is so already, or closed, stays as it is, and so does one that
 -- is in use or still named: at least one key is sent to it.
 abbrev pub RetireTurn : State → ℕ → RetireAnswer → State → Type 0
 RetireTurn s id retires.NoLog t = (finite.get s.logs id ≡ None) × (t ≡ s)
 RetireTurn s id retires.InUse t = IsInUse s id × (t ≡ s)
-RetireTurn s id (retires.StillNamed n) t = IsAtRest s id × (n ≡ log_count s.index id) × (1 ≤ n) × (t ≡ s)
+RetireTurn s id (retires.StillNamed n) t = IsOnlyRead s id × (n ≡ log_count s.index id) × (1 ≤ n) × (t ≡ s)
 RetireTurn s id (retires.Retired log) t = (log ≡ id)
-    × ((IsPast s id × (t ≡ s)) ⊎ (IsAtRest s id × (log_count s.index id ≡ 0) × SetTurn s id Retired t))
+    × ((IsPast s id × (t ≡ s)) ⊎ (IsOnlyRead s id × (log_count s.index id ≡ 0) × SetTurn s id Retired t))
 
 -- ---- closing
 
@@ -81,10 +80,6 @@ RemoveTurn s id (Err faults.Odd) t = IsIn s id Closed × copying.RemoveTurn s id
 -- the last view of a log, where keys may be sent to the log
 abbrev pub open_view : Logs → ℕ → Option View
 open_view logs id = option_and_then (λ log. if is_open log.state then log.view else None) (finite.get logs id)
-
--- every view of this type can be read
-abbrev pub AreSound : {V : Type 0} → (V → Bool) → Type 0
-AreSound {V} sound = (view : V) → IsTrue (sound view)
 
 -- the last view of a log that keys may be sent to can't be read
 abbrev pub HasUnsoundView : State → Type 0

@@ -9,32 +9,32 @@ use Rattle.bk_record.specs.Scan.{Ledgers, entries_of}
 use Rattle.bk_log.specs.declared.found.Found.{Found}
 use Rattle.bk_log.specs.declared.fault.ScanFault.{ScanFault}
 use Rattle.bk_log.specs.declared.fault.ScanFault.TheVariants as scan_faults
-use Rattle.bk_store.specs.Entries.{Places}
+use Rattle.bk_record.specs.Keyed.{Places}
 use Rattle.bk_store.specs.Logs.{View}
 use Rattle.bk_store.specs.declared.answer.LogCause.TheVariants as causes
 use Rattle.bk_collect.specs.declared.answer.CollectFault.{CollectFault}
 use Rattle.bk_collect.specs.declared.answer.CollectFault.TheVariants as faults
 
 -- a refused scan: a bad length is the log's
-abbrev pub told : ℕ → ScanFault → CollectFault
-told id (scan_faults.BadLength at value) = faults.Log id (causes.BadLength at value)
-told id scan_faults.Disk = faults.Disk
-told id scan_faults.Memory = faults.Memory
-told id scan_faults.Odd = faults.Odd
+abbrev pub collect_fault_of : ℕ → ScanFault → CollectFault
+collect_fault_of id (scan_faults.BadLength at value) = faults.Log id (causes.BadLength at value)
+collect_fault_of id scan_faults.Disk = faults.Disk
+collect_fault_of id scan_faults.Memory = faults.Memory
+collect_fault_of id scan_faults.Odd = faults.Odd
 
 -- an entry more: where its ledger lives, its key is sent to its place
 abbrev pub with_key : Ledgers → Places → EntryKey → Place → Places
 with_key dead index key place = if set.contains dead key.ledger then index else finite.insert index key place
 
 -- a record more of a log, at this position; a foreign one has no key
-abbrev pub with_record : Ledgers → ℕ → Places → ℕ → Option EntryKey → Places
-with_record dead log index at None = index
-with_record dead log index at (Some key) = with_key dead index key (record { log = log; at = at })
+abbrev pub with_record_at : Ledgers → ℕ → Places → ℕ → Option EntryKey → Places
+with_record_at dead log index at None = index
+with_record_at dead log index at (Some key) = with_key dead index key (record { log = log; at = at })
 
 -- records of a log, one after another
 abbrev pub with_records : Ledgers → ℕ → Places → List (ℕ × List ℕ) → Places
 with_records dead log index [] = index
-with_records dead log index (r ∷ later) = with_records dead log (with_record dead log index r.0 (key_of r.1)) later
+with_records dead log index (r ∷ later) = with_records dead log (with_record_at dead log index r.0 (key_of r.1)) later
 
 -- an entry could not be taken in: its place is past what a location can say, or memory was refused
 abbrev pub EntryFails : Found → CollectFault → Type 0

@@ -4,10 +4,11 @@
 //! record of a key takes the place of an earlier one. Only when all were read does the store get the new index.
 
 ghost use Rattle.std.specs.Prelude.{◌≡◌, IsTrue, IsErrOf, IfOk, IfErr, OnOk, Some, option_map};
+ghost use Rattle.bk_disk.specs.Disk.{AreSound};
 ghost use Rattle.bk_store.specs.Doors.{MayReplace};
 ghost use Rattle.bk_store.specs.Logs.{view_of};
 ghost use Rattle.bk_store.specs.Meaning.{MeansTheSame};
-ghost use Rattle.bk_collect.specs.Collecting.{AreSound, RebuildFails, RebuildTurn, open_view};
+ghost use Rattle.bk_collect.specs.Collecting.{RebuildFails, RebuildTurn, open_view};
 
 use crate::CollectFault;
 use crate::scanning::take_in;

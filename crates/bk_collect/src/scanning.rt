@@ -1,9 +1,10 @@
 //! The entries that one log shows are taken into an index as they come, so no log is held in memory.
 
 ghost use Rattle.std.specs.Prelude.{◌≡◌, ◌<◌, ◌≤◌, ◌^◌, IsErrOf, IfErr, OnOk, Some};
+ghost use Rattle.bk_disk.specs.Disk.{AreSound};
 ghost use Rattle.bk_store.specs.Logs.{view_of};
-ghost use Rattle.bk_collect.specs.Collecting.{AreSound, RebuildFails, open_view};
-ghost use Rattle.bk_collect.specs.Taking.{EntryFails, TakesIn, told, with_key};
+ghost use Rattle.bk_collect.specs.Collecting.{RebuildFails, open_view};
+ghost use Rattle.bk_collect.specs.Taking.{EntryFails, TakesIn, collect_fault_of, with_key};
 
 use crate::CollectFault;
 use bk_disk::{LogDisk, LogView};
@@ -70,7 +71,7 @@ fn name<D: LogDisk>(
 
 /// A bad length is the log's of this id.
 fn scan_fault(id: u32, fault: ScanFault) -> CollectFault
-    ensures { result ≡ told id fault }
+    ensures { result ≡ collect_fault_of id fault }
 {
     match fault {
         ScanFault::BadLength { at, length } => CollectFault::Log {

@@ -9,7 +9,6 @@ use Rattle.bk_record.specs.Files.{header_length}
 use Rattle.bk_record.specs.Keyed.{log_count}
 use Rattle.bk_record.proofs.KeyedCounts.{log_count-none}
 use Rattle.bk_log.specs.Writing as writers
-use Rattle.bk_store.specs.Entries.{Places}
 use Rattle.bk_store.specs.Jobs.{new_job}
 use Rattle.bk_store.specs.JobKept.{IsJob}
 use Rattle.bk_store.specs.Logs.{View, Log, Logs, HasOpenView, is_open, made_log, open_parts, published_part}

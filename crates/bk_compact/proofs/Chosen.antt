@@ -9,7 +9,7 @@ use Rattle.bk_accounts.specs.Choice.{IsBelow, IsChoice, NoneBelow}
 use Rattle.bk_accounts.proofs.Choices.{taken_first, taken, kept}
 use Rattle.bk_store.specs.Logs.{IsNextHeld}
 use Rattle.bk_store.specs.State.{State}
-use Rattle.bk_store.specs.Copying.{IsLeastUsed, total_of, remaining_of}
+use Rattle.bk_store.specs.Copying.{IsLeastUsed, log_bytes, live_log_bytes}
 use Rattle.bk_compact.specs.Compacting.{Chooses, IsCandidate}
 use Rattle.bk_compact.specs.Going.{IsBetter, IsChoosing}
 
@@ -97,7 +97,7 @@ module _ (total remaining : ℕ → ℕ) (threshold : ℕ) (seen : List ℕ) (lo
 -- ---- the logs that were looked at
 
 least_is : (s : State) (threshold : ℕ) (chosen : Option ℕ) (allowed : List ℕ) → IsLeastUsed s threshold allowed chosen
-    → least_of (total_of s) (remaining_of s) threshold allowed chosen
+    → least_of (log_bytes s) (live_log_bytes s) threshold allowed chosen
 least_is s threshold None allowed is = is
 least_is s threshold (Some id) allowed is = is
 
@@ -179,19 +179,19 @@ module _ (s : State) (threshold : ℕ) where
       pub choosing_taken : (best : Option ℕ) → IsChoosing s threshold from best → (IsTrue s.honest → IsBetter s threshold best log true)
           → IsChoosing s threshold (log + 1) (Some log)
       choosing_taken None so_far better = more None (Some log) so_far
-          (λ honest. first_taken (total_of s) (remaining_of s) threshold so_far.allowed log (so_far.choice honest) (better honest))
+          (λ honest. first_taken (log_bytes s) (live_log_bytes s) threshold so_far.allowed log (so_far.choice honest) (better honest))
           (is, omega arith)
       choosing_taken (Some best) so_far better = more (Some best) (Some log) so_far
-          (λ honest. next_taken (total_of s) (remaining_of s) threshold so_far.allowed log best (omega (arith, so_far.candidate.1, next.1))
+          (λ honest. next_taken (log_bytes s) (live_log_bytes s) threshold so_far.allowed log best (omega (arith, so_far.candidate.1, next.1))
           (so_far.choice honest) (better honest))
           (is, omega arith)
 
       pub choosing_kept : (best : Option ℕ) → IsChoosing s threshold from best → (IsTrue s.honest → IsBetter s threshold best log false)
           → IsChoosing s threshold (log + 1) best
       choosing_kept None so_far better = more None None so_far
-          (λ honest. first_spared (total_of s) (remaining_of s) threshold so_far.allowed log (so_far.choice honest) (better honest).0 (least_is s threshold (better honest).0 (log ∷ []) (better honest).1) (better honest).2)
+          (λ honest. first_spared (log_bytes s) (live_log_bytes s) threshold so_far.allowed log (so_far.choice honest) (better honest).0 (least_is s threshold (better honest).0 (log ∷ []) (better honest).1) (better honest).2)
           tt
       choosing_kept (Some best) so_far better = more (Some best) (Some best) so_far
-          (λ honest. next_spared (total_of s) (remaining_of s) threshold so_far.allowed log best (omega (arith, so_far.candidate.1, next.1))
+          (λ honest. next_spared (log_bytes s) (live_log_bytes s) threshold so_far.allowed log best (omega (arith, so_far.candidate.1, next.1))
           (so_far.choice honest) (better honest).0 (least_is s threshold (better honest).0 (best ∷ log ∷ []) (better honest).1) (better honest).2)
           (so_far.candidate.0, omega (arith, so_far.candidate.1, next.1))

@@ -24,9 +24,10 @@ use Rattle.bk_log.specs.declared.fault.LogFault.TheVariants as log_faults
 use Rattle.std.specs.List.{All}
 use Rattle.std.proofs.lemmas.List.Elements.{All-head, All-tail}
 use Rattle.bk_record.specs.Spelling.{IsBytes}
+use Rattle.bk_record.specs.Keyed.{Places}
 use Rattle.bk_log.proofs.Fetches.{record_fits}
 use Rattle.bk_disk.specs.Disk.{AreLogFiles, grown}
-use Rattle.bk_store.specs.Entries.{HasEntry, Places}
+use Rattle.bk_store.specs.Entries.{HasEntry}
 use Rattle.bk_store.specs.Logs.{Log, Logs, View, is_written, open_parts, last_view}
 use Rattle.bk_store.specs.State.{State}
 use Rattle.bk_store.specs.Jobs.{Job, with_move, Waits}

@@ -8,11 +8,11 @@ use Rattle.bk_record.specs.Location.{Place}
 use Rattle.bk_record.specs.Record.{key_of, is_foreign}
 use Rattle.bk_record.specs.Files.{file_of, header_length, records_of, In}
 use Rattle.bk_record.specs.Scan.{entries_of}
-use Rattle.bk_record.specs.Keyed.{log_count}
+use Rattle.bk_record.specs.Keyed.{log_count, Places}
 use Rattle.bk_record.proofs.KeyedCounts.{log_count-none}
 use Rattle.bk_log.specs.Writing as writers
 use Rattle.bk_log.specs.declared.fault.LogFault.TheVariants as log_faults
-use Rattle.bk_store.specs.Entries.{HasEntry, Places}
+use Rattle.bk_store.specs.Entries.{HasEntry}
 use Rattle.bk_store.specs.Logs.{Log, Logs, View, HasOpenView, closed_log, is_open, made_log, open_parts, with_view}
 use Rattle.bk_store.specs.State.{State}
 use Rattle.bk_store.specs.Jobs.{Job, Waits, new_job, waits_from}

@@ -23,10 +23,11 @@ use Rattle.bk_store.specs.declared.job.Phase.TheVariants.{Copy, Switch}
 use Rattle.bk_store.specs.declared.log.LogState.TheVariants.{Readable}
 use Rattle.bk_store.proofs.LogMaps.{log-insert_else}
 use Rattle.bk_store.proofs.JobStays.{job_stays, stays_same}
+use Rattle.bk_store.specs.Meaning.{KeepsMeaning}
 use Rattle.bk_compact.specs.declared.entries.Stopped.{Stopped}
 use Rattle.bk_compact.specs.declared.entries.Stopped.TheVariants as stops
-use Rattle.bk_compact.specs.Compacting.{AreFound, Copies, Examines, ExaminesAll, HasUnsoundSource, IsFound, ReadFails, Steps, behind, entries_left, place_of, with_job}
-use Rattle.bk_compact.specs.Going.{CopiesAll, ExaminesOne, IsAhead, IsAtEnd, IsCopying, IsNextFound, IsOut, ScansFrom, Stays, StopsAt, told_after, told_read, told_unread}
+use Rattle.bk_compact.specs.Compacting.{AreFound, Copies, Examines, ExaminesAll, HasUnsoundSource, IsFound, SourceFails, Steps, behind, entries_left, place_of, with_job}
+use Rattle.bk_compact.specs.Going.{CopiesAll, ExaminesOne, IsAhead, IsAtEnd, IsCopying, IsNextFound, IsOut, ScansFrom, StopsAt, told_after, told_read, told_unread}
 use Rattle.bk_compact.proofs.Positions.{none_bad}
 use Rattle.bk_compact.proofs.Stored.{dishonest, scan_found, scan_come, scan_taken, shown_last, source_bytes, source_honest, source_spelled, source_unhonest}
 
@@ -82,13 +83,13 @@ copied_few s job (f ∷ founds) copied t after all =
 pub out_same : (s : State) → s.job ≡ None → s ≡ with_job s None
 out_same s none = ap (λ j. with_job s j) none
 
-pub stays_on : (s t u : State) → Stays s t → Stays t u → Stays s u
+pub stays_on : (s t u : State) → KeepsMeaning s t → KeepsMeaning t u → KeepsMeaning s u
 stays_on s t u first second = record {
   honest = second.honest ∙ first.honest;
   meaning = λ honest key. second.meaning (first.honest ∙ honest) key ∙ first.meaning honest key;
 }
 
-pub stays_itself : (s : State) → Stays s s
+pub stays_itself : (s : State) → KeepsMeaning s s
 stays_itself s = record { honest = refl; meaning = λ _ key. refl }
 
 -- ---- the copying so far
@@ -102,7 +103,7 @@ pub record IsGoing (view : View) (s : State) (job : Job) (number : ℕ) (scan : 
   pub was : last_view s.logs job.source ≡ Some view
   pub source : after.source ≡ job.source
   pub copy : after.copy ≡ job.copy
-  pub stays : Stays s t
+  pub stays : KeepsMeaning s t
   pub from : scan.from ≡ job.at
   pub file : scan.file ≡ view.bytes
   pub is_honest : scan.honest ≡ view.is_honest
@@ -193,7 +194,7 @@ module _ (view : View) (s : State) (job : Job) (number : ℕ) (scan : Scan) (cop
         }
 
     -- and examined
-    module _ (is_copied : Bool) (u : State) (later : Job) (examined : ExaminesOne t after found (Ok is_copied) u later) (stays : Stays t u) where
+    module _ (is_copied : Bool) (u : State) (later : Job) (examined : ExaminesOne t after found (Ok is_copied) u later) (stays : KeepsMeaning t u) where
       same_source : (b : Bool) → Examines t after found b u later → (later.source ≡ after.source) × (later.copy ≡ after.copy) × (later.at ≡ behind found)
           × (last_view u.logs after.source ≡ last_view t.logs after.source)
       same_source true turn' =
@@ -484,7 +485,7 @@ module _ (view : View) (s : State) (kept : IsKept s) (job : Job) (is : IsJob s j
   at_end (Some found) false told scan' moves turn = at_end_some found scan' turn
 
   pub read_fails : (fault : ScanFault) (scan' : Scan) → NextMoves scan (Err fault) scan' → (IsTrue scan.honest → NextTurn scan (Err fault) scan')
-      → (fault ≡ scans.Disk → scan.sound ≡ false) → ReadFails s job (told_unread (told_read fault))
+      → (fault ≡ scans.Disk → scan.sound ≡ false) → SourceFails s job (told_unread (told_read fault))
   read_fails scans.Disk scan' moves turn cause = (view, last, sym (ap (λ (x : Scan). x.sound) begins.is) ∙ cause refl)
   read_fails scans.Memory scan' moves turn cause = refl
   read_fails scans.Odd scan' moves turn cause = dishonest s.honest (λ honest. turn (first_truth honest))

@@ -3,13 +3,13 @@ use Rattle.std.proofs.Common.{◌≡◌, inl, inr, ℕ, zero, suc, ◌+◌, ◌<
 use Rattle.std.proofs.lemmas.List.{take_all}
 use Rattle.std.proofs.Math.ListN.{drop_of_length-le}
 use Rattle.bk_store.specs.State.{State}
-use Rattle.bk_store.specs.Meaning.{MeansTheSame}
+use Rattle.bk_store.specs.Meaning.{MeansTheSame, KeepsMeaning}
 use Rattle.bk_store.specs.Jobs.{Job, waits_from}
 use Rattle.bk_store.specs.Copying.{RenameTurn}
 use Rattle.bk_store.specs.declared.job.Move.{Move}
 use Rattle.bk_store.specs.declared.job.Phase.TheVariants.{Switch}
 use Rattle.bk_compact.specs.Compacting.{TakesMoves}
-use Rattle.bk_compact.specs.Going.{IsOut, Stays, Switches}
+use Rattle.bk_compact.specs.Going.{IsOut, Switches}
 use Rattle.bk_compact.proofs.Ended.{switched_out}
 
 -- ---- lists
@@ -68,7 +68,7 @@ pub record IsTaking (s : State) (job : Job) (n moved : ℕ) (t : State) (after :
   pub left : after ≡ record job { moves = drop n job.moves }
   pub few : moved ≤ n
   pub out : IsOut t after
-  pub stays : Stays s t
+  pub stays : KeepsMeaning s t
 
 pub taking_starts : (s : State) (job : Job) → IsOut s job → IsTaking s job 0 0 s job
 taking_starts s job out = record {

@@ -2,7 +2,7 @@
 use Rattle.std.proofs.Common.{◌≡◌, ◌≢◌, ◌⊎◌, inl, inr, ℕ, zero, suc, ◌+◌, ◌-◌, ◌<◌, ◌≤◌, Bool, true, false, cond, if◌then◌else◌, IsTrue, List, [], ◌∷◌, ◌++◌, length, take, drop, Option, Some, None, Result, Ok, Err, IsErrOf, refl, sym, ap, subst, ◌∙◌, arith}
 use Rattle.std.proofs.lemmas.Option.{same_Some}
 use Rattle.std.specs.FinMap as finite
-use Rattle.bk_disk.specs.Disk.{IsCaused as IsDeviceCaused}
+use Rattle.bk_disk.specs.Disk.{IsCaused}
 use Rattle.bk_log.specs.declared.found.Found.{Found}
 use Rattle.bk_log.specs.declared.fault.LogFault.{LogFault}
 use Rattle.bk_log.specs.declared.fault.LogFault.TheVariants as log_faults
@@ -26,8 +26,8 @@ use Rattle.bk_compact.specs.declared.entries.Stopped.{Stopped}
 use Rattle.bk_compact.specs.declared.scanning.Unread.{Unread}
 use Rattle.bk_compact.specs.declared.scanning.Unread.TheVariants as unreads
 use Rattle.bk_compact.specs.declared.entries.Stopped.TheVariants as stops
-use Rattle.bk_compact.specs.Compacting.{AreFound, CopyTurn, Copies, EndTurn, Examines, ExaminesAll, HasUnsoundSource, IsCaused, IsRunning, ReadFails, Steps, TellsFailures, entries_left, with_job}
-use Rattle.bk_compact.specs.Going.{CopiesAll, IsAtEnd, IsCopying, IsOut, Stays, told_unread}
+use Rattle.bk_compact.specs.Compacting.{AreFound, CopyTurn, Copies, EndTurn, Examines, ExaminesAll, HasUnsoundSource, TellsExactly, IsRunning, SourceFails, Steps, TellsFailures, entries_left, with_job}
+use Rattle.bk_compact.specs.Going.{CopiesAll, IsAtEnd, IsCopying, IsOut, told_unread}
 use Rattle.bk_compact.proofs.Stored.{kept_job}
 
 -- ---- a job that runs
@@ -197,7 +197,7 @@ copy_tells s n result t turn = elim (copy_counts s n result t turn) [
 
 -- an answer that is not `Disk`
 pub copy_caused : (s : State) (n : ℕ) (result : Result CopyAnswer CompactFault) (t : State) → CopyTurn s n result t → ¬ (result ≡ Err faults.Disk)
-    → IsDeviceCaused s.failures t.failures (result ≡ Err faults.Disk)
+    → IsCaused s.failures t.failures (result ≡ Err faults.Disk)
 copy_caused s n result t turn not = elim (copy_counts s n result t turn) [
   | inl same ↦ record {
     later = omega (arith, same);
@@ -209,7 +209,7 @@ copy_caused s n result t turn not = elim (copy_counts s n result t turn) [
 ]
 
 -- the device failed once
-pub once_caused : (before now : ℕ) {Told : Type 0} → now ≡ before + 1 → Told → IsDeviceCaused before now Told
+pub once_caused : (before now : ℕ) {Told : Type 0} → now ≡ before + 1 → Told → IsCaused before now Told
 once_caused before now once told = record { later = omega (arith, once); once = omega (arith, once); failed = λ _. omega (arith, once); told = λ _. told }
 
 -- a source of a type of views that can all be read is not unsound
@@ -223,7 +223,7 @@ never_unsound bytes honest sound all s job v last is =
     not_both b one other = cc
 
 pub failed_once : (s : State) (job : Job) (n : ℕ) (t : State) (after : Job) → CopiesAll (with_job s None) job n (Err stops.Failed) t after
-    → IsDeviceCaused s.failures t.failures (IsErrOf {T = CopyAnswer} (Err faults.Disk) faults.Disk)
+    → IsCaused s.failures t.failures (IsErrOf {T = CopyAnswer} (Err faults.Disk) faults.Disk)
 failed_once s job n t after all =
     let same = steps_failures (with_job s None) job n all.0 all.1.0 all.1.1.0 all.1.1.1 in
     once_caused s.failures t.failures (ap (λ (x : State). x.failures) all.1.1.2.1.1.put.3 ∙ ap (λ k. k + 1) same) refl
@@ -232,7 +232,7 @@ failed_once s job n t after all =
 
 module _ (s t : State) (job : Job) (running : IsRunning s Copy job) (set : SetTurn (with_job s None) job.copy Readable t) (unread : Unread) (fault : CompactFault)
     (told_so : fault ≡ told_unread unread) where
-  pub abandoned_end : ReadFails s job (told_unread unread) → EndTurn s (Err fault) t
+  pub abandoned_end : SourceFails s job (told_unread unread) → EndTurn s (Err fault) t
   abandoned_end fails = subst (λ (f : CompactFault). EndTurn s (Err f) t) (sym told_so) (job, running, inl (fails, set))
 
   same_count : t.failures ≡ s.failures
@@ -245,7 +245,7 @@ module _ (s t : State) (job : Job) (running : IsRunning s Copy job) (set : SetTu
     told_so = λ more. absurd (omega (arith, more, same_count));
   }
 
-  pub abandoned_cause : {T : Type 0} → ¬ (IsErrOf {T = Bool} (Err unread) unreads.Disk) → IsCaused {T = T} s (Err fault) t
+  pub abandoned_cause : {T : Type 0} → ¬ (IsErrOf {T = Bool} (Err unread) unreads.Disk) → TellsExactly {T = T} s (Err fault) t
   abandoned_cause never = record {
     later = omega (arith, same_count);
     once = omega (arith, same_count);

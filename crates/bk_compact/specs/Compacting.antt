@@ -5,7 +5,7 @@ use Rattle.std.specs.FinMap as finite
 use Rattle.bk_record.specs.Location.{Place}
 use Rattle.bk_record.specs.Record.{key_of}
 use Rattle.bk_record.specs.Keyed.{log_count}
-use Rattle.bk_disk.specs.Disk.{IsCaused as IsDeviceCaused}
+use Rattle.bk_disk.specs.Disk.{IsCaused}
 use Rattle.bk_log.specs.declared.found.Found.{Found}
 use Rattle.bk_log.specs.declared.fault.LogFault.{LogFault}
 use Rattle.bk_log.specs.declared.fault.LogFault.TheVariants as log_faults
@@ -43,8 +43,8 @@ use Rattle.bk_compact.specs.declared.answer.CompactFault.TheVariants as faults
 -- ---- faults
 
 -- the device failed in a call exactly where the call is answered by `Disk`, and then once
-abbrev pub IsCaused : {T : Type 0} → State → Result T CompactFault → State → Type 0
-IsCaused s result t = IsDeviceCaused s.failures t.failures (IsErrOf result faults.Disk)
+abbrev pub TellsExactly : {T : Type 0} → State → Result T CompactFault → State → Type 0
+TellsExactly s result t = IsCaused s.failures t.failures (IsErrOf result faults.Disk)
 
 -- the device failed in a call once at most, and only where the call is answered by `Disk`, which may also tell of a view that
 -- can't be read
@@ -53,24 +53,20 @@ pub record TellsFailures {T : Type 0} (s : State) (result : Result T CompactFaul
   pub once : t.failures ≤ s.failures + 1
   pub told_so : s.failures < t.failures → IsErrOf result faults.Disk
 
--- every view of this type can be read
-abbrev pub AreSound : {V : Type 0} → (V → Bool) → Type 0
-AreSound {V} sound = (view : V) → IsTrue (sound view)
-
 -- a fault of a log, as a compaction tells it
-abbrev pub told : LogFault → CompactFault
-told log_faults.Memory = faults.Memory 0
-told log_faults.Disk = faults.Disk
-told log_faults.Failed = faults.Odd
-told log_faults.Odd = faults.Odd
+abbrev pub compact_fault_of : LogFault → CompactFault
+compact_fault_of log_faults.Memory = faults.Memory 0
+compact_fault_of log_faults.Disk = faults.Disk
+compact_fault_of log_faults.Failed = faults.Odd
+compact_fault_of log_faults.Odd = faults.Odd
 
 -- and a fault of the making of a log
-abbrev pub told_made : MakeFault → CompactFault
-told_made makes.LogsFull = faults.LogsFull
-told_made makes.NoMoreIds = faults.NoMoreIds
-told_made makes.Memory = faults.Memory 0
-told_made makes.Disk = faults.Disk
-told_made makes.Odd = faults.Odd
+abbrev pub compact_fault_of_make : MakeFault → CompactFault
+compact_fault_of_make makes.LogsFull = faults.LogsFull
+compact_fault_of_make makes.NoMoreIds = faults.NoMoreIds
+compact_fault_of_make makes.Memory = faults.Memory 0
+compact_fault_of_make makes.Disk = faults.Disk
+compact_fault_of_make makes.Odd = faults.Odd
 
 -- ---- the job
 
@@ -111,7 +107,7 @@ BeginTurn s kind (Ok begins.JobRunning) t = IsSome s.job × (t ≡ s)
 BeginTurn s kind (Ok begins.NothingToDo) t = (s.job ≡ None) × (IsTrue s.honest → Chooses s (threshold_of s.settings kind) None) × (t ≡ s)
 BeginTurn s kind (Ok (begins.Chosen log)) t = IsChosen s kind log
     × ((copy : ℕ) × ((mid : State) × MakeTurn s Copying (Ok copy) mid × (t ≡ with_job mid (Some (new_job log copy)))))
-BeginTurn s kind (Err fault) t = ((log : ℕ) × IsChosen s kind log) × ((cause : MakeFault) × (fault ≡ told_made cause) × MakeTurn s Copying (Err cause) t)
+BeginTurn s kind (Err fault) t = ((log : ℕ) × IsChosen s kind log) × ((cause : MakeFault) × (fault ≡ compact_fault_of_make cause) × MakeTurn s Copying (Err cause) t)
 
 -- ---- copying
 
@@ -172,13 +168,13 @@ abbrev pub HasUnsoundSource : State → Job → Type 0
 HasUnsoundSource s job = (view : View) × (last_view s.logs job.source ≡ Some view) × (view.is_sound ≡ false)
 
 -- The copying goes on with these: the job is in the store again. Beside an honest disk the files are as these left them.
-pub record GoesOn (mid : State) (after : Job) (t : State) : Type 0 where
+pub record GoesOnCopying (mid : State) (after : Job) (t : State) : Type 0 where
   pub files : IsTrue mid.honest → t.files ≡ mid.files
   pub left : t ≡ record mid { files = t.files; job = Some after }
 
 -- The copying was refused for this fault, after such steps.
 abbrev pub StopsCopying : State → Job → ℕ → CompactFault → State → Type 0
-StopsCopying s job n (faults.Memory done) t = (mid : State) × ((after : Job) × Steps s job n done mid after × GoesOn mid after t)
+StopsCopying s job n (faults.Memory done) t = (mid : State) × ((after : Job) × Steps s job n done mid after × GoesOnCopying mid after t)
 StopsCopying s job n faults.Disk t = (copied : ℕ) × ((mid : State) × ((after : Job) × Steps s job n copied mid after
     × ((HasUnsoundSource s job × (t ≡ with_job mid (Some after)))
     ⊎ ((found : Found) × ((payload : List ℕ) × Copies mid after found payload (Err log_faults.Disk) t)))))
@@ -204,12 +200,12 @@ CopyTurn s n (Err fault) t = (job : Job) × IsRunning s Copy job × StopsCopying
 -- ---- the end of copying
 
 -- the source could not be read from the job's position on
-abbrev pub ReadFails : State → Job → CompactFault → Type 0
-ReadFails s job (faults.Memory done) = done ≡ 0
-ReadFails s job faults.Disk = HasUnsoundSource s job
-ReadFails s job faults.Odd = s.honest ≡ false
-ReadFails s job faults.LogsFull = ⊥
-ReadFails s job faults.NoMoreIds = ⊥
+abbrev pub SourceFails : State → Job → CompactFault → Type 0
+SourceFails s job (faults.Memory done) = done ≡ 0
+SourceFails s job faults.Disk = HasUnsoundSource s job
+SourceFails s job faults.Odd = s.honest ≡ false
+SourceFails s job faults.LogsFull = ⊥
+SourceFails s job faults.NoMoreIds = ⊥
 
 -- the copy is sealed, the job being out of the store, and every entry of the source examined
 pub record SealsCopy (s : State) (job : Job) (result : Result (Unit {0}) LogFault) (t : State) : Type 0 where
@@ -229,8 +225,8 @@ EndTurn s (Ok ends.NotAtEnd) t = (job : Job) × IsRunning s Copy job × (IsTrue 
 EndTurn s (Ok (ends.Ended k)) t = (job : Job) × IsRunning s Copy job × (k ≡ length job.moves)
     × ((mid : State) × ShowsCopy s job (Ok tt) mid × (t ≡ with_job mid (Some (record job { phase = Switch }))))
 EndTurn s (Err fault) t = (job : Job) × IsRunning s Copy job
-    × ((ReadFails s job fault × SetTurn (with_job s None) job.copy Readable t)
-    ⊎ ((cause : LogFault) × (fault ≡ told cause) × (SealsCopy s job (Err cause) t ⊎ ShowsCopy s job (Err cause) t)))
+    × ((SourceFails s job fault × SetTurn (with_job s None) job.copy Readable t)
+    ⊎ ((cause : LogFault) × (fault ≡ compact_fault_of cause) × (SealsCopy s job (Err cause) t ⊎ ShowsCopy s job (Err cause) t)))
 
 -- ---- switching
 

@@ -14,7 +14,6 @@ use Rattle.bk_log.specs.Scanned.{new_scan}
 use Rattle.bk_log.specs.Scanning.{Scan}
 use Rattle.bk_store.specs.Logs.{View, last_view, open_parts}
 use Rattle.bk_store.specs.State.{State}
-use Rattle.bk_store.specs.Meaning.{MeansTheSame}
 use Rattle.bk_store.specs.Jobs.{Job, with_move}
 use Rattle.bk_store.specs.JobKept.{IsJob, IsReadTo, entries_from}
 use Rattle.bk_store.specs.Copying.{IsLeastUsed}
@@ -28,11 +27,6 @@ use Rattle.bk_compact.specs.declared.scanning.Unread.{Unread}
 use Rattle.bk_compact.specs.declared.scanning.Unread.TheVariants as unreads
 use Rattle.bk_compact.specs.declared.entries.Stopped.TheVariants as stops
 use Rattle.bk_compact.specs.Compacting.{AreFound, Copies, Examines, HasUnsoundSource, IsCandidate, IsFound, Steps, TakesMoves, behind, entries_left, place_of}
-
--- the disk is as honest as before, and beside an honest one every key means what it meant
-pub record Stays (s t : State) : Type 0 where
-  pub honest : t.honest ≡ s.honest
-  pub meaning : IsTrue s.honest → MeansTheSame s t
 
 -- the store has no job, and this one may be given to it
 pub record IsOut (s : State) (job : Job) : Type 0 where

@@ -4,7 +4,7 @@ ghost use Rattle.std.specs.Prelude.{◌≡◌, ◌↔◌, ◌+◌, ℕ, Some, Is
 ghost use Rattle.std.specs.FinMap as finite;
 ghost use Rattle.bk_store.specs.Logs.{IsNextHeld};
 ghost use Rattle.bk_store.specs.Meaning.{MeansTheSame};
-ghost use Rattle.bk_compact.specs.Compacting.{BeginTurn, Chooses, IsCandidate, IsCaused, threshold_of};
+ghost use Rattle.bk_compact.specs.Compacting.{BeginTurn, Chooses, IsCandidate, TellsExactly, threshold_of};
 ghost use Rattle.bk_compact.specs.Going.{IsBetter, IsChoosing};
 
 use crate::faults::making_fault;
@@ -24,7 +24,7 @@ use bk_store::{Job, LogState, Store};
 /// does: no compaction runs, and a log whose file stands is held as a Readable one without records.
 pub fn begin<D: LogDisk>(store: &mut Store<D>, kind: Kind) -> Result<BeginAnswer, CompactFault>
     ensures turn { BeginTurn store.old kind result store.new }
-    ensures cause { IsCaused store.old result store.new }
+    ensures cause { TellsExactly store.old result store.new }
     ensures honest { store.new.honest ≡ store.old.honest }
     ensures meaning { IsTrue store.old.honest → MeansTheSame store.old store.new }
 {

@@ -4,11 +4,12 @@
 //! copy, or the disk is odd: then the compaction is over, and the copy is read as it is.
 
 ghost use Rattle.std.specs.Prelude.{◌≡◌, false, IsTrue};
+ghost use Rattle.bk_disk.specs.Disk.{AreSound};
 ghost use Rattle.bk_store.specs.Jobs.{Job as JobState};
-ghost use Rattle.bk_store.specs.Meaning.{MeansTheSame};
+ghost use Rattle.bk_store.specs.Meaning.{MeansTheSame, KeepsMeaning};
 ghost use Rattle.bk_store.specs.declared.job.Phase.TheVariants.{Copy as CopyPhase};
-ghost use Rattle.bk_compact.specs.Compacting.{AreSound, CopyTurn, IsCaused, IsRunning, TellsFailures};
-ghost use Rattle.bk_compact.specs.Going.{IsAtEnd, Stays};
+ghost use Rattle.bk_compact.specs.Compacting.{CopyTurn, TellsExactly, IsRunning, TellsFailures};
+ghost use Rattle.bk_compact.specs.Going.{IsAtEnd};
 
 use crate::entries::{Stopped, copy_entries};
 use crate::finishing::abandon;
@@ -28,7 +29,7 @@ use bk_store::{Phase, Store};
 pub fn copy<D: LogDisk>(store: &mut Store<D>, count: u64) -> Result<CopyAnswer, CompactFault>
     ensures turn { CopyTurn store.old count result store.new }
     ensures cause { TellsFailures store.old result store.new }
-    ensures sound { AreSound D.View.sound → IsCaused store.old result store.new }
+    ensures sound { AreSound D.View.sound → TellsExactly store.old result store.new }
     ensures honest { store.new.honest ≡ store.old.honest }
     ensures meaning { IsTrue store.old.honest → MeansTheSame store.old store.new }
 {
@@ -56,8 +57,8 @@ pub fn copy<D: LogDisk>(store: &mut Store<D>, count: u64) -> Result<CopyAnswer, 
 fn go_on<D: LogDisk>(store: &mut Store<D>, count: u64) -> Result<CopyAnswer, CompactFault>
     requires { (job : JobState) × IsRunning store.old CopyPhase job × IsAtEnd store.old job false }
     ensures turn { CopyTurn store.old count result store.new }
-    ensures sound { AreSound D.View.sound → IsCaused store.old result store.new }
-    ensures stays { Stays store.old store.new }
+    ensures sound { AreSound D.View.sound → TellsExactly store.old result store.new }
+    ensures stays { KeepsMeaning store.old store.new }
 {
     store.promise();
     let Some(job) = store.job() else {

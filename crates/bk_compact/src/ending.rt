@@ -1,11 +1,12 @@
 //! The end of copying: the copy is sealed and shown, so that keys may be sent to it.
 
 ghost use Rattle.std.specs.Prelude.{◌≡◌, true, IsTrue};
+ghost use Rattle.bk_disk.specs.Disk.{AreSound};
 ghost use Rattle.bk_store.specs.Jobs.{Job as JobState};
-ghost use Rattle.bk_store.specs.Meaning.{MeansTheSame};
+ghost use Rattle.bk_store.specs.Meaning.{MeansTheSame, KeepsMeaning};
 ghost use Rattle.bk_store.specs.declared.job.Phase.TheVariants.{Copy as CopyPhase};
-ghost use Rattle.bk_compact.specs.Compacting.{AreSound, EndTurn, IsCaused, IsRunning, TellsFailures};
-ghost use Rattle.bk_compact.specs.Going.{IsAtEnd, Stays};
+ghost use Rattle.bk_compact.specs.Compacting.{EndTurn, TellsExactly, IsRunning, TellsFailures};
+ghost use Rattle.bk_compact.specs.Going.{IsAtEnd};
 
 use crate::faults::fault_of_log;
 use crate::finishing::abandon;
@@ -24,7 +25,7 @@ use bk_store::{LogState, Phase, Store};
 pub fn end_copy<D: LogDisk>(store: &mut Store<D>) -> Result<EndAnswer, CompactFault>
     ensures turn { EndTurn store.old result store.new }
     ensures cause { TellsFailures store.old result store.new }
-    ensures sound { AreSound D.View.sound → IsCaused store.old result store.new }
+    ensures sound { AreSound D.View.sound → TellsExactly store.old result store.new }
     ensures honest { store.new.honest ≡ store.old.honest }
     ensures meaning { IsTrue store.old.honest → MeansTheSame store.old store.new }
 {
@@ -50,8 +51,8 @@ pub fn end_copy<D: LogDisk>(store: &mut Store<D>) -> Result<EndAnswer, CompactFa
 fn seal_copy<D: LogDisk>(store: &mut Store<D>) -> Result<EndAnswer, CompactFault>
     requires { (job : JobState) × IsRunning store.old CopyPhase job × IsAtEnd store.old job true }
     ensures turn { EndTurn store.old result store.new }
-    ensures cause { IsCaused store.old result store.new }
-    ensures stays { Stays store.old store.new }
+    ensures cause { TellsExactly store.old result store.new }
+    ensures stays { KeepsMeaning store.old store.new }
 {
     store.promise();
     let Some(mut job) = store.take_job() else {

@@ -7,8 +7,9 @@ ghost use Rattle.bk_store.specs.Doors.{IsIn, SetTurn, writer_of};
 ghost use Rattle.bk_store.specs.Putting.{next_place};
 ghost use Rattle.bk_store.specs.Logs.{last_view, view_of};
 ghost use Rattle.bk_store.specs.declared.log.LogState.TheVariants.{Copying as CopyingState, Readable as ReadableState};
+ghost use Rattle.bk_store.specs.Meaning.{KeepsMeaning};
 ghost use Rattle.bk_compact.specs.Compacting.{behind, place_of};
-ghost use Rattle.bk_compact.specs.Going.{CopiesAll, CopiesEntry, ExaminesOne, IsAhead, IsCopying, IsEntry, Stays, told_after, told_put};
+ghost use Rattle.bk_compact.specs.Going.{CopiesAll, CopiesEntry, ExaminesOne, IsAhead, IsCopying, IsEntry, told_after, told_put};
 
 use crate::scanning::scan_from;
 use bk_disk::LogDisk;
@@ -54,7 +55,7 @@ pub(crate) fn copy_entries<D: LogDisk>(
     requires copying { IsCopying store.old job.old }
     requires view { last_view store.old.logs job.old.source ≡ Some (view_of D.View.bytes D.View.honest D.View.sound view.now) }
     ensures turn { CopiesAll store.old job.old count result store.new job.new }
-    ensures stays { Stays store.old store.new }
+    ensures stays { KeepsMeaning store.old store.new }
 {
     store.promise();
     let Some(mut scanner) = scan_from(view, store.alloc(), job.at()) else {
@@ -95,7 +96,7 @@ fn examine<D: LogDisk>(
     requires view { last_view store.old.logs job.old.source ≡ Some (view_of D.View.bytes D.View.honest D.View.sound view.now) }
     requires ahead { IsAhead store.old job.old found.now }
     ensures turn { ExaminesOne store.old job.old found.now result store.new job.new }
-    ensures stays { Stays store.old store.new }
+    ensures stays { KeepsMeaning store.old store.new }
 {
     store.promise();
     // No log of an honest disk has more bytes than a location can say.
@@ -139,7 +140,7 @@ fn copy_entry<D: LogDisk>(
     requires place { from ≡ place_of job.old found.now }
     requires sent { finite.get store.old.index found.now.key ≡ Some from }
     ensures turn { CopiesEntry store.old job.old found.now result store.new job.new }
-    ensures stays { Stays store.old store.new }
+    ensures stays { KeepsMeaning store.old store.new }
 {
     store.promise();
     let payload = match fetch(view, store.alloc(), from, found.key) {
@@ -208,7 +209,7 @@ fn odd<D: LogDisk>(store: &mut Store<D>, job: &Job) -> Stopped
     requires { IsCopying store.old job.now }
     ensures value { result ≡ Stopped.Odd }
     ensures turn { SetTurn store.old job.now.copy ReadableState store.new }
-    ensures stays { Stays store.old store.new }
+    ensures stays { KeepsMeaning store.old store.new }
 {
     store.set_log_state(job.copy(), LogState::Readable);
     Stopped::Odd

@@ -3,11 +3,10 @@
 ghost use Rattle.std.specs.Prelude.{◌≡◌, ℕ, None, IsTrue};
 ghost use Rattle.bk_store.specs.Doors.{SetTurn};
 ghost use Rattle.bk_store.specs.Jobs.{Job as JobState};
-ghost use Rattle.bk_store.specs.Meaning.{MeansTheSame};
+ghost use Rattle.bk_store.specs.Meaning.{MeansTheSame, KeepsMeaning};
 ghost use Rattle.bk_store.specs.declared.job.Phase.TheVariants.{Copy as CopyPhase};
 ghost use Rattle.bk_store.specs.declared.log.LogState.TheVariants.{Readable as ReadableState};
 ghost use Rattle.bk_compact.specs.Compacting.{FinishTurn, GiveUpTurn, IsRunning, IsUndisturbed, with_job};
-ghost use Rattle.bk_compact.specs.Going.{Stays};
 
 use crate::{FinishAnswer, GiveUpAnswer};
 use bk_disk::LogDisk;
@@ -69,7 +68,7 @@ pub fn give_up<D: LogDisk>(store: &mut Store<D>) -> GiveUpAnswer
 pub(crate) fn abandon<D: LogDisk>(store: &mut Store<D>)
     requires { (job : JobState) × IsRunning store.old CopyPhase job }
     ensures turn { (job : JobState) → IsRunning store.old CopyPhase job → SetTurn (with_job store.old None) job.copy ReadableState store.new }
-    ensures stays { Stays store.old store.new }
+    ensures stays { KeepsMeaning store.old store.new }
 {
     store.promise();
     let Some(job) = store.take_job() else {

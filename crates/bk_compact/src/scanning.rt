@@ -2,9 +2,9 @@
 
 ghost use Rattle.std.specs.Prelude.{◌≡◌, ◌<◌, ◌≤◌, IsTrue, IfOk, IfErr, IfSome, IfNone, IsErrOf};
 ghost use Rattle.bk_record.specs.Files.{header_length};
-ghost use Rattle.bk_disk.specs.Disk.{view_end};
+ghost use Rattle.bk_disk.specs.Disk.{view_end, AreSound};
 ghost use Rattle.bk_store.specs.JobKept.{IsJob};
-ghost use Rattle.bk_compact.specs.Compacting.{AreSound, ReadFails};
+ghost use Rattle.bk_compact.specs.Compacting.{SourceFails};
 ghost use Rattle.bk_compact.specs.Going.{IsAtEnd, ScansFrom, told_read, told_unread};
 
 use crate::CompactFault;
@@ -41,7 +41,7 @@ pub(crate) fn scan_from<V: LogView>(view: &V, alloc: Global, at: u64) -> Option<
 pub(crate) fn is_at_end<D: LogDisk>(store: &Store<D>, job: &Job) -> Result<bool, Unread>
     requires { IsJob store.now job.now }
     ensures ok { IfOk result (IsAtEnd store.now job.now) }
-    ensures fails { IfErr result (λ unread. ReadFails store.now job.now (told_unread unread)) }
+    ensures fails { IfErr result (λ unread. SourceFails store.now job.now (told_unread unread)) }
     ensures sound { AreSound D.View.sound → ¬ (IsErrOf result Unread.Disk) }
 {
     store.promise();

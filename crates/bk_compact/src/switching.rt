@@ -1,10 +1,10 @@
 //! Switching: keys are sent to the copies of their entries, one by one, where the index still sends them to the source.
 
 ghost use Rattle.std.specs.Prelude.{◌≡◌, IsTrue};
-ghost use Rattle.bk_store.specs.Meaning.{MeansTheSame};
+ghost use Rattle.bk_store.specs.Meaning.{MeansTheSame, KeepsMeaning};
 ghost use Rattle.bk_store.specs.declared.job.Phase.TheVariants.{Switch as SwitchPhase};
 ghost use Rattle.bk_compact.specs.Compacting.{SwitchTurn};
-ghost use Rattle.bk_compact.specs.Going.{IsOut, Stays, Switches};
+ghost use Rattle.bk_compact.specs.Going.{IsOut, Switches};
 
 use crate::SwitchAnswer;
 use bk_disk::LogDisk;
@@ -40,7 +40,7 @@ fn take_moves<D: LogDisk>(store: &mut Store<D>, job: &mut Job, count: u64) -> u6
     requires switching { job.old.phase ≡ SwitchPhase }
     ensures turn { Switches store.old job.old count result store.new job.new }
     ensures out { IsOut store.new job.new }
-    ensures stays { Stays store.old store.new }
+    ensures stays { KeepsMeaning store.old store.new }
 {
     let mut moved = 0;
     for _ in 0..count {

@@ -15,7 +15,7 @@ use Rattle.bk_head.proofs.Answering.{unsealed, spelled_map}
 use Rattle.bk_dir.specs.Maps.{tail_at, IsMapIn}
 use Rattle.bk_head.specs.Ledgers.{LedgersMap, SpellsMap, map_of, ledgers_of, AreDistinct}
 use Rattle.bk_head.specs.Faults.{HasPairs}
-use Rattle.bk_head.specs.Parts.{Adds, IsShown}
+use Rattle.bk_head.specs.Parts.{AddsPairs, IsFrontOf}
 use Rattle.bk_head.proofs.Adding.{take-more, adds_then}
 use Rattle.bk_head.proofs.Batching.{spells_more}
 
@@ -26,7 +26,7 @@ written file at n inside some = omega (arith, inside.0, inside.1)
 -- more pairs, read from where the others end
 pub pairs_more : (file : List ℕ) (from done some : ℕ) (piece : List ℕ) (before : List (ℕ × ℕ)) (m n : LedgersMap) → 0 < some
     → IsInView file (from + 16 * done) (16 * some) → piece ≡ take (16 * some) (drop (from + 16 * done) file)
-    → (a : Adds before (take (16 * done) (drop from file)) m) → Adds (before ++ a.good) piece n → Adds before (take (16 * (done + some)) (drop from file)) n
+    → (a : AddsPairs before (take (16 * done) (drop from file)) m) → AddsPairs (before ++ a.good) piece n → AddsPairs before (take (16 * (done + some)) (drop from file)) n
 pairs_more file from done some piece before m n more inside is a b =
     let long = written file (from + 16 * done) (16 * some) inside (omega arith) in
     let whole : take (16 * done + 16 * some) (drop from file) ≡ take (16 * done) (drop from file) ++ piece =
@@ -34,12 +34,12 @@ pairs_more file from done some piece before m n more inside is a b =
     ∙ ap (λ (x : List ℕ). take (16 * done) (drop from file) ++ take (16 * some) x) (drop-drop (16 * done) from file)
     ∙ ap (λ (x : List ℕ). take (16 * done) (drop from file) ++ x) (sym is) in
     let sum : 16 * done + 16 * some ≡ 16 * (done + some) = omega arith in
-    subst (λ (x : List ℕ). Adds before x n) (sym whole ∙ ap (λ k. take k (drop from file)) sum)
+    subst (λ (x : List ℕ). AddsPairs before x n) (sym whole ∙ ap (λ k. take k (drop from file)) sum)
     (adds_then before (take (16 * done) (drop from file)) piece m n a b)
 
 -- the first bytes of a batch are shown
 pub head_shown : (file head : List ℕ) (offset at left : ℕ) → offset + at + left ≡ view_end file → 0 < left → 1024 ≤ offset
-    → head ≡ take (min left 24) (drop (offset + at) file) → IsShown head left (drop at (drop offset file))
+    → head ≡ take (min left 24) (drop (offset + at) file) → IsFrontOf head left (drop at (drop offset file))
 head_shown file head offset at left end some headed is =
     let here : drop (offset + at) file ≡ drop at (drop offset file) = sym (drop-drop at offset file) in
     let long : left ≡ length (drop (offset + at) file) = omega (arith, end, length-drop (offset + at) file) in
@@ -53,7 +53,7 @@ pub batch_more : (file : List ℕ) (offset at left count : ℕ) (m n : LedgersMa
     → 24 + 16 * count ≤ left → SpellsMap (take at (drop offset file)) m
     → HasPairs (drop at (drop offset file)) (take (16 * count) (drop 24 (drop at (drop offset file))))
     → ((before : List (ℕ × ℕ)) → AreDistinct (ledgers_of before) → m ≡ ledgers.from_entries before
-    → Adds before (take (16 * count) (drop (offset + (at + 24)) file)) n)
+    → AddsPairs before (take (16 * count) (drop (offset + (at + 24)) file)) n)
     → SpellsMap (take (at + 24 + 16 * count) (drop offset file)) n
 batch_more file offset at left count m n end some headed fits s has add =
     let tail = drop offset file in
@@ -65,7 +65,7 @@ batch_more file offset at left count m n end some headed fits s has add =
     let here : drop (offset + (at + 24)) file ≡ drop 24 (drop at tail) =
     sym (drop-drop (at + 24) offset file) ∙ sym (drop-drop 24 at tail) in
     subst (λ k. SpellsMap (take k tail) n) (sym same) (spells_more tail pairs at m n (omega (arith, long)) s has
-    (subst (λ (x : List ℕ). Adds s.pairs (take (16 * count) x) n) here (add s.pairs s.distinct s.map_is)))
+    (subst (λ (x : List ℕ). AddsPairs s.pairs (take (16 * count) x) n) here (add s.pairs s.distinct s.map_is)))
 
 -- ---- where the map is
 

@@ -7,7 +7,7 @@ ghost use Rattle.std.specs.FinMap.{from_entries};
 ghost use Rattle.std.specs.Ordering.{nat_cmp};
 ghost use Rattle.bk_disk.specs.Disk.{view_end};
 ghost use Rattle.bk_head.specs.Ledgers.{SpellsMap, map_of, ledgers_of, AreDistinct};
-ghost use Rattle.bk_head.specs.Parts.{Adds};
+ghost use Rattle.bk_head.specs.Parts.{AddsPairs};
 ghost use Rattle.bk_dir.specs.Maps.{IsMapIn};
 
 use crate::calls::read_view;
@@ -80,7 +80,7 @@ fn add_batch<V: LogView>(
     requires { from + 16 * count < 2 ^ 64 }
     ensures { IsTrue (V.honest view.now) → OnOk result ((before : List (ℕ × ℕ)) → AreDistinct (ledgers_of before)
         → map_of map.old ≡ from_entries before
-        → Adds before (take (16 * count) (drop from (V.bytes view.now))) (map_of map.new)) }
+        → AddsPairs before (take (16 * count) (drop from (V.bytes view.now))) (map_of map.new)) }
 {
     let mut done = 0;
     while done < count {

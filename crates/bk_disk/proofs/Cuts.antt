@@ -7,7 +7,7 @@ use Rattle.std.proofs.lemmas.List.{length-take, length-drop, length-take-le, tak
 use Rattle.std.proofs.lemmas.List.{take-append-drop, drop_at, drop-append-le, drop-drop}
 use Rattle.std.proofs.lemmas.List.Folds.{concat-append}
 use Rattle.std.proofs.Math.Seq.{drop-append-add, take-append-add}
-use Rattle.bk_disk.specs.Blocks.{joined, IsCut, BeginsWith}
+use Rattle.bk_disk.specs.Blocks.{joined, IsCut, HasPrefix}
 use Rattle.bk_disk.specs.declared.blocks.TheConstants.{BLOCK}
 
 -- each block has this many bytes
@@ -58,7 +58,7 @@ length_joined bytes full last now cut is =
 pub full_block_of : {B : Type 0} (bytes : B → List ℕ) (full : List B) (last now : List ℕ) (at : ℕ) (b : B) → IsCut (map bytes full) last
     → joined (map bytes full) last ≡ now
     → at / BLOCK < length full → b ≡ get_or full (at / BLOCK) b
-    → (at % BLOCK < length (bytes b)) × BeginsWith (drop at now) (drop (at % BLOCK) (bytes b))
+    → (at % BLOCK < length (bytes b)) × HasPrefix (drop at now) (drop (at % BLOCK) (bytes b))
 full_block_of bytes full last now at b cut is in' there =
     let i = at / BLOCK in
     let r = at % BLOCK in
@@ -81,7 +81,7 @@ full_block_of bytes full last now at b cut is in' there =
 pub last_block_of : {B : Type 0} (bytes : B → List ℕ) (full : List B) (last now : List ℕ) (at : ℕ) → IsCut (map bytes full) last
     → joined (map bytes full) last ≡ now
     → at < length now → length full ≤ at / BLOCK
-    → (at % BLOCK < length last) × BeginsWith (drop at now) (drop (at % BLOCK) last)
+    → (at % BLOCK < length last) × HasPrefix (drop at now) (drop (at % BLOCK) last)
 last_block_of bytes full last now at cut is in' past =
     let r = at % BLOCK in
     let sizes = length_joined bytes full last now cut is in
@@ -106,7 +106,7 @@ take-add n m bytes long =
 
 -- one more piece of a read, as far as a block has it
 pub take_next : (now got part : List ℕ) (from done n : ℕ) → from + done + n ≤ length now → got ≡ take done (drop from now)
-    → BeginsWith (drop (from + done) now) part → n ≤ length part → got ++ take n part ≡ take (done + n) (drop from now)
+    → HasPrefix (drop (from + done) now) part → n ≤ length part → got ++ take n part ≡ take (done + n) (drop from now)
 take_next now got part from done n room so_far begins fits =
     let behind = begins.0 in
     let there : take n part ≡ take n (drop done (drop from now)) =

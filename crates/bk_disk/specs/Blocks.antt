@@ -20,5 +20,5 @@ pub record IsCut (full : List (List ℕ)) (last : List ℕ) : Type 0 where
   pub fits : length (joined full last) < 2 ^ 32
 
 -- the bytes begin with these
-abbrev pub BeginsWith : List ℕ → List ℕ → Type 0
-BeginsWith bytes front = (behind : List ℕ) × (bytes ≡ front ++ behind)
+abbrev pub HasPrefix : List ℕ → List ℕ → Type 0
+HasPrefix bytes front = (behind : List ℕ) × (bytes ≡ front ++ behind)

@@ -164,3 +164,7 @@ ReadsInto file at n (Err Memory) out = ⊥
 ReadsInto file at n (Err Exists) out = ⊥
 ReadsInto file at n (Err NoLog) out = ⊥
 ReadsInto file at n (Err TooLong) out = ⊥
+
+-- every view of this type can be read
+abbrev pub AreSound : {V : Type 0} → (V → Bool) → Type 0
+AreSound {V} sound = (view : V) → IsTrue (sound view)

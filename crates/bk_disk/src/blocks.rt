@@ -5,7 +5,7 @@
 
 ghost use Rattle.std.specs.Prelude.{◌≡◌, ◌+◌, ◌-◌, ◌%◌, ◌<◌, ◌≤◌, ◌^◌, [], ◌++◌, length, take, drop, IfOk, OnOk, OnErr};
 ghost use Rattle.std.specs.List.{All};
-ghost use Rattle.bk_disk.specs.Blocks.{BeginsWith};
+ghost use Rattle.bk_disk.specs.Blocks.{HasPrefix};
 
 use std::alloc::{AllocError, Global};
 use std::marker::Model;
@@ -101,7 +101,7 @@ impl Blocks {
     fn block_of(&self, at: usize) -> &[u8]
         requires { at < length self.now }
         ensures inside { at % BLOCK < length result.now }
-        ensures value { BeginsWith (drop at self.now) (drop (at % BLOCK) result.now) }
+        ensures value { HasPrefix (drop at self.now) (drop (at % BLOCK) result.now) }
     {
         if at / BLOCK < self.full.len() {
             &self.full[at / BLOCK]

@@ -12,7 +12,7 @@ use Rattle.bk_collect.specs.declared.answer.RemoveAnswer.{RemoveAnswer}
 use Rattle.bk_collect.specs.declared.answer.RemoveAnswer.TheVariants as removes
 use Rattle.bk_collect.specs.declared.answer.CollectFault.{CollectFault}
 use Rattle.bk_drive.specs.Plain.{HasAt}
-use Rattle.bk_drive.specs.Machine.{Hold, WorkTurn, Closes, Removes, LetsGo, IsUnread}
+use Rattle.bk_drive.specs.Machine.{Hold, WorkTurn, Closes, RemovesLog, LetsGo, IsUnread}
 use Rattle.bk_drive.specs.Machine.WorkTurn.{swapped, wrote, published, rolled, retired, rebuilt, closed, removed, begun, copied, ended, switched, finished, given_up}
 use Rattle.bk_drive.specs.Leased.{AreOpenLeases, IsShut}
 use Rattle.bk_drive.specs.declared.step.Step.TheVariants as steps
@@ -76,7 +76,7 @@ work_slots {s = s} {t = t} (finished turn) other = inr (finish_stays s t _ turn)
 work_slots {s = s} {t = t} (given_up turn) other = inr (give_up_stays s t _ turn).slots
 
 -- a step that was answered Removed was a removal
-removal_of : {s t : State} {work : Work} {a : Answer} (log : ℕ) → WorkTurn s work a t → Removes (steps.Work work) a log
+removal_of : {s t : State} {work : Work} {a : Answer} (log : ℕ) → WorkTurn s work a t → RemovesLog (steps.Work work) a log
     → RemoveTurn s log (Ok removes.Removed) t
 removal_of log (swapped turn) is = let e = is.1 in cc
 removal_of log (wrote turn) is = let e = is.1 in cc

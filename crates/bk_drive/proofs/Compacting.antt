@@ -14,7 +14,7 @@ use Rattle.bk_store.specs.declared.job.Phase.{Phase}
 use Rattle.bk_store.specs.declared.job.Phase.TheVariants.{Copy, Switch}
 use Rattle.bk_store.specs.declared.log.LogState.{LogState}
 use Rattle.bk_store.specs.declared.log.LogState.TheVariants.{Copying, Readable, Retired}
-use Rattle.bk_compact.specs.Compacting.{BeginTurn, CopyTurn, EndTurn, SwitchTurn, FinishTurn, GiveUpTurn, GivesUp, GoesOn, Steps, StopsCopying, Copies, Examines, ExaminesAll, SealsCopy, ShowsCopy, TakesMoves, with_job}
+use Rattle.bk_compact.specs.Compacting.{BeginTurn, CopyTurn, EndTurn, SwitchTurn, FinishTurn, GiveUpTurn, GivesUp, GoesOnCopying, Steps, StopsCopying, Copies, Examines, ExaminesAll, SealsCopy, ShowsCopy, TakesMoves, with_job}
 use Rattle.bk_compact.specs.declared.answer.Kind.{Kind}
 use Rattle.bk_compact.specs.declared.answer.BeginAnswer.{BeginAnswer}
 use Rattle.bk_compact.specs.declared.answer.BeginAnswer.TheVariants as begins
@@ -77,7 +77,7 @@ steps_stays : (s t : State) (job after : Job) (most copied : ℕ) → Steps s jo
 steps_stays s t job after most copied steps =
     then (job_stays s (with_job s None) None refl) (examines_stays (with_job s None) t job after steps.founds copied steps.examined)
 
-goes_stays : (mid t : State) (after : Job) → GoesOn mid after t → Stays mid t
+goes_stays : (mid t : State) (after : Job) → GoesOnCopying mid after t → Stays mid t
 goes_stays mid t after goes =
     stays_as (record { settings = refl; dead = refl; active = refl; flush = refl; slots = slots_same _ _ refl; gone = gone_same _ _ refl refl }) t goes.left
 

@@ -8,7 +8,7 @@ use Rattle.bk_record.specs.Files.{Files}
 use Rattle.bk_store.specs.State.{State}
 use Rattle.bk_store.specs.Opening.{IsOpened}
 use Rattle.bk_store.specs.declared.settings.Settings.{Settings}
-use Rattle.bk_store.specs.Turns.{ledgers_of}
+use Rattle.bk_store.specs.Turns.{valid_ledgers}
 use Rattle.bk_store.specs.Plain.{IsKept}
 use Rattle.bk_drive.specs.Plain.{PlainDesk}
 use Rattle.bk_drive.specs.Machine.{Hold, Turn, PlainTurn, LetsGo}
@@ -45,7 +45,7 @@ pub record IsDriven (settings : Settings) (files : Files) (dead : List ℕ) (ste
   pub first : State
   pub opened : IsOpened true files settings dead first
   pub plain : PlainDesk
-  pub run : Run settings.cache_limit (first_desk first) (first_plain files (ledgers_of dead)) steps answers (record { store = store; readers = readers }) plain
+  pub run : Run settings.cache_limit (first_desk first) (first_plain files (valid_ledgers dead)) steps answers (record { store = store; readers = readers }) plain
   pub honest : IsTrue store.honest
   pub settings_are : store.settings ≡ settings
 

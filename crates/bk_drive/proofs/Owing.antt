@@ -1,6 +1,6 @@
 -- What readers hold, beside what they are owed.
 use Rattle.std.proofs.Common.{◌≡◌, ℕ, zero, suc, List, [], ◌∷◌, length, Option, Some, None, refl, subst, slice_set, arith}
-use Rattle.bk_drive.specs.Plain.{Owed, IsFree, IsBusy, HasAt}
+use Rattle.bk_drive.specs.Plain.{Owed, HoldsNothing, IsBusy, HasAt}
 use Rattle.bk_drive.specs.Machine.{Hold}
 use Rattle.bk_drive.specs.Headline.{IsOwed, AreOwed}
 
@@ -15,7 +15,7 @@ length_owed (Some h ∷ hs) (None ∷ os) owed = absurd owed
 length_owed (Some h ∷ hs) (Some o ∷ os) owed = omega (arith, length_owed hs os owed.1)
 
 -- a reader without a lease is owed nothing
-pub free_owed : (hs : List (Option Hold)) (os : List (Option Owed)) (i : ℕ) → AreOwed hs os → IsFree hs i → IsFree os i
+pub free_owed : (hs : List (Option Hold)) (os : List (Option Owed)) (i : ℕ) → AreOwed hs os → HoldsNothing hs i → HoldsNothing os i
 free_owed [] os i owed is = cc
 free_owed (None ∷ hs) [] i owed is = absurd owed
 free_owed (Some h ∷ hs) [] i owed is = absurd owed

@@ -57,7 +57,7 @@ module _ (s t : State) (readers readers' : List (Option Hold)) (work : Work) (a 
   turn_worked unread = subst (λ (rs : List (Option Hold)). Turn (record { store = s; readers = readers }) (steps.Work work) a (record { store = t; readers = rs }))
       (sym same) (worked turn unread)
 
-  pub goes_worked : ((p : Plain) → plain.Agrees s p → plain.Agrees t (after_work a p)) → AreOpenLeases t.keeper readers'
+  pub goes_worked : ((p : Plain) → plain.MatchesPlain s p → plain.MatchesPlain t (after_work a p)) → AreOpenLeases t.keeper readers'
       → GoesOn s readers (steps.Work work) a t readers'
   goes_worked agreeing leases = λ p agrees. (
     record p { store = after_work a p.store },

@@ -17,7 +17,7 @@ use Rattle.bk_store.specs.declared.answer.Taken.TheVariants as taken
 use Rattle.bk_store.specs.declared.answer.TakeFault.{TakeFault}
 use Rattle.bk_store.specs.declared.answer.TakeFault.TheVariants as take_faults
 use Rattle.bk_store.proofs.PlainMaps.{plain_take}
-use Rattle.bk_drive.specs.Plain.{Owed, PlainDesk, IsFree, IsBusy, OwedTake, OwedFetch, OwedRelease}
+use Rattle.bk_drive.specs.Plain.{Owed, PlainDesk, HoldsNothing, IsBusy, OwedTake, OwedFetch, OwedRelease}
 use Rattle.bk_drive.specs.Machine.{Desk, Hold, hold_on, ShowsBytes, ReaderTake, ReaderFetch, ReaderRelease}
 use Rattle.bk_drive.specs.Leased.{AreOpenLeases}
 use Rattle.bk_drive.specs.Headline.{IsOwed, AreOwed, Agrees}
@@ -37,11 +37,11 @@ Takes s key r t = TakeTurn (λ v. v.bytes) (λ v. v.is_honest) (λ v. v.is_sound
 abbrev Owes : Plain → EntryKey → Result (Taken View) TakeFault → Type 0
 Owes p key r = PlainTake (λ v. v.bytes) (λ v. v.is_honest) p key r
 
-seen_take : (s t : State) (p : Plain) (key : EntryKey) (r : Result (Taken View) TakeFault) → IsKept s → IsTrue s.honest → plain.Agrees s p → Takes s key r t
-    → Owes p key r × plain.Agrees t p
+seen_take : (s t : State) (p : Plain) (key : EntryKey) (r : Result (Taken View) TakeFault) → IsKept s → IsTrue s.honest → plain.MatchesPlain s p → Takes s key r t
+    → Owes p key r × plain.MatchesPlain t p
 seen_take s t p key r kept honest agrees turn =
     plain_take kept.parts kept.keeps (kept.keeps.promises (subst (λ (x : State). IsTrue x.honest) (sym kept.seen) honest)) p
-    (subst (λ (x : State). plain.Agrees x p) (sym kept.seen) agrees) (λ v. v.bytes) (λ v. v.is_honest) (λ v. v.is_sound) key r t
+    (subst (λ (x : State). plain.MatchesPlain x p) (sym kept.seen) agrees) (λ v. v.bytes) (λ v. v.is_honest) (λ v. v.is_sound) key r t
     (subst (λ (x : State). Takes x key r t) (sym kept.seen) turn)
 
 -- the lease of this ticket, whose view is seen so
@@ -58,14 +58,14 @@ module _ (d : Desk) (p : PlainDesk) (agrees : Agrees d p) (reader : ℕ) where
   stays : (e : Desk) → e ≡ d → Agrees e p
   stays e is = subst (λ (x : Desk). Agrees x p) (sym is) agrees
 
-  free : IsFree d.readers reader → IsFree p.readers reader
+  free : HoldsNothing d.readers reader → HoldsNothing p.readers reader
   free is = free_owed d.readers p.readers reader agrees.readers is
 
   busy : IsBusy d.readers reader → IsBusy p.readers reader
   busy is = busy_owed d.readers p.readers reader agrees.readers is
 
   module _ (kept : IsKept d.store) (honest : IsTrue d.store.honest) (key : EntryKey) where
-    reads : (r : Result (Taken View) TakeFault) (t : State) → Takes d.store key r t → Owes p.store key r × plain.Agrees t p.store
+    reads : (r : Result (Taken View) TakeFault) (t : State) → Takes d.store key r t → Owes p.store key r × plain.MatchesPlain t p.store
     reads r t turn = seen_take d.store t p.store key r kept honest agrees.store turn
 
     pub owed_take : (r : Result TakeAnswer TakeFault) (e : Desk) → ReaderTake d reader key r e → AreOpenLeases e.store.keeper e.readers
@@ -93,7 +93,7 @@ module _ (d : Desk) (p : PlainDesk) (agrees : Agrees d p) (reader : ℕ) where
           q,
           (free turn.0.free, is.0, (is.1.0, is.1.1, refl)),
           record {
-            store = subst (λ (x : Desk). plain.Agrees x.store p.store) (sym turn.1.1.2) done.1;
+            store = subst (λ (x : Desk). plain.MatchesPlain x.store p.store) (sym turn.1.1.2) done.1;
             readers = subst (λ (x : Desk). AreOwed x.readers q.readers) (sym turn.1.1.2) (set_owed d.readers p.readers reader _ owed agrees.readers holds);
             leases = leases;
           },

@@ -10,7 +10,7 @@ use Rattle.bk_record.proofs.Keys.{key_cmp_antisymmetric}
 use Rattle.bk_store.specs.State.{State}
 use Rattle.bk_cache.specs.Caches as caches
 use Rattle.bk_store.specs.Kept.{Promises}
-use Rattle.bk_store.specs.Turns.{ledgers_of, AddTurn, DeleteTurn, SwapTurn}
+use Rattle.bk_store.specs.Turns.{valid_ledgers, AddTurn, DeleteTurn, SwapTurn}
 use Rattle.bk_store.specs.Opening.{IsOpened}
 use Rattle.bk_store.specs.Plain.{Plain, PlainAdd, PlainDelete, after_swap, IsKept}
 use Rattle.bk_store.specs.Plain as plain
@@ -35,29 +35,29 @@ use Rattle.bk_drive.proofs.Leases.{SameLogs, logs_same, leases_first}
 -- ---- steps that ask no device
 
 -- a store that keeps what any does, beside an honest disk, and agrees with the plain map
-module _ (s t : State) (p : Plain) (kept : IsKept s) (honest : IsTrue s.honest) (agrees : plain.Agrees s p) where
+module _ (s t : State) (p : Plain) (kept : IsKept s) (honest : IsTrue s.honest) (agrees : plain.MatchesPlain s p) where
   abbrev keeps_promises : Promises kept.parts
   keeps_promises = kept.keeps.promises (subst (λ (x : State). IsTrue x.honest) (sym kept.seen) honest)
 
-  agrees_seen : plain.Agrees kept.parts.state p
-  agrees_seen = subst (λ (x : State). plain.Agrees x p) (sym kept.seen) agrees
+  agrees_seen : plain.MatchesPlain kept.parts.state p
+  agrees_seen = subst (λ (x : State). plain.MatchesPlain x p) (sym kept.seen) agrees
 
   -- the limit of the active cache is that of the settings
   limit_is : kept.parts.state.caches.limit ≡ s.settings.cache_limit
   limit_is = kept.keeps.fits.limit ∙ ap (λ (x : State). x.settings.cache_limit) kept.seen
 
   pub added_plain : (payload : List ℕ) (r : Result Added AddFault) → AddTurn s payload r t
-      → (q : Plain) × PlainAdd s.settings.cache_limit p payload r q × plain.Agrees t q
+      → (q : Plain) × PlainAdd s.settings.cache_limit p payload r q × plain.MatchesPlain t q
   added_plain payload r turn =
       let done = plain_add kept.parts kept.keeps keeps_promises p agrees_seen t payload r (subst (λ (x : State). AddTurn x payload r t) (sym kept.seen) turn) in
       (done.0, subst (λ limit. PlainAdd limit p payload r done.0) limit_is done.1, done.2)
 
-  pub deleted_plain : (ledger : ℕ) (r : Result ℕ DeleteFault) → DeleteTurn s ledger r t → (q : Plain) × PlainDelete p ledger r q × plain.Agrees t q
+  pub deleted_plain : (ledger : ℕ) (r : Result ℕ DeleteFault) → DeleteTurn s ledger r t → (q : Plain) × PlainDelete p ledger r q × plain.MatchesPlain t q
   deleted_plain ledger r turn =
       plain_delete kept.parts kept.keeps keeps_promises p agrees_seen (subst (λ (x : State). caches.AreApart x.caches) (sym kept.seen) kept.apart) t ledger r
       (subst (λ (x : State). DeleteTurn x ledger r t) (sym kept.seen) turn)
 
-  pub swapped_plain : (r : SwapAnswer) → SwapTurn s r t → plain.Agrees t (after_swap r p)
+  pub swapped_plain : (r : SwapAnswer) → SwapTurn s r t → plain.MatchesPlain t (after_swap r p)
   swapped_plain r turn =
       plain_swap kept.parts kept.keeps keeps_promises p agrees_seen t r (subst (λ (x : State). SwapTurn x r t) (sym kept.seen) turn)
 
@@ -123,13 +123,13 @@ nothing_told key = ap (λ o. option_or o o) (finite.get-empty key_cmp key)
 
 -- a store that was opened on files agrees with the plain map of their last entries
 pub first_agrees : (settings : Settings) (files : Files) (dead : List ℕ) (s : State) → IsOpened true files settings dead s
-    → Agrees (first_desk s) (first_plain files (ledgers_of dead))
+    → Agrees (first_desk s) (first_plain files (valid_ledgers dead))
 first_agrees settings files dead s opened =
     let same = (opened.holds refl).same in
     record {
       store = record {
-        meaning = λ key. get-live (scan_of files) (ledgers_of dead) key
-            ∙ sym (λ i. cond (set.contains (ledgers_of dead) key.ledger) None (option_or (nothing_told key i) (finite.get (scan_of (same i)) key)));
+        meaning = λ key. get-live (scan_of files) (valid_ledgers dead) key
+            ∙ sym (λ i. cond (set.contains (valid_ledgers dead) key.ledger) None (option_or (nothing_told key i) (finite.get (scan_of (same i)) key)));
         dead = opened.dead_are;
         active = (λ i. (opened.caches_are i).active);
         flush = (λ i. (opened.caches_are i).flush);

@@ -17,7 +17,7 @@ use Rattle.bk_lease.specs.Values.{SlotTable}
 use Rattle.bk_store.specs.Logs.{settled_as, unfilled_as, unmade_log}
 use Rattle.bk_store.specs.Meaning.{meaning_at, MeansTheSame}
 use Rattle.bk_store.specs.Doors.{IsMade, IsUnmade, MakeTurn, PutTurn, WriteTurn, SetTurn, Seals, Restarts, Ends, keeper_left, logs_left, noted, with_next}
-use Rattle.bk_store.specs.Plain.{Plain, Agrees, told_at}
+use Rattle.bk_store.specs.Plain.{Plain, MatchesPlain, told_at}
 use Rattle.bk_store.specs.declared.log.LogState.{LogState}
 use Rattle.bk_store.specs.declared.log.LogState.TheVariants.{Writing, Retired}
 use Rattle.bk_store.specs.declared.answer.MakeFault.{MakeFault}
@@ -56,8 +56,8 @@ meaning_told s p dead active flush key i =
     (option_or (option_or (finite.get (active i) key) (finite.get (unwrap_or (flush i) finite.empty) key)) (finite.get (scan_of s.files) key))
 
 -- a state that means the same agrees with the same map, once its caches and its dead ledgers are told
-agrees_after : (s t : State) (p q : Plain) → Agrees s p → MeansTheSame s t → q.map ≡ p.map → t.dead ≡ q.dead → t.caches.active ≡ q.active
-    → t.caches.flush ≡ q.flush → Agrees t q
+agrees_after : (s t : State) (p q : Plain) → MatchesPlain s p → MeansTheSame s t → q.map ≡ p.map → t.dead ≡ q.dead → t.caches.active ≡ q.active
+    → t.caches.flush ≡ q.flush → MatchesPlain t q
 agrees_after s t p q agrees means map dead active flush = record {
   meaning = λ key. (λ i. finite.get (map i) key) ∙ agrees.meaning key ∙ sym (meaning_told s p agrees.dead agrees.active agrees.flush key)
       ∙ sym (means key) ∙ meaning_told t q dead active flush key;
@@ -403,15 +403,15 @@ publish_settings s t (Err flush_faults.Odd) turn = (stops_stays turn.2).settings
 publish_settings s t (Err flush_faults.LogsFull) turn = absurd turn
 publish_settings s t (Err flush_faults.NoMoreIds) turn = absurd turn
 
-module _ (s t : State) (p : Plain) (agrees : Agrees s p) (means : MeansTheSame s t) where
-  pub agrees_still : Stays s t → Agrees t p
+module _ (s t : State) (p : Plain) (agrees : MatchesPlain s p) (means : MeansTheSame s t) where
+  pub agrees_still : Stays s t → MatchesPlain t p
   agrees_still stays = agrees_after s t p p agrees means refl (stays.dead ∙ agrees.dead) (stays.active ∙ agrees.active) (stays.flush ∙ agrees.flush)
 
-  pub beside_agrees : Beside s t → Agrees t p
+  pub beside_agrees : Beside s t → MatchesPlain t p
   beside_agrees beside = agrees_after s t p p agrees means refl (beside.dead ∙ agrees.dead) (ap (λ (c : CacheState). c.active) beside.caches ∙ agrees.active)
       (ap (λ (c : CacheState). c.flush) beside.caches ∙ agrees.flush)
 
-  pub publish_agrees : (r : Result PublishAnswer FlushFault) → PublishTurn s r t → Agrees t (after_publish r p)
+  pub publish_agrees : (r : Result PublishAnswer FlushFault) → PublishTurn s r t → MatchesPlain t (after_publish r p)
   publish_agrees (Ok publishes.NoFlush) turn = agrees_still (stays_same s t turn.1)
   publish_agrees (Ok publishes.NotAllWritten) turn = agrees_still (stays_same s t turn.1.2)
   publish_agrees (Ok (publishes.Published n)) turn =

@@ -6,7 +6,7 @@ use Rattle.bk_record.specs.Files.{Files}
 use Rattle.bk_record.specs.Scan.{Ledgers, scan_of, live}
 use Rattle.bk_store.specs.Entries.{HasEntry}
 use Rattle.bk_store.specs.State.{State}
-use Rattle.bk_store.specs.Turns.{ledgers_of}
+use Rattle.bk_store.specs.Turns.{valid_ledgers}
 use Rattle.bk_store.specs.Opening.{IsOpened}
 use Rattle.bk_store.specs.Plain as plain
 use Rattle.bk_store.specs.declared.settings.Settings.{Settings}
@@ -37,7 +37,7 @@ AreOwed (h ∷ holds) [] = ⊥
 -- What holds of the machine and the plain one between two steps: the files, with the cached pairs, give the plain map, each
 -- reader holds what it is owed, and its lease stands open in the store's table.
 pub record Agrees (d : Desk) (p : PlainDesk) : Type 0 where
-  pub store : plain.Agrees d.store p.store
+  pub store : plain.MatchesPlain d.store p.store
   pub readers : AreOwed d.readers p.readers
   pub leases : AreOpenLeases d.store.keeper d.readers
 
@@ -70,5 +70,5 @@ pub record Headline (settings : Settings) (files : Files) (dead : List ℕ) (ste
   pub first : State
   pub opened : IsOpened true files settings dead first
   pub plain : PlainDesk
-  pub run : Run settings.cache_limit (first_desk first) (first_plain files (ledgers_of dead)) steps answers (record { store = store; readers = readers }) plain
+  pub run : Run settings.cache_limit (first_desk first) (first_plain files (valid_ledgers dead)) steps answers (record { store = store; readers = readers }) plain
   pub unread : (log : ℕ) → WasLetGo steps answers log → IsUnread readers log

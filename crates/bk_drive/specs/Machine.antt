@@ -42,7 +42,7 @@ use Rattle.bk_compact.specs.declared.answer.SwitchAnswer.{SwitchAnswer}
 use Rattle.bk_compact.specs.declared.answer.FinishAnswer.{FinishAnswer}
 use Rattle.bk_compact.specs.declared.answer.GiveUpAnswer.{GiveUpAnswer}
 use Rattle.bk_compact.specs.declared.answer.CompactFault.{CompactFault}
-use Rattle.bk_drive.specs.Plain.{Owed, PlainDesk, IsFree, HasAt, IsBusy, OwedTake, OwedFetch, OwedRelease, after_publish}
+use Rattle.bk_drive.specs.Plain.{Owed, PlainDesk, HoldsNothing, HasAt, IsBusy, OwedTake, OwedFetch, OwedRelease, after_publish}
 use Rattle.bk_drive.specs.declared.step.TakeAnswer.{TakeAnswer}
 use Rattle.bk_drive.specs.declared.step.TakeAnswer.TheVariants as takes
 use Rattle.bk_drive.specs.declared.step.FetchAnswer.{FetchAnswer}
@@ -76,7 +76,7 @@ hold_on ticket place key view = record { ticket = ticket; place = place; key = k
 
 -- the reader is free, and the entry of the key is to be read in a log, at this place
 pub record MayLease (d : Desk) (reader : ℕ) (key : EntryKey) (place : Place) : Type 0 where
-  pub free : IsFree d.readers reader
+  pub free : HoldsNothing d.readers reader
   pub there : IsInLog d.store key place
 
 -- the desk when a reader got a lease: the store has given out one more
@@ -88,14 +88,14 @@ with_lease d reader hold = record {
 
 -- the reader is free, and the key's ledger lives
 pub record MayTake (d : Desk) (reader : ℕ) (key : EntryKey) : Type 0 where
-  pub free : IsFree d.readers reader
+  pub free : HoldsNothing d.readers reader
   pub lives : is_dead d.store key.ledger ≡ false
 
 -- A take by a reader: of the store, unless there is no such reader or it holds a lease.
 abbrev pub ReaderTake : Desk → ℕ → EntryKey → Result TakeAnswer TakeFault → Desk → Type 0
 ReaderTake d reader key (Ok takes.NoReader) e = (length d.readers ≤ reader) × (e ≡ d)
 ReaderTake d reader key (Ok takes.ReaderBusy) e = IsBusy d.readers reader × (e ≡ d)
-ReaderTake d reader key (Ok takes.Deleted) e = IsFree d.readers reader × (is_dead d.store key.ledger ≡ true) × (e ≡ d)
+ReaderTake d reader key (Ok takes.Deleted) e = HoldsNothing d.readers reader × (is_dead d.store key.ledger ≡ true) × (e ≡ d)
 ReaderTake d reader key (Ok (takes.Cached payload)) e = MayTake d reader key × (cached_at d.store key ≡ Some payload.value.items) × (e ≡ d)
 ReaderTake d reader key (Ok takes.NotHeld) e = MayTake d reader key × (cached_at d.store key ≡ None)
     × (finite.get d.store.index key ≡ None) × (e ≡ d)
@@ -114,7 +114,7 @@ ShowsBytes view = IsTrue view.is_honest → All (λ b. b < 2 ^ 8) view.bytes
 -- A fetch by a reader: the record of its entry in the view that it holds.
 abbrev pub ReaderFetch : List (Option Hold) → ℕ → Result FetchAnswer FetchFault → Type 0
 ReaderFetch readers reader (Ok fetches.NoReader) = length readers ≤ reader
-ReaderFetch readers reader (Ok fetches.NoLease) = IsFree readers reader
+ReaderFetch readers reader (Ok fetches.NoLease) = HoldsNothing readers reader
 ReaderFetch readers reader (Ok (fetches.Bytes payload)) = (hold : Hold) × HasAt readers reader hold × ShowsBytes hold.view
     × (IsTrue hold.view.is_honest → HasEntryAt hold.view.bytes hold.place.at hold.key payload.items)
 ReaderFetch readers reader (Err fault) = (hold : Hold) × HasAt readers reader hold × ShowsBytes hold.view
@@ -124,7 +124,7 @@ ReaderFetch readers reader (Err fault) = (hold : Hold) × HasAt readers reader h
 -- A release by a reader, which then holds no lease.
 abbrev pub ReaderRelease : List (Option Hold) → ℕ → ReleaseAnswer → List (Option Hold) → Type 0
 ReaderRelease readers reader releases.NoReader readers' = (length readers ≤ reader) × (readers' ≡ readers)
-ReaderRelease readers reader releases.NoLease readers' = IsFree readers reader × (readers' ≡ readers)
+ReaderRelease readers reader releases.NoLease readers' = HoldsNothing readers reader × (readers' ≡ readers)
 ReaderRelease readers reader releases.Released readers' = IsBusy readers reader × (readers' ≡ slice_set readers reader None)
 
 -- ---- the machine
@@ -151,12 +151,12 @@ abbrev pub Closes : Step → Answer → ℕ → Type 0
 Closes step answer log = (step ≡ steps.Work (works.Close log)) × (answer ≡ answers.Close closes.Closed)
 
 -- the step asks to remove the log, and is answered Removed
-abbrev pub Removes : Step → Answer → ℕ → Type 0
-Removes step answer log = (step ≡ steps.Work (works.Remove log)) × (answer ≡ answers.Remove (Ok removes.Removed))
+abbrev pub RemovesLog : Step → Answer → ℕ → Type 0
+RemovesLog step answer log = (step ≡ steps.Work (works.Remove log)) × (answer ≡ answers.Remove (Ok removes.Removed))
 
 -- one or the other: from then on nobody reads the log
 abbrev pub LetsGo : Step → Answer → ℕ → Type 0
-LetsGo step answer log = Closes step answer log ⊎ Removes step answer log
+LetsGo step answer log = Closes step answer log ⊎ RemovesLog step answer log
 
 -- no reader holds a lease of the log
 abbrev pub IsUnread : List (Option Hold) → ℕ → Type 0

@@ -31,8 +31,8 @@ pub record PlainDesk : Type 0 where
   pub readers : List (Option Owed)
 
 -- there is a reader of this number, and it holds no lease
-abbrev pub IsFree : {X : Type 0} → List (Option X) → ℕ → Type 0
-IsFree readers reader = slice_get readers reader ≡ Some None
+abbrev pub HoldsNothing : {X : Type 0} → List (Option X) → ℕ → Type 0
+HoldsNothing readers reader = slice_get readers reader ≡ Some None
 
 -- the reader of this number has this
 abbrev pub HasAt : {X : Type 0} → List (Option X) → ℕ → X → Type 0
@@ -55,21 +55,21 @@ IsAlive p key = set.contains p.dead key.ledger ≡ false
 abbrev pub OwedTake : PlainDesk → ℕ → EntryKey → Result TakeAnswer TakeFault → PlainDesk → Type 0
 OwedTake p reader key (Ok takes.NoReader) q = (length p.readers ≤ reader) × (q ≡ p)
 OwedTake p reader key (Ok takes.ReaderBusy) q = IsBusy p.readers reader × (q ≡ p)
-OwedTake p reader key (Ok takes.Deleted) q = IsFree p.readers reader × IsDeleted p.store key × (q ≡ p)
-OwedTake p reader key (Ok takes.NotHeld) q = IsFree p.readers reader × IsAlive p.store key × (finite.get p.store.map key ≡ None) × (q ≡ p)
-OwedTake p reader key (Ok (takes.Cached payload)) q = IsFree p.readers reader × IsAlive p.store key
+OwedTake p reader key (Ok takes.Deleted) q = HoldsNothing p.readers reader × IsDeleted p.store key × (q ≡ p)
+OwedTake p reader key (Ok takes.NotHeld) q = HoldsNothing p.readers reader × IsAlive p.store key × (finite.get p.store.map key ≡ None) × (q ≡ p)
+OwedTake p reader key (Ok (takes.Cached payload)) q = HoldsNothing p.readers reader × IsAlive p.store key
     × (finite.get p.store.map key ≡ Some payload.value.items) × (q ≡ p)
-OwedTake p reader key (Ok (takes.Leased place)) q = IsFree p.readers reader × IsAlive p.store key
+OwedTake p reader key (Ok (takes.Leased place)) q = HoldsNothing p.readers reader × IsAlive p.store key
     × ((payload : List ℕ) × (finite.get p.store.map key ≡ Some payload)
     × (q ≡ record p { readers = slice_set p.readers reader (Some (record { log = place.log; payload = payload })) }))
-OwedTake p reader key (Err take_faults.NoSeat) q = IsFree p.readers reader × IsAlive p.store key × IsSome (finite.get p.store.map key) × (q ≡ p)
-OwedTake p reader key (Err take_faults.TooMany) q = IsFree p.readers reader × IsAlive p.store key × IsSome (finite.get p.store.map key) × (q ≡ p)
-OwedTake p reader key (Err take_faults.Memory) q = IsFree p.readers reader × IsAlive p.store key × IsSome (finite.get p.store.map key) × (q ≡ p)
+OwedTake p reader key (Err take_faults.NoSeat) q = HoldsNothing p.readers reader × IsAlive p.store key × IsSome (finite.get p.store.map key) × (q ≡ p)
+OwedTake p reader key (Err take_faults.TooMany) q = HoldsNothing p.readers reader × IsAlive p.store key × IsSome (finite.get p.store.map key) × (q ≡ p)
+OwedTake p reader key (Err take_faults.Memory) q = HoldsNothing p.readers reader × IsAlive p.store key × IsSome (finite.get p.store.map key) × (q ≡ p)
 
 -- A fetch gives the reader what it is owed: the payload that its entry held when the lease was taken.
 abbrev pub OwedFetch : List (Option Owed) → ℕ → Result FetchAnswer FetchFault → Type 0
 OwedFetch readers reader (Ok fetches.NoReader) = length readers ≤ reader
-OwedFetch readers reader (Ok fetches.NoLease) = IsFree readers reader
+OwedFetch readers reader (Ok fetches.NoLease) = HoldsNothing readers reader
 OwedFetch readers reader (Ok (fetches.Bytes payload)) = (owed : Owed) × HasAt readers reader owed × (payload.items ≡ owed.payload)
 OwedFetch readers reader (Err fetch_faults.Disk) = IsBusy readers reader
 OwedFetch readers reader (Err fetch_faults.Memory) = IsBusy readers reader
@@ -79,7 +79,7 @@ OwedFetch readers reader (Err fetch_faults.Odd) = ⊥
 -- A release ends the reader's lease.
 abbrev pub OwedRelease : List (Option Owed) → ℕ → ReleaseAnswer → List (Option Owed) → Type 0
 OwedRelease readers reader releases.NoReader readers' = (length readers ≤ reader) × (readers' ≡ readers)
-OwedRelease readers reader releases.NoLease readers' = IsFree readers reader × (readers' ≡ readers)
+OwedRelease readers reader releases.NoLease readers' = HoldsNothing readers reader × (readers' ≡ readers)
 OwedRelease readers reader releases.Released readers' = IsBusy readers reader × (readers' ≡ slice_set readers reader None)
 
 -- A publish that is answered so ends the flush.

@@ -2,7 +2,7 @@
 
 ghost use Rattle.std.specs.Prelude.{◌≡◌, ◌<◌, ◌≤◌, Some, None, IfSome, IfNone, length, slice_set, replicate};
 ghost use Rattle.std.specs.Bool.{OnTrue, OnFalse};
-ghost use Rattle.bk_drive.specs.Plain.{IsFree, IsBusy, HasAt};
+ghost use Rattle.bk_drive.specs.Plain.{HoldsNothing, IsBusy, HasAt};
 ghost use Rattle.bk_drive.specs.Headline.{reader_count};
 ghost use Rattle.bk_drive.specs.Held.{seen_hold};
 ghost use Rattle.bk_drive.specs.Machine.{IsUnread};
@@ -63,7 +63,7 @@ impl<V: LogView> Readers<V> {
     pub fn is_busy(&self, reader: u32) -> bool
         requires { reader < length self.now }
         ensures busy { OnTrue result (IsBusy self.now reader) }
-        ensures free { OnFalse result (IsFree self.now reader) }
+        ensures free { OnFalse result (HoldsNothing self.now reader) }
     {
         self.holds[reader as usize].is_some()
     }
@@ -72,7 +72,7 @@ impl<V: LogView> Readers<V> {
     pub fn reading(&self, reader: u32) -> Option<&Reading<V>>
         requires { reader < length self.now }
         ensures held { IfSome result (λ reading. HasAt self.now reader (seen_hold V.bytes V.honest V.sound reading.now)) }
-        ensures free { IfNone result (IsFree self.now reader) }
+        ensures free { IfNone result (HoldsNothing self.now reader) }
     {
         self.holds[reader as usize].as_ref()
     }
@@ -100,7 +100,7 @@ impl<V: LogView> Readers<V> {
         requires { reader < length self.old }
         ensures left { self.new ≡ slice_set self.old reader None }
         ensures held { IfSome result (λ reading. HasAt self.old reader (seen_hold V.bytes V.honest V.sound reading)) }
-        ensures free { IfNone result (IsFree self.old reader) }
+        ensures free { IfNone result (HoldsNothing self.old reader) }
     {
         self.holds[reader as usize].take()
     }

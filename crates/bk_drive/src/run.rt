@@ -1,10 +1,10 @@
 //! The machine: a store and its readers take the steps of a script, one after another.
 
 ghost use Rattle.std.specs.Prelude.{◌≡◌, ◌↔◌, ◌<◌, ◌≤◌, ℕ, Option, IsTrue, IfOk, IfErr, IsErrOf, IfSome, IfNone, length};
-ghost use Rattle.bk_collect.specs.Collecting.{AreSound};
+ghost use Rattle.bk_disk.specs.Disk.{AreSound};
 ghost use Rattle.bk_store.specs.Limits.{IsAllowed};
 ghost use Rattle.bk_store.specs.Opening.{OpenFails};
-ghost use Rattle.bk_store.specs.Plain.{Plain, Agrees as StoreAgrees};
+ghost use Rattle.bk_store.specs.Plain.{Plain, MatchesPlain};
 ghost use Rattle.bk_drive.specs.Plain.{PlainDesk, HasAt, after_work};
 ghost use Rattle.bk_lease.specs.Leases.{IsClosed};
 ghost use Rattle.bk_drive.specs.Machine.{Hold, WorkTurn, Turn, PlainTurn, IsUnread, Closes, LetsGo};
@@ -37,7 +37,7 @@ pub fn apply<D: LogDisk>(store: &mut Store<D>, work: Work) -> Answer
     ensures sound { AreSound D.View.sound → IsDiskFault result → store.old.failures < store.new.failures }
     ensures settings { store.new.settings ≡ store.old.settings }
     ensures turn { WorkTurn store.old work result store.new }
-    ensures plain { IsTrue store.old.honest → (p : Plain) → StoreAgrees store.old p → StoreAgrees store.new (after_work result p) }
+    ensures plain { IsTrue store.old.honest → (p : Plain) → MatchesPlain store.old p → MatchesPlain store.new (after_work result p) }
 {
     store.promise();
     match work {
@@ -141,7 +141,7 @@ fn work_on<D: LogDisk>(store: &mut Store<D>, readers: &mut Readers<D::View>, wor
     ensures sound { AreSound D.View.sound → IsDiskFault result → store.old.failures < store.new.failures }
     ensures settings { store.new.settings ≡ store.old.settings }
     ensures turn { WorkTurn store.old work result store.new }
-    ensures plain { IsTrue store.old.honest → (p : Plain) → StoreAgrees store.old p → StoreAgrees store.new (after_work result p) }
+    ensures plain { IsTrue store.old.honest → (p : Plain) → MatchesPlain store.old p → MatchesPlain store.new (after_work result p) }
     ensures readers { readers.new ≡ readers.old }
     ensures leases { AreOpenLeases store.new.keeper readers.new }
     ensures unread { (log : ℕ) → LetsGo (Step.Work work) result log → IsUnread readers.old log }

@@ -1,7 +1,7 @@
 //! Steps of a reader: it takes a lease of the store, reads by it, and gives it back.
 
 ghost use Rattle.std.specs.Prelude.{◌≡◌, IsErrOf};
-ghost use Rattle.bk_collect.specs.Collecting.{AreSound};
+ghost use Rattle.bk_disk.specs.Disk.{AreSound};
 ghost use Rattle.bk_drive.specs.Machine.{ReaderFetch, ReaderRelease, ReaderTake};
 
 use crate::{FetchAnswer, Readers, Reading, ReleaseAnswer, TakeAnswer};

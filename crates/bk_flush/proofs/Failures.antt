@@ -10,7 +10,7 @@ use Rattle.bk_store.specs.Doors.{MakeTurn, WriteTurn, failed_in}
 use Rattle.bk_store.specs.declared.answer.MakeFault.{MakeFault}
 use Rattle.bk_store.specs.declared.answer.MakeFault.TheVariants as makes
 use Rattle.bk_store.specs.declared.log.LogState.TheVariants.{Writing}
-use Rattle.bk_flush.specs.Flushing.{FillTurn, IsCaused, IsRefused, LeftBy, NoNewLog, ReadyTurn, StepTurn, told, told_made}
+use Rattle.bk_flush.specs.Flushing.{FillTurn, TellsItsCause, IsRefused, LeftBy, NoNewLog, ReadyTurn, StepTurn, flush_fault_of, flush_fault_of_make}
 use Rattle.bk_flush.specs.declared.answer.WriteAnswer.{WriteAnswer}
 use Rattle.bk_flush.specs.declared.answer.WriteAnswer.TheVariants as writes
 use Rattle.bk_flush.specs.declared.answer.FlushFault.{FlushFault}
@@ -24,10 +24,10 @@ failed_of flush_faults.LogsFull = 0
 failed_of flush_faults.NoMoreIds = 0
 failed_of flush_faults.Odd = 0
 
-pub caused_ok : {T : Type 0} (s t : State) (x : T) → t.failures ≡ s.failures → IsCaused s (Ok x) t
+pub caused_ok : {T : Type 0} (s t : State) (x : T) → t.failures ≡ s.failures → TellsItsCause s (Ok x) t
 caused_ok s t x same = none_failed s.failures t.failures same (λ wrong. cc)
 
-pub caused_err : {T : Type 0} (s t : State) (fault : FlushFault) → t.failures ≡ s.failures + failed_of fault → IsCaused {T = T} s (Err fault) t
+pub caused_err : {T : Type 0} (s t : State) (fault : FlushFault) → t.failures ≡ s.failures + failed_of fault → TellsItsCause {T = T} s (Err fault) t
 caused_err s t flush_faults.Disk more =
     record { later = omega (arith, more); once = omega (arith, more); failed = λ _. omega (arith, more); told = λ _. refl }
 caused_err s t (flush_faults.Memory done) more = none_failed s.failures t.failures (omega (arith, more)) (λ wrong. cc)
@@ -38,7 +38,7 @@ caused_err s t flush_faults.Odd more = none_failed s.failures t.failures (omega 
 same_failures : (s t : State) → t ≡ s → t.failures ≡ s.failures
 same_failures s t same = ap (λ (x : State). x.failures) same
 
-told_failed : (cause : LogFault) → failed_in {T = Unit {0}} (Err cause) ≡ failed_of (told cause)
+told_failed : (cause : LogFault) → failed_in {T = Unit {0}} (Err cause) ≡ failed_of (flush_fault_of cause)
 told_failed log_faults.Memory = refl
 told_failed log_faults.Disk = refl
 told_failed log_faults.Failed = refl
@@ -51,7 +51,7 @@ filled_failures s mid None (Ok _) same = let is = same_failures s mid same in om
 filled_failures s mid None (Err fault) never = absurd never
 filled_failures s mid (Some id) result seals = ap (λ (x : State). x.failures) seals.left
 
-made_failures : (s t : State) (cause : MakeFault) → MakeTurn s Writing (Err cause) t → t.failures ≡ s.failures + failed_of (told_made cause)
+made_failures : (s t : State) (cause : MakeFault) → MakeTurn s Writing (Err cause) t → t.failures ≡ s.failures + failed_of (flush_fault_of_make cause)
 made_failures s t makes.LogsFull turn = let is = same_failures s t turn.1 in omega (arith, is)
 made_failures s t makes.NoMoreIds turn = let is = same_failures s t turn.2 in omega (arith, is)
 made_failures s t makes.Memory turn = elim turn.1 [
@@ -81,7 +81,7 @@ refused_failures s after filled fault (inl unsealed) =
 refused_failures s after filled fault (inr unmade) =
     let sealed = filled_failures s unmade.0 filled (Ok tt) unmade.1 in
     let made = made_failures unmade.0 after unmade.2.0 unmade.2.2 in
-    let same : failed_of fault ≡ failed_of (told_made unmade.2.0) = ap failed_of unmade.2.1 in
+    let same : failed_of fault ≡ failed_of (flush_fault_of_make unmade.2.0) = ap failed_of unmade.2.1 in
     omega (arith, sealed, made, same)
 
 not_ready_failures : (s t : State) (payload : List ℕ) (fault : FlushFault) → NoNewLog s payload fault t → t.failures ≡ s.failures + failed_of fault
@@ -97,14 +97,14 @@ unready_failures s t payload flush_faults.Odd turn = not_ready_failures s t payl
 -- ---- the entry that is put
 
 unput_failures : (s t : State) (id : ℕ) (key : EntryKey) (payload : List ℕ) (cause : LogFault) → WriteTurn s id key payload (Err cause) t
-    → t.failures ≡ s.failures + failed_of (told cause)
+    → t.failures ≡ s.failures + failed_of (flush_fault_of cause)
 unput_failures s t id key payload log_faults.Memory turn = let is : t.failures ≡ s.failures = ap (λ (x : State). x.failures) turn.1 in omega (arith, is)
 unput_failures s t id key payload log_faults.Disk turn = ap (λ (x : State). x.failures) turn.3
 unput_failures s t id key payload log_faults.Failed never = absurd never
 unput_failures s t id key payload log_faults.Odd turn = let is : t.failures ≡ s.failures = ap (λ (x : State). x.failures) turn.1.2 in omega (arith, is)
 
 -- so a step tells a failing device exactly where it failed
-pub step_caused : (s t : State) (result : Result WriteAnswer FlushFault) → StepTurn s result t → IsCaused s result t
+pub step_caused : (s t : State) (result : Result WriteAnswer FlushFault) → StepTurn s result t → TellsItsCause s result t
 step_caused s t (Ok writes.NoFlush) turn = caused_ok s t writes.NoFlush (same_failures s t turn.1)
 step_caused s t (Ok writes.AllWritten) turn = caused_ok s t writes.AllWritten (same_failures s t turn.2)
 step_caused s t (Ok (writes.Wrote place)) turn =
@@ -117,6 +117,6 @@ step_caused s t (Err fault) turn = caused_err s t fault (elim turn.1.2 [
       let left = left_failures fault unput.refused t unput.left in
       let put = unput_failures unput.mid unput.refused unput.log turn.0 turn.1.0 unput.cause unput.put in
       let ready = ready_failures s unput.mid turn.1.0 unput.log unput.ready in
-      let same : failed_of fault ≡ failed_of (told unput.cause) = ap failed_of unput.told_so in
+      let same : failed_of fault ≡ failed_of (flush_fault_of unput.cause) = ap failed_of unput.told_so in
       omega (arith, left, put, ready, same)
 ])

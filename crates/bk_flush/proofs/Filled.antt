@@ -12,7 +12,7 @@ use Rattle.bk_store.specs.Doors.{CanTake, IsIn, IsWriter, writer_of}
 use Rattle.bk_store.specs.declared.log.LogState.TheVariants.{Writing}
 use Rattle.bk_store.specs.declared.settings.Settings.{Settings}
 use Rattle.bk_store.proofs.Cases.{some_value}
-use Rattle.bk_flush.specs.Flushing.{Writes, is_filled}
+use Rattle.bk_flush.specs.Flushing.{WritesInto, is_filled}
 
 -- a log that is Writing has a writer
 pub has_writer : (s : State) → IsKept s → (id : ℕ) → IsIn s id Writing → (w : writers.Writing) × (writer_of s.logs id ≡ Some w)
@@ -25,12 +25,12 @@ module _ (s : State) (id : ℕ) (w : writers.Writing) (is : IsIn s id Writing) (
   its_writer : IsWriter s id is.log w
   its_writer = record { held = is.held; writer = sym (own ∙ ap (option_and_then (λ (log : Log). log.writer)) is.held) }
 
-  writes_so : (b : Bool) → is_filled s.settings.log_limit w payload ≡ b → Writes s id payload b
+  writes_so : (b : Bool) → is_filled s.settings.log_limit w payload ≡ b → WritesInto s id payload b
   writes_so b filled = record { log = is.log; w = w; writer = its_writer; state_is = is.state_is; filled_is = filled }
 
   -- a log with a record is filled where one more takes it past the limit
   pub with_records : (records end limit size : ℕ) → records ≡ w.count → 0 < records → end ≡ w.end → limit ≡ s.settings.log_limit
-      → length payload ≡ size → Writes s id payload (nat_lt limit (end + 4 + size))
+      → length payload ≡ size → WritesInto s id payload (nat_lt limit (end + 4 + size))
   with_records records end limit size count some ends limits long =
       writes_so _ (ap (λ n. nat_lt 0 n && nat_lt s.settings.log_limit (w.end + 4 + length payload)) (sym count)
       ∙ ap (λ b. b && nat_lt s.settings.log_limit (w.end + 4 + length payload)) (lt-ltb 0 records some)
@@ -39,7 +39,7 @@ module _ (s : State) (id : ℕ) (w : writers.Writing) (is : IsIn s id Writing) (
       ∙ ap (λ n. nat_lt n (end + 4 + size)) (sym limits))
 
   -- a log without a record is not
-  pub without_records : (records : ℕ) → records ≡ w.count → records ≤ 0 → Writes s id payload (nat_lt 0 records)
+  pub without_records : (records : ℕ) → records ≡ w.count → records ≤ 0 → WritesInto s id payload (nat_lt 0 records)
   without_records records count none =
       writes_so _ (ap (λ n. nat_lt 0 n && nat_lt s.settings.log_limit (w.end + 4 + length payload)) (sym count)
       ∙ ap (λ b. b && nat_lt s.settings.log_limit (w.end + 4 + length payload)) (le-ltb 0 records none)

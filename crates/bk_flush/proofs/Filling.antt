@@ -13,7 +13,7 @@ use Rattle.bk_store.specs.declared.log.LogState.{LogState}
 use Rattle.bk_store.specs.declared.log.LogState.TheVariants.{Writing, Filled}
 use Rattle.bk_store.proofs.LogMaps.{log-inserted, log-insert_cases}
 use Rattle.bk_store.proofs.OneLog.{same_len}
-use Rattle.bk_flush.specs.Flushing.{FillTurn, LeftBy, NeedsLog, NewLog, NoNewLog, ReadyTurn, Writes, told, told_made}
+use Rattle.bk_flush.specs.Flushing.{FillTurn, LeftBy, NeedsLog, NewLog, NoNewLog, ReadyTurn, WritesInto, flush_fault_of, flush_fault_of_make}
 use Rattle.bk_flush.specs.declared.answer.FlushFault.{FlushFault}
 use Rattle.bk_flush.specs.declared.answer.FlushFault.TheVariants as flush_faults
 
@@ -27,9 +27,9 @@ none_to_fill s size filled None none is same = subst (IsToFill s size) (sym same
 none_to_fill s size filled (Some id) none is same = absurd (none id is.0)
 
 pub some_to_fill : (s : State) (size : ℕ) (filled : Option ℕ) (id : ℕ) (b : Bool) → filled ≡ Some id → IsWritingLog s (Some id)
-    → ((payload : List ℕ) → length payload ≡ size → Writes s id payload b) → b ≡ true → IsToFill s size filled
+    → ((payload : List ℕ) → length payload ≡ size → WritesInto s id payload b) → b ≡ true → IsToFill s size filled
 some_to_fill s size filled id b same is writes over =
-    subst (IsToFill s size) (sym same) (record { writing = is; needs = λ payload long. subst (Writes s id payload) over (writes payload long) })
+    subst (IsToFill s size) (sym same) (record { writing = is; needs = λ payload long. subst (WritesInto s id payload) over (writes payload long) })
 
 -- the log that is filled was sealed, or there is none
 pub fill_some : (s mid after : State) (filled : Option ℕ) (id : ℕ) → filled ≡ Some id → mid ≡ after → Seals s id Filled (Ok tt) after → FillTurn s filled (Ok tt) mid
@@ -91,19 +91,19 @@ module _ (s mid : State) (size : ℕ) (filled : Option ℕ) (is : IsToFill s siz
       record { filled = filled; needs = is.needs payload long; may = may; mid = mid; sealed = sealed; made = made }
 
   refused : (cause : FlushFault) (after t : State)
-      → ((fault : LogFault) × (cause ≡ told fault) × FillTurn s filled (Err fault) after)
-      ⊎ ((mid : State) × FillTurn s filled (Ok tt) mid × ((fault : MakeFault) × (cause ≡ told_made fault) × MakeTurn mid Writing (Err fault) after))
+      → ((fault : LogFault) × (cause ≡ flush_fault_of fault) × FillTurn s filled (Err fault) after)
+      ⊎ ((mid : State) × FillTurn s filled (Ok tt) mid × ((fault : MakeFault) × (cause ≡ flush_fault_of_make fault) × MakeTurn mid Writing (Err fault) after))
       → LeftBy cause after t → NoNewLog s payload cause t
   refused cause after t is_so left =
       record { filled = filled; needs = is.needs payload long; may = may; mid = after; refused = is_so; left = left }
 
   -- it could not be, since the filled one was not sealed
-  pub not_sealed : (fault : LogFault) (cause : FlushFault) (t : State) → FillTurn s filled (Err fault) mid → cause ≡ told fault → LeftBy cause mid t
+  pub not_sealed : (fault : LogFault) (cause : FlushFault) (t : State) → FillTurn s filled (Err fault) mid → cause ≡ flush_fault_of fault → LeftBy cause mid t
       → ReadyTurn s payload (Err cause) t
   not_sealed fault cause t sealed is_told left =
       subst (λ c. ReadyTurn s payload (Err c) t) (sym is_told) (by_cause fault sealed (subst (λ c. LeftBy c mid t) is_told left))
     where
-      by_cause : (fault : LogFault) → FillTurn s filled (Err fault) mid → LeftBy (told fault) mid t → ReadyTurn s payload (Err (told fault)) t
+      by_cause : (fault : LogFault) → FillTurn s filled (Err fault) mid → LeftBy (flush_fault_of fault) mid t → ReadyTurn s payload (Err (flush_fault_of fault)) t
       by_cause log_faults.Memory sealed left = refused (flush_faults.Memory 0) mid t (inl (log_faults.Memory, refl, sealed)) left
       by_cause log_faults.Disk sealed left = refused flush_faults.Disk mid t (inl (log_faults.Disk, refl, sealed)) left
       by_cause log_faults.Failed sealed left = refused flush_faults.Odd mid t (inl (log_faults.Failed, refl, sealed)) left
@@ -111,14 +111,14 @@ module _ (s mid : State) (size : ℕ) (filled : Option ℕ) (is : IsToFill s siz
 
   -- or since the next one was not made
   pub not_made : FillTurn s filled (Ok tt) mid → (fault : MakeFault) (cause : FlushFault) (after t : State) → MakeTurn mid Writing (Err fault) after
-      → cause ≡ told_made fault → LeftBy cause after t → ReadyTurn s payload (Err cause) t
+      → cause ≡ flush_fault_of_make fault → LeftBy cause after t → ReadyTurn s payload (Err cause) t
   not_made sealed fault cause after t made is_told left =
       subst (λ c. ReadyTurn s payload (Err c) t) (sym is_told) (by_cause fault made (subst (λ c. LeftBy c after t) is_told left))
     where
       still : MayMake mid
       still = still_may s mid filled sealed may
 
-      by_cause : (fault : MakeFault) → MakeTurn mid Writing (Err fault) after → LeftBy (told_made fault) after t → ReadyTurn s payload (Err (told_made fault)) t
+      by_cause : (fault : MakeFault) → MakeTurn mid Writing (Err fault) after → LeftBy (flush_fault_of_make fault) after t → ReadyTurn s payload (Err (flush_fault_of_make fault)) t
       by_cause makes.LogsFull made left = let room = still.room in let full = made.0 in absurd (omega (arith, room, full))
       by_cause makes.NoMoreIds made left = let id = still.id in let past = made.1 in absurd (omega (arith, id, past))
       by_cause makes.Memory made left = refused (flush_faults.Memory 0) after t (inr (mid, sealed, (makes.Memory, refl, made))) left

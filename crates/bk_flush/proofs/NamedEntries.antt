@@ -14,19 +14,18 @@ use Rattle.bk_record.proofs.SortedPairs.{find_at}
 use Rattle.bk_cache.specs.Caches.{CacheState, flush_of}
 use Rattle.bk_cache.specs.Recents.{Recents}
 use Rattle.bk_store.specs.State.{State}
-use Rattle.bk_store.specs.Meaning.{MeansTheSame}
+use Rattle.bk_store.specs.Meaning.{MeansTheSame, KeepsMeaning}
 use Rattle.bk_store.specs.Doors.{IsRecentAfter, MayName, NameTurn, ShowsAll}
 use Rattle.bk_store.proofs.KeyMaps.{inserted_here, get-insert_other}
 use Rattle.bk_store.proofs.Noted.{sorted_front}
 use Rattle.bk_flush.specs.Flushing.{NamesFirst, Remembers, first_places}
-use Rattle.bk_flush.specs.Meaning.{Stays}
 use Rattle.bk_flush.specs.Showing.{AllShown}
 use Rattle.bk_flush.proofs.NextLogs.{place_at, places_sorted}
 
 -- so many entries are named
 pub record IsNaming (s : State) (n : ℕ) (t : State) : Type 0 where
   pub named : NamesFirst n s t
-  pub stays : Stays s t
+  pub stays : KeepsMeaning s t
 
 -- ---- the first pairs of a list
 

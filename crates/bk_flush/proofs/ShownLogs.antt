@@ -6,16 +6,15 @@ use Rattle.bk_record.specs.Key.{EntryKey}
 use Rattle.bk_record.specs.Location.{Place}
 use Rattle.bk_log.specs.declared.fault.LogFault.{LogFault}
 use Rattle.bk_log.specs.declared.fault.LogFault.TheVariants as log_faults
-use Rattle.bk_store.specs.Entries.{Places}
+use Rattle.bk_record.specs.Keyed.{Places}
 use Rattle.bk_store.specs.Logs.{Log, Logs, IsFlushLog, is_open, with_view}
 use Rattle.bk_store.specs.State.{State}
 use Rattle.bk_store.specs.Plain.{IsKept}
-use Rattle.bk_store.specs.Meaning.{MeansTheSame}
+use Rattle.bk_store.specs.Meaning.{MeansTheSame, KeepsMeaning}
 use Rattle.bk_store.specs.Doors.{MayShow, ShowTurn}
 use Rattle.bk_store.proofs.LogMaps.{log-inserted, log-insert_else}
 use Rattle.bk_store.proofs.KeptJob.{flush_idle}
-use Rattle.bk_flush.specs.Flushing.{HasPlace, IsShown, ShowsThose, ShowsPlaced, StopsShowing, told}
-use Rattle.bk_flush.specs.Meaning.{Stays}
+use Rattle.bk_flush.specs.Flushing.{HasPlace, IsShown, ShowsThose, ShowsPlaced, StopsShowing, flush_fault_of}
 use Rattle.bk_flush.specs.Showing.{AllShown, ShowsLogs}
 use Rattle.bk_flush.specs.declared.answer.FlushFault.{FlushFault}
 use Rattle.bk_flush.proofs.NextLogs.{IsNextLog}
@@ -24,7 +23,7 @@ use Rattle.bk_flush.proofs.NextLogs.{IsNextLog}
 pub record IsShowing (s : State) (from : ℕ) (t : State) : Type 0 where
   pub shown : ShowsThose (λ id. HasPlace s id × (id < from)) s t
   pub failures : t.failures ≡ s.failures
-  pub stays : Stays s t
+  pub stays : KeepsMeaning s t
 
 -- a log that a flush wrote is one that keys may be sent to
 flush_log_open : (logs : Logs) (id : ℕ) → IsFlushLog logs id → (log : Log) × (finite.get logs id ≡ Some log) × (is_open log.state ≡ true)
@@ -147,10 +146,10 @@ module _ (s t : State) (from : ℕ) (is : IsShowing s from t) where
         let none : t.failures ≡ t.failures + 0 = omega arith in
         stops u 0 files (left ∙ ap (λ n. record t { files = u.files; failures = n }) none)
 
-    pub not_shown : (cause : LogFault) (fault : FlushFault) (u : State) → ShowTurn t log (Err cause) u → fault ≡ told cause → ShowsLogs s (Err fault) u
+    pub not_shown : (cause : LogFault) (fault : FlushFault) (u : State) → ShowTurn t log (Err cause) u → fault ≡ flush_fault_of cause → ShowsLogs s (Err fault) u
     not_shown cause fault u turn is_told = subst (λ f. ShowsLogs s (Err f) u) (sym is_told) (by_cause cause turn)
       where
-        by_cause : (cause : LogFault) → ShowTurn t log (Err cause) u → ShowsLogs s (Err (told cause)) u
+        by_cause : (cause : LogFault) → ShowTurn t log (Err cause) u → ShowsLogs s (Err (flush_fault_of cause)) u
         by_cause log_faults.Disk turn = stops u 1 turn.0 turn.1
         by_cause log_faults.Memory turn = (refl, stops_even u turn.0 turn.1)
         by_cause log_faults.Odd turn =

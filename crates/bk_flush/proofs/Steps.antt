@@ -7,15 +7,14 @@ use Rattle.bk_log.specs.declared.fault.LogFault.{LogFault}
 use Rattle.bk_log.specs.declared.fault.LogFault.TheVariants as log_faults
 use Rattle.bk_cache.specs.Caches.{CacheState, flush_of}
 use Rattle.bk_store.specs.State.{State}
-use Rattle.bk_store.specs.Meaning.{MeansTheSame}
+use Rattle.bk_store.specs.Meaning.{MeansTheSame, KeepsMeaning}
 use Rattle.bk_store.specs.Doors.{IsNext, WriteTurn}
-use Rattle.bk_flush.specs.Flushing.{LeftBy, ReadyTurn, StepTurn, told}
-use Rattle.bk_flush.specs.Meaning.{Stays}
+use Rattle.bk_flush.specs.Flushing.{LeftBy, ReadyTurn, StepTurn, flush_fault_of}
 use Rattle.bk_flush.specs.declared.answer.WriteAnswer.TheVariants as writes
 use Rattle.bk_flush.specs.declared.answer.FlushFault.{FlushFault}
 
 -- what stays in one call and in the next stays in both
-pub stays_on : (s t u : State) → Stays s t → Stays t u → Stays s u
+pub stays_on : (s t u : State) → KeepsMeaning s t → KeepsMeaning t u → KeepsMeaning s u
 stays_on s t u one two = record {
   honest = two.honest ∙ one.honest;
   meaning = λ honest key. two.meaning (one.honest ∙ honest) key ∙ one.meaning honest key;
@@ -36,7 +35,7 @@ module _ (s mid t : State) (key : EntryKey) (payload : List ℕ) (size id : ℕ)
   written : WriteTurn mid id key payload result t
   written = wrote payload (ap (λ (c : CacheState). finite.get (flush_of c) key) caches ∙ next.flushing)
 
-  pub write_stays : Stays s mid → (IsTrue mid.honest → MeansTheSame mid t) → Stays s t
+  pub write_stays : KeepsMeaning s mid → (IsTrue mid.honest → MeansTheSame mid t) → KeepsMeaning s t
   write_stays so_far meaning = stays_on s mid t so_far (record { honest = written_honest mid t id key payload result written; meaning = meaning })
 
 module _ (s mid t : State) (key : EntryKey) (payload : List ℕ) (size id : ℕ) (next : IsNext s key payload) (long : size ≡ length payload)
@@ -50,7 +49,7 @@ module _ (s mid t : State) (key : EntryKey) (payload : List ℕ) (size id : ℕ)
   -- or it was not
   pub unput_step : (cause : LogFault) (fault : FlushFault) (u : State)
       → ((payload : List ℕ) → finite.get (flush_of mid.caches) key ≡ Some payload → WriteTurn mid id key payload (Err cause) t)
-      → fault ≡ told cause → LeftBy fault t u → StepTurn s (Err fault) u
+      → fault ≡ flush_fault_of cause → LeftBy fault t u → StepTurn s (Err fault) u
   unput_step cause fault u wrote told_so left = (
     key,
     (

@@ -5,13 +5,12 @@ use Rattle.std.specs.FinMap as finite
 use Rattle.bk_record.specs.Key.{EntryKey, key_cmp}
 use Rattle.bk_record.specs.Location.{Place}
 use Rattle.bk_record.specs.Scan.{Payloads}
-use Rattle.bk_disk.specs.Disk.{IsCaused as IsDeviceCaused}
+use Rattle.bk_disk.specs.Disk.{IsCaused}
 use Rattle.bk_log.specs.Writing as writers
 use Rattle.bk_log.specs.declared.fault.LogFault.{LogFault}
 use Rattle.bk_log.specs.declared.fault.LogFault.TheVariants as log_faults
 use Rattle.bk_cache.specs.Caches.{flush_of}
 use Rattle.bk_cache.specs.Recents.{Recents}
-use Rattle.bk_store.specs.Entries.{Places}
 use Rattle.bk_store.specs.Logs.{View, Log, with_view}
 use Rattle.bk_store.specs.State.{State}
 use Rattle.bk_store.specs.Doors.{MayMake, MakeTurn, IsIn, HasNoWriting, IsWriter, WriteTurn, Seals, IsNext, AllPlaced, IsRecentAfter, Restarts, Ends}
@@ -30,23 +29,23 @@ use Rattle.bk_flush.specs.declared.answer.FlushFault.TheVariants as flush_faults
 -- ---- faults
 
 -- the device failed in a call exactly where the call is answered by `Disk`, and then once
-abbrev pub IsCaused : {T : Type 0} → State → Result T FlushFault → State → Type 0
-IsCaused s result t = IsDeviceCaused s.failures t.failures (IsErrOf result flush_faults.Disk)
+abbrev pub TellsItsCause : {T : Type 0} → State → Result T FlushFault → State → Type 0
+TellsItsCause s result t = IsCaused s.failures t.failures (IsErrOf result flush_faults.Disk)
 
 -- a fault of a log, as a flush tells it
-abbrev pub told : LogFault → FlushFault
-told log_faults.Memory = flush_faults.Memory 0
-told log_faults.Disk = flush_faults.Disk
-told log_faults.Failed = flush_faults.Odd
-told log_faults.Odd = flush_faults.Odd
+abbrev pub flush_fault_of : LogFault → FlushFault
+flush_fault_of log_faults.Memory = flush_faults.Memory 0
+flush_fault_of log_faults.Disk = flush_faults.Disk
+flush_fault_of log_faults.Failed = flush_faults.Odd
+flush_fault_of log_faults.Odd = flush_faults.Odd
 
 -- and a fault of the making of a log
-abbrev pub told_made : MakeFault → FlushFault
-told_made makes.LogsFull = flush_faults.LogsFull
-told_made makes.NoMoreIds = flush_faults.NoMoreIds
-told_made makes.Memory = flush_faults.Memory 0
-told_made makes.Disk = flush_faults.Disk
-told_made makes.Odd = flush_faults.Odd
+abbrev pub flush_fault_of_make : MakeFault → FlushFault
+flush_fault_of_make makes.LogsFull = flush_faults.LogsFull
+flush_fault_of_make makes.NoMoreIds = flush_faults.NoMoreIds
+flush_fault_of_make makes.Memory = flush_faults.Memory 0
+flush_fault_of_make makes.Disk = flush_faults.Disk
+flush_fault_of_make makes.Odd = flush_faults.Odd
 
 -- What a fault of a write leaves of the flush: after one of the device it starts again, after any other it stands as it stood.
 abbrev pub LeftBy : FlushFault → State → State → Type 0
@@ -63,7 +62,7 @@ abbrev pub is_filled : ℕ → writers.Writing → List ℕ → Bool
 is_filled limit w payload = nat_lt 0 w.count && nat_lt limit (w.end + 4 + length payload)
 
 -- the log that flushes write, which is filled for this payload, or is not
-pub record Writes (s : State) (id : ℕ) (payload : List ℕ) (filled : Bool) : Type 0 where
+pub record WritesInto (s : State) (id : ℕ) (payload : List ℕ) (filled : Bool) : Type 0 where
   pub log : Log
   pub w : writers.Writing
   pub writer : IsWriter s id log w
@@ -73,7 +72,7 @@ pub record Writes (s : State) (id : ℕ) (payload : List ℕ) (filled : Bool) : 
 -- a new log is needed for this payload: none is Writing, or the one that is, is filled
 abbrev pub NeedsLog : State → List ℕ → Option ℕ → Type 0
 NeedsLog s payload None = HasNoWriting s
-NeedsLog s payload (Some id) = Writes s id payload true
+NeedsLog s payload (Some id) = WritesInto s id payload true
 
 -- the log that is filled, if there is one, is sealed
 abbrev pub FillTurn : State → Option ℕ → Result (Unit {0}) LogFault → State → Type 0
@@ -92,8 +91,8 @@ pub record NewLog (s : State) (payload : List ℕ) (id : ℕ) (t : State) : Type
 
 -- the sealing of the one was refused so, or the making of the next
 abbrev pub IsRefused : State → Option ℕ → FlushFault → State → Type 0
-IsRefused s filled fault t = ((cause : LogFault) × (fault ≡ told cause) × FillTurn s filled (Err cause) t)
-    ⊎ ((mid : State) × FillTurn s filled (Ok tt) mid × ((cause : MakeFault) × (fault ≡ told_made cause) × MakeTurn mid Writing (Err cause) t))
+IsRefused s filled fault t = ((cause : LogFault) × (fault ≡ flush_fault_of cause) × FillTurn s filled (Err cause) t)
+    ⊎ ((mid : State) × FillTurn s filled (Ok tt) mid × ((cause : MakeFault) × (fault ≡ flush_fault_of_make cause) × MakeTurn mid Writing (Err cause) t))
 
 -- no log was made ready, for this fault
 pub record NoNewLog (s : State) (payload : List ℕ) (fault : FlushFault) (t : State) : Type 0 where
@@ -107,7 +106,7 @@ pub record NoNewLog (s : State) (payload : List ℕ) (fault : FlushFault) (t : S
 -- A log that takes this payload is found or made; a full table of logs is told before used-up ids, and both before
 -- anything is done.
 abbrev pub ReadyTurn : State → List ℕ → Result ℕ FlushFault → State → Type 0
-ReadyTurn s payload (Ok id) t = (Writes s id payload false × (t ≡ s)) ⊎ NewLog s payload id t
+ReadyTurn s payload (Ok id) t = (WritesInto s id payload false × (t ≡ s)) ⊎ NewLog s payload id t
 ReadyTurn s payload (Err flush_faults.LogsFull) t = (filled : Option ℕ) × NeedsLog s payload filled × (s.settings.slots ≤ finite.len s.logs) × (t ≡ s)
 ReadyTurn s payload (Err flush_faults.NoMoreIds) t = (filled : Option ℕ) × NeedsLog s payload filled
     × (finite.len s.logs < s.settings.slots) × (2 ^ 31 ≤ s.next) × (t ≡ s)
@@ -130,7 +129,7 @@ pub record NotPut (s : State) (payload : List ℕ) (key : EntryKey) (fault : Flu
   pub mid : State
   pub ready : ReadyTurn s payload (Ok log) mid
   pub cause : LogFault
-  pub told_so : fault ≡ told cause
+  pub told_so : fault ≡ flush_fault_of cause
   pub refused : State
   pub put : WriteTurn mid log key payload (Err cause) refused
   pub left : LeftBy fault refused t
@@ -227,4 +226,4 @@ RollTurn s (Ok rolls.FlushRunning) t = IsSome s.caches.flush × (t ≡ s)
 RollTurn s (Ok rolls.NothingOpen) t = (s.caches.flush ≡ None) × HasNoWriting s × (t ≡ s)
 RollTurn s (Ok (rolls.Sealed id)) t = (s.caches.flush ≡ None) × IsIn s id Writing × Seals s id Readable (Ok tt) t
 RollTurn s (Err fault) t = (s.caches.flush ≡ None) × ((id : ℕ) × ((cause : LogFault) × IsIn s id Writing
-    × (fault ≡ told cause) × Seals s id Readable (Err cause) t))
+    × (fault ≡ flush_fault_of cause) × Seals s id Readable (Err cause) t))

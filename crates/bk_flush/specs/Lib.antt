@@ -1,3 +1,2 @@
 pub mod Flushing
-pub mod Meaning
 pub mod Showing

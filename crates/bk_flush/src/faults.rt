@@ -1,8 +1,8 @@
 //! What a fault of a log means for a flush.
 
 ghost use Rattle.std.specs.Prelude.{◌≡◌};
-ghost use Rattle.bk_flush.specs.Flushing.{told, told_made, LeftBy};
-ghost use Rattle.bk_flush.specs.Meaning.{Stays};
+ghost use Rattle.bk_flush.specs.Flushing.{flush_fault_of, flush_fault_of_make, LeftBy};
+ghost use Rattle.bk_store.specs.Meaning.{KeepsMeaning};
 
 use crate::FlushFault;
 use bk_disk::LogDisk;
@@ -11,7 +11,7 @@ use bk_store::{MakeFault, Store};
 
 /// A fault of a log, as a flush tells it.
 pub(crate) fn fault_of_log(fault: LogFault) -> FlushFault
-    ensures { result ≡ told fault }
+    ensures { result ≡ flush_fault_of fault }
 {
     match fault {
         LogFault::Memory => FlushFault::Memory { done: 0 },
@@ -22,9 +22,9 @@ pub(crate) fn fault_of_log(fault: LogFault) -> FlushFault
 
 /// What a fault of a log means for the flush that writes it: but for want of memory, it starts again.
 pub(crate) fn flush_fault<D: LogDisk>(store: &mut Store<D>, fault: LogFault) -> FlushFault
-    ensures value { result ≡ told fault }
+    ensures value { result ≡ flush_fault_of fault }
     ensures left { LeftBy result store.old store.new }
-    ensures stays { Stays store.old store.new }
+    ensures stays { KeepsMeaning store.old store.new }
 {
     match fault {
         LogFault::Memory => {}
@@ -35,9 +35,9 @@ pub(crate) fn flush_fault<D: LogDisk>(store: &mut Store<D>, fault: LogFault) -> 
 
 /// What a fault of the making of a log means for the flush.
 pub(crate) fn making_fault<D: LogDisk>(store: &mut Store<D>, fault: MakeFault) -> FlushFault
-    ensures value { result ≡ told_made fault }
+    ensures value { result ≡ flush_fault_of_make fault }
     ensures left { LeftBy result store.old store.new }
-    ensures stays { Stays store.old store.new }
+    ensures stays { KeepsMeaning store.old store.new }
 {
     match fault {
         MakeFault::LogsFull => FlushFault::LogsFull,

@@ -5,9 +5,8 @@
 //! publish does the rest.
 
 ghost use Rattle.std.specs.Prelude.{◌≡◌, IsTrue, OnOk};
-ghost use Rattle.bk_store.specs.Meaning.{MeansTheSame};
-ghost use Rattle.bk_flush.specs.Flushing.{IsCaused, PublishTurn};
-ghost use Rattle.bk_flush.specs.Meaning.{Stays};
+ghost use Rattle.bk_store.specs.Meaning.{MeansTheSame, KeepsMeaning};
+ghost use Rattle.bk_flush.specs.Flushing.{TellsItsCause, PublishTurn};
 ghost use Rattle.bk_flush.specs.Showing.{AllShown, NamesEntries, ShowsLogs};
 
 use crate::faults::fault_of_log;
@@ -23,7 +22,7 @@ use bk_store::Store;
 /// runs, with all its entries, and a later publish may end it.
 pub fn publish<D: LogDisk>(store: &mut Store<D>) -> Result<PublishAnswer, FlushFault>
     ensures turn { PublishTurn store.old result store.new }
-    ensures cause { IsCaused store.old result store.new }
+    ensures cause { TellsItsCause store.old result store.new }
     ensures honest { store.new.honest ≡ store.old.honest }
     ensures meaning { IsTrue store.old.honest → MeansTheSame store.old store.new }
 {
@@ -46,7 +45,7 @@ pub fn publish<D: LogDisk>(store: &mut Store<D>) -> Result<PublishAnswer, FlushF
 fn show_logs<D: LogDisk>(store: &mut Store<D>) -> Result<(), FlushFault>
     ensures turn { ShowsLogs store.old result store.new }
     ensures shown { OnOk result (AllShown store.new) }
-    ensures stays { Stays store.old store.new }
+    ensures stays { KeepsMeaning store.old store.new }
 {
     store.promise();
     let mut from = 0;
@@ -71,7 +70,7 @@ fn show_logs<D: LogDisk>(store: &mut Store<D>) -> Result<(), FlushFault>
 fn name_entries<D: LogDisk>(store: &mut Store<D>) -> Result<(), FlushFault>
     requires { AllShown store.old }
     ensures turn { NamesEntries store.old result store.new }
-    ensures stays { Stays store.old store.new }
+    ensures stays { KeepsMeaning store.old store.new }
 {
     for number in 0..store.placed_len() {
         let Some((key, place)) = store.placed(number) else {

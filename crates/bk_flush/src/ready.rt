@@ -3,8 +3,8 @@
 ghost use Rattle.std.specs.Prelude.{◌≡◌, ◌≤◌, ℕ, List, length, false, IfOk, OnOk};
 ghost use Rattle.bk_store.specs.Doors.{CanTake, IsIn};
 ghost use Rattle.bk_store.specs.declared.log.LogState.TheVariants.{Writing};
-ghost use Rattle.bk_flush.specs.Flushing.{ReadyTurn, Writes};
-ghost use Rattle.bk_flush.specs.Meaning.{Stays};
+ghost use Rattle.bk_flush.specs.Flushing.{ReadyTurn, WritesInto};
+ghost use Rattle.bk_store.specs.Meaning.{KeepsMeaning};
 
 use crate::FlushFault;
 use crate::faults::{flush_fault, making_fault};
@@ -19,7 +19,7 @@ pub(crate) fn ready<D: LogDisk>(store: &mut Store<D>, size: usize) -> Result<u32
     ensures takes { (payload : List ℕ) → length payload ≡ size → IfOk result (λ log. CanTake store.new log Writing payload) }
     ensures caches { OnOk result (store.new.caches ≡ store.old.caches) }
     ensures places { OnOk result (store.new.places ≡ store.old.places) }
-    ensures stays { Stays store.old store.new }
+    ensures stays { KeepsMeaning store.old store.new }
 {
     let filled = match store.writing() {
         Some(log) if !is_filled(store, log, size) => return Ok(log),
@@ -44,7 +44,7 @@ pub(crate) fn ready<D: LogDisk>(store: &mut Store<D>, size: usize) -> Result<u32
 fn is_filled<D: LogDisk>(store: &Store<D>, log: u32, size: usize) -> bool
     requires writing { IsIn store.now log Writing }
     requires size { size ≤ 1048576 }
-    ensures writes { (payload : List ℕ) → length payload ≡ size → Writes store.now log payload result }
+    ensures writes { (payload : List ℕ) → length payload ≡ size → WritesInto store.now log payload result }
     ensures takes { result ≡ false → (payload : List ℕ) → length payload ≡ size → CanTake store.now log Writing payload }
 {
     store.promise();

@@ -2,7 +2,7 @@
 
 ghost use Rattle.std.specs.Prelude.{◌≡◌, IsTrue};
 ghost use Rattle.bk_store.specs.Meaning.{MeansTheSame};
-ghost use Rattle.bk_flush.specs.Flushing.{IsCaused, RollTurn};
+ghost use Rattle.bk_flush.specs.Flushing.{TellsItsCause, RollTurn};
 
 use crate::faults::fault_of_log;
 use crate::{FlushFault, RollAnswer};
@@ -16,7 +16,7 @@ use bk_store::{LogState, Store};
 /// honest one does. After each the log is written no more, and it may have no ledgers map.
 pub fn roll<D: LogDisk>(store: &mut Store<D>) -> Result<RollAnswer, FlushFault>
     ensures turn { RollTurn store.old result store.new }
-    ensures cause { IsCaused store.old result store.new }
+    ensures cause { TellsItsCause store.old result store.new }
     ensures honest { store.new.honest ≡ store.old.honest }
     ensures meaning { IsTrue store.old.honest → MeansTheSame store.old store.new }
 {

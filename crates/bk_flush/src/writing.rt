@@ -6,7 +6,7 @@
 ghost use Rattle.std.specs.Prelude.{◌≡◌, IsTrue};
 ghost use Rattle.bk_store.specs.Meaning.{MeansTheSame};
 ghost use Rattle.bk_store.specs.Turns.{SwapTurn};
-ghost use Rattle.bk_flush.specs.Flushing.{IsCaused, StepTurn};
+ghost use Rattle.bk_flush.specs.Flushing.{TellsItsCause, StepTurn};
 
 use crate::faults::flush_fault;
 use crate::ready::ready;
@@ -31,7 +31,7 @@ pub fn swap<D: LogDisk>(store: &mut Store<D>) -> SwapAnswer
 /// again in another log.
 pub fn write_one<D: LogDisk>(store: &mut Store<D>) -> Result<WriteAnswer, FlushFault>
     ensures turn { StepTurn store.old result store.new }
-    ensures cause { IsCaused store.old result store.new }
+    ensures cause { TellsItsCause store.old result store.new }
     ensures honest { store.new.honest ≡ store.old.honest }
     ensures meaning { IsTrue store.old.honest → MeansTheSame store.old store.new }
 {

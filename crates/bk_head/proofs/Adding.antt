@@ -16,7 +16,7 @@ use Rattle.bk_head.specs.declared.fault.HeadFault.{HeadFault}
 use Rattle.bk_head.specs.declared.fault.HeadFault.TheVariants.{BadMagic, Version, Negative, NotAMap, MapLength, Repeated, CountDiffers, Memory}
 use Rattle.bk_head.specs.Ledgers.{LedgersMap, pair_bytes, IsPair, ledgers_of, AreDistinct}
 use Rattle.bk_head.specs.Faults.{ReachesPair, ReachesNew, PairFault, OrMemory}
-use Rattle.bk_head.specs.Parts.{Adds, PairRefusal}
+use Rattle.bk_head.specs.Parts.{AddsPairs, PairRefusal}
 use Rattle.bk_record.specs.Spelling.{IsBytes}
 use Rattle.bk_head.proofs.Bytes.{big_number-8, from_be_bytes-take-8}
 use Rattle.bk_head.proofs.Distinct.{AreDistinct-push, ledgers_of-append, In-from_find, find_none}
@@ -67,7 +67,7 @@ found_in pairs m ledger is = ap (λ (x : LedgersMap). ledgers.get x ledger) is �
 -- one more pair, with a new ledger
 pub adds_more : (before : List (ℕ × ℕ)) (at : ℕ) (bytes : List ℕ) (m n : LedgersMap) (p : ℕ × ℕ) → at + 16 ≤ length bytes → pair_bytes p
     ≡ take 16 (drop at bytes)
-    → Adds before (take at bytes) m → IsPair p → ledgers.get m p.0 ≡ None → n ≡ ledgers.insert m p.0 p.1 → Adds before (take (at + 16) bytes) n
+    → AddsPairs before (take at bytes) m → IsPair p → ledgers.get m p.0 ≡ None → n ≡ ledgers.insert m p.0 p.1 → AddsPairs before (take (at + 16) bytes) n
 adds_more before at bytes m n p long is a good new added =
     let none : find nat_cmp p.0 (before ++ a.good) ≡ None = sym (found_in (before ++ a.good) m p.0 a.map_is) ∙ new in
     let joined : (before ++ a.good) ++ p ∷ [] ≡ before ++ (a.good ++ p ∷ []) = append_assoc before a.good (p ∷ []) in
@@ -90,7 +90,7 @@ some_of None h = absurd cc
 some_of (Some v) h = (v, refl)
 
 reaches : (before : List (ℕ × ℕ)) (at left : ℕ) (bytes : List ℕ) (m : LedgersMap) (p : ℕ × ℕ) → IsBytes bytes → at + 16 + 16 * left ≡ length bytes
-    → pair_bytes p ≡ take 16 (drop at bytes) → IsNumbers p → (a : Adds before (take at bytes) m) → ReachesPair before bytes a.good p
+    → pair_bytes p ≡ take 16 (drop at bytes) → IsNumbers p → (a : AddsPairs before (take at bytes) m) → ReachesPair before bytes a.good p
 reaches before at left bytes m p each long is numbers a =
     let rest = spelled left (drop (at + 16) bytes) (bytes_drop (at + 16) bytes each) (omega (arith, length-drop (at + 16) bytes)) in
     record {
@@ -108,7 +108,7 @@ reaches before at left bytes m p each long is numbers a =
 -- a pair that can't be added is the first such one
 pub refused : (before : List (ℕ × ℕ)) (at left : ℕ) (bytes : List ℕ) (m : LedgersMap) (p : ℕ × ℕ) (fault : HeadFault) → IsBytes bytes
     → at + 16 + 16 * left ≡ length bytes
-    → pair_bytes p ≡ take 16 (drop at bytes) → IsNumbers p → Adds before (take at bytes) m
+    → pair_bytes p ≡ take 16 (drop at bytes) → IsNumbers p → AddsPairs before (take at bytes) m
     → OrMemory fault (IsPair p × (ledgers.get m p.0 ≡ None)) (PairRefusal m p fault) → OrMemory fault (ReachesNew before bytes) (PairFault before bytes fault)
 refused before at left bytes m p Memory each long is numbers a h =
     let new = find_none p.0 (before ++ a.good) (sym (found_in (before ++ a.good) m p.0 a.map_is) ∙ h.1) in
@@ -127,8 +127,8 @@ refused before at left bytes m p (MapLength place) each long is numbers a h = h
 refused before at left bytes m p (CountDiffers found) each long is numbers a h = h
 
 -- more pairs behind those that were added
-pub adds_then : (before : List (ℕ × ℕ)) (bytes piece : List ℕ) (m n : LedgersMap) → (a : Adds before bytes m) → Adds (before ++ a.good) piece n
-    → Adds before (bytes ++ piece) n
+pub adds_then : (before : List (ℕ × ℕ)) (bytes piece : List ℕ) (m n : LedgersMap) → (a : AddsPairs before bytes m) → AddsPairs (before ++ a.good) piece n
+    → AddsPairs before (bytes ++ piece) n
 adds_then before bytes piece m n a b =
     let joined : (before ++ a.good) ++ b.good ≡ before ++ (a.good ++ b.good) = append_assoc before a.good b.good in
     record {

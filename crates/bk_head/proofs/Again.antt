@@ -3,7 +3,7 @@ use Rattle.std.proofs.Common.{◌≡◌, ℕ, ◌+◌, ◌≤◌, pos, true, fal
 use Rattle.std.specs.FinMap as ledgers
 use Rattle.std.proofs.lemmas.Bool.{ne_eqb, le-leb}
 use Rattle.bk_head.specs.declared.header.Header.{Header}
-use Rattle.bk_head.specs.Header.{IsHeader, head_of, patch_of, patched, empty_header}
+use Rattle.bk_head.specs.Header.{IsHeader, head_of, patch_of, patched_header, empty_header}
 use Rattle.bk_head.specs.Ledgers.{LedgersMap}
 use Rattle.bk_head.specs.Reading.{MapAnswer}
 use Rattle.bk_head.specs.Written.{written_map, IsWritable}
@@ -20,7 +20,7 @@ read_again map offset writable low =
     rw (some, from, to) (written_spells map writable, refl)
 
 pub patched_again : (bytes : List ℕ) (header : Header) (offset count : ℕ) → IsHeader bytes header
-    → IsHeader (patched bytes offset count) (record { version = 1; map_offset = pos offset; count = pos count })
+    → IsHeader (patched_header bytes offset count) (record { version = 1; map_offset = pos offset; count = pos count })
 unfolding head_of
 patched_again bytes header offset count is = record {
   rest = drop 20 bytes;

@@ -12,7 +12,7 @@ use Rattle.bk_record.proofs.Records.{bytes_drop, drop_field}
 use Rattle.bk_record.proofs.Pieces.{length-payload, begins_with_field}
 use Rattle.bk_head.specs.Ledgers.{batch_ids}
 use Rattle.bk_head.specs.Faults.{IsForMap, IsSized, HasPairs}
-use Rattle.bk_head.specs.Parts.{IsShown, IsSizedBatch}
+use Rattle.bk_head.specs.Parts.{IsFrontOf, IsSizedBatch}
 use Rattle.bk_head.proofs.Bytes.{big_number-4, from_be_bytes-take-4, front_4}
 use Rattle.bk_head.proofs.BatchBytes.{is_for_map, is_asked, not_sized, has_pairs}
 use Rattle.bk_head.proofs.RecordBytes.{Begins-field, Begins-long}
@@ -25,15 +25,15 @@ field_shown bytes head n is read =
     ∙ ap (from_be_bytes w32) (take-take 4 24 bytes (omega arith)) ∙ from_be_bytes-take-4 bytes
 
 -- a record that begins here has the length that was read
-pub length_told : (bytes head payload : List ℕ) (left n : ℕ) → IsShown head left bytes → n ≡ big_number 4 head → BeginsWith bytes payload → n ≡ length payload
+pub length_told : (bytes head payload : List ℕ) (left n : ℕ) → IsFrontOf head left bytes → n ≡ big_number 4 head → BeginsWith bytes payload → n ≡ length payload
 length_told bytes head payload left n shown read s = field_shown bytes head n shown.1 read ∙ Begins-field bytes payload s
 
 -- fewer bytes than a record's length field and its ids
-pub no_room : (bytes head payload : List ℕ) (left : ℕ) → IsShown head left bytes → left < 20 → BeginsWith bytes payload → ⊥
+pub no_room : (bytes head payload : List ℕ) (left : ℕ) → IsFrontOf head left bytes → left < 20 → BeginsWith bytes payload → ⊥
 no_room bytes head payload left shown few s = omega (arith, shown.0, Begins-long bytes payload s, s.legal.0)
 
 -- more bytes than are left
-pub no_end : (bytes head payload : List ℕ) (left n : ℕ) → IsShown head left bytes → n ≡ big_number 4 head → left - 4 < n → BeginsWith bytes payload → ⊥
+pub no_end : (bytes head payload : List ℕ) (left n : ℕ) → IsFrontOf head left bytes → n ≡ big_number 4 head → left - 4 < n → BeginsWith bytes payload → ⊥
 no_end bytes head payload left n shown read more s =
     omega (arith, shown.0, Begins-long bytes payload s, length_told bytes head payload left n shown read s)
 
@@ -57,7 +57,7 @@ no_ids bytes head payload ids r is ids-are asked not s for_map =
 
 -- ---- a record with these ids
 
-pub batch_begins : (bytes head ids : List ℕ) (left n : ℕ) (r : Bool) → IsBytes head → length head ≡ min 24 left → IsShown head left bytes → 20 ≤ left
+pub batch_begins : (bytes head ids : List ℕ) (left n : ℕ) (r : Bool) → IsBytes head → length head ≡ min 24 left → IsFrontOf head left bytes → 20 ≤ left
     → n ≡ big_number 4 head → 16 ≤ n → n ≤ 2147483647 → n ≤ left - 4 → ids ≡ batch_ids → r ≡ starts_with eqb (drop 4 head) ids → r ≡ true
     → IsSizedBatch n bytes
 batch_begins bytes head ids left n r each many shown enough read low high fits ids-are asked same =
@@ -94,7 +94,7 @@ count_told bytes head payload n is s long read =
     ∙ from_be_bytes-take-4 (drop 16 payload)
 
 -- a length that its count does not want
-pub other_length : (bytes head : List ℕ) (left size n : ℕ) → IsShown head left bytes → (b : IsSizedBatch size bytes) → 20 ≤ size → n < 2 ^ 32
+pub other_length : (bytes head : List ℕ) (left size n : ℕ) → IsFrontOf head left bytes → (b : IsSizedBatch size bytes) → 20 ≤ size → n < 2 ^ 32
     → n ≡ big_number 4 (drop 20 head) → size - 20 ≢ 16 * n
     → (payload : List ℕ) × (BeginsWith bytes payload × (IsForMap payload × ¬ (IsSized payload)))
 other_length bytes head left size n shown b long fits read other =
@@ -102,7 +102,7 @@ other_length bytes head left size n shown b long fits read other =
     (b.payload, (b.begins, (b.for_map, not_sized b.payload n fits count (λ e. other (omega (arith, e, b.size_is))))))
 
 -- the length that its count wants
-pub right_length : (bytes head : List ℕ) (left size n : ℕ) → IsBytes head → length head ≡ min 24 left → IsShown head left bytes
+pub right_length : (bytes head : List ℕ) (left size n : ℕ) → IsBytes head → length head ≡ min 24 left → IsFrontOf head left bytes
     → (b : IsSizedBatch size bytes) → 20 ≤ size → size + 4 ≤ left
     → n ≡ big_number 4 (drop 20 head) → size - 20 ≡ 16 * n → HasPairs bytes (take (16 * n) (drop 24 bytes))
 right_length bytes head left size n each many shown b long fits read sized =

@@ -10,7 +10,7 @@ use Rattle.bk_head.specs.declared.fault.HeadFault.{HeadFault}
 use Rattle.bk_head.specs.declared.fault.HeadFault.TheVariants.{BadMagic, Version, Negative, NotAMap, MapLength, Repeated, CountDiffers, Memory}
 use Rattle.bk_head.specs.Ledgers.{LedgersMap, batch_ids, pair_bytes, batch_payload, batch_of, IsBatch, Batches, SpellsMap}
 use Rattle.bk_head.specs.Faults.{HasPairs, PairFault, FaultAt, FirstFault, ReachesNew, AsksForMemory, OrMemory}
-use Rattle.bk_head.specs.Parts.{Adds}
+use Rattle.bk_head.specs.Parts.{AddsPairs}
 use Rattle.bk_head.proofs.BatchBytes.{length-batch_ids}
 use Rattle.bk_head.proofs.Pairs.{length-pairs}
 use Rattle.bk_head.proofs.Adding.{take-more}
@@ -65,7 +65,7 @@ has-front tail bytes h =
     )
 
 pub spells_more : (tail bytes : List ℕ) (at : ℕ) (m n : LedgersMap) → at ≤ length tail → (s : SpellsMap (take at tail) m)
-    → HasPairs (drop at tail) bytes → Adds s.pairs bytes n
+    → HasPairs (drop at tail) bytes → AddsPairs s.pairs bytes n
     → SpellsMap (take (at + (24 + length bytes)) tail) n
 spells_more tail bytes at m n within s h a =
     let front = has-front (drop at tail) bytes h in

@@ -18,8 +18,8 @@ unfoldable pub head_of : ℕ → ℕ → List ℕ
 head_of offset count = magic ++ to_be_bytes w32 1 ++ patch_of offset count
 
 -- a log's bytes where its header was patched
-abbrev pub patched : List ℕ → ℕ → ℕ → List ℕ
-patched bytes offset count = take 8 bytes ++ patch_of offset count ++ drop 20 bytes
+abbrev pub patched_header : List ℕ → ℕ → ℕ → List ℕ
+patched_header bytes offset count = take 8 bytes ++ patch_of offset count ++ drop 20 bytes
 
 -- the header of a log without a map: nothing but its magic and version
 unfoldable pub empty_header : List ℕ

@@ -14,7 +14,7 @@ unfoldable pub batch_head : ℕ → List ℕ
 batch_head count = to_be_bytes w32 (20 + 16 * count) ++ (batch_ids ++ to_be_bytes w32 count)
 
 -- The bytes are those of pairs, none of them negative, which with the pairs before make the map, no ledger twice.
-pub record Adds (before : List (ℕ × ℕ)) (bytes : List ℕ) (map : LedgersMap) : Type 0 where
+pub record AddsPairs (before : List (ℕ × ℕ)) (bytes : List ℕ) (map : LedgersMap) : Type 0 where
   pub good : List (ℕ × ℕ)
   pub bytes_are : bytes ≡ flat_map pair_bytes good
   pub each : AllByRecursion IsPair good
@@ -28,8 +28,8 @@ PairRefusal map pair (Repeated ledger) = (ledger ≡ pair.0) × (IsPair pair × 
 PairRefusal map pair fault = ⊥
 
 -- the first 24 of these bytes, or all where there are fewer, and how many bytes there are
-abbrev pub IsShown : List ℕ → ℕ → List ℕ → Type 0
-IsShown head left bytes = (left ≡ length bytes) × (head ≡ take 24 bytes)
+abbrev pub IsFrontOf : List ℕ → ℕ → List ℕ → Type 0
+IsFrontOf head left bytes = (left ≡ length bytes) × (head ≡ take 24 bytes)
 
 -- the bytes begin with a record that is meant to be a batch, whose payload has this length
 pub record IsSizedBatch (size : ℕ) (bytes : List ℕ) : Type 0 where

@@ -3,7 +3,7 @@
 ghost use Rattle.std.specs.Prelude.{◌≡◌, ℕ, ◌+◌, ◌<◌, ◌≤◌, ◌^◌, pos, List, length};
 ghost use Rattle.std.specs.FinMap as ledgers;
 ghost use Rattle.bk_head.specs.declared.header.Header.{Header};
-ghost use Rattle.bk_head.specs.Header.{IsHeader, patched};
+ghost use Rattle.bk_head.specs.Header.{IsHeader, patched_header};
 ghost use Rattle.bk_head.specs.Ledgers.{LedgersMap, SpellsMap};
 ghost use Rattle.bk_head.specs.Reading.{MapAnswer};
 ghost use Rattle.bk_head.specs.Written.{written_map, AreWritten, IsWritable};
@@ -23,6 +23,6 @@ pub fn written_map_is_read()
 pub fn patched_header_is_read()
     ensures { (bytes : List ℕ) (header : Header) (offset count : ℕ)
         → IsHeader bytes header → offset < 2 ^ 63 → count < 2 ^ 31
-        → IsHeader (patched bytes offset count)
+        → IsHeader (patched_header bytes offset count)
         (record { version = 1; map_offset = pos offset; count = pos count }) }
 {}

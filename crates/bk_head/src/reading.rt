@@ -6,7 +6,7 @@ ghost use Rattle.bk_head.specs.declared.fault.HeadFault.{HeadFault as Fault};
 ghost use Rattle.bk_head.specs.Ledgers.{LedgersMap, map_of, SpellsMap, IsPair, ledgers_of, AreDistinct};
 ghost use Rattle.bk_head.specs.Faults.{HasNoBatch, HasPairs, PairFault, FaultAt, FirstFault, ReachesNew, AsksForMemory, OrMemory};
 ghost use Rattle.bk_head.specs.Reading.{MapAnswer, WantsMemory, UnlessMemory, seen, IsTail, map_place};
-ghost use Rattle.bk_head.specs.Parts.{Adds, IsShown, IsSizedBatch, PairRefusal};
+ghost use Rattle.bk_head.specs.Parts.{AddsPairs, IsFrontOf, IsSizedBatch, PairRefusal};
 
 use crate::batch::{BATCH_HEAD, IDS_AND_COUNT, PAIR, batch_ids};
 use crate::{HeadFault, Header};
@@ -107,9 +107,9 @@ pub fn pairs_in_batch(head: &[u8], at: u64, left: u64) -> Result<u32, HeadFault>
     requires some { 0 < left }
     requires shown { length head.now ≡ min BATCH_HEAD left }
     ensures fits { IfOk result (λ count. BATCH_HEAD + PAIR * count ≤ left) }
-    ensures ok { IfOk result (λ count. (bytes : List ℕ) → IsShown head.now left bytes
+    ensures ok { IfOk result (λ count. (bytes : List ℕ) → IsFrontOf head.now left bytes
         → HasPairs bytes (take (PAIR * count) (drop BATCH_HEAD bytes))) }
-    ensures err { IfErr result (λ fault. (bytes : List ℕ) → IsShown head.now left bytes
+    ensures err { IfErr result (λ fault. (bytes : List ℕ) → IsFrontOf head.now left bytes
         → (before : List (ℕ × ℕ)) → FaultAt at before bytes fault) }
 {
     let Some(size) = batch_size(head, left) else {
@@ -129,8 +129,8 @@ pub fn pairs_in_batch(head: &[u8], at: u64, left: u64) -> Result<u32, HeadFault>
 fn batch_size(head: &[u8], left: u64) -> Option<usize>
     requires shown { length head.now ≡ min BATCH_HEAD left }
     ensures within { IfSome result (λ size. LENGTH_FIELD + size ≤ left) }
-    ensures size { MatchOption result ((bytes : List ℕ) → IsShown head.now left bytes → HasNoBatch bytes)
-        (λ size. (bytes : List ℕ) → IsShown head.now left bytes → IsSizedBatch size bytes) }
+    ensures size { MatchOption result ((bytes : List ℕ) → IsFrontOf head.now left bytes → HasNoBatch bytes)
+        (λ size. (bytes : List ℕ) → IsFrontOf head.now left bytes → IsSizedBatch size bytes) }
 {
     if left < RECORD_HEAD as u64 {
         return None;
@@ -154,7 +154,7 @@ pub fn add_pairs(bytes: &[u8], map: &mut BTreeMap<u64, u64>) -> Result<(), HeadF
     requires { (count : ℕ) × (length bytes.now ≡ 16 * count) }
     ensures { (before : List (ℕ × ℕ))
         → AreDistinct (ledgers_of before) → map_of map.old ≡ ledgers.from_entries before
-        → MatchResult result (λ _. Adds before bytes.now (map_of map.new))
+        → MatchResult result (λ _. AddsPairs before bytes.now (map_of map.new))
         (λ fault. OrMemory fault (ReachesNew before bytes.now) (PairFault before bytes.now fault)) }
 {
     for k in 0..bytes.len() / PAIR {

@@ -13,7 +13,7 @@ use Rattle.bk_lease.specs.declared.rule.Register.{Register}
 use Rattle.bk_lease.specs.declared.rule.Role.{Role}
 use Rattle.bk_lease.specs.declared.rule.Role.TheVariants.{Keeper}
 use Rattle.bk_lease.specs.Leases.{state_at, log_of, log_at, MayOpen, IsOpen}
-use Rattle.bk_lease.specs.Steps.{Sitter, with_slot, Meets, Counts}
+use Rattle.bk_lease.specs.Steps.{Sitter, with_slot, Meets, CountsSeats}
 use Rattle.bk_lease.specs.Values.{SlotTable, with_state, with_given, resting, given_in, MayMeet, IsAtRest}
 use Rattle.bk_lease.proofs.Slots.{inside_slots}
 
@@ -63,7 +63,7 @@ module _ {k : Inside} {keeper : SlotTable} (d : SeenAs k keeper) where
   most_inside = ap (λ (t : SlotTable). t.most) d.is
 
   -- A step found a word that counts some seats, and the count was read out of it.
-  module _ (slot log met found count : ℕ) (counts : Counts (its_register k) slot log found met) (read : count ≡ found % 2 ^ 32) where
+  module _ (slot log met found count : ℕ) (counts : CountsSeats (its_register k) slot log found met) (read : count ≡ found % 2 ^ 32) where
     pub count_read : count ≡ met
     count_read = let word = counts.0 in let within = counts.1 in let bounded : k.most < 2 ^ 16 = counts.2.2.bounded in omega arith
 

@@ -17,7 +17,7 @@ use Rattle.bk_lease.specs.declared.rule.Role.{Role}
 use Rattle.bk_lease.specs.declared.rule.Role.TheVariants.{Keeper, Held}
 use Rattle.bk_lease.specs.declared.rule.Room.{Room}
 use Rattle.bk_lease.specs.Leases.{state_at, held_on, open_word, closed_word, MayOpen, WordIs, RuledBy, IsRuled, first_register, first_role}
-use Rattle.bk_lease.specs.Steps.{Sitter, with_slot, with_pending, with_granted, pin_on, GoesOn, Meets, Counts, opened, pinned, undone, role_by}
+use Rattle.bk_lease.specs.Steps.{Sitter, with_slot, with_pending, with_granted, pin_on, Advances, Meets, CountsSeats, opened, pinned, undone, role_by}
 use Rattle.bk_lease.specs.Steps.{settled, granted, closed, freed}
 use Rattle.bk_lease.proofs.Views.{some_inside}
 use Rattle.bk_lease.proofs.Words.{one_more, one_less}
@@ -52,7 +52,7 @@ module _ {id : ℕ} {me : Sitter} {p : Register} {s : State (Unit {0}) Role} (a 
   same_register : (q : Register) → me.0 ≡ Keeper q → p ≡ q
   same_register q knows_too = let same : Keeper p ≡ Keeper q = sym a.knows ∙ knows_too in cc
 
-  goes_on : (next : Register → Register) → GoesOn me (Keeper (next p), me.1) next
+  goes_on : (next : Register → Register) → Advances me (Keeper (next p), me.1) next
   goes_on next q knows_too = λ j. (Keeper (next (same_register q knows_too j)), me.1)
 
   on_open : (tells : Register → ℕ → Type 0) (log : ℕ) → state_at p.slots i ≡ Open log → tells p log
@@ -62,7 +62,7 @@ module _ {id : ℕ} {me : Sitter} {p : Register} {s : State (Unit {0}) Role} (a 
       subst (λ (z : Register × ℕ). tells z.0 z.1) (λ j. (same j, one_log j)) told
 
   -- the word of an open slot counts the seats that hold it, where no pin is under way
-  counts_held : (log : ℕ) → state_at p.slots i ≡ Open log → p.pending ≡ None → Counts p i log (get_or s.words i 0) (held_on i s.views)
+  counts_held : (log : ℕ) → state_at p.slots i ≡ Open log → p.pending ≡ None → CountsSeats p i log (get_or s.words i 0) (held_on i s.views)
   counts_held log is idle = (word-open p s.words s.views a.kept i log is idle, (a.kept.each_slot i).within, (s.words, s.views, a.kept, refl))
 
   meets_none : (log : ℕ) → state_at p.slots i ≡ Open log → p.pending ≡ None → get_or s.words i 0 ≡ open_word log 0 → Meets p i 0
@@ -79,7 +79,7 @@ module _ (slots id i : ℕ) (me : Sitter) (p : Register) (knows : me.0 ≡ Keepe
     tt,
     ruled_after a i q new _ stored (RuledBy-opened p s.words s.views a.kept i log inside fits may),
     λ other told. let one_log : log ≡ other = omega arith in
-        subst (λ (l : ℕ). GoesOn me (Keeper q, me.1) (λ register. with_slot register i (Open l))) one_log
+        subst (λ (l : ℕ). Advances me (Keeper q, me.1) (λ register. with_slot register i (Open l))) one_log
         (goes_on a i (λ register. with_slot register i (Open log))),
   )
 
@@ -87,7 +87,7 @@ module _ (slots id i : ℕ) (me : Sitter) (p : Register) (knows : me.0 ≡ Keepe
   pins log is idle s ruled _ at _ = let a = at_keeper id me p s knows ruled at in let held : ℕ = held_on i s.views in
       let q : ℕ → Register → Register = λ met r. with_pending r (Some (pin_on i met)) in
       let tells : Register → ℕ → Type 0 = λ r l.
-      (met : ℕ) × Counts r i l (get_or s.words i 0) met × ((Keeper (q held p), me.1) ≡ (Keeper (q met r), me.1)) in (
+      (met : ℕ) × CountsSeats r i l (get_or s.words i 0) met × ((Keeper (q held p), me.1) ≡ (Keeper (q met r), me.1)) in (
         Keeper (q held p),
         keeps,
         tt,
@@ -108,7 +108,7 @@ module _ (slots id i : ℕ) (me : Sitter) (p : Register) (knows : me.0 ≡ Keepe
       → Allows Rule slots id me i (λ x. either (eqb x old) new x) (closed (step slots i old new none) me)
   closes log old new is idle asked stored s ruled _ at _ = let a = at_keeper id me p s knows ruled at in let x : ℕ = get_or s.words i 0 in
       let tells : Sitter → Register → ℕ → Type 0 = λ me' r l. (x ≡ old → (me' ≡ (Keeper (with_slot r i (Closed l)), me.1)) × Meets r i 0)
-      × (x ≢ old → (me' ≡ me) × ((met : ℕ) × (0 < met) × Counts r i l x met)) in
+      × (x ≢ old → (me' ≡ me) × ((met : ℕ) × (0 < met) × CountsSeats r i l x met)) in
       dite (ℕ_discrete x old)
       (λ hit. let q : Register = with_slot p i (Closed log) in (
         Keeper q,

@@ -34,8 +34,8 @@ abbrev pub pin_on : ℕ → ℕ → Pin
 pin_on slot met = record { slot = slot; met = met }
 
 -- the keeper's register goes on by `next`, and nothing else changes
-abbrev pub GoesOn : Sitter → Sitter → (Register → Register) → Type 0
-GoesOn me me' next = (register : Register) → me.0 ≡ Keeper register → me' ≡ (Keeper (next register), me.1)
+abbrev pub Advances : Sitter → Sitter → (Register → Register) → Type 0
+Advances me me' next = (register : Register) → me.0 ≡ Keeper register → me' ≡ (Keeper (next register), me.1)
 
 -- at a slot that the keeper knows to be open, the step tells this of what the keeper knows and of the slot's log
 abbrev pub OnOpen : OneStep → Sitter → (Register → ℕ → Type 0) → Type 0
@@ -46,21 +46,21 @@ abbrev pub Meets : Register → ℕ → ℕ → Type 0
 Meets register slot held = (words : List ℕ) × (views : List Role) × RuledBy register words views × (held_on slot views ≡ held)
 
 -- the word that was found counts so many seats on this open slot
-abbrev pub Counts : Register → ℕ → ℕ → ℕ → ℕ → Type 0
-Counts register slot log found met = (found ≡ open_word log met) × (met ≤ register.most) × Meets register slot met
+abbrev pub CountsSeats : Register → ℕ → ℕ → ℕ → ℕ → Type 0
+CountsSeats register slot log found met = (found ≡ open_word log met) × (met ≤ register.most) × Meets register slot met
 
 -- open: the slot is open for the log whose word was stored
 abbrev pub opened : OneStep → Sitter → ℕ → Sitter → Type 0
-opened made me found me' = (log : ℕ) → made.first ≡ open_word log 0 → GoesOn me me' (λ register. with_slot register made.word (Open log))
+opened made me found me' = (log : ℕ) → made.first ≡ open_word log 0 → Advances me me' (λ register. with_slot register made.word (Open log))
 
 -- pin: a pin is under way, which met the seats that the word counted
 abbrev pub pinned : OneStep → Sitter → ℕ → Sitter → Type 0
 pinned made me found me' = OnOpen made me (λ register log.
-    (met : ℕ) × Counts register made.word log found met × (me' ≡ (Keeper (with_pending register (Some (pin_on made.word met))), me.1)))
+    (met : ℕ) × CountsSeats register made.word log found met × (me' ≡ (Keeper (with_pending register (Some (pin_on made.word met))), me.1)))
 
 -- undo: no pin is under way
 abbrev pub undone : OneStep → Sitter → ℕ → Sitter → Type 0
-undone made me found me' = GoesOn me me' (λ register. with_pending register None)
+undone made me found me' = Advances me me' (λ register. with_pending register None)
 
 -- split, on the keeper's side: the pin has become a seat
 abbrev pub settled : Role → Role
@@ -87,11 +87,11 @@ released made me found me' = me' ≡ (Spent, me.1)
 abbrev pub closed : OneStep → Sitter → ℕ → Sitter → Type 0
 closed made me found me' = OnOpen made me (λ register log.
     (found ≡ made.first → (me' ≡ (Keeper (with_slot register made.word (Closed log)), me.1)) × Meets register made.word 0)
-    × (found ≢ made.first → (me' ≡ me) × ((met : ℕ) × (0 < met) × Counts register made.word log found met)))
+    × (found ≢ made.first → (me' ≡ me) × ((met : ℕ) × (0 < met) × CountsSeats register made.word log found met)))
 
 -- free: the slot is free
 abbrev pub freed : OneStep → Sitter → ℕ → Sitter → Type 0
-freed made me found me' = GoesOn me me' (λ register. with_slot register made.word Free)
+freed made me found me' = Advances me me' (λ register. with_slot register made.word Free)
 
 -- meet: a keeper that has closed a slot and a seat that holds it are put together, and both are spent; there are no such two
 abbrev pub met : Role

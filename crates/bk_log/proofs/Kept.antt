@@ -20,7 +20,7 @@ use Rattle.bk_log.specs.Ahead.{Ahead, AheadFails}
 use Rattle.bk_log.specs.Places.{HasRecordAt}
 use Rattle.bk_log.specs.Ranges.{IsPassed, part}
 use Rattle.bk_log.specs.Scanning.{Scan, is_going, IsGiven, ScanFails}
-use Rattle.bk_log.specs.Scanned.{scan_of, IsKept}
+use Rattle.bk_log.specs.Scanned.{window_scan, KeepsScan}
 use Rattle.bk_log.proofs.Aheads.{length-left}
 use Rattle.bk_log.proofs.Passes.{passed_none, passed_more, entry_at, all_given, all_foreign, rest_all, rest_stops, all_spelled, bad_stops, bad_at}
 
@@ -39,7 +39,7 @@ here window end = take (end - window.at) (drop window.at window.bytes)
 
 -- what is left lies in the view
 pub left_in_view : (window : Ahead) (from end given foreign torn : ℕ) (ended : Bool) (fault : Option ScanFault)
-    → IsKept window from end given foreign torn ended fault → IsTrue window.honest → IsInView window.bytes window.at (end - window.at)
+    → KeepsScan window from end given foreign torn ended fault → IsTrue window.honest → IsInView window.bytes window.at (end - window.at)
 left_in_view window from end given foreign torn ended fault kept honest =
     (omega (arith, kept.headed, kept.placed.begun), omega (arith, kept.in_view honest, kept.placed.within))
 
@@ -51,7 +51,7 @@ skipped_window window looked moved size kept step = step ∙ ap (λ (w : Ahead).
 
 -- a scan that goes on has neither ended nor met a fault
 pub going_on : (window : Ahead) (s : Scan) (from end given foreign torn : ℕ) (ended : Bool) (fault : Option ScanFault)
-    → scan_of window from end given foreign torn ended fault ≡ s → IsTrue (is_going s) → (ended ≡ false) × (fault ≡ None)
+    → window_scan window from end given foreign torn ended fault ≡ s → IsTrue (is_going s) → (ended ≡ false) × (fault ≡ None)
 going_on window s from end given foreign torn ended fault is going =
     let both = and_parts (not ended) (is_none fault) (ap is_going is ∙ going) in (
       elim ended as (λ b. not b ≡ true → b ≡ false) [ true ↦ λ e. absurd (false≢true e) | false ↦ λ e. refl ] both.0,
@@ -61,9 +61,9 @@ going_on window s from end given foreign torn ended fault is going =
 -- a scan that begins
 pub kept_new : (bytes : List ℕ) (honest sound : Bool) (window : Ahead) (from end : ℕ)
     → window ≡ record { at = from; bytes = bytes; honest = honest; sound = sound; ready = 0; room = 0 } → header_length ≤ from → from ≤ end → end < 2 ^ 64
-    → (IsTrue honest → end ≤ view_end bytes) → IsKept window from end 0 0 0 false None
+    → (IsTrue honest → end ≤ view_end bytes) → KeepsScan window from end 0 0 0 false None
 kept_new bytes honest sound window from end is headed ordered fits within =
-    subst (λ (w : Ahead). IsKept w from end 0 0 0 false None) (sym is) (record {
+    subst (λ (w : Ahead). KeepsScan w from end 0 0 0 false None) (sym is) (record {
       placed = record { begun = omega arith; within = ordered; room = omega arith; end_fits = fits };
       told = λ e. absurd (no_fault None Disk refl e);
       fresh = λ goes calm none. (refl, (refl, refl));
@@ -93,9 +93,9 @@ foreign_some payload key is = ap (λ o. not (is_some o)) (sym is)
 
 -- a record was passed: an entry, or a foreign one
 kept_record : (window : Ahead) (from end given foreign torn size ready room : ℕ) (ended other : Bool) (fault : Option ScanFault)
-    → IsKept window from end given foreign torn ended fault → 0 < room → ended ≡ false → fault ≡ None → 20 ≤ size → size ≤ end - window.at
+    → KeepsScan window from end given foreign torn ended fault → 0 < room → ended ≡ false → fault ≡ None → 20 ≤ size → size ≤ end - window.at
     → (IsTrue window.honest → (payload : List ℕ) × (BeginsWith (here window end) payload × ((size ≡ 4 + length payload) × (is_foreign payload ≡ other))))
-    → IsKept (record window { at = window.at + size; ready = ready; room = room }) from end (given + cond (not other) 1 0) (foreign + cond other 1 0) torn
+    → KeepsScan (record window { at = window.at + size; ready = ready; room = room }) from end (given + cond (not other) 1 0) (foreign + cond other 1 0) torn
     ended fault
 kept_record window from end given foreign torn size ready room ended other fault kept made going calm least within front = record {
   placed = record {
@@ -126,22 +126,22 @@ kept_record window from end given foreign torn size ready room ended other fault
 
 -- the two kinds of records, as the front tells them
 pub kept_foreign : (window : Ahead) (from end given foreign torn size ready room : ℕ) (ended : Bool) (fault : Option ScanFault)
-    → IsKept window from end given foreign torn ended fault → 0 < room → ended ≡ false → fault ≡ None → 20 ≤ size → size ≤ end - window.at
+    → KeepsScan window from end given foreign torn ended fault → 0 < room → ended ≡ false → fault ≡ None → 20 ≤ size → size ≤ end - window.at
     → (IsTrue window.honest → IsFront (here window end) (Record size None))
-    → IsKept (record window { at = window.at + size; ready = ready; room = room }) from end given (foreign + 1) torn ended fault
+    → KeepsScan (record window { at = window.at + size; ready = ready; room = room }) from end given (foreign + 1) torn ended fault
 kept_foreign window from end given foreign torn size ready room ended fault kept made going calm least within front =
     let none : given + 0 ≡ given = omega arith in
-    subst (λ n. IsKept (record window { at = window.at + size; ready = ready; room = room }) from end n (foreign + 1) torn ended fault) none
+    subst (λ n. KeepsScan (record window { at = window.at + size; ready = ready; room = room }) from end n (foreign + 1) torn ended fault) none
     (kept_record window from end given foreign torn size ready room ended true fault kept made going calm least within
     (λ h. let (payload, (begins, (sized, is))) = front h in (payload, (begins, (sized, foreign_none payload is)))))
 
 pub kept_entry : (window : Ahead) (from end given foreign torn size ready room : ℕ) (ended : Bool) (fault : Option ScanFault) (key : EntryKey)
-    → IsKept window from end given foreign torn ended fault → 0 < room → ended ≡ false → fault ≡ None → 20 ≤ size → size ≤ end - window.at
+    → KeepsScan window from end given foreign torn ended fault → 0 < room → ended ≡ false → fault ≡ None → 20 ≤ size → size ≤ end - window.at
     → (IsTrue window.honest → IsFront (here window end) (Record size (Some key)))
-    → IsKept (record window { at = window.at + size; ready = ready; room = room }) from end (given + 1) foreign torn ended fault
+    → KeepsScan (record window { at = window.at + size; ready = ready; room = room }) from end (given + 1) foreign torn ended fault
 kept_entry window from end given foreign torn size ready room ended fault key kept made going calm least within front =
     let none : foreign + 0 ≡ foreign = omega arith in
-    subst (λ n. IsKept (record window { at = window.at + size; ready = ready; room = room }) from end (given + 1) n torn ended fault) none
+    subst (λ n. KeepsScan (record window { at = window.at + size; ready = ready; room = room }) from end (given + 1) n torn ended fault) none
     (kept_record window from end given foreign torn size ready room ended false fault kept made going calm least within
     (λ h. let (payload, (begins, (sized, is))) = front h in (payload, (begins, (sized, foreign_some payload key is)))))
 
@@ -162,8 +162,8 @@ record_stands bytes payload at end headed b =
 
 -- the entry that was found is the part's next
 pub given_next : (window : Ahead) (from end given foreign torn size : ℕ) (ended : Bool) (fault : Option ScanFault) (key : EntryKey)
-    → IsKept window from end given foreign torn ended fault → IsTrue window.honest → size ≤ end - window.at → IsFront (here window end) (Record size (Some key))
-    → IsGiven (scan_of window from end given foreign torn ended fault) (record { key = key; at = window.at + 4; size = size }) foreign
+    → KeepsScan window from end given foreign torn ended fault → IsTrue window.honest → size ≤ end - window.at → IsFront (here window end) (Record size (Some key))
+    → IsGiven (window_scan window from end given foreign torn ended fault) (record { key = key; at = window.at + 4; size = size }) foreign
 given_next window from end given foreign torn size ended fault key kept h within (payload, (begins, (sized, is))) =
     let bytes = part window.bytes from end in
     let entry = foreign_some payload key is in
@@ -183,8 +183,8 @@ given_next window from end given foreign torn size ended fault key kept h within
 
 -- the end was reached
 pub kept_rest : (window : Ahead) (from end given foreign torn ready room : ℕ) (ended : Bool) (fault : Option ScanFault)
-    → IsKept window from end given foreign torn ended fault → fault ≡ None → (IsTrue window.honest → IsFront (here window end) Rest)
-    → IsKept (record window { ready = ready; room = room }) from end given foreign (end - window.at) true fault
+    → KeepsScan window from end given foreign torn ended fault → fault ≡ None → (IsTrue window.honest → IsFront (here window end) Rest)
+    → KeepsScan (record window { ready = ready; room = room }) from end given foreign (end - window.at) true fault
 kept_rest window from end given foreign torn ready room ended fault kept calm front = record {
   placed = kept.placed;
   told = kept.told;
@@ -217,8 +217,8 @@ back_again left value is fits =
 
 -- a bad length was met
 pub kept_bad : (window : Ahead) (from end given foreign torn ready room : ℕ) (value : ℤ) (ended : Bool) (fault : Option ScanFault)
-    → IsKept window from end given foreign torn ended fault → ended ≡ false → (IsTrue window.honest → IsFront (here window end) (Bad value))
-    → IsKept (record window { ready = ready; room = room }) from end given foreign torn ended
+    → KeepsScan window from end given foreign torn ended fault → ended ≡ false → (IsTrue window.honest → IsFront (here window end) (Bad value))
+    → KeepsScan (record window { ready = ready; room = room }) from end given foreign torn ended
     (Some (BadLength window.at (cast_signed w32 (cast_unsigned w32 value))))
 kept_bad window from end given foreign torn ready room value ended fault kept going front = record {
   placed = kept.placed;
@@ -235,9 +235,9 @@ kept_bad window from end given foreign torn ready room value ended fault kept go
       record {
         passed = passed;
         finished = λ e. absurd (false≢true (sym going ∙ e));
-        stopped = λ f e. subst (ScanFails (scan_of window from end given foreign torn ended
+        stopped = λ f e. subst (ScanFails (window_scan window from end given foreign torn ended
             (Some (BadLength window.at (cast_signed w32 (cast_unsigned w32 value)))))) (same_some _ _ e)
-            (subst (λ v. ScanFails (scan_of window from end given foreign torn ended (Some (BadLength window.at (cast_signed w32 (cast_unsigned w32 value)))))
+            (subst (λ v. ScanFails (window_scan window from end given foreign torn ended (Some (BadLength window.at (cast_signed w32 (cast_unsigned w32 value)))))
             (BadLength window.at v)) (sym same) (
               all_given from window.at given foreign bytes left passed (bad_stops left value is below),
               bad_at from window.at given foreign bytes left value passed four is below,

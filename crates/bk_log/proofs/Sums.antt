@@ -9,29 +9,29 @@ use Rattle.std.proofs.lemmas.List.Sums.{fold-append}
 use Rattle.std.proofs.lemmas.Map.Lookups.{exact_unsigned}
 use Rattle.std.proofs.lemmas.Map.Views.{tells_apart}
 use Rattle.bk_head.specs.Written.{IsWritable}
-use Rattle.bk_log.specs.Sizes.{Sizes, size_in, with_size, with_record, sizes_of}
+use Rattle.bk_log.specs.Sizes.{Sizes, size_in, with_bytes, with_record, sizes_of}
 use Rattle.bk_log.specs.Writing.{IsCounted}
 
 -- no ledger has more than before and the new bytes
-pub size_in-with_size : (sizes : Sizes) (ledger size most other : ℕ) → ((q : ℕ) → size_in sizes q ≤ most)
-    → size_in (with_size sizes ledger size) other ≤ most + size
-size_in-with_size sizes ledger size most other within =
-    elim (eq_by_cmp nat_cmp other ledger) as (λ b. eq_by_cmp nat_cmp other ledger ≡ b → size_in (with_size sizes ledger size) other ≤ most + size) [
+pub size_in-with_bytes : (sizes : Sizes) (ledger size most other : ℕ) → ((q : ℕ) → size_in sizes q ≤ most)
+    → size_in (with_bytes sizes ledger size) other ≤ most + size
+size_in-with_bytes sizes ledger size most other within =
+    elim (eq_by_cmp nat_cmp other ledger) as (λ b. eq_by_cmp nat_cmp other ledger ≡ b → size_in (with_bytes sizes ledger size) other ≤ most + size) [
       | true ↦ λ here. rw (get-insert nat_cmp_total sizes ledger (size_in sizes ledger + size) other, here) (omega (arith, within ledger))
       | false ↦ λ apart. rw (get-insert nat_cmp_total sizes ledger (size_in sizes ledger + size) other, apart) (omega (arith, within other))
     ] refl
 
 -- no more ledgers than records
-few_more : (sizes : Sizes) (ledger size count : ℕ) → len sizes ≤ count → len (with_size sizes ledger size) ≤ count + 1
+few_more : (sizes : Sizes) (ledger size count : ℕ) → len sizes ≤ count → len (with_bytes sizes ledger size) ≤ count + 1
 few_more sizes ledger size count few =
     rw (len-insert nat_cmp_total sizes ledger (size_in sizes ledger + size))
     (elim (contains_key sizes ledger) as (λ b. cond b (len sizes) (len sizes + 1) ≤ count + 1) [ true ↦ omega arith | false ↦ omega arith ])
 
 -- each with a key's id
 keyed_more : (sizes : Sizes) (ledger size other : ℕ) → ledger < 2 ^ 63 → ((q : ℕ) → IsSome (get sizes q) → q < 2 ^ 63)
-    → IsSome (get (with_size sizes ledger size) other) → other < 2 ^ 63
+    → IsSome (get (with_bytes sizes ledger size) other) → other < 2 ^ 63
 keyed_more sizes ledger size other low keyed =
-    elim (eq_by_cmp nat_cmp other ledger) as (λ b. eq_by_cmp nat_cmp other ledger ≡ b → IsSome (get (with_size sizes ledger size) other) → other < 2 ^ 63) [
+    elim (eq_by_cmp nat_cmp other ledger) as (λ b. eq_by_cmp nat_cmp other ledger ≡ b → IsSome (get (with_bytes sizes ledger size) other) → other < 2 ^ 63) [
       | true ↦ λ here some. subst (λ q. q < 2 ^ 63) (sym (tells_apart exact_unsigned other ledger here)) low
       | false ↦ λ apart some. keyed other (sym (ap is_some (get-insert nat_cmp_total sizes ledger (size_in sizes ledger + size) other
           ∙ ap (λ b. cond b (Some (size_in sizes ledger + size)) (get sizes other)) apart)) ∙ some)
@@ -39,11 +39,11 @@ keyed_more sizes ledger size other low keyed =
 
 -- a writer's numbers, after a record more
 pub counted_put : (log end count size ledger : ℕ) (sizes sizes' : Sizes) → IsCounted log end count sizes → 20 ≤ size → ledger < 2 ^ 63
-    → sizes' ≡ with_size sizes ledger size → IsCounted log (end + size) (count + 1) sizes'
+    → sizes' ≡ with_bytes sizes ledger size → IsCounted log (end + size) (count + 1) sizes'
 counted_put log end count size ledger sizes sizes' counted least low is = record {
   named = counted.named;
   room = omega (arith, counted.room);
-  within = λ q. rw is (size_in-with_size sizes ledger size end q counted.within);
+  within = λ q. rw is (size_in-with_bytes sizes ledger size end q counted.within);
   few = rw is (few_more sizes ledger size count counted.few);
   keyed = λ q. rw is (keyed_more sizes ledger size q low counted.keyed);
 }

@@ -5,7 +5,7 @@ use Rattle.std.specs.FinMap.{get, insert, empty, get-empty}
 use Rattle.bk_record.specs.Key.{EntryKey}
 use Rattle.bk_record.specs.Record.{key_of, ledger_field, entry_field}
 use Rattle.bk_log.specs.declared.found.Found.{Found}
-use Rattle.bk_log.specs.Sizes.{Sizes, Tally, size_in, with_size, with_last, with_record, sizes_of, IsLast, CountsNext}
+use Rattle.bk_log.specs.Sizes.{Sizes, Tally, size_in, with_bytes, with_last, with_record, sizes_of, IsLast, CountsNext}
 use Rattle.bk_record.proofs.NumberMaps.{insert-insert, insert_same}
 use Rattle.bk_log.proofs.Files.{stands-insert}
 use Rattle.bk_log.proofs.Sums.{sizes_of-push}
@@ -25,7 +25,7 @@ size_in-with_last others ledger (suc n) last = ap (λ o. unwrap_or o 0) (stands-
 
 -- and with more
 pub with_last-add : (others : Sizes) (ledger size more : ℕ) → IsLast others ledger size → 0 < more
-    → with_last others ledger (size + more) ≡ with_size (with_last others ledger size) ledger more
+    → with_last others ledger (size + more) ≡ with_bytes (with_last others ledger size) ledger more
 with_last-add others ledger zero more last some =
     let sum : zero + more ≡ size_in others ledger + more = omega (arith, last refl) in
     with_last-some others ledger (zero + more) (omega arith) ∙ ap (insert others ledger) sum
@@ -51,9 +51,9 @@ none_last others ledger is none = ap (λ s. size_in s ledger) is ∙ ap (λ o. u
 -- the tally with more bytes of its ledger
 pub added : (others : Sizes) (ledger size more : ℕ) (t : Tally) → record { sizes = with_last others ledger size; ledger = ledger } ≡ t
     → IsLast others ledger size
-    → 0 < more → record { sizes = with_last others ledger (size + more); ledger = ledger } ≡ record t { sizes = with_size t.sizes t.ledger more }
+    → 0 < more → record { sizes = with_last others ledger (size + more); ledger = ledger } ≡ record t { sizes = with_bytes t.sizes t.ledger more }
 added others ledger size more t is last some =
-    subst (λ (u : Tally). record { sizes = with_last others ledger (size + more); ledger = ledger } ≡ record u { sizes = with_size u.sizes u.ledger more }) is
+    subst (λ (u : Tally). record { sizes = with_last others ledger (size + more); ledger = ledger } ≡ record u { sizes = with_bytes u.sizes u.ledger more }) is
     (ap (λ (s : Sizes). record { sizes = s; ledger = ledger }) (with_last-add others ledger size more last some))
 
 -- the same, with another ledger as its last
@@ -66,9 +66,9 @@ turned others before ledger was size t is same found =
 
 -- the sizes after both
 pub counted : (before mid after : Tally) (ledger size more : ℕ) → mid ≡ record before { ledger = ledger }
-    → after ≡ record mid { sizes = with_size mid.sizes mid.ledger more } → more ≡ size → after.sizes ≡ with_size before.sizes ledger size
+    → after ≡ record mid { sizes = with_bytes mid.sizes mid.ledger more } → more ≡ size → after.sizes ≡ with_bytes before.sizes ledger size
 counted before mid after ledger size more ready done same =
-    ap (λ t. t.sizes) done ∙ ap (λ t. with_size t.sizes t.ledger more) ready ∙ ap (with_size before.sizes ledger) same
+    ap (λ t. t.sizes) done ∙ ap (λ t. with_bytes t.sizes t.ledger more) ready ∙ ap (with_bytes before.sizes ledger) same
 
 -- the ledger of a payload with a key
 pub key_of-ledger : (payload : List ℕ) (key : EntryKey) → key_of payload ≡ Some key → key.ledger ≡ ledger_field payload
@@ -87,8 +87,8 @@ take_next (y ∷ ys) zero x is = let e : Some y ≡ Some x = is in let same : y 
 take_next (y ∷ ys) (suc n) x is = let one : suc n + 1 ≡ suc (n + 1) = omega arith in ap (λ k. take k (y ∷ ys)) one ∙ ap (λ l. y ∷ l) (take_next ys n x is)
 
 -- one entry more of a list was counted
-pub counts_next : (before now : Sizes) (found : Found) → now ≡ with_size before found.key.ledger found.size → CountsNext before found now
+pub counts_next : (before now : Sizes) (found : Found) → now ≡ with_bytes before found.key.ledger found.size → CountsNext before found now
 counts_next before now found is entries n payload stands keyed sized were =
-    is ∙ ap (λ l. with_size before l found.size) (key_of-ledger payload found.key keyed) ∙ ap (with_size before (ledger_field payload)) sized
+    is ∙ ap (λ l. with_bytes before l found.size) (key_of-ledger payload found.key keyed) ∙ ap (with_bytes before (ledger_field payload)) sized
     ∙ ap (λ s. with_record s payload) were ∙ sym (ap sizes_of (take_next entries n (found.at, payload) stands)
     ∙ sizes_of-push (take n entries) found.at payload)

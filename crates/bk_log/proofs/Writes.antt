@@ -14,7 +14,7 @@ use Rattle.bk_log.specs.declared.fault.LogFault.{LogFault}
 use Rattle.bk_log.specs.declared.fault.LogFault.TheVariants.{Disk, Failed, Memory, Odd}
 use Rattle.bk_log.specs.Faults.{is_lasting}
 use Rattle.bk_log.specs.Text.{IsLogText}
-use Rattle.bk_log.specs.Sizes.{Sizes, with_size, with_record}
+use Rattle.bk_log.specs.Sizes.{Sizes, with_bytes, with_record}
 use Rattle.bk_log.specs.Calls.{HasRoom, Adds}
 use Rattle.bk_log.specs.Writing.{Writing, with_put, Puts, PutTurn, Writes}
 use Rattle.bk_log.proofs.Files.{stands-insert, grown-stands}
@@ -71,13 +71,13 @@ writes_put files files' w payload writes legal keyed grew =
 
 -- the writer's numbers and sizes, as the calls said
 pub after_put : (w now : Writing) (payload : List ℕ) (ledger size : ℕ) (sizes : Sizes) → w ≡ now → ledger ≡ ledger_field payload → size ≡ length payload + 4
-    → sizes ≡ with_size w.sizes ledger size
+    → sizes ≡ with_bytes w.sizes ledger size
     → record w { end = w.end + (length payload + 4); count = w.count + 1; sizes = sizes } ≡ with_put now payload
 after_put w now payload ledger size sizes same named sized counted =
     let end : w.end + (length payload + 4) ≡ w.end + 4 + length payload = omega arith in
     let long : length payload + 4 ≡ 4 + length payload = omega arith in
     let is : sizes ≡ with_record w.sizes payload =
-    counted ∙ ap (λ l. with_size w.sizes l size) named ∙ ap (with_size w.sizes (ledger_field payload)) (sized ∙ long) in
+    counted ∙ ap (λ l. with_bytes w.sizes l size) named ∙ ap (with_bytes w.sizes (ledger_field payload)) (sized ∙ long) in
     subst (λ (v : Writing). record w { end = w.end + (length payload + 4); count = w.count + 1; sizes = sizes } ≡ with_put v payload) same
     (λ i. record w { end = end i; count = w.count + 1; sizes = is i })
 

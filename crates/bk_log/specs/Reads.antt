@@ -13,9 +13,9 @@ ReadFails file at n Memory = IsInView file at n
 ReadFails file at n Odd = ⊥
 
 -- a read: so many bytes from a position on
-abbrev pub Shows : {T : Type 0} → (T → List ℕ) → List ℕ → ℕ → ℕ → Result T ReadFault → Type 0
-Shows bytes file at n (Ok found) = IsInView file at n × (bytes found ≡ take n (drop at file))
-Shows bytes file at n (Err fault) = ReadFails file at n fault
+abbrev pub GivesBytes : {T : Type 0} → (T → List ℕ) → List ℕ → ℕ → ℕ → Result T ReadFault → Type 0
+GivesBytes bytes file at n (Ok found) = IsInView file at n × (bytes found ≡ take n (drop at file))
+GivesBytes bytes file at n (Err fault) = ReadFails file at n fault
 
 -- a read into a buffer of so many bytes, which takes no memory
 abbrev pub Fills : {T : Type 0} → List ℕ → ℕ → ℕ → Result T ReadFault → List ℕ → Type 0

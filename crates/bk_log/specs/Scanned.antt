@@ -5,11 +5,11 @@ use Rattle.bk_disk.specs.Disk.{view_end}
 use Rattle.bk_log.specs.declared.fault.ScanFault.{ScanFault}
 use Rattle.bk_log.specs.declared.fault.ScanFault.TheVariants.{Disk}
 use Rattle.bk_log.specs.Ahead.{Ahead}
-use Rattle.bk_log.specs.Scanning.{Scan, IsPlaced, IsScanned}
+use Rattle.bk_log.specs.Scanning.{Scan, IsInPart, HasComeTo}
 
 -- the scan of a window's log
-abbrev pub scan_of : Ahead → ℕ → ℕ → ℕ → ℕ → ℕ → Bool → Option ScanFault → Scan
-scan_of window from end given foreign torn ended fault = record {
+abbrev pub window_scan : Ahead → ℕ → ℕ → ℕ → ℕ → ℕ → Bool → Option ScanFault → Scan
+window_scan window from end given foreign torn ended fault = record {
   from = from;
   end = end;
   file = window.bytes;
@@ -26,15 +26,15 @@ scan_of window from end given foreign torn ended fault = record {
 -- a scan that begins
 abbrev pub new_scan : List ℕ → Bool → Bool → ℕ → ℕ → Scan
 new_scan bytes honest sound from end =
-    scan_of (record { at = from; bytes = bytes; honest = honest; sound = sound; ready = 0; room = 0 }) from end 0 0 0 false None
+    window_scan (record { at = from; bytes = bytes; honest = honest; sound = sound; ready = 0; room = 0 }) from end 0 0 0 false None
 
 -- The position is in the part; `Disk` was told of a view that isn't sound; a scan that goes on has passed nothing while it
 -- has no buffer. Of an honest view: the part lies in it, and the scan is that of its bytes.
-pub record IsKept (window : Ahead) (from end given foreign torn : ℕ) (ended : Bool) (fault : Option ScanFault) : Type 0 where
-  pub placed : IsPlaced from end window.at given foreign
+pub record KeepsScan (window : Ahead) (from end given foreign torn : ℕ) (ended : Bool) (fault : Option ScanFault) : Type 0 where
+  pub placed : IsInPart from end window.at given foreign
   pub told : fault ≡ Some Disk → window.sound ≡ false
   pub fresh : ended ≡ false → fault ≡ None → window.room ≡ 0 → (window.at ≡ from) × ((given ≡ 0) × (foreign ≡ 0))
   pub headed : header_length ≤ from
   pub in_view : IsTrue window.honest → end ≤ view_end window.bytes
   pub scanned : IsTrue window.honest
-      → IsScanned (scan_of window from end given foreign torn ended fault) window.at (take (end - window.at) (drop window.at window.bytes))
+      → HasComeTo (window_scan window from end given foreign torn ended fault) window.at (take (end - window.at) (drop window.at window.bytes))

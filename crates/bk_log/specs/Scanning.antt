@@ -97,14 +97,14 @@ pub record IsStillScan (s s' : Scan) : Type 0 where
   pub stopped : ¬ (IsTrue (is_going s)) → s' ≡ s
 
 -- what a scanner keeps of its numbers: a position in the part, and every record has 20 bytes or more
-pub record IsPlaced (from end at given foreign : ℕ) : Type 0 where
+pub record IsInPart (from end at given foreign : ℕ) : Type 0 where
   pub begun : from ≤ at
   pub within : at ≤ end
   pub room : from + 20 * (given + foreign) ≤ at
   pub end_fits : end < 2 ^ 64
 
 -- what it keeps of an honest view: the whole records before the position were given or passed, and how the scan ended is so
-pub record IsScanned (s : Scan) (at : ℕ) (here : List ℕ) : Type 0 where
+pub record HasComeTo (s : Scan) (at : ℕ) (here : List ℕ) : Type 0 where
   pub passed : IsPassed s.from (part_of s) at here s.given s.foreign
   pub finished : s.ended ≡ true → IsFinished s
   pub stopped : (fault : ScanFault) → s.fault ≡ Some fault → ScanFails s fault

@@ -31,12 +31,12 @@ abbrev pub size_in : Sizes → ℕ → ℕ
 size_in sizes ledger = unwrap_or (map.get sizes ledger) 0
 
 -- with more bytes of a ledger
-abbrev pub with_size : Sizes → ℕ → ℕ → Sizes
-with_size sizes ledger size = map.insert sizes ledger (size_in sizes ledger + size)
+abbrev pub with_bytes : Sizes → ℕ → ℕ → Sizes
+with_bytes sizes ledger size = map.insert sizes ledger (size_in sizes ledger + size)
 
 -- with the record of a payload: its length field and its bytes
 abbrev pub with_record : Sizes → List ℕ → Sizes
-with_record sizes payload = with_size sizes (ledger_field payload) (4 + length payload)
+with_record sizes payload = with_bytes sizes (ledger_field payload) (4 + length payload)
 
 -- The sizes where the last ledger's stand beside the others: the number is that ledger's, and 0 where it has none.
 abbrev pub with_last : Sizes → ℕ → ℕ → Sizes

@@ -1,7 +1,7 @@
 //! Bytes of a view: as many as were asked for, or why not.
 
 ghost use Rattle.std.specs.Prelude.{◌≡◌, false, IsTrue, IsErrOf, IfOk, length};
-ghost use Rattle.bk_log.specs.Reads.{Shows, Fills};
+ghost use Rattle.bk_log.specs.Reads.{GivesBytes, Fills};
 
 use bk_disk::{DiskFault, LogView};
 use std::alloc::Global;
@@ -28,7 +28,7 @@ pub(crate) fn read<V: LogView>(
 ) -> Result<Vec<u8>, ReadFault>
     ensures cause { IsErrOf result ReadFault.Disk → V.sound view.now ≡ false }
     ensures long { IfOk result (λ v. length v.items ≡ n) }
-    ensures turn { IsTrue (V.honest view.now) → Shows (λ v. v.items) (V.bytes view.now) at n result }
+    ensures turn { IsTrue (V.honest view.now) → GivesBytes (λ v. v.items) (V.bytes view.now) at n result }
 {
     match view.read_at(alloc, at, n) {
         Ok(bytes) if bytes.len() as u64 == n => Ok(bytes),

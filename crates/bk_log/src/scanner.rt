@@ -32,11 +32,11 @@ impl<'a, V: LogView> Model for Scanner<'a, V> {
 
     ghost Value = { Scan };
 
-    ghost use Rattle.bk_log.specs.Scanned.{scan_of, IsKept};
+    ghost use Rattle.bk_log.specs.Scanned.{window_scan, KeepsScan};
 
-    ghost view = { λ s. scan_of s.window s.from s.end s.given s.foreign s.torn s.ended s.fault };
+    ghost view = { λ s. window_scan s.window s.from s.end s.given s.foreign s.torn s.ended s.fault };
 
-    ghost invariant = { λ s. IsKept s.window s.from s.end s.given s.foreign s.torn s.ended s.fault };
+    ghost invariant = { λ s. KeepsScan s.window s.from s.end s.given s.foreign s.torn s.ended s.fault };
 }
 
 impl<'a, V: LogView> Scanner<'a, V> {

@@ -3,7 +3,7 @@
 ghost use Rattle.std.specs.Prelude.{◌≡◌, ◌+◌, ◌<◌, ◌^◌, IfOk, OnOk, OnErr};
 ghost use Rattle.std.specs.FinMap as map;
 ghost use Rattle.bk_head.specs.Ledgers.{map_of};
-ghost use Rattle.bk_log.specs.Sizes.{size_in, with_size};
+ghost use Rattle.bk_log.specs.Sizes.{size_in, with_bytes};
 
 use crate::Found;
 use std::alloc::{AllocError, Global};
@@ -55,7 +55,7 @@ impl LedgerSizes {
         requires sized { 0 < found.size }
         requires room { size_in self.old.sizes found.key.ledger + found.size < 2 ^ 64 }
         ensures ok { OnOk result (self.new ≡ record {
-          sizes = with_size self.old.sizes found.key.ledger found.size;
+          sizes = with_bytes self.old.sizes found.key.ledger found.size;
           ledger = found.key.ledger;
         }) }
         ensures err { OnErr result (self.new ≡ self.old) }
@@ -87,7 +87,7 @@ impl LedgerSizes {
     pub(crate) fn add(&mut self, size: u64)
         requires some { 0 < size }
         requires room { size_in self.old.sizes self.old.ledger + size < 2 ^ 64 }
-        ensures { self.new ≡ record self.old { sizes = with_size self.old.sizes self.old.ledger size } }
+        ensures { self.new ≡ record self.old { sizes = with_bytes self.old.sizes self.old.ledger size } }
     {
         self.size += size;
     }

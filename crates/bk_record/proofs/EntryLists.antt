@@ -9,7 +9,7 @@ use Rattle.bk_record.specs.Record.{key_of, is_foreign, length_field}
 use Rattle.bk_record.specs.Body.{starts_with_record, pieces}
 use Rattle.bk_record.specs.Files.{Files, file_of, header_length, records_of, In}
 use Rattle.bk_record.specs.Scan.{entries_of}
-use Rattle.bk_record.specs.Entry.{HasEntry}
+use Rattle.bk_record.specs.Entry.{HasKeyedRecord}
 use Rattle.bk_record.proofs.Records.{starts_only, starts-nil}
 use Rattle.bk_record.proofs.Bodies.{pieces-stop}
 use Rattle.bk_record.proofs.Entries.{In-filter, filter-In}
@@ -72,13 +72,13 @@ entries_of-more file bytes others are =
 -- ---- an entry that stands is one of its log's list
 
 module _ (files : Files) (place : Place) (key : EntryKey) (payload : List ℕ) where
-  pub entry-listed : HasEntry files place key payload → In (place.at, payload) (entries_of (file_of files place.log))
+  pub entry-listed : HasKeyedRecord files place key payload → In (place.at, payload) (entries_of (file_of files place.log))
   unfolding entries_of
   entry-listed there = In-filter (λ r. not (is_foreign r.1)) (place.at, payload) (records_of (file_of files place.log))
       (record-has files place payload there.stands)
       (ap (λ (o : Option EntryKey). not (not (is_some o))) there.keyed)
 
-  pub listed-entry : In (place.at, payload) (entries_of (file_of files place.log)) → key_of payload ≡ Some key → HasEntry files place key payload
+  pub listed-entry : In (place.at, payload) (entries_of (file_of files place.log)) → key_of payload ≡ Some key → HasKeyedRecord files place key payload
   unfolding entries_of
   listed-entry there keyed = record {
     stands = has-record files place payload (filter-In (λ r. not (is_foreign r.1)) (place.at, payload) (records_of (file_of files place.log)) there);

@@ -5,7 +5,7 @@ use Rattle.bk_record.specs.Key.{EntryKey}
 use Rattle.bk_record.specs.Location.{Place}
 use Rattle.bk_record.specs.Files.{Files, In, all_records}
 use Rattle.bk_record.specs.Scan.{scan_of}
-use Rattle.bk_record.specs.Entry.{HasEntry, HasNoEntry, IsLastEntry}
+use Rattle.bk_record.specs.Entry.{HasKeyedRecord, HasNoEntry, IsLastRecord}
 use Rattle.bk_record.specs.Latest.{AreInOrder, ScanTakesLast}
 use Rattle.bk_record.proofs.Growth.{In-append_right, In-append_cases}
 use Rattle.bk_record.proofs.Orders.{all_records_in_order}
@@ -16,16 +16,16 @@ use Rattle.bk_record.proofs.StandingEntries.{one_entry}
 
 module _ (files : Files) (key : EntryKey) where
   -- a key has one last entry
-  pub one_last : (p q : Place) (a b : List ℕ) → IsLastEntry files p key a → IsLastEntry files q key b → (p ≡ q) × (a ≡ b)
+  pub one_last : (p q : Place) (a b : List ℕ) → IsLastRecord files p key a → IsLastRecord files q key b → (p ≡ q) × (a ≡ b)
   one_last p q a b first second =
       let place : p ≡ q = elim (second.last p a first.here) [
         | inl e ↦ e
         | inr before ↦ elim (first.last q b second.here) [ inl e ↦ sym e | inr behind ↦ absurd (precedes_one_way p q before behind) ]
       ] in
-      (place, (one_entry files q key key a b (subst (λ (x : Place). HasEntry files x key a) place first.here) second.here).1)
+      (place, (one_entry files q key key a b (subst (λ (x : Place). HasKeyedRecord files x key a) place first.here) second.here).1)
 
   -- the last record of the key in the list of all records is its last entry
-  last-entry : (l : LastIn key (all_records files)) → IsLastEntry files l.place key l.payload
+  last-entry : (l : LastIn key (all_records files)) → IsLastRecord files l.place key l.payload
   last-entry l =
       let order = subst AreInOrder l.records_are (all_records_in_order files) in
       let rest = (l.place, l.payload) ∷ l.behind in
@@ -46,10 +46,10 @@ module _ (files : Files) (key : EntryKey) where
       }
 
   -- the scan gives the payload of the last entry
-  pub scan-entry : (payload : List ℕ) → finite.get (scan_of files) key ≡ Some payload → (place : Place) × IsLastEntry files place key payload
+  pub scan-entry : (payload : List ℕ) → finite.get (scan_of files) key ≡ Some payload → (place : Place) × IsLastRecord files place key payload
   scan-entry payload is =
       let found = scan-last files key payload is in
-      (found.0.place, subst (IsLastEntry files found.0.place key) found.1 (last-entry found.0))
+      (found.0.place, subst (IsLastRecord files found.0.place key) found.1 (last-entry found.0))
 
   -- and nothing where no entry stands
   pub scan-no_entry : finite.get (scan_of files) key ≡ None → HasNoEntry files key
@@ -61,7 +61,7 @@ module _ (files : Files) (key : EntryKey) where
     | Some payload ↦ λ is. let found = scan-some files key payload is in absurd (none found.0 payload (record { stands = found.1.0; keyed = found.1.1 }))
   ] refl
 
-  pub entry-scan : (place : Place) (payload : List ℕ) → IsLastEntry files place key payload → finite.get (scan_of files) key ≡ Some payload
+  pub entry-scan : (place : Place) (payload : List ℕ) → IsLastRecord files place key payload → finite.get (scan_of files) key ≡ Some payload
   entry-scan place payload l = elim (finite.get (scan_of files) key) as (λ o. finite.get (scan_of files) key ≡ o → o ≡ Some payload) [
     | None ↦ λ is. absurd (scan-no_entry is place payload l.here)
     | Some other ↦ λ is. let found = scan-entry other is in ap Some (one_last found.0 place other payload found.1 l).1

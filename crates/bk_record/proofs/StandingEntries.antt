@@ -4,12 +4,12 @@ use Rattle.bk_record.specs.Key.{EntryKey}
 use Rattle.bk_record.specs.Location.{Place}
 use Rattle.bk_record.specs.Record.{key_of}
 use Rattle.bk_record.specs.Files.{Files}
-use Rattle.bk_record.specs.Entry.{HasEntry}
+use Rattle.bk_record.specs.Entry.{HasKeyedRecord}
 use Rattle.bk_record.proofs.Places.{one_record}
 use Rattle.bk_record.proofs.SortedPairs.{Some-same}
 
 -- at a place stands one entry
-pub one_entry : (files : Files) (place : Place) (key other : EntryKey) (a b : List ℕ) → HasEntry files place key a → HasEntry files place other b
+pub one_entry : (files : Files) (place : Place) (key other : EntryKey) (a b : List ℕ) → HasKeyedRecord files place key a → HasKeyedRecord files place other b
     → (key ≡ other) × (a ≡ b)
 one_entry files place key other a b here there =
     let same = one_record files place a b here.stands there.stands in

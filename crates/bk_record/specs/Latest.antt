@@ -5,7 +5,7 @@ use Rattle.bk_record.specs.Key.{EntryKey}
 use Rattle.bk_record.specs.Location.{Place, Precedes}
 use Rattle.bk_record.specs.Files.{Files, all_records, In}
 use Rattle.bk_record.specs.Scan.{scan_of}
-use Rattle.bk_record.specs.Entry.{HasNoEntry, IsLastEntry}
+use Rattle.bk_record.specs.Entry.{HasNoEntry, IsLastRecord}
 
 -- each record of the list stands before those behind it
 abbrev pub AreInOrder : List (Place × List ℕ) → Type 0
@@ -17,5 +17,5 @@ AreInOrder (record_here ∷ behind) = ((place : Place) (payload : List ℕ) → 
 pub record ScanTakesLast (files : Files) : Type 0 where
   pub in_order : AreInOrder (all_records files)
   pub found : (key : EntryKey) (payload : List ℕ)
-      → (entries.get (scan_of files) key ≡ Some payload) ↔ ((place : Place) × IsLastEntry files place key payload)
+      → (entries.get (scan_of files) key ≡ Some payload) ↔ ((place : Place) × IsLastRecord files place key payload)
   pub missing : (key : EntryKey) → (entries.get (scan_of files) key ≡ None) ↔ HasNoEntry files key

@@ -8,11 +8,11 @@ use Rattle.std.proofs.lemmas.List.FromFn.{length-enumerate_from, get_or-enumerat
 use Rattle.std.proofs.Math.Dec.{eqb-suc-zero}
 use Rattle.bk_drive.specs.declared.step.Step.{Step}
 use Rattle.bk_script.specs.Line.{Spells}
-use Rattle.bk_script.specs.Script.{lines_in, is_filled, IsScript, IsGood, IsBad, IsFirstBad}
+use Rattle.bk_script.specs.Script.{lines_in, has_bytes, IsScript, IsGood, IsBad, IsFirstBad}
 
 -- lines of which each that isn't empty spells a step, with these steps
 abbrev pub Spell : List (List ℕ) → List Step → Type 0
-Spell lines steps = AllZip Spells (filter is_filled lines) steps
+Spell lines steps = AllZip Spells (filter has_bytes lines) steps
 
 zip_push : (lines : List (List ℕ)) (steps : List Step) (line : List ℕ) (step : Step) → AllZip Spells lines steps → Spells line step
     → AllZip Spells (lines ++ line ∷ []) (steps ++ step ∷ [])
@@ -21,7 +21,7 @@ zip_push [] (s ∷ steps) line step all one = absurd all
 zip_push (l ∷ lines) [] line step all one = absurd all
 zip_push (l ∷ lines) (s ∷ steps) line step all one = (all.0, zip_push lines steps line step all.1 one)
 
-filled_test : (line : List ℕ) → line ≢ [] → is_filled line ≡ true
+filled_test : (line : List ℕ) → line ≢ [] → has_bytes line ≡ true
 filled_test [] filled = absurd (filled refl)
 filled_test (x ∷ xs) filled = rw (eqb-suc-zero (length xs)) refl
 
@@ -30,18 +30,18 @@ pub spell_skip : (lines : List (List ℕ)) (n : ℕ) (line : List ℕ) (steps : 
     → line ≡ [] → Spell (take n lines) steps → Spell (take (n + 1) lines) steps
 spell_skip lines n line steps inside here empty so_far =
     let at_n : get_or lines n line ≡ [] = sym here ∙ empty in
-    let same : filter is_filled (take (n + 1) lines) ≡ filter is_filled (take n lines) =
-    filter_more is_filled lines n line inside ∙ rw at_n (append-nil (filter is_filled (take n lines))) in
+    let same : filter has_bytes (take (n + 1) lines) ≡ filter has_bytes (take n lines) =
+    filter_more has_bytes lines n line inside ∙ rw at_n (append-nil (filter has_bytes (take n lines))) in
     rw same so_far
 
 -- the line at n spells a step
 pub spell_more : (lines : List (List ℕ)) (n : ℕ) (line : List ℕ) (steps : List Step) (step : Step) → n < length lines → line ≡ get_or lines n line
     → line ≢ [] → Spells line step → Spell (take n lines) steps → Spell (take (n + 1) lines) (steps ++ step ∷ [])
 spell_more lines n line steps step inside here filled one so_far =
-    let test : is_filled (get_or lines n line) ≡ true = rw (← here) (filled_test line filled) in
-    let longer : filter is_filled (take (n + 1) lines) ≡ filter is_filled (take n lines) ++ line ∷ [] =
-    filter_more is_filled lines n line inside ∙ rw (test, ← here) refl in
-    rw longer (zip_push (filter is_filled (take n lines)) steps line step so_far one)
+    let test : has_bytes (get_or lines n line) ≡ true = rw (← here) (filled_test line filled) in
+    let longer : filter has_bytes (take (n + 1) lines) ≡ filter has_bytes (take n lines) ++ line ∷ [] =
+    filter_more has_bytes lines n line inside ∙ rw (test, ← here) refl in
+    rw longer (zip_push (filter has_bytes (take n lines)) steps line step so_far one)
 
 -- all lines so far are good
 pub good_more : (lines : List (List ℕ)) (n : ℕ) (line : List ℕ) → n < length lines → line ≡ get_or lines n line

@@ -8,12 +8,12 @@ use Rattle.bk_script.specs.Line.{Spells}
 abbrev pub lines_in : List ℕ → List (List ℕ)
 lines_in = slice_split (λ byte. byte == 10)
 
-abbrev pub is_filled : List ℕ → Bool
-is_filled line = not (length line == 0)
+abbrev pub has_bytes : List ℕ → Bool
+has_bytes line = not (length line == 0)
 
 -- The input spells the steps: its lines do, one each, but for empty lines, which are passed over.
 abbrev pub IsScript : List ℕ → List Step → Type 0
-IsScript input steps = AllZip Spells (filter is_filled (lines_in input)) steps
+IsScript input steps = AllZip Spells (filter has_bytes (lines_in input)) steps
 
 -- the line spells a step, or is empty; the line does neither
 abbrev pub IsGood : List ℕ → Type 0

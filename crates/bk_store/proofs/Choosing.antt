@@ -6,16 +6,16 @@ use Rattle.std.specs.FinMap as finite
 use Rattle.std.specs.FinSet as set
 use Rattle.bk_record.specs.Keyed.{log_count}
 use Rattle.bk_accounts.specs.Account.{Account}
-use Rattle.bk_accounts.specs.Book.{IsOpen, named_in, total_at, remaining_at}
+use Rattle.bk_accounts.specs.Book.{HasAccount, named_in, total_at, remaining_at}
 use Rattle.bk_accounts.specs.Choice.{IsChoice, NoneBelow}
 use Rattle.bk_accounts.specs.Sums.{all_bytes, live_bytes}
 use Rattle.bk_store.specs.Logs.{Log}
 use Rattle.bk_store.specs.State.{State, Parts}
 use Rattle.bk_store.specs.Kept.{Keeps, Promises, entry_measure, acknowledged_entries}
-use Rattle.bk_store.specs.Copying.{IsLeastUsed, total_of, remaining_of}
+use Rattle.bk_store.specs.Copying.{IsLeastUsed, log_bytes, live_log_bytes}
 
 -- each log that is held has an account
-account_open : (p : Parts) → Keeps p → (id : ℕ) → IsSome (finite.get p.state.logs id) → IsOpen p.accounts id
+account_open : (p : Parts) → Keeps p → (id : ℕ) → IsSome (finite.get p.state.logs id) → HasAccount p.accounts id
 account_open p keeps id held =
     opened (finite.get p.accounts id) (ap is_some (keeps.fits.named id) ∙ counted (finite.get p.state.logs id) held)
   where
@@ -27,18 +27,18 @@ account_open p keeps id held =
     opened None is = is ∙ held
     opened (Some a) is = refl
 
-pub accounts_open : (p : Parts) → Keeps p → (allowed : List ℕ) → All (λ id. IsSome (finite.get p.state.logs id)) allowed → All (λ id. IsOpen p.accounts id) allowed
+pub accounts_open : (p : Parts) → Keeps p → (allowed : List ℕ) → All (λ id. IsSome (finite.get p.state.logs id)) allowed → All (λ id. HasAccount p.accounts id) allowed
 accounts_open p keeps allowed held k d inside = account_open p keeps _ (held k d inside)
 
 summed : {E : Type 0} (f : List E → ℕ) (o : Option (List E)) → unwrap_or (option_map f o) 0 ≡ option_map_or f o 0
 summed f None = refl
 summed f (Some es) = refl
 
-pub total_same : (p : Parts) → Promises p → total_at p.accounts ≡ total_of p.state
+pub total_same : (p : Parts) → Promises p → total_at p.accounts ≡ log_bytes p.state
 total_same p promise i id =
     (ap (λ (o : Option ℕ). unwrap_or o 0) (promise.counted.total id) ∙ summed (all_bytes entry_measure) (acknowledged_entries p.state.files p.state.logs id)) i
 
-pub remaining_same : (p : Parts) → Promises p → remaining_at p.accounts ≡ remaining_of p.state
+pub remaining_same : (p : Parts) → Promises p → remaining_at p.accounts ≡ live_log_bytes p.state
 remaining_same p promise i id =
     (ap (λ (o : Option ℕ). unwrap_or o 0) (promise.counted.remaining id)
     ∙ summed (live_bytes entry_measure (set.contains p.state.dead)) (acknowledged_entries p.state.files p.state.logs id)) i
@@ -49,9 +49,9 @@ pub least_used : (p : Parts) → Keeps p → (threshold : ℕ) (allowed : List �
     → IsTrue p.state.honest → IsLeastUsed p.state threshold allowed result
 least_used p keeps threshold allowed None is honest =
     let promise = keeps.promises honest in
-    subst (λ t. NoneBelow t (remaining_of p.state) threshold allowed) (total_same p promise)
+    subst (λ t. NoneBelow t (live_log_bytes p.state) threshold allowed) (total_same p promise)
     (subst (λ r. NoneBelow (total_at p.accounts) r threshold allowed) (remaining_same p promise) is)
 least_used p keeps threshold allowed (Some id) is honest =
     let promise = keeps.promises honest in
-    subst (λ t. IsChoice t (remaining_of p.state) threshold allowed id) (total_same p promise)
+    subst (λ t. IsChoice t (live_log_bytes p.state) threshold allowed id) (total_same p promise)
     (subst (λ r. IsChoice (total_at p.accounts) r threshold allowed id) (remaining_same p promise) is)

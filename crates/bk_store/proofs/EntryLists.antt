@@ -9,7 +9,8 @@ use Rattle.bk_record.specs.Files.{In}
 use Rattle.bk_record.specs.Location.{Precedes}
 use Rattle.bk_record.specs.Scan.{Ledgers}
 use Rattle.bk_record.proofs.Growth.{In-append_right, In-append_cases}
-use Rattle.bk_store.specs.Entries.{Bytes, Places, HasEntry, IsIndexOf}
+use Rattle.bk_record.specs.Keyed.{Places}
+use Rattle.bk_store.specs.Entries.{Bytes, HasEntry, IsIndexOf}
 use Rattle.bk_store.proofs.KeyMaps.{get-insert_other, same_key, inserted_cases, inserted_here}
 use Rattle.bk_store.proofs.PlaceOrder.{precedes_irreflexive, precedes_one_way}
 

@@ -10,7 +10,8 @@ use Rattle.bk_record.specs.Scan.{Payloads, Ledgers}
 use Rattle.std.proofs.lemmas.List.{append-nil}
 use Rattle.std.proofs.lemmas.Option.{same_Some}
 use Rattle.bk_record.proofs.Growth.{In-append_left, In-append_cases, records_of-short}
-use Rattle.bk_store.specs.Entries.{Bytes, Places, HasEntry}
+use Rattle.bk_record.specs.Keyed.{Places}
+use Rattle.bk_store.specs.Entries.{Bytes, HasEntry}
 use Rattle.bk_store.specs.Carried.{Cached, Carries}
 use Rattle.bk_store.proofs.Cases.{same_or_apart}
 

@@ -6,7 +6,8 @@ use Rattle.bk_record.specs.Key.{EntryKey}
 use Rattle.bk_record.specs.Location.{Place}
 use Rattle.bk_record.specs.Scan.{Payloads, Ledgers}
 use Rattle.bk_record.specs.Location.{Precedes}
-use Rattle.bk_store.specs.Entries.{Bytes, Places}
+use Rattle.bk_record.specs.Keyed.{Places}
+use Rattle.bk_store.specs.Entries.{Bytes}
 use Rattle.bk_store.specs.Carried.{Cached, IsIndexed, Carries}
 use Rattle.bk_store.proofs.Cases.{some_value}
 use Rattle.bk_store.proofs.KeyMaps.{get-insert_other, same_key, inserted_cases, inserted_here}

@@ -6,7 +6,7 @@ use Rattle.std.specs.FinSet as set
 use Rattle.bk_record.specs.Key.{EntryKey}
 use Rattle.bk_record.specs.Location.{Place}
 use Rattle.bk_record.specs.Scan.{Ledgers}
-use Rattle.bk_store.specs.Entries.{Places}
+use Rattle.bk_record.specs.Keyed.{Places}
 use Rattle.bk_store.proofs.EntryLists.{Listed, IsIndexOfList, list_empty, list_indexed, list_passed}
 
 abbrev pub HasIndex : Ledgers → Listed → Type 0

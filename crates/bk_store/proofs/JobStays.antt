@@ -5,7 +5,8 @@ use Rattle.std.specs.FinMap as finite
 use Rattle.bk_record.specs.Key.{EntryKey}
 use Rattle.bk_record.specs.Location.{Place}
 use Rattle.bk_record.specs.Files.{file_of, In}
-use Rattle.bk_store.specs.Entries.{Places, HasEntry}
+use Rattle.bk_record.specs.Keyed.{Places}
+use Rattle.bk_store.specs.Entries.{HasEntry}
 use Rattle.bk_store.specs.Jobs.{Job, with_rebuild}
 use Rattle.bk_store.specs.JobKept.{IsJob, IsCopied, IsReadTo, entries_from, copied_in, copy_state}
 use Rattle.bk_store.specs.Logs.{Log, Logs, HasOpenView, is_open, published_part, open_parts}

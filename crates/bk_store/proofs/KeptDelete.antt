@@ -8,7 +8,7 @@ use Rattle.bk_record.specs.Key.{EntryKey, key_cmp}
 use Rattle.bk_record.specs.Location.{Place}
 use Rattle.bk_record.specs.Files.{header_length}
 use Rattle.bk_record.specs.Scan.{Payloads}
-use Rattle.bk_record.specs.Keyed.{Keyed, without_ledger, log_count}
+use Rattle.bk_record.specs.Keyed.{Keyed, without_ledger, log_count, Places}
 use Rattle.bk_record.proofs.Keys.{key_cmp_total, key_cmp_antisymmetric}
 use Rattle.bk_record.proofs.KeyedLaws.{get-without_ledger}
 use Rattle.bk_cache.specs.Recents.{recent_of}
@@ -17,7 +17,6 @@ use Rattle.bk_cache.proofs.CallerLaws.{recent_of-without_recent}
 use Rattle.bk_accounts.specs.Account.{Account}
 use Rattle.bk_accounts.specs.Book.{Book, named_in, total_at}
 use Rattle.bk_accounts.proofs.CallerLaws.{sums_left, contains-insert_dead}
-use Rattle.bk_store.specs.Entries.{Places}
 use Rattle.bk_store.specs.Logs.{Log}
 use Rattle.bk_store.specs.State.{State, Parts}
 use Rattle.bk_store.specs.Meaning.{written_at}

@@ -35,7 +35,7 @@ use Rattle.bk_lease.specs.Slots.{IsFree}
 use Rattle.bk_lease.specs.Values.{SlotTable}
 use Rattle.bk_store.specs.Seated.{slot_state}
 use Rattle.bk_store.specs.Doors.{MakeTurn, MayMake, IsUnmade, HasNoWriting, IsIn, with_next, with_seat, logs_left, keeper_left}
-use Rattle.bk_store.specs.Beside.{MakesBeside, GoesOn, opened_for, writing_in, made_writing}
+use Rattle.bk_store.specs.Beside.{MakesBeside, AllStay, opened_for, writing_in, made_writing}
 use Rattle.bk_store.specs.declared.log.LogState.{LogState}
 use Rattle.bk_store.specs.declared.log.LogState.TheVariants.{Writing, Filled, Copying, Readable, Retired, Closed}
 use Rattle.bk_store.specs.declared.answer.MakeFault.{MakeFault}
@@ -88,7 +88,7 @@ module _ (p : Parts) (keeps : Keeps p) where
   held_later id log was = record { below = let below = was.below in omega (arith, below); written = was.written; by = was.by }
 
   -- the list may go on
-  pub keeps_listed : (filled : List ℕ) → GoesOn p.filled filled → Keeps (record p { filled = filled })
+  pub keeps_listed : (filled : List ℕ) → AllStay p.filled filled → Keeps (record p { filled = filled })
   keeps_listed filled goes =
       let fits = keeps.fits in
       record {
@@ -120,7 +120,7 @@ module _ (p : Parts) (keeps : Keeps p) where
             };
       }
 
-  pub keeps_used : (files : Files) (failures : ℕ) (filled : List ℕ) → GoesOn p.filled filled → next < 2 ^ 31 → (IsTrue p.state.honest → files ≡ p.state.files)
+  pub keeps_used : (files : Files) (failures : ℕ) (filled : List ℕ) → AllStay p.filled filled → next < 2 ^ 31 → (IsTrue p.state.honest → files ≡ p.state.files)
       → Keeps (record p { state = with_next p.state files failures p.state.logs p.state.keeper; filled = filled })
   keeps_used files failures filled goes room same =
       let fits = keeps.fits in
@@ -208,7 +208,7 @@ module _ (p : Parts) (keeps : Keeps p) where
 
     new_fits : MayMake p.state → IsHeld (next + 1) next new
         → ((id : ℕ) → (writing ≡ Some id) ↔ ((log : Log) × (finite.get (finite.insert p.state.logs next new) id ≡ Some log) × (log.state ≡ Writing)))
-        → GoesOn p.filled filled → ((new.state ≡ Writing) ⊎ (new.state ≡ Filled) → In next filled) → Fits with_new
+        → AllStay p.filled filled → ((new.state ≡ Writing) ⊎ (new.state ≡ Filled) → In next filled) → Fits with_new
     new_fits may held writes goes listed =
         let fits = keeps.fits in
         record {
@@ -314,7 +314,7 @@ module _ (p : Parts) (keeps : Keeps p) where
 
     pub kept_new : MayMake p.state → IsHeld (next + 1) next new
         → ((id : ℕ) → (writing ≡ Some id) ↔ ((log : Log) × (finite.get (finite.insert p.state.logs next new) id ≡ Some log) × (log.state ≡ Writing)))
-        → GoesOn p.filled filled → ((new.state ≡ Writing) ⊎ (new.state ≡ Filled) → In next filled)
+        → AllStay p.filled filled → ((new.state ≡ Writing) ⊎ (new.state ≡ Filled) → In next filled)
         → (IsTrue p.state.honest → Gains p.state.files next [] files × (length (file_of files next) ≤ header_length) × IsBacked files next new)
         → Keeps (record p {
           state = with_next p.state files failures (finite.insert p.state.logs next new) (with_seat p.state slot);

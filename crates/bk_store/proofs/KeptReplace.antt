@@ -8,14 +8,13 @@ use Rattle.std.proofs.lemmas.List.Sums.{sum_by-cons}
 use Rattle.bk_record.specs.Key.{EntryKey}
 use Rattle.bk_record.specs.Location.{Place}
 use Rattle.bk_record.specs.Files.{file_of, header_length}
-use Rattle.bk_record.specs.Keyed.{log_count}
+use Rattle.bk_record.specs.Keyed.{log_count, Places}
 use Rattle.bk_record.proofs.KeyedCounts.{log_count-none}
 use Rattle.bk_record.specs.Key.{key_cmp}
 use Rattle.bk_accounts.specs.Account.{Account, with_name, remaining_size, ledger_size}
 use Rattle.bk_accounts.specs.Book.{Book, named_in, total_at, after_name}
 use Rattle.bk_accounts.specs.Sums.{AreSums}
 use Rattle.bk_accounts.proofs.Books.{get-changed}
-use Rattle.bk_store.specs.Entries.{Places}
 use Rattle.bk_store.specs.Logs.{Log, open_parts}
 use Rattle.bk_store.specs.Jobs.{Job, with_rebuild}
 use Rattle.bk_store.specs.JobKept.{IsJob}

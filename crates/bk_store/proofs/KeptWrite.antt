@@ -28,7 +28,7 @@ use Rattle.bk_accounts.specs.Book.{Book, total_in, total_at, named_in, after_rea
 use Rattle.bk_accounts.specs.Sums.{AreSums}
 use Rattle.bk_accounts.proofs.BookLaws.{total_in-after_count, total_in-after_ready, named_in-after_count, named_in-after_ready}
 use Rattle.bk_accounts.proofs.CallerLaws.{sums_ready, sums_count}
-use Rattle.bk_store.specs.Entries.{Places, HasEntry}
+use Rattle.bk_store.specs.Entries.{HasEntry}
 use Rattle.bk_store.specs.Shown.{Shows}
 use Rattle.bk_store.specs.Logs.{Log, Logs, IsFlushLog, is_open, closed_log, halted_as, halted_log, open_parts}
 use Rattle.bk_store.specs.State.{State, Parts}

@@ -36,7 +36,7 @@ one_last {first = first} {second = second} {payload = payload} {payload' = paylo
 ]
 
 -- the last entry of a key in files, told of their bytes
-last_entry : (files : Files) (place : Place) (key : EntryKey) (payload : List ℕ) → record_entries.IsLastEntry files place key payload
+last_entry : (files : Files) (place : Place) (key : EntryKey) (payload : List ℕ) → record_entries.IsLastRecord files place key payload
     → IsLastEntry (file_of files) place key payload
 last_entry files place key payload l = record {
   here = record_entry files place key payload l.here.stands l.here.keyed;

@@ -3,8 +3,8 @@ use Rattle.std.proofs.Common.{◌≡◌, ◌≢◌, inl, inr, ℕ, None, is_some
 use Rattle.std.specs.FinSet as set
 use Rattle.bk_record.specs.Key.{EntryKey}
 use Rattle.bk_record.specs.Scan.{Payloads, Ledgers}
-use Rattle.bk_record.specs.Keyed.{without_ledger}
-use Rattle.bk_store.specs.Entries.{Bytes, Places}
+use Rattle.bk_record.specs.Keyed.{without_ledger, Places}
+use Rattle.bk_store.specs.Entries.{Bytes}
 use Rattle.bk_store.specs.Carried.{Cached, Carries}
 use Rattle.bk_store.proofs.Cases.{same_or_apart}
 use Rattle.bk_store.proofs.KeyMaps.{left_cases, left_same, still_lives, lives_still}

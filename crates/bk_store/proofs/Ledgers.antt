@@ -10,7 +10,7 @@ use Rattle.std.specs.Cmp.{nat_cmp_total, eq_by_cmp_equiv}
 use Rattle.std.specs.BTreeSet.{BTreeSet, contains, Updates}
 use Rattle.std.specs.FinSet as set
 use Rattle.std.specs.FinMap.{nat_cmp-IsAntisymmetric}
-use Rattle.bk_store.specs.Turns.{ledgers_of}
+use Rattle.bk_store.specs.Turns.{valid_ledgers}
 
 either : (b c : Bool) → cond b true c ≡ (b || c)
 either true c = refl
@@ -26,13 +26,13 @@ ledgers-insert old new ledger updates = set.same_set nat_cmp_total nat_cmp-IsAnt
     ∙ sym (set.contains-insert nat_cmp_total (set.from_list old.keys) ledger q))
 
 -- a list with one ledger more, which is one, or is past the greatest
-pub listed_push : (listed : List ℕ) (ledger : ℕ) → nat_lt ledger (2 ^ 63) ≡ true → ledgers_of (listed ++ ledger ∷ []) ≡ set.insert (ledgers_of listed) ledger
+pub listed_push : (listed : List ℕ) (ledger : ℕ) → nat_lt ledger (2 ^ 63) ≡ true → valid_ledgers (listed ++ ledger ∷ []) ≡ set.insert (valid_ledgers listed) ledger
 listed_push listed ledger is =
     ap set.from_list (filter-append (λ l. nat_lt l (2 ^ 63)) listed (ledger ∷ [])
     ∙ ap (λ b. filter (λ l. nat_lt l (2 ^ 63)) listed ++ cond b (ledger ∷ []) []) is)
     ∙ set.from_list_push nat_cmp_total nat_cmp-IsAntisymmetric (filter (λ l. nat_lt l (2 ^ 63)) listed) ledger
 
-pub listed_skip : (listed : List ℕ) (ledger : ℕ) → nat_lt ledger (2 ^ 63) ≡ false → ledgers_of (listed ++ ledger ∷ []) ≡ ledgers_of listed
+pub listed_skip : (listed : List ℕ) (ledger : ℕ) → nat_lt ledger (2 ^ 63) ≡ false → valid_ledgers (listed ++ ledger ∷ []) ≡ valid_ledgers listed
 listed_skip listed ledger is =
     ap set.from_list (filter-append (λ l. nat_lt l (2 ^ 63)) listed (ledger ∷ [])
     ∙ ap (λ b. filter (λ l. nat_lt l (2 ^ 63)) listed ++ cond b (ledger ∷ []) []) is ∙ append-nil (filter (λ l. nat_lt l (2 ^ 63)) listed))

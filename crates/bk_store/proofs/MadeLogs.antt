@@ -22,7 +22,7 @@ use Rattle.bk_lease.specs.declared.slot.Slot.TheVariants.{Open}
 use Rattle.bk_lease.specs.Slots.{IsFree, taken_count}
 use Rattle.bk_lease.specs.Values.{SlotTable, with_state}
 use Rattle.bk_store.specs.Doors.{MakeTurn, MayMake, IsUnmade, with_next, with_seat, logs_left, keeper_left}
-use Rattle.bk_store.specs.Beside.{MakesBeside, HasSlot, HasNoSlot, GoesOn, make_told, opened_for, writing_in, made_writing}
+use Rattle.bk_store.specs.Beside.{MakesBeside, HasSlot, HasNoSlot, AllStay, make_told, opened_for, writing_in, made_writing}
 use Rattle.bk_store.specs.declared.log.LogState.{LogState}
 use Rattle.bk_store.specs.declared.log.LogState.TheVariants.{Writing}
 use Rattle.bk_store.specs.declared.answer.MakeFault.{MakeFault}
@@ -70,7 +70,7 @@ pub reopened : (p : Parts) → Keeps p → (book left : Book) → book ≡ after
 reopened p keeps book left opened dropped =
     dropped ∙ ap (λ b. after_drop b p.state.next) opened ∙ remove-insert p.accounts p.state.next fresh (no_account p keeps)
 
-module _ (p now : Parts) (here : p ≡ now) (filled : List ℕ) (book : Book) (logs : Logs) (still : GoesOn p.filled filled) where
+module _ (p now : Parts) (here : p ≡ now) (filled : List ℕ) (book : Book) (logs : Logs) (still : AllStay p.filled filled) where
   pub slot_taken : (state : LogState) (number : ℕ) → book ≡ after_open p.accounts p.state.next → logs ≡ finite.insert p.state.logs p.state.next (unmade_log number)
       → (state ≡ Writing → In p.state.next filled) → IsFree p.state.keeper.slots number
       → HasSlot now state number (record p { state = record p.state { logs = logs }; accounts = book; filled = filled })

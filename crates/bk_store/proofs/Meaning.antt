@@ -9,7 +9,8 @@ use Rattle.bk_record.specs.Files.{Files, file_of}
 use Rattle.bk_record.specs.Scan.{Payloads, Ledgers, scan_of}
 use Rattle.bk_record.proofs.Keys.{key_cmp_total, key_cmp_antisymmetric}
 use Rattle.bk_record.proofs.Scans.{scan-none}
-use Rattle.bk_store.specs.Entries.{Bytes, Places, HasEntry}
+use Rattle.bk_record.specs.Keyed.{Places}
+use Rattle.bk_store.specs.Entries.{Bytes, HasEntry}
 use Rattle.bk_store.specs.Carried.{Cached, Carries}
 use Rattle.bk_store.proofs.Cases.{some_or_none, some_value}
 use Rattle.bk_store.proofs.PlaceOrder.{one_payload}

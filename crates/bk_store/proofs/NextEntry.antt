@@ -18,7 +18,6 @@ use Rattle.bk_record.proofs.SortedPairs.{is_true, Some-same, find_at, filter-beh
 use Rattle.bk_record.proofs.SortedMaps.{is_sorted-filter}
 use Rattle.bk_cache.specs.Caches.{flush_of, first_after}
 use Rattle.bk_cache.specs.Recents.{Entry}
-use Rattle.bk_store.specs.Entries.{Places}
 use Rattle.bk_store.specs.Placed.{last_key}
 use Rattle.bk_store.specs.State.{State}
 use Rattle.bk_store.specs.Kept.{IsPlaced}

@@ -15,7 +15,7 @@ use Rattle.bk_record.specs.Location.{Place}
 use Rattle.bk_record.proofs.Keys.{key_cmp_total}
 use Rattle.bk_record.proofs.SortedPairs.{is_sorted_put}
 use Rattle.bk_record.proofs.SortedMaps.{get-sorted, insert-sorted, entries-sorted, len-sorted, from_sorted-entries}
-use Rattle.bk_store.specs.Entries.{Places}
+use Rattle.bk_record.specs.Keyed.{Places}
 use Rattle.bk_store.specs.Placed.{IsBehind, last_key}
 
 both_true : (a b : Bool) → IsTrue a → IsTrue b → IsTrue (a && b)

@@ -12,7 +12,7 @@ use Rattle.std.specs.FinSet as set
 use Rattle.bk_record.specs.Key.{EntryKey, key_cmp}
 use Rattle.bk_record.specs.Location.{Place}
 use Rattle.bk_record.specs.Files.{Files, file_of, header_length, In}
-use Rattle.bk_record.specs.Keyed.{log_count}
+use Rattle.bk_record.specs.Keyed.{log_count, Places}
 use Rattle.bk_record.specs.Scan.{Ledgers, scan_of, live, entries_of}
 use Rattle.bk_record.proofs.Entries.{In-map, map-In, flat_map-In, get-In}
 use Rattle.bk_record.proofs.Growth.{In-append_right}
@@ -24,12 +24,12 @@ use Rattle.bk_accounts.specs.Sums.{AreSums, all_bytes, live_bytes, live_bytes_of
 use Rattle.bk_accounts.proofs.CallerLaws.{sums_new}
 use Rattle.bk_cache.specs.Caches as caches
 use Rattle.bk_cache.specs.Caches.{CacheState}
-use Rattle.bk_store.specs.Entries.{Places, IsIndexOf}
+use Rattle.bk_store.specs.Entries.{IsIndexOf}
 use Rattle.bk_store.specs.Carried.{Cached, Carries}
 use Rattle.bk_store.specs.Logs.{View, Log, Logs, found_log, open_parts, is_open, published_part}
 use Rattle.bk_store.specs.State.{Parts}
 use Rattle.bk_store.specs.Meaning.{written_at}
-use Rattle.bk_store.specs.Turns.{ledgers_of}
+use Rattle.bk_store.specs.Turns.{valid_ledgers}
 use Rattle.bk_lease.specs.Values.{SlotTable}
 use Rattle.bk_store.specs.Limits.{IsAllowed}
 use Rattle.bk_store.specs.Seated.{IsSeated}
@@ -445,7 +445,7 @@ module _ (settings : Settings) (honest honest' : Bool) (files files' : Files) (f
     promises = λ is. opened_promises settings honest' files' failures dead ids next t logs taken_now keeper is (listed_now is);
   })
 
-  pub opened_is : (given : List ℕ) → dead ≡ ledgers_of given
+  pub opened_is : (given : List ℕ) → dead ≡ valid_ledgers given
       → IsOpened honest files settings given (made_parts settings files' honest' failures kept places now logs keeper next filled).state
   opened_is given dead_are = subst (λ p. IsOpened honest files settings given p.state) parts_are (record {
     settings_are = refl;

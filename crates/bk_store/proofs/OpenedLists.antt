@@ -11,7 +11,7 @@ use Rattle.bk_record.specs.Files.{Files, file_of, records_of}
 use Rattle.bk_record.specs.Scan.{entries_of}
 use Rattle.bk_log.specs.declared.found.Found.{Found}
 use Rattle.bk_accounts.specs.Book.{after_open}
-use Rattle.bk_store.specs.Entries.{Places}
+use Rattle.bk_record.specs.Keyed.{Places}
 use Rattle.bk_store.specs.Found.{LogRead, IsRead, AreFoundAt, with_entry, with_entries, with_read, with_reads}
 use Rattle.bk_store.specs.declared.open.tally.Tally.{Tally}
 use Rattle.bk_store.proofs.EntryLists.{Listed, IsIndexOfList, list_indexed, list_passed}

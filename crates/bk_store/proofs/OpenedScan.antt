@@ -20,7 +20,7 @@ use Rattle.bk_log.specs.Scanned.{new_scan}
 use Rattle.bk_log.specs.Scanning.{Scan, part_of, NextMoves, NextTurn}
 use Rattle.bk_log.proofs.Ranges.{entries_in-file}
 use Rattle.bk_accounts.specs.Account.{Account}
-use Rattle.bk_accounts.specs.Book.{IsOpen, total_in, after_ready, after_count, after_count_dead}
+use Rattle.bk_accounts.specs.Book.{HasAccount, total_in, after_ready, after_count, after_count_dead}
 use Rattle.bk_accounts.proofs.BookLaws.{total_in-after_count, total_in-after_count_dead, total_in-after_ready}
 use Rattle.bk_store.specs.Opening.{IsHeaded, FileFails}
 use Rattle.bk_store.specs.Found.{IsScanned, IsFoundAt, AreFoundAt, with_entry, with_entries, bytes_found, scan_told}
@@ -105,7 +105,7 @@ module _ (log end : ℕ) (honest : Bool) (file : List ℕ) (old : Tally) (s : Sc
     pub next_begins : 1028 ≤ found.at
     next_begins = omega (arith, so_far.from, moves.1.begins)
 
-    pub next_open : IsOpen now.accounts log
+    pub next_open : HasAccount now.accounts log
     next_open = total_open (finite.get now.accounts log) (bytes_found so_far.founds) so_far.total
 
     pub scanning_on : (now' : Tally) → (IsTrue s.honest → NextTurn s (Ok (Some found)) s') → (IsTrue honest → end ≡ view_end file)

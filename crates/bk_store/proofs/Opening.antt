@@ -7,7 +7,8 @@ use Rattle.bk_record.specs.Key.{EntryKey}
 use Rattle.bk_record.specs.Files.{Files, file_of}
 use Rattle.bk_record.specs.Scan.{Ledgers, Payloads, scan_of, live}
 use Rattle.bk_record.proofs.Keys.{key_cmp_total, key_cmp_antisymmetric}
-use Rattle.bk_store.specs.Entries.{Bytes, Places, HasEntry, IsIndexOf}
+use Rattle.bk_record.specs.Keyed.{Places}
+use Rattle.bk_store.specs.Entries.{Bytes, HasEntry, IsIndexOf}
 use Rattle.bk_store.specs.Carried.{Carries}
 use Rattle.bk_store.proofs.Cases.{some_or_none}
 use Rattle.bk_store.proofs.PlaceOrder.{precedes_cases, one_payload}

@@ -9,14 +9,13 @@ use Rattle.bk_record.specs.Key.{EntryKey, key_cmp}
 use Rattle.std.specs.Ordering.{eq_by_cmp}
 use Rattle.bk_record.specs.Files.{file_of, In}
 use Rattle.bk_record.specs.Scan.{Payloads}
-use Rattle.bk_record.specs.Keyed.{Keyed, ledger_count}
+use Rattle.bk_record.specs.Keyed.{Keyed, ledger_count, Places}
 use Rattle.bk_record.proofs.Keys.{key_cmp_total, key_cmp_antisymmetric}
 use Rattle.bk_record.proofs.Entries.{In-get}
 use Rattle.bk_record.proofs.SortedMaps.{entries-retain_keys}
 use Rattle.bk_record.proofs.Weights.{weight-retain_keys}
 use Rattle.bk_record.proofs.KeyedCounts.{ledger_count-remove, ledger_count-union, ledger_count-of_empty}
 use Rattle.bk_cache.specs.Caches as caches
-use Rattle.bk_store.specs.Entries.{Places}
 use Rattle.bk_store.specs.Carried.{Carries}
 use Rattle.bk_store.specs.State.{State}
 use Rattle.bk_store.specs.Meaning.{written_at}

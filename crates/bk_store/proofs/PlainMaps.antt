@@ -19,7 +19,7 @@ use Rattle.bk_store.specs.State.{State, Parts}
 use Rattle.bk_store.specs.Meaning.{written_at, cached_at, holds}
 use Rattle.bk_store.specs.Kept.{Keeps, Promises}
 use Rattle.bk_store.specs.Turns.{AddTurn, TakeTurn, SwapTurn, DeleteTurn, deleted}
-use Rattle.bk_store.specs.Plain.{Plain, IsNew, PlainAdd, PlainTake, PlainDelete, after_swap, without, told_at, Agrees}
+use Rattle.bk_store.specs.Plain.{Plain, IsNew, PlainAdd, PlainTake, PlainDelete, after_swap, after_delete, told_at, MatchesPlain}
 use Rattle.bk_store.specs.declared.answer.Added.{Added}
 use Rattle.bk_store.specs.declared.answer.Added.TheVariants.{Accepted, Held}
 use Rattle.bk_store.specs.declared.answer.AddFault.{AddFault}
@@ -44,7 +44,7 @@ use Rattle.bk_store.proofs.KeptSwap as swapped
 
 -- ---- the map that a store carries is the plain one
 
-module _ (s : State) (p : Plain) (agrees : Agrees s p) where
+module _ (s : State) (p : Plain) (agrees : MatchesPlain s p) where
   told_is : (key : EntryKey) → told_at p key ≡ written_at s key
   told_is key = sym ((λ i. option_or (finite.get (agrees.active i) key) (finite.get (unwrap_or (agrees.flush i) finite.empty) key)))
 
@@ -60,7 +60,7 @@ module _ (s : State) (p : Plain) (agrees : Agrees s p) where
 
 -- a store that carries the plain map agrees with it
 pub agrees_of : (s : State) (p : Plain) → Carries (file_of s.files) s.index (written_at s) s.dead p.map
-    → s.dead ≡ p.dead → s.caches.active ≡ p.active → s.caches.flush ≡ p.flush → Agrees s p
+    → s.dead ≡ p.dead → s.caches.active ≡ p.active → s.caches.flush ≡ p.flush → MatchesPlain s p
 agrees_of s p carries dead active flush = record {
   meaning = λ key. carries_meaning s.files carries key
       ∙ (λ i. cond (set.contains (dead i) key.ledger) None
@@ -70,12 +70,12 @@ agrees_of s p carries dead active flush = record {
   flush = flush;
 }
 
-agrees_same : {s t : State} {p : Plain} → Agrees s p → t ≡ s → Agrees t p
-agrees_same {p = p} agrees same = subst (λ x. Agrees x p) (sym same) agrees
+agrees_same : {s t : State} {p : Plain} → MatchesPlain s p → t ≡ s → MatchesPlain t p
+agrees_same {p = p} agrees same = subst (λ x. MatchesPlain x p) (sym same) agrees
 
 -- ---- the answers
 
-module _ (parts : Parts) (keeps : Keeps parts) (promise : Promises parts) (p : Plain) (agrees : Agrees parts.state p) where
+module _ (parts : Parts) (keeps : Keeps parts) (promise : Promises parts) (p : Plain) (agrees : MatchesPlain parts.state p) where
   abbrev s : State
   s = parts.state
 
@@ -101,7 +101,7 @@ module _ (parts : Parts) (keeps : Keeps parts) (promise : Promises parts) (p : P
   dead_is ledger b is = ap (λ d. set.contains d ledger) (sym agrees.dead) ∙ is
 
   pub plain_add : (t : State) (payload : List ℕ) (r : Result Added AddFault) → AddTurn s payload r t
-      → (q : Plain) × PlainAdd s.caches.limit p payload r q × Agrees t q
+      → (q : Plain) × PlainAdd s.caches.limit p payload r q × MatchesPlain t q
   plain_add t payload (Err (add_faults.Bad fault)) turn = (p, (turn.0, refl), agrees_same agrees turn.1)
   plain_add t payload (Err add_faults.Deleted) turn = (p, (turn.0, turn.1, lives_in turn.0 true turn.2, refl), agrees_same agrees turn.3)
   plain_add t payload (Ok Held) turn =
@@ -166,7 +166,7 @@ module _ (parts : Parts) (keeps : Keeps parts) (promise : Promises parts) (p : P
       )
 
   pub plain_take : {V : Type 0} (bytes : V → List ℕ) (honest sound : V → Bool) (key : EntryKey) (r : Result (Taken V) TakeFault)
-      (t : State) → TakeTurn bytes honest sound s key r t → PlainTake bytes honest p key r × Agrees t p
+      (t : State) → TakeTurn bytes honest sound s key r t → PlainTake bytes honest p key r × MatchesPlain t p
   plain_take bytes honest sound key (Ok Deleted) t turn = (lives_in key true turn.0, agrees_same agrees turn.1)
   plain_take bytes honest sound key (Ok (Cached payload)) t turn =
       ((lives_in key false turn.0, cached_mapped key payload.value.items turn.1), agrees_same agrees turn.2)
@@ -207,7 +207,7 @@ module _ (parts : Parts) (keeps : Keeps parts) (promise : Promises parts) (p : P
     agrees_same agrees turn.2,
   )
 
-  pub plain_swap : (t : State) (r : SwapAnswer) → SwapTurn s r t → Agrees t (after_swap r p)
+  pub plain_swap : (t : State) (r : SwapAnswer) → SwapTurn s r t → MatchesPlain t (after_swap r p)
   plain_swap t Running turn = agrees_same agrees turn.1
   plain_swap t Nothing turn = agrees_same agrees turn.2
   plain_swap t (Swapped n) turn =
@@ -216,13 +216,13 @@ module _ (parts : Parts) (keeps : Keeps parts) (promise : Promises parts) (p : P
       agrees.dead refl (ap Some agrees.active)) turn.3
 
   pub plain_delete : caches.AreApart s.caches → (t : State) (ledger : ℕ) (r : Result ℕ DeleteFault) → DeleteTurn s ledger r t
-      → (q : Plain) × PlainDelete p ledger r q × Agrees t q
+      → (q : Plain) × PlainDelete p ledger r q × MatchesPlain t q
   plain_delete apart t ledger (Err delete_faults.AlreadyDeleted) turn = (p, (dead_is ledger true turn.0, refl), agrees_same agrees turn.1)
   plain_delete apart t ledger (Err delete_faults.Memory) turn = (p, (dead_is ledger false turn.0, refl), agrees_same agrees turn.1)
   plain_delete apart t ledger (Ok n) turn = (
-    without p ledger,
+    after_delete p ledger,
     (dead_is ledger false turn.0, turn.1 ∙ held_is_mapped s p.map carries ledger apart, refl),
-    agrees_same (agrees_of (deleted s ledger) (without p ledger)
+    agrees_same (agrees_of (deleted s ledger) (after_delete p ledger)
         (carries_without_ledger carries (written_at (deleted s ledger)) ledger (removed.written_gone s ledger) (removed.written_same s ledger))
         (ap (λ d. set.insert d ledger) agrees.dead) (ap (λ m. without_ledger m ledger) agrees.active)
         (ap (option_map (λ m. without_ledger m ledger)) agrees.flush)) turn.2,

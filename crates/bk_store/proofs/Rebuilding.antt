@@ -4,7 +4,8 @@ use Rattle.std.specs.FinMap as finite
 use Rattle.bk_record.specs.Key.{EntryKey}
 use Rattle.bk_record.specs.Location.{Place}
 use Rattle.bk_record.specs.Scan.{Payloads, Ledgers}
-use Rattle.bk_store.specs.Entries.{Bytes, Places, IsIndexOf}
+use Rattle.bk_record.specs.Keyed.{Places}
+use Rattle.bk_store.specs.Entries.{Bytes, IsIndexOf}
 use Rattle.bk_store.specs.Carried.{Cached, IsIndexed, Carries}
 use Rattle.bk_store.specs.Shown.{Shows}
 use Rattle.bk_store.proofs.Cases.{some_or_none, some_value}

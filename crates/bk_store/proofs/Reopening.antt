@@ -9,14 +9,14 @@ use Rattle.bk_cache.specs.Caches as caches
 use Rattle.bk_store.specs.State.{State}
 use Rattle.bk_store.specs.Meaning.{MeansTheSame, written_at}
 use Rattle.bk_store.specs.Opening.{IsOpened}
-use Rattle.bk_store.specs.Turns.{ledgers_of}
+use Rattle.bk_store.specs.Turns.{valid_ledgers}
 use Rattle.bk_store.specs.declared.settings.Settings.{Settings}
 
 -- new caches have nothing
 nothing_written : (limit recent : ℕ) (key : EntryKey) → caches.held (caches.new_caches limit recent) key ≡ None
 nothing_written limit recent key = ap (λ o. option_or o o) (finite.get-empty {X = List ℕ} key_cmp key)
 
-pub reopened_same : (s t : State) (settings : Settings) (dead : List ℕ) → s.dead ≡ ledgers_of dead → ((key : EntryKey) → written_at s key ≡ None)
+pub reopened_same : (s t : State) (settings : Settings) (dead : List ℕ) → s.dead ≡ valid_ledgers dead → ((key : EntryKey) → written_at s key ≡ None)
     → IsOpened true s.files settings dead t → MeansTheSame s t
 reopened_same s t settings dead same_dead unwritten opened key =
     let same_files = (opened.holds refl).same in

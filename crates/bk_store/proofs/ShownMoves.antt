@@ -3,8 +3,8 @@ use Rattle.std.proofs.Common.{◌≡◌, ◌≢◌, inl, inr, ℕ, List, [], Som
 use Rattle.std.specs.FinMap as finite
 use Rattle.bk_record.specs.Key.{EntryKey}
 use Rattle.bk_record.specs.Location.{Place}
-use Rattle.bk_record.specs.Keyed.{without_ledger}
-use Rattle.bk_store.specs.Entries.{Bytes, Places, HasEntry}
+use Rattle.bk_record.specs.Keyed.{without_ledger, Places}
+use Rattle.bk_store.specs.Entries.{Bytes, HasEntry}
 use Rattle.bk_store.specs.Shown.{Shows}
 use Rattle.bk_store.proofs.Cases.{same_or_apart}
 use Rattle.bk_store.proofs.Growing.{EntriesStay, OnlyIn, entry_same, none_stands}

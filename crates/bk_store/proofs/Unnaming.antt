@@ -6,16 +6,15 @@ use Rattle.std.proofs.lemmas.Bool.{eq-eqb, eqb-true}
 use Rattle.std.proofs.lemmas.List.Sums.{sum_by-cons, count_by-le-length}
 use Rattle.bk_record.specs.Key.{EntryKey}
 use Rattle.bk_record.specs.Location.{Place}
-use Rattle.bk_record.specs.Keyed.{without_ledger, log_count}
+use Rattle.bk_record.specs.Keyed.{without_ledger, log_count, Places}
 use Rattle.bk_record.proofs.Keys.{key_cmp_total, key_cmp_antisymmetric}
 use Rattle.bk_record.proofs.SortedMaps.{entries-retain_keys}
 use Rattle.bk_record.proofs.KeyedCounts.{log_count-without_ledger}
 use Rattle.bk_cache.specs.Caches.{CacheState, held}
 use Rattle.bk_accounts.specs.Account.{Account, without_name}
-use Rattle.bk_accounts.specs.Account.{without_ledger as forgotten}
+use Rattle.bk_accounts.specs.Account.{without_size}
 use Rattle.bk_accounts.specs.Book.{Book, named_in, after_unname, after_forget}
 use Rattle.bk_accounts.proofs.Books.{get-changed, get-after_forget}
-use Rattle.bk_store.specs.Entries.{Places}
 use Rattle.bk_store.specs.Deletion.{AreNamedBy, AreLeft}
 
 abbrev Listed : Type 0
@@ -157,12 +156,12 @@ pub left_behind : (index left : Places) (ledger : ℕ) (old seen now new : Book)
     → new ≡ after_forget now ledger → left ≡ without_ledger index ledger → AreLeft left ledger old new
 left_behind index left ledger old seen now new same named is without log =
     ap (λ b. finite.get b log) is ∙ get-after_forget now ledger log
-    ∙ ap (option_map (forgotten ledger)) (named log ∙ ap (λ b. option_map (λ (account : Account). record account { named = log_count (without_ledger index ledger) log }) (finite.get b log)) same)
+    ∙ ap (option_map (without_size ledger)) (named log ∙ ap (λ b. option_map (λ (account : Account). record account { named = log_count (without_ledger index ledger) log }) (finite.get b log)) same)
     ∙ both (finite.get old log)
     ∙ ap (λ i. option_map (λ (account : Account). record account { named = log_count i log; live = finite.remove account.live ledger }) (finite.get old log)) (sym without)
   where
     both : (o : Option Account)
-        → option_map (forgotten ledger) (option_map (λ (account : Account). record account { named = log_count (without_ledger index ledger) log }) o)
+        → option_map (without_size ledger) (option_map (λ (account : Account). record account { named = log_count (without_ledger index ledger) log }) o)
         ≡ option_map (λ (account : Account). record account { named = log_count (without_ledger index ledger) log; live = finite.remove account.live ledger }) o
     both None = refl
     both (Some account) = refl

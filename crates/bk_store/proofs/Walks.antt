@@ -18,7 +18,8 @@ use Rattle.bk_record.specs.Latest.{AreInOrder}
 use Rattle.bk_record.specs.Scan.{Ledgers}
 use Rattle.bk_record.proofs.Entries.{In-map, In-filter_map, filter_map-In, In-flat_map, flat_map-In}
 use Rattle.bk_record.proofs.Orders.{all_records_in_order}
-use Rattle.bk_store.specs.Entries.{Bytes, Places, HasEntry}
+use Rattle.bk_record.specs.Keyed.{Places}
+use Rattle.bk_store.specs.Entries.{Bytes, HasEntry}
 use Rattle.bk_store.proofs.EntryLists.{Listed, AreRising, AreEntriesOf, IsIndexOfList, rising_append, list_indexed, list_passed}
 
 -- a key with its place

@@ -20,7 +20,7 @@ use Rattle.bk_cache.specs.Recents.{recent_of}
 use Rattle.bk_store.proofs.KeptWrite.{flush_held}
 use Rattle.bk_accounts.specs.Book.{Book, total_in, total_at, after_ready}
 use Rattle.bk_accounts.proofs.BookLaws.{total_in-after_ready}
-use Rattle.bk_store.specs.Entries.{Places}
+use Rattle.bk_record.specs.Keyed.{Places}
 use Rattle.bk_store.specs.Logs.{Log, Logs, halted_log}
 use Rattle.bk_store.specs.Placed.{IsBehind}
 use Rattle.bk_store.specs.State.{State, Parts}

@@ -28,8 +28,8 @@ make_told log_faults.Failed = makes.Odd
 make_told log_faults.Odd = makes.Odd
 
 -- a list that goes on: what was in it is in it
-abbrev pub GoesOn : List ℕ → List ℕ → Type 0
-GoesOn old new = (id : ℕ) → In id old → In id new
+abbrev pub AllStay : List ℕ → List ℕ → Type 0
+AllStay old new = (id : ℕ) → In id old → In id new
 
 -- the next log has a slot, which is free yet, and an account, and is in the list where it is to be Writing
 pub record HasSlot (p : Parts) (state : LogState) (slot : ℕ) (q : Parts) : Type 0 where
@@ -39,13 +39,13 @@ pub record HasSlot (p : Parts) (state : LogState) (slot : ℕ) (q : Parts) : Typ
     accounts = after_open p.accounts p.state.next;
     filled = q.filled;
   }
-  pub still : GoesOn p.filled q.filled
+  pub still : AllStay p.filled q.filled
   pub listed : state ≡ Writing → In p.state.next q.filled
 
 -- no slot was taken
 pub record HasNoSlot (p q : Parts) : Type 0 where
   pub parts : q ≡ record p { filled = q.filled }
-  pub still : GoesOn p.filled q.filled
+  pub still : AllStay p.filled q.filled
 
 -- the account of a log that is held from then on
 abbrev pub opened_for : Logs → Book → ℕ → Book
@@ -71,7 +71,7 @@ pub record MakesBeside (p : Parts) (state : LogState) (result : Result ℕ MakeF
     writing = made_writing p.writing state result;
     filled = q.filled;
   }
-  pub still : GoesOn p.filled q.filled
+  pub still : AllStay p.filled q.filled
   pub listed : state ≡ Writing → IsOk result → In p.state.next q.filled
 
 -- ---- writing and sealing a log

@@ -6,7 +6,8 @@ use Rattle.std.specs.Prelude.{ℕ}
 use Rattle.bk_record.specs.Key.{EntryKey}
 use Rattle.bk_record.specs.Location.{Place, Precedes}
 use Rattle.bk_record.specs.Scan.{Payloads, Ledgers}
-use Rattle.bk_store.specs.Entries.{Bytes, Places, HasEntry}
+use Rattle.bk_record.specs.Keyed.{Places}
+use Rattle.bk_store.specs.Entries.{Bytes, HasEntry}
 
 -- what the write caches have of each key
 abbrev pub Cached : Type 0

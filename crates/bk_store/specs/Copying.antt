@@ -64,13 +64,13 @@ RemoveTurn s id (Err log_faults.Failed) t = ⊥
 
 -- the bytes of the records of a log's acknowledged part, and of those whose ledger lives, length fields included; 0 where no
 -- such log is held
-abbrev pub total_of : State → ℕ → ℕ
-total_of s id = option_map_or (all_bytes entry_measure) (acknowledged_entries s.files s.logs id) 0
+abbrev pub log_bytes : State → ℕ → ℕ
+log_bytes s id = option_map_or (all_bytes entry_measure) (acknowledged_entries s.files s.logs id) 0
 
-abbrev pub remaining_of : State → ℕ → ℕ
-remaining_of s id = option_map_or (live_bytes entry_measure (set.contains s.dead)) (acknowledged_entries s.files s.logs id) 0
+abbrev pub live_log_bytes : State → ℕ → ℕ
+live_log_bytes s id = option_map_or (live_bytes entry_measure (set.contains s.dead)) (acknowledged_entries s.files s.logs id) 0
 
 -- the log of these that is used least, of those that are used below the threshold
 abbrev pub IsLeastUsed : State → ℕ → List ℕ → Option ℕ → Type 0
-IsLeastUsed s threshold allowed None = NoneBelow (total_of s) (remaining_of s) threshold allowed
-IsLeastUsed s threshold allowed (Some id) = IsChoice (total_of s) (remaining_of s) threshold allowed id
+IsLeastUsed s threshold allowed None = NoneBelow (log_bytes s) (live_log_bytes s) threshold allowed
+IsLeastUsed s threshold allowed (Some id) = IsChoice (log_bytes s) (live_log_bytes s) threshold allowed id

@@ -1,10 +1,9 @@
 -- What a deletion does to the accounts, which stand beside the visible state.
 use Rattle.std.specs.Prelude.{◌≡◌, ℕ, Result, Ok, Err, option_map}
 use Rattle.std.specs.FinMap as finite
-use Rattle.bk_record.specs.Keyed.{log_count}
+use Rattle.bk_record.specs.Keyed.{log_count, Places}
 use Rattle.bk_accounts.specs.Account.{Account}
 use Rattle.bk_accounts.specs.Book.{Book}
-use Rattle.bk_store.specs.Entries.{Places}
 use Rattle.bk_store.specs.State.{Parts}
 use Rattle.bk_store.specs.declared.answer.DeleteFault.{DeleteFault}
 

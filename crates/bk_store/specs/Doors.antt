@@ -16,12 +16,12 @@ use Rattle.bk_log.specs.Sealing.{SealTurn, KeepsEntries, HasMap, map_fits}
 use Rattle.bk_log.specs.declared.fault.LogFault.{LogFault}
 use Rattle.bk_log.specs.declared.fault.LogFault.TheVariants as log_faults
 use Rattle.bk_cache.specs.Caches as caches
-use Rattle.bk_record.specs.Keyed.{log_count}
+use Rattle.bk_record.specs.Keyed.{log_count, Places}
 use Rattle.bk_cache.specs.Recents.{Recents, remembered}
 use Rattle.bk_lease.specs.declared.slot.Slot.TheVariants.{Open}
 use Rattle.bk_lease.specs.Slots.{IsFree}
 use Rattle.bk_lease.specs.Values.{SlotTable, with_state}
-use Rattle.bk_store.specs.Entries.{IsIndexOf, Places}
+use Rattle.bk_store.specs.Entries.{IsIndexOf}
 use Rattle.bk_store.specs.Logs.{View, Log, Logs, made_log, unmade_log, closed_log, halted_log, with_view, settled_as, unfilled_as, AllChanged, is_open, open_parts, HasOpenView}
 use Rattle.bk_store.specs.Jobs.{Job, with_rebuild}
 use Rattle.bk_store.specs.Putting.{next_place, grown_log}

@@ -2,20 +2,17 @@
 use Rattle.std.specs.Prelude.{◌≡◌, ℕ, false, List, Some, None}
 use Rattle.std.specs.FinMap as finite
 use Rattle.std.specs.FinSet as set
-use Rattle.bk_record.specs.Key.{EntryKey, key_cmp}
+use Rattle.bk_record.specs.Key.{EntryKey}
 use Rattle.bk_record.specs.Location.{Place}
 use Rattle.bk_record.specs.Record.{key_of}
 use Rattle.bk_record.specs.Files.{records_of, In}
 use Rattle.bk_record.specs.Location.{Precedes}
 use Rattle.bk_record.specs.Scan.{Ledgers}
+use Rattle.bk_record.specs.Keyed.{Places}
 
 -- the bytes of each log, by its id; none where there is no such log
 abbrev pub Bytes : Type 0
 Bytes = ℕ → List ℕ
-
--- a place for each of finitely many keys
-abbrev pub Places : Type 0
-Places = finite.FinMap key_cmp Place
 
 -- an entry of the key, with this payload, stands at the place
 pub record HasEntry (bytes : Bytes) (place : Place) (key : EntryKey) (payload : List ℕ) : Type 0 where

@@ -26,13 +26,13 @@ use Rattle.bk_store.specs.declared.open.tally.Tally.{Tally}
 -- ---- faults
 
 -- a refused call on the disk: want of memory and a failing device as they are, all else is odd
-abbrev pub told : DiskFault → OpenFault
-told disk_faults.Disk = open_faults.Disk
-told disk_faults.Memory = open_faults.Memory
-told disk_faults.Exists = open_faults.Odd
-told disk_faults.NoLog = open_faults.Odd
-told disk_faults.PastEnd = open_faults.Odd
-told disk_faults.TooLong = open_faults.Odd
+abbrev pub open_fault_of : DiskFault → OpenFault
+open_fault_of disk_faults.Disk = open_faults.Disk
+open_fault_of disk_faults.Memory = open_faults.Memory
+open_fault_of disk_faults.Exists = open_faults.Odd
+open_fault_of disk_faults.NoLog = open_faults.Odd
+open_fault_of disk_faults.PastEnd = open_faults.Odd
+open_fault_of disk_faults.TooLong = open_faults.Odd
 
 -- a refused scan: a bad length is the log's
 abbrev pub scan_told : ℕ → ScanFault → OpenFault

@@ -1,5 +1,5 @@
 -- What a store means: the files' entries and the cached ones, of ledgers that live.
-use Rattle.std.specs.Prelude.{◌≡◌, Bool, ◌||◌, is_some, Option, None, List, ℕ, if◌then◌else◌}
+use Rattle.std.specs.Prelude.{◌≡◌, Bool, ◌||◌, is_some, Option, None, List, ℕ, if◌then◌else◌, IsTrue}
 use Rattle.std.specs.Option.{option_or}
 use Rattle.std.specs.FinMap as finite
 use Rattle.std.specs.FinSet as set
@@ -31,3 +31,8 @@ IsMeaning map s = (key : EntryKey) → finite.get map key ≡ meaning_at s key
 -- At every key the second means what the first means.
 abbrev pub MeansTheSame : State → State → Type 0
 MeansTheSame s t = (key : EntryKey) → meaning_at t key ≡ meaning_at s key
+
+-- the disk is as honest as before, and beside an honest one every key means what it meant
+pub record KeepsMeaning (s t : State) : Type 0 where
+  pub honest : t.honest ≡ s.honest
+  pub meaning : IsTrue s.honest → MeansTheSame s t

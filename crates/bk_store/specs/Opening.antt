@@ -11,7 +11,7 @@ use Rattle.bk_store.specs.Entries.{IsIndexOf}
 use Rattle.bk_store.specs.Limits.{IsAllowed}
 use Rattle.bk_store.specs.Logs.{View, Logs, found_log}
 use Rattle.bk_store.specs.State.{State}
-use Rattle.bk_store.specs.Turns.{ledgers_of}
+use Rattle.bk_store.specs.Turns.{valid_ledgers}
 use Rattle.bk_store.specs.declared.settings.Settings.{Settings}
 use Rattle.bk_store.specs.declared.answer.LogCause.{LogCause}
 use Rattle.bk_store.specs.declared.answer.LogCause.TheVariants as causes
@@ -31,9 +31,9 @@ pub record Opens (file : List ℕ) : Type 0 where
   pub whole : HasNoBadLength file
 
 -- what stands in a file that can't be read; its header is judged before its records
-abbrev pub HasCause : List ℕ → LogCause → Type 0
-HasCause file (causes.Header fault) = (header_length ≤ length file) × HeaderFault (take header_length file) fault
-HasCause file (causes.BadLength at value) = IsHeaded file × IsBadAt header_length (drop header_length file) at value
+abbrev pub HasLogCause : List ℕ → LogCause → Type 0
+HasLogCause file (causes.Header fault) = (header_length ≤ length file) × HeaderFault (take header_length file) fault
+HasLogCause file (causes.BadLength at value) = IsHeaded file × IsBadAt header_length (drop header_length file) at value
 
 -- why the log of this id and file is refused by an honest disk
 abbrev pub FileFails : ℕ → List ℕ → OpenFault → Type 0
@@ -41,7 +41,7 @@ FileFails id file open_faults.Settings = ⊥
 FileFails id file open_faults.Disk = Unit {0}
 FileFails id file open_faults.Memory = Unit {0}
 FileFails id file open_faults.LogsFull = ⊥
-FileFails id file (open_faults.Log log cause) = (log ≡ id) × (length file < 2 ^ 32) × HasCause file cause
+FileFails id file (open_faults.Log log cause) = (log ≡ id) × (length file < 2 ^ 32) × HasLogCause file cause
 FileFails id file (open_faults.TooLong log) = (log ≡ id) × (2 ^ 32 ≤ length file)
 FileFails id file open_faults.Odd = ⊥
 
@@ -100,6 +100,6 @@ pub record IsOpened (honest : Bool) (files : Files) (settings : Settings) (dead 
   pub settings_are : s.settings ≡ settings
   pub caches_are : s.caches ≡ caches.new_caches settings.cache_limit settings.recent
   pub places_are : s.places ≡ finite.empty
-  pub dead_are : s.dead ≡ ledgers_of dead
+  pub dead_are : s.dead ≡ valid_ledgers dead
   pub idle : s.job ≡ None
   pub holds : IsTrue honest → HoldsFiles files s

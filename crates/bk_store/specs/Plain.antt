@@ -87,8 +87,8 @@ after_swap Nothing p = p
 after_swap (Swapped n) p = record p { active = finite.empty; flush = Some p.active }
 
 -- the plain state without a ledger, which is dead from then on
-abbrev pub without : Plain → ℕ → Plain
-without p ledger = record {
+abbrev pub after_delete : Plain → ℕ → Plain
+after_delete p ledger = record {
   map = without_ledger p.map ledger;
   dead = set.insert p.dead ledger;
   active = without_ledger p.active ledger;
@@ -99,7 +99,7 @@ without p ledger = record {
 abbrev pub PlainDelete : Plain → ℕ → Result ℕ DeleteFault → Plain → Type 0
 PlainDelete p ledger (Err delete_faults.AlreadyDeleted) q = (set.contains p.dead ledger ≡ true) × (q ≡ p)
 PlainDelete p ledger (Err delete_faults.Memory) q = (set.contains p.dead ledger ≡ false) × (q ≡ p)
-PlainDelete p ledger (Ok n) q = (set.contains p.dead ledger ≡ false) × (n ≡ ledger_count p.map ledger) × (q ≡ without p ledger)
+PlainDelete p ledger (Ok n) q = (set.contains p.dead ledger ≡ false) × (n ≡ ledger_count p.map ledger) × (q ≡ after_delete p ledger)
 
 -- ---- a store, beside the plain map
 
@@ -114,7 +114,7 @@ Means files p = (key : EntryKey)
     → finite.get p.map key ≡ (if set.contains p.dead key.ledger then None else option_or (told_at p key) (finite.get (scan_of files) key))
 
 -- what holds of a store and the plain map between two calls
-pub record Agrees (s : State) (p : Plain) : Type 0 where
+pub record MatchesPlain (s : State) (p : Plain) : Type 0 where
   pub meaning : Means s.files p
   pub dead : s.dead ≡ p.dead
   pub active : s.caches.active ≡ p.active

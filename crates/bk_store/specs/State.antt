@@ -7,12 +7,11 @@ use Rattle.std.specs.FinSet as set
 use Rattle.bk_record.specs.Files.{Files}
 use Rattle.bk_record.specs.Scan.{Ledgers}
 use Rattle.bk_log.specs.Writing as writers
-use Rattle.bk_record.specs.Keyed.{key_code, place_code}
+use Rattle.bk_record.specs.Keyed.{Places, places_code}
 use Rattle.bk_cache.specs.Caches.{CacheState, cache_code}
 use Rattle.bk_accounts.specs.Book.{Book, book_code}
 use Rattle.bk_lease.specs.Values.{SlotTable}
 use Rattle.bk_lease.specs.Codes.{slot_table_code}
-use Rattle.bk_store.specs.Entries.{Places}
 use Rattle.bk_store.specs.Jobs.{Job, job_code}
 use Rattle.bk_store.specs.Logs.{View, Log, Logs}
 use Rattle.bk_store.specs.declared.log.LogState.{LogState}
@@ -95,9 +94,6 @@ settings_code = code_by (ℕ × (ℕ × (ℕ × (ℕ × (ℕ × (ℕ × ℕ)))))
 
 abbrev pub files_code : Coded Files
 files_code = finite.code coded_ℕ (coded_list coded_ℕ)
-
-abbrev pub places_code : Coded Places
-places_code = finite.code key_code place_code
 
 -- a state is stored as the tuple of its fields
 abbrev pub state_code : Coded State

@@ -32,7 +32,7 @@ abbrev pub is_dead : State → ℕ → Bool
 is_dead s ledger = set.contains s.dead ledger
 
 -- a payload that may be added, of a key whose ledger lives and which the store has, or has not
-pub record Asks (s : State) (payload : List ℕ) (has : Bool) : Type 0 where
+pub record AsksToAdd (s : State) (payload : List ℕ) (has : Bool) : Type 0 where
   pub key : EntryKey
   pub reads : read_added payload ≡ Ok key
   pub lives : is_dead s key.ledger ≡ false
@@ -42,11 +42,11 @@ pub record Asks (s : State) (payload : List ℕ) (has : Bool) : Type 0 where
 abbrev pub AddTurn : State → List ℕ → Result Added AddFault → State → Type 0
 AddTurn s payload (Err (add_faults.Bad fault)) t = (read_added payload ≡ Err fault) × (t ≡ s)
 AddTurn s payload (Err add_faults.Deleted) t = (key : EntryKey) × (read_added payload ≡ Ok key) × (is_dead s key.ledger ≡ true) × (t ≡ s)
-AddTurn s payload (Ok Held) t = Asks s payload true × (t ≡ s)
-AddTurn s payload (Err (add_faults.Full used limit)) t = Asks s payload false × caches.IsFull s.caches payload
+AddTurn s payload (Ok Held) t = AsksToAdd s payload true × (t ≡ s)
+AddTurn s payload (Err (add_faults.Full used limit)) t = AsksToAdd s payload false × caches.IsFull s.caches payload
     × (used ≡ caches.used_of s.caches.active) × (limit ≡ s.caches.limit) × (t ≡ s)
-AddTurn s payload (Err add_faults.Memory) t = Asks s payload false × (¬ (caches.IsFull s.caches payload)) × (t ≡ s)
-AddTurn s payload (Ok Accepted) t = Asks s payload false × (¬ (caches.IsFull s.caches payload))
+AddTurn s payload (Err add_faults.Memory) t = AsksToAdd s payload false × (¬ (caches.IsFull s.caches payload)) × (t ≡ s)
+AddTurn s payload (Ok Accepted) t = AsksToAdd s payload false × (¬ (caches.IsFull s.caches payload))
     × (t ≡ record s { caches = caches.with_added s.caches payload })
 
 -- the key is of a live ledger, is not cached, and the index sends it to this place: so it is to be read in a log
@@ -104,5 +104,5 @@ SwapTurn s (Swapped n) t = (s.caches.flush ≡ None) × (0 < n) × (n ≡ finite
     × (t ≡ record s { caches = record s.caches { active = finite.empty; flush = Some s.caches.active } })
 
 -- the ledgers that a list names: those up to the greatest id
-abbrev pub ledgers_of : List ℕ → Ledgers
-ledgers_of listed = set.from_list (filter (λ ledger. nat_lt ledger (2 ^ 63)) listed)
+abbrev pub valid_ledgers : List ℕ → Ledgers
+valid_ledgers listed = set.from_list (filter (λ ledger. nat_lt ledger (2 ^ 63)) listed)

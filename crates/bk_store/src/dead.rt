@@ -28,12 +28,12 @@ impl Model for DeadLedgers {
 }
 
 impl DeadLedgers {
-    ghost use Rattle.bk_store.specs.Turns.{ledgers_of};
+    ghost use Rattle.bk_store.specs.Turns.{valid_ledgers};
 
     /// The ledgers of a list; one that is past the greatest id, or that stands in it again, means nothing. The only error
     /// is want of memory.
     pub fn of(alloc: Global, listed: &[u64]) -> Result<DeadLedgers, AllocError>
-        ensures { IfOk result (λ dead. dead ≡ ledgers_of listed.now) }
+        ensures { IfOk result (λ dead. dead ≡ valid_ledgers listed.now) }
     {
         let mut ledgers = BTreeSet::new(alloc);
         for ledger in listed {

@@ -6,17 +6,17 @@ ghost use Rattle.std.specs.FinSet as set;
 ghost use Rattle.std.specs.Option.{option_or};
 ghost use Rattle.bk_record.specs.Files.{Files, file_of};
 ghost use Rattle.bk_record.specs.Key.{EntryKey};
-ghost use Rattle.bk_record.specs.Keyed.{without_ledger};
+ghost use Rattle.bk_record.specs.Keyed.{without_ledger, Places};
 ghost use Rattle.bk_record.specs.Scan.{Payloads, Ledgers, scan_of, live};
-ghost use Rattle.bk_store.specs.Entries.{Bytes, Places, IsIndexOf};
+ghost use Rattle.bk_store.specs.Entries.{Bytes, IsIndexOf};
 ghost use Rattle.bk_store.specs.Carried.{Cached, Carries};
 ghost use Rattle.bk_store.specs.Shown.{Shows};
 ghost use Rattle.bk_store.specs.State.{State};
-ghost use Rattle.bk_store.specs.Turns.{AddTurn, TakeTurn, SwapTurn, DeleteTurn, ledgers_of};
+ghost use Rattle.bk_store.specs.Turns.{AddTurn, TakeTurn, SwapTurn, DeleteTurn, valid_ledgers};
 ghost use Rattle.bk_store.specs.Meaning.{MeansTheSame, written_at};
 ghost use Rattle.bk_store.specs.Opening.{IsOpened};
 ghost use Rattle.bk_store.specs.declared.settings.Settings.{Settings};
-ghost use Rattle.bk_store.specs.Plain.{Plain, PlainAdd, PlainTake, PlainDelete, after_swap, Agrees, IsKept};
+ghost use Rattle.bk_store.specs.Plain.{Plain, PlainAdd, PlainTake, PlainDelete, after_swap, MatchesPlain, IsKept};
 ghost use Rattle.bk_store.specs.declared.answer.Added.{Added};
 ghost use Rattle.bk_store.specs.declared.answer.AddFault.{AddFault};
 ghost use Rattle.bk_store.specs.declared.answer.Taken.{Taken};
@@ -82,32 +82,32 @@ pub fn deleted_ledger_leaves()
 
 /// An add of a store answers as the plain map does, and leaves them agreeing.
 pub fn add_is_plain()
-    ensures { (s t : State) (p : Plain) (payload : List ℕ) (answer : Result Added AddFault) → IsKept s → IsTrue s.honest → Agrees s p
-        → AddTurn s payload answer t → (q : Plain) × PlainAdd s.caches.limit p payload answer q × Agrees t q }
+    ensures { (s t : State) (p : Plain) (payload : List ℕ) (answer : Result Added AddFault) → IsKept s → IsTrue s.honest → MatchesPlain s p
+        → AddTurn s payload answer t → (q : Plain) × PlainAdd s.caches.limit p payload answer q × MatchesPlain t q }
 {}
 
 /// A take of a store answers as the plain map does, and leaves them agreeing: a lease has a view in which the entry stands
 /// with what the map has.
 pub fn take_is_plain<V: LogView>()
-    ensures { (s t : State) (p : Plain) (key : EntryKey) (answer : Result (Taken V) TakeFault) → IsKept s → IsTrue s.honest → Agrees s p
-        → TakeTurn V.bytes V.honest V.sound s key answer t → PlainTake V.bytes V.honest p key answer × Agrees t p }
+    ensures { (s t : State) (p : Plain) (key : EntryKey) (answer : Result (Taken V) TakeFault) → IsKept s → IsTrue s.honest → MatchesPlain s p
+        → TakeTurn V.bytes V.honest V.sound s key answer t → PlainTake V.bytes V.honest p key answer × MatchesPlain t p }
 {}
 
 /// A swap changes nothing of the plain map but which pairs are flushing.
 pub fn swap_is_plain()
-    ensures { (s t : State) (p : Plain) (answer : SwapAnswer) → IsKept s → IsTrue s.honest → Agrees s p
-        → SwapTurn s answer t → Agrees t (after_swap answer p) }
+    ensures { (s t : State) (p : Plain) (answer : SwapAnswer) → IsKept s → IsTrue s.honest → MatchesPlain s p
+        → SwapTurn s answer t → MatchesPlain t (after_swap answer p) }
 {}
 
 /// A deletion of a store answers as the plain map does, and leaves them agreeing.
 pub fn delete_is_plain()
-    ensures { (s t : State) (p : Plain) (ledger : ℕ) (answer : Result ℕ DeleteFault) → IsKept s → IsTrue s.honest → Agrees s p
-        → DeleteTurn s ledger answer t → (q : Plain) × PlainDelete p ledger answer q × Agrees t q }
+    ensures { (s t : State) (p : Plain) (ledger : ℕ) (answer : Result ℕ DeleteFault) → IsKept s → IsTrue s.honest → MatchesPlain s p
+        → DeleteTurn s ledger answer t → (q : Plain) × PlainDelete p ledger answer q × MatchesPlain t q }
 {}
 
 /// A store that is opened on the files of another one, with the same dead ledgers, means at every key what that one means,
 /// where no write cache of that one has an entry.
 pub fn reopened_means_the_same()
-    ensures { (s t : State) (settings : Settings) (dead : List ℕ) → s.dead ≡ ledgers_of dead → ((key : EntryKey) → written_at s key ≡ None)
+    ensures { (s t : State) (settings : Settings) (dead : List ℕ) → s.dead ≡ valid_ledgers dead → ((key : EntryKey) → written_at s key ≡ None)
         → IsOpened true s.files settings dead t → MeansTheSame s t }
 {}

@@ -5,8 +5,7 @@ ghost use Rattle.std.specs.Prelude.{◌≡◌, OnOk, OnErr};
 ghost use Rattle.std.specs.FinMap as map;
 ghost use Rattle.bk_record.specs.Key.{EntryKey};
 ghost use Rattle.bk_record.specs.Location.{Place};
-ghost use Rattle.bk_record.specs.Keyed.{without_ledger};
-ghost use Rattle.bk_store.specs.Entries.{Places};
+ghost use Rattle.bk_record.specs.Keyed.{without_ledger, Places};
 ghost use Rattle.bk_store.specs.Placed.{last_key, IsBehind};
 
 use bk_record::{Key, Location};
@@ -23,8 +22,7 @@ impl Model for FlushPlaces {
     ghost use Rattle.std.specs.Prelude.{IsTrue};
     ghost use Rattle.std.specs.FinMap as map;
     ghost use Rattle.bk_record.specs.Key.{key_cmp};
-    ghost use Rattle.bk_store.specs.Entries.{Places};
-    ghost use Rattle.bk_store.specs.State.{places_code};
+    ghost use Rattle.bk_record.specs.Keyed.{places_code};
 
     ghost Value = { Places };
 

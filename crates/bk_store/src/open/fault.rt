@@ -1,7 +1,7 @@
 //! What a refused call on the disk, or a scan that ended early, means for an opening.
 
 ghost use Rattle.std.specs.Prelude.{◌≡◌};
-ghost use Rattle.bk_store.specs.Found.{told, scan_told};
+ghost use Rattle.bk_store.specs.Found.{open_fault_of, scan_told};
 
 use crate::{LogCause, OpenFault};
 use bk_disk::DiskFault;
@@ -9,7 +9,7 @@ use bk_log::ScanFault;
 
 /// Want of memory and a failing device are told as they are, all else is odd.
 pub(super) fn open_fault(fault: DiskFault) -> OpenFault
-    ensures { result ≡ told fault }
+    ensures { result ≡ open_fault_of fault }
 {
     match fault {
         DiskFault::Disk => OpenFault::Disk,

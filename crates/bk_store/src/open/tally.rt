@@ -2,7 +2,7 @@
 
 ghost use Rattle.std.specs.Prelude.{◌≡◌, ◌+◌, ◌<◌, ◌≤◌, ◌^◌, IfSome, OnOk, IsOkUnless};
 ghost use Rattle.std.specs.FinMap as map;
-ghost use Rattle.bk_accounts.specs.Book.{IsOpen, total_in};
+ghost use Rattle.bk_accounts.specs.Book.{HasAccount, total_in};
 ghost use Rattle.bk_store.specs.Found.{with_entry, with_names, named_by, AreUnnamed};
 
 use crate::OpenFault;
@@ -39,7 +39,7 @@ impl Tally {
         requires id { log < 2 ^ 31 }
         requires begins { 1028 ≤ found.now.at }
         requires within { found.now.at < 2 ^ 32 }
-        requires open { IsOpen self.old.accounts log }
+        requires open { HasAccount self.old.accounts log }
         requires fits { IfSome (total_in self.old.accounts log) (λ total. total + found.now.size < 2 ^ 32) }
         ensures ok { OnOk result (self.new ≡ with_entry log self.old found.now) }
         ensures only { IsOkUnless result OpenFault.Memory }

@@ -2,7 +2,7 @@ use Rattle.std.proofs.Common.{◌≡◌, ℕ, IsTrue, Some, None, Result, Ok, Er
 use Rattle.bk_store.specs.declared.job.Phase.TheVariants.{Copy}
 use Rattle.bk_compact.specs.declared.answer.CompactFault.TheVariants as faults
 use Rattle.bk_compact.specs.declared.scanning.Unread.{Unread}
-use Rattle.bk_compact.specs.Compacting.{IsRunning, ReadFails}
+use Rattle.bk_compact.specs.Compacting.{IsRunning, SourceFails}
 use Rattle.bk_compact.specs.Going.{told_unread}
 use Rattle.bk_compact.proofs.Stored.{kept_job}
 use Rattle.bk_compact.proofs.Turns.{copy_tells, copy_caused, refused_turn, unsound_turn, abandoned_turn}
@@ -26,14 +26,14 @@ returns-in-Err-Disk-clause-turn g c =
     let s = c.args.store.now in
     let job = c.in-Some.job.now in
     let running : IsRunning s Copy job = record { runs = sym c.in-Some.ensures; phase_is = sym c.phase.ensures ∙ c.in-Copy.is } in
-    unsound_turn s job running c.args.count (subst (λ (r : Unread). ReadFails s job (told_unread r)) c.in-Err-Disk.field-0-is c.in-Err-Disk.ensures.fails)
+    unsound_turn s job running c.args.count (subst (λ (r : Unread). SourceFails s job (told_unread r)) c.in-Err-Disk.field-0-is c.in-Err-Disk.ensures.fails)
 
 pub returns-in-Err-Odd-clause-turn : goal.returns-in-Err-Odd-clause-turn
 returns-in-Err-Odd-clause-turn g c =
     let s = c.args.store.now in
     let job = c.in-Some.job.now in
     let running : IsRunning s Copy job = record { runs = sym c.in-Some.ensures; phase_is = sym c.phase.ensures ∙ c.in-Copy.is } in
-    let odd = subst (λ (r : Unread). ReadFails s job (told_unread r)) c.in-Err-Odd.field-0-is c.in-Err-Odd.ensures.fails in
+    let odd = subst (λ (r : Unread). SourceFails s job (told_unread r)) c.in-Err-Odd.field-0-is c.in-Err-Odd.ensures.fails in
     let turn = abandoned_turn s job running c.args.count c.abandon.new.store odd (c.abandon.ensures.turn job running) in
     turn
 
@@ -42,7 +42,7 @@ returns-in-Err-Odd-clause-cause g c =
     let s = c.args.store.now in
     let job = c.in-Some.job.now in
     let running : IsRunning s Copy job = record { runs = sym c.in-Some.ensures; phase_is = sym c.phase.ensures ∙ c.in-Copy.is } in
-    let odd = subst (λ (r : Unread). ReadFails s job (told_unread r)) c.in-Err-Odd.field-0-is c.in-Err-Odd.ensures.fails in
+    let odd = subst (λ (r : Unread). SourceFails s job (told_unread r)) c.in-Err-Odd.field-0-is c.in-Err-Odd.ensures.fails in
     let turn = abandoned_turn s job running c.args.count c.abandon.new.store odd (c.abandon.ensures.turn job running) in
     copy_tells s c.args.count (Err faults.Odd) c.abandon.new.store turn
 
@@ -51,6 +51,6 @@ returns-in-Err-Odd-clause-sound g c = λ _.
     let s = c.args.store.now in
     let job = c.in-Some.job.now in
     let running : IsRunning s Copy job = record { runs = sym c.in-Some.ensures; phase_is = sym c.phase.ensures ∙ c.in-Copy.is } in
-    let odd = subst (λ (r : Unread). ReadFails s job (told_unread r)) c.in-Err-Odd.field-0-is c.in-Err-Odd.ensures.fails in
+    let odd = subst (λ (r : Unread). SourceFails s job (told_unread r)) c.in-Err-Odd.field-0-is c.in-Err-Odd.ensures.fails in
     let turn = abandoned_turn s job running c.args.count c.abandon.new.store odd (c.abandon.ensures.turn job running) in
     copy_caused s c.args.count (Err faults.Odd) c.abandon.new.store turn (λ wrong. cc)

@@ -1,7 +1,7 @@
 use Rattle.std.proofs.Common.{◌≡◌, ℕ, ◌<◌, IsTrue, Bool, Option, Some, None, Ok, Err, sym, ap, subst, ◌∙◌}
 use Rattle.bk_store.specs.Logs.{View, view_of, last_view}
 use Rattle.bk_compact.specs.declared.scanning.Unread.{Unread}
-use Rattle.bk_compact.specs.Compacting.{ReadFails}
+use Rattle.bk_compact.specs.Compacting.{SourceFails}
 use Rattle.bk_compact.specs.Going.{ScansFrom, told_unread}
 use Rattle.bk_compact.proofs.Stepping.{at_end, read_fails}
 use Rattle.bk_compact.proofs.scanning.is_at_end.Goals as goal
@@ -27,6 +27,6 @@ returns-clause-fails g c =
     subst (λ (n : ℕ). last_view s.logs n ≡ Some view) c.source.ensures
     (sym c.in-Some.ensures ∙ ap (λ v. Some (view_of g.D.View.LogView.bytes g.D.View.LogView.honest g.D.View.LogView.sound v)) (sym c.deref.ensures)) in
     let scans = subst (λ (n : ℕ). ScansFrom view.bytes view.is_honest view.is_sound n c.in-Some-scan_from.scanner) c.at.ensures c.in-Some-scan_from.ensures.some in
-    subst (λ (r : Unread). ReadFails s job (told_unread r)) (sym c.scan_fault.ensures)
+    subst (λ (r : Unread). SourceFails s job (told_unread r)) (sym c.scan_fault.ensures)
     (read_fails view s c.promise.ensures job c.requires last c.in-Some-scan_from.scanner scans c.in-Err.fault c.next.new.self
     c.in-Err.ensures.moves c.in-Err.ensures.turn (λ disk. c.in-Err.ensures.cause (ap Err disk)))

@@ -1,6 +1,6 @@
 use Rattle.std.proofs.Common.{ℕ, ◌++◌, List, subst, arith}
 use Rattle.bk_head.specs.Ledgers.{map_of}
-use Rattle.bk_head.specs.Parts.{Adds}
+use Rattle.bk_head.specs.Parts.{AddsPairs}
 use Rattle.bk_dir.proofs.Maps.{pairs_more}
 use Rattle.bk_dir.proofs.written.add_batch.Goals as goal
 
@@ -14,5 +14,5 @@ loop-done-preserved g c = (
       let piece = c.in_ok-add_pairs.ensures (before ++ a.good) a.distinct a.map_is in
       pairs_more file c.args.from c.loop-done.done c.min-some.result c.in_ok-bytes.bytes.items before (map_of c.loop-done.map) (map_of c.add_pairs.new.map)
       (omega (arith, c.min-some.ensures, c.loop-done-test.true)) read.0 read.1 a
-      (subst (λ (x : List ℕ). Adds (before ++ a.good) x (map_of c.add_pairs.new.map)) c.deref.ensures.value piece),
+      (subst (λ (x : List ℕ). AddsPairs (before ++ a.good) x (map_of c.add_pairs.new.map)) c.deref.ensures.value piece),
 )

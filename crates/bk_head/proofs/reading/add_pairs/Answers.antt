@@ -1,7 +1,7 @@
 use Rattle.std.proofs.Common.{◌≡◌, ℕ, ◌+◌, ◌*◌, ◌-◌, ◌<◌, ◌≤◌, length, take, drop, refl, subst, arith, slice_index}
 use Rattle.std.proofs.lemmas.Result.{err_from_is_err_and}
 use Rattle.bk_head.specs.Ledgers.{map_of}
-use Rattle.bk_head.specs.Parts.{Adds}
+use Rattle.bk_head.specs.Parts.{AddsPairs}
 use Rattle.bk_head.proofs.Adding.{pair_read, adds_more, refused}
 use Rattle.bk_head.proofs.reading.add_pairs.Goals as goal
 
@@ -15,7 +15,7 @@ loop-k-preserved c =
     let pair = pair_read at bytes (take (at + 16 - at) (drop at bytes)) ledger size
     (λ i. omega (arith, c.type_inv.bytes i)) within refl c.read_u64.ensures c.read_u64-in-loop-k.ensures in
     let next : at + 16 ≡ 16 * (c.loop-k.k + 1) = omega arith in
-    λ before fresh made. subst (λ n. Adds before (take n bytes) (map_of c.add_pair.new.map)) next
+    λ before fresh made. subst (λ n. AddsPairs before (take n bytes) (map_of c.add_pair.new.map)) next
     (adds_more before at bytes (map_of c.loop-k.map) (map_of c.add_pair.new.map) (ledger, size) within pair.0
     (c.loop-k.invariant before fresh made) c.in_ok-add_pair.ensures.pair c.in_ok-add_pair.ensures.new c.in_ok-add_pair.ensures.added)
 

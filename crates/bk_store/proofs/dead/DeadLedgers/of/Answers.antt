@@ -1,7 +1,7 @@
 use Rattle.std.proofs.Common.{◌≡◌, ◌^◌, nat_lt, true, false, sym, ap, ◌∙◌, take, get_or, arith}
 use Rattle.std.proofs.lemmas.Bool.{lt-ltb}
 use Rattle.std.specs.FinSet as set
-use Rattle.bk_store.specs.Turns.{ledgers_of}
+use Rattle.bk_store.specs.Turns.{valid_ledgers}
 use Rattle.bk_store.proofs.Ledgers.{ledgers-insert, listed_push, listed_skip, one_more, below_false}
 use Rattle.bk_store.proofs.dead.DeadLedgers.of.Goals as goal
 use Rattle.bk_store.proofs.dead.DeadLedgers.of.Goals.{then-ledger-le-LAST_ID+in_ok-insert, else-ledger-le-LAST_ID}
@@ -10,7 +10,7 @@ pub loop-ledger-preserved : goal.loop-ledger-preserved
 loop-ledger-preserved c =
     let front = take c.loop-ledger.ledger-index c.args.listed.now in
     let ledger = get_or c.args.listed.now c.loop-ledger.ledger-index 0 in
-    let more = sym (ap ledgers_of (one_more c.args.listed.now c.loop-ledger.ledger-index c.loop-ledger-test.true)) in
+    let more = sym (ap valid_ledgers (one_more c.args.listed.now c.loop-ledger.ledger-index c.loop-ledger-test.true)) in
     elim c.if-ledger-le-LAST_ID.branch [
       | then-ledger-le-LAST_ID+in_ok-insert w ↦
           let is : nat_lt ledger (2 ^ 63) ≡ true = lt-ltb ledger (2 ^ 63) (let within = w.if-ledger-le-LAST_ID.true in omega arith) in
