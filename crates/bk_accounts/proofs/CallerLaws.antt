@@ -104,7 +104,8 @@ module _ {E : Type 0} (measure : Measure E) where
     pub sums_drop : (log : ℕ) (later : ℕ → Option (List E)) → ((q : ℕ) → later q ≡ (if q == log then None else entries q))
         → AreSums measure is_dead later names (after_drop book log)
     sums_drop log later is = all is_dead later names (after_drop book log) (λ q.
-        subst (Matches measure is_dead (later q) (names q)) (sym (get-remove nat_cmp_total book log q ∙ ap (λ b. cond b None (get book q)) (unsigned_tied q log)))
+        subst (Matches measure is_dead (later q) (names q))
+        (sym (get-remove nat_cmp_total book log q ∙ ap (λ b. cond b None (get book q)) (unsigned_tied q log)))
         (subst (λ o. Matches measure is_dead o (names q) (cond (q == log) None (get book q))) (sym (is q))
         (elim (q == log) as (λ b. Matches measure is_dead (if b then None else entries q) (names q) (cond b None (get book q))) [
           | true ↦ tt

@@ -23,7 +23,8 @@ effect log (forgets ledger) account = without_size ledger account
 pub entry_after : (book : Book) (log : ℕ) (call : AccountCall) → is_open_of log call ≡ false → is_drop_of log call ≡ false
     → get (after call book) log ≡ option_map (effect log call) (get book log)
 entry_after book log (opens other) apart kept =
-    get-insert nat_cmp_total book other fresh log ∙ ap (λ b. cond b (Some fresh) (get book log)) (unsigned_tied log other ∙ apart) ∙ sym (map_same (get book log))
+    get-insert nat_cmp_total book other fresh log ∙ ap (λ b. cond b (Some fresh) (get book log)) (unsigned_tied log other ∙ apart)
+    ∙ sym (map_same (get book log))
 entry_after book log (drops other) apart kept =
     get-remove nat_cmp_total book other log ∙ ap (λ b. cond b None (get book log)) (unsigned_tied log other ∙ kept) ∙ sym (map_same (get book log))
 entry_after book log (readies other ledger) apart kept = get-changed book other log (with_room ledger)

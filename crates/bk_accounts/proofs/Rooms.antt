@@ -8,7 +8,8 @@ use Rattle.bk_accounts.specs.Account.{Account, has_room, with_room, with_size, w
 
 -- an inserted key is there
 room-insert : (m : FinMap nat_cmp ℕ) (k v q : ℕ) → is_some (get (insert m k v) q) ≡ (is_some (get m q) || q == k)
-room-insert m k v q = ap is_some (get-insert nat_cmp_total m k v q) ∙ ap (λ b. is_some (cond b (Some v) (get m q))) (unsigned_tied q k) ∙ bits (get m q) (q == k)
+room-insert m k v q = ap is_some (get-insert nat_cmp_total m k v q) ∙ ap (λ b. is_some (cond b (Some v) (get m q))) (unsigned_tied q k)
+    ∙ bits (get m q) (q == k)
   where
     bits : (o : Option ℕ) (b : Bool) → is_some (cond b (Some v) o) ≡ (is_some o || b)
     bits (Some w) true = refl

@@ -1,6 +1,7 @@
 //! The accounts of all open logs. Each call finds the log's account and changes it alone, but for
 //! `forget`, which goes through those in which the ledger has room.
-ghost use Rattle.std.specs.Prelude.{◌≡◌, ℕ, ◌+◌, ◌^◌, ◌<◌, ◌↔◌, true, false, All, IfSome, IfNone, MatchOption, IsOk, IfOk, IfErr, OnOk, OnErr, IsOkUnless, IsErrOf};
+ghost use Rattle.std.specs.Prelude.{◌≡◌, ℕ, ◌+◌, ◌^◌, ◌<◌, ◌↔◌, true, false, All, IfSome, IfNone, MatchOption};
+ghost use Rattle.std.specs.Prelude.{IsOk, IfOk, IfErr, OnOk, OnErr, IsOkUnless, IsErrOf};
 ghost use Rattle.std.specs.FinMap as finmap;
 ghost use Rattle.std.specs.BTreeSet.{contains};
 ghost use Rattle.std.specs.Option.{ok_or};
@@ -42,7 +43,8 @@ impl Model for Accounts {
 }
 
 impl Accounts {
-    ghost use Rattle.bk_accounts.specs.Book.{HasAccount, IsNotOpen, IsReady, total_in, remaining_in, named_in, total_at, remaining_at, after_open, after_ready, after_count, after_count_dead, after_name, after_unname, after_forget, after_drop};
+    ghost use Rattle.bk_accounts.specs.Book.{HasAccount, IsNotOpen, IsReady, total_in, remaining_in, named_in, total_at, remaining_at, after_open};
+    ghost use Rattle.bk_accounts.specs.Book.{after_ready, after_count, after_count_dead, after_name, after_unname, after_forget, after_drop};
 
     /// No log is open. It takes no memory; the allocator is for the calls that do.
     pub fn new(alloc: Global) -> Accounts

@@ -1,5 +1,6 @@
 -- What a store keeps of the views that a rebuild reads, and why one is refused.
-use Rattle.std.proofs.Common.{◌≡◌, ℕ, zero, suc, ◌<◌, ◌^◌, Bool, true, false, not, if◌then◌else◌, IsTrue, List, [], ◌∷◌, Option, Some, None, Ok, Err, unwrap_or, refl, sym, ap, subst, ◌∙◌, arith}
+use Rattle.std.proofs.Common.{◌≡◌, ℕ, zero, suc, ◌<◌, ◌^◌, Bool, true, false, not, if◌then◌else◌, IsTrue, List, [], ◌∷◌}
+use Rattle.std.proofs.Common.{Option, Some, None, Ok, Err, unwrap_or, refl, sym, ap, subst, ◌∙◌, arith}
 use Rattle.std.specs.Option.{option_map_or, option_and_then}
 use Rattle.std.specs.List.{All}
 use Rattle.std.proofs.lemmas.List.Elements.{All-head, All-tail}
@@ -141,7 +142,8 @@ module _ (s : State) (kept : IsKept s) (id : ℕ) (view : View) (shown : open_vi
         let from : scan'.from ≡ header_length = ap (λ (x : Scan). x.from) moves ∙ so_far.from in
         let bad = (turn (scan_honest so_far is)).1 in
         view_spelled s kept id view shown honest at value
-        (subst (λ (b : List ℕ). IsBadAt header_length b at value) (same ∙ scan_part so_far (whole is)) (subst (λ n. IsBadAt n (part_of scan') at value) from bad))
+        (subst (λ (b : List ℕ). IsBadAt header_length b at value) (same ∙ scan_part so_far (whole is))
+        (subst (λ n. IsBadAt n (part_of scan') at value) from bad))
 
     pub scan_refused : (fault : ScanFault) (scan' : Scan) → NextMoves scan (Err fault) scan' → (IsTrue scan.honest → NextTurn scan (Err fault) scan')
         → (fault ≡ scans.Disk → scan.sound ≡ false) → RebuildFails s (collect_fault_of id fault)

@@ -1,5 +1,6 @@
 -- The choice among the logs that were looked at, and one more.
-use Rattle.std.proofs.Common.{◌≡◌, ◌⊎◌, inl, inr, ℕ, zero, suc, ◌+◌, ◌*◌, ◌<◌, ◌≤◌, ◌↔◌, Bool, true, false, IsTrue, if◌then◌else◌, List, [], ◌∷◌, ◌++◌, Option, Some, None, IsSome, IfSome, is_some, refl, sym, ap, subst, ◌∙◌, arith}
+use Rattle.std.proofs.Common.{◌≡◌, ◌⊎◌, inl, inr, ℕ, zero, suc, ◌+◌, ◌*◌, ◌<◌, ◌≤◌, ◌↔◌, Bool, true, false, IsTrue, if◌then◌else◌, List, []}
+use Rattle.std.proofs.Common.{◌∷◌, ◌++◌, Option, Some, None, IsSome, IfSome, is_some, refl, sym, ap, subst, ◌∙◌, arith}
 use Rattle.std.proofs.lemmas.Bool.{cases_lt}
 use Rattle.std.proofs.Math.Decide.{dec_le}
 use Rattle.std.specs.List.{Contains}
@@ -189,7 +190,8 @@ module _ (s : State) (threshold : ℕ) where
       pub choosing_kept : (best : Option ℕ) → IsChoosing s threshold from best → (IsTrue s.honest → IsBetter s threshold best log false)
           → IsChoosing s threshold (log + 1) best
       choosing_kept None so_far better = more None None so_far
-          (λ honest. first_spared (log_bytes s) (live_log_bytes s) threshold so_far.allowed log (so_far.choice honest) (better honest).0 (least_is s threshold (better honest).0 (log ∷ []) (better honest).1) (better honest).2)
+          (λ honest. first_spared (log_bytes s) (live_log_bytes s) threshold so_far.allowed log (so_far.choice honest) (better honest).0
+          (least_is s threshold (better honest).0 (log ∷ []) (better honest).1) (better honest).2)
           tt
       choosing_kept (Some best) so_far better = more (Some best) (Some best) so_far
           (λ honest. next_spared (log_bytes s) (live_log_bytes s) threshold so_far.allowed log best (omega (arith, so_far.candidate.1, next.1))

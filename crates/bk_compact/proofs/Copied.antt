@@ -1,5 +1,6 @@
 -- A job that is out of the store goes on by an entry, and keeps what a job keeps.
-use Rattle.std.proofs.Common.{◌≡◌, ◌≢◌, ◌⊎◌, inl, inr, ℕ, zero, suc, ◌+◌, ◌-◌, ◌<◌, ◌≤◌, ◌^◌, Bool, true, false, IsTrue, List, [], ◌∷◌, ◌++◌, length, Option, Some, None, Result, Ok, Err, unwrap_or, refl, sym, ap, subst, ◌∙◌, arith}
+use Rattle.std.proofs.Common.{◌≡◌, ◌≢◌, ◌⊎◌, inl, inr, ℕ, zero, suc, ◌+◌, ◌-◌, ◌<◌, ◌≤◌, ◌^◌, Bool, true, false, IsTrue, List, [], ◌∷◌, ◌++◌}
+use Rattle.std.proofs.Common.{length, Option, Some, None, Result, Ok, Err, unwrap_or, refl, sym, ap, subst, ◌∙◌, arith}
 use Rattle.std.specs.Option.{option_and_then}
 use Rattle.std.proofs.lemmas.Option.{same_Some}
 use Rattle.std.specs.FinMap as finite
@@ -48,7 +49,8 @@ use Rattle.bk_compact.specs.declared.entries.Stopped.{Stopped}
 use Rattle.bk_compact.specs.declared.entries.Stopped.TheVariants as stops
 use Rattle.bk_compact.specs.Compacting.{Copies, Examines, behind, entries_left, place_of}
 use Rattle.bk_compact.specs.Going.{CopiesEntry, IsAhead, IsCopying, IsEntry, IsNextFound, IsOut, StopsAt, told_put}
-use Rattle.bk_compact.proofs.Stored.{dishonest, kept_backed, kept_headed, kept_held, kept_ids, kept_shows, named_ahead, next_entry, source_bytes, source_honest, behind_is}
+use Rattle.bk_compact.proofs.Stored.{dishonest, kept_backed, kept_headed, kept_held, kept_ids, kept_shows}
+use Rattle.bk_compact.proofs.Stored.{named_ahead, next_entry, source_bytes, source_honest, behind_is}
 
 -- ---- the copy and its writer
 
@@ -165,7 +167,8 @@ module _ (s : State) (kept : IsKept s) (job : Job) (is : IsCopying s job) (found
       → (fault ≡ fetches.NotThere) ⊎ (fault ≡ fetches.Odd) → s.honest ≡ false
   never_missing fetches.NotThere fails is_so = dishonest s.honest (λ honest.
       let next = ahead.next honest in
-      let here : HasEntryAt view.bytes found.at found.key next.payload = subst (λ (b : List ℕ). HasEntryAt b found.at found.key next.payload) whole next.stands in
+      let here : HasEntryAt view.bytes found.at found.key next.payload =
+      subst (λ (b : List ℕ). HasEntryAt b found.at found.key next.payload) whole next.stands in
       fails (source_honest s kept job is.out.keeps view last honest) next.payload
       (subst (λ n. HasEntryAt view.bytes n found.key next.payload) (sym (ap (λ (p : Place). p.at) place)) here))
   never_missing fetches.Odd fails is_so = dishonest s.honest (λ honest. fails (source_honest s kept job is.out.keeps view last honest))
@@ -263,7 +266,8 @@ gained files files' log others gains place key payload entry = elim (same_or_apa
   | inl here ↦ record {
     stands =
         let old = subst (λ id. In (place.at, payload) (records_of (file_of files id))) here entry.stands in
-        let there = subst (λ rs. In (place.at, payload) rs) (sym gains.records) (In-append_left (place.at, payload) (records_of (file_of files log)) others old) in
+        let there = subst (λ rs. In (place.at, payload) rs) (sym gains.records)
+        (In-append_left (place.at, payload) (records_of (file_of files log)) others old) in
         subst (λ id. In (place.at, payload) (records_of (file_of files' id))) (sym here) there;
     keyed = entry.keyed;
   }
@@ -285,7 +289,6 @@ module _ (s : State) (kept : IsKept s) (job : Job) (is : IsCopying s job) (found
 
   -- an entry that the index does not name
   module _ (unsent : ¬ (finite.get s.index found.key ≡ Some (place_of job found))) where
-
     pub passed_keeps : IsCopying s (record job { at = behind found })
     passed_keeps =
         let old = is.out.keeps in
@@ -386,7 +389,8 @@ module _ (s : State) (kept : IsKept s) (job : Job) (is : IsCopying s job) (found
           payload,
           subst (λ (x : Move). HasEntry (file_of t.files) x.to x.key payload) here
               (subst (λ (p : Place). HasEntry (file_of t.files) p found.key payload) (sym copies.put.1.2)
-              (gained_new s.files t.files w payload found.key (subst (λ id. Gains s.files id (put_record w payload) t.files) (sym own) (grows honest)) entry.keyed)),
+              (gained_new s.files t.files w payload found.key
+              (subst (λ id. Gains s.files id (put_record w payload) t.files) (sym own) (grows honest)) entry.keyed)),
         )
       ]
     ]

@@ -1,5 +1,6 @@
 -- The copy is sealed and shown, the job being out of the store.
-use Rattle.std.proofs.Common.{◌≡◌, ◌⊎◌, inl, inr, ℕ, ◌+◌, ◌<◌, ◌≤◌, true, false, IsTrue, List, [], length, Option, Some, None, Result, Ok, Err, refl, sym, ap, subst, ◌∙◌, arith}
+use Rattle.std.proofs.Common.{◌≡◌, ◌⊎◌, inl, inr, ℕ, ◌+◌, ◌<◌, ◌≤◌, true, false, IsTrue, List, [], length, Option}
+use Rattle.std.proofs.Common.{Some, None, Result, Ok, Err, refl, sym, ap, subst, ◌∙◌, arith}
 use Rattle.std.proofs.lemmas.Option.{none-some}
 use Rattle.std.specs.FinMap as finite
 use Rattle.bk_log.specs.declared.fault.LogFault.{LogFault}
@@ -41,7 +42,8 @@ module _ (s out : State) (kept : IsKept s) (job own : Job) (running : IsRunning 
   none_left honest = (λ i. entries_left (left i) (same i)) ∙ all (sym (ap (λ (x : State). x.honest) left) ∙ honest)
 
   -- with the copy sealed and shown the job is kept
-  pub switch_keeps : (mid t : State) → Seals out id Readable (Ok tt) mid → ShowTurn mid id (Ok tt) t → (next : Job) → next ≡ record own { phase = Switch } → IsJob t next
+  pub switch_keeps : (mid t : State) → Seals out id Readable (Ok tt) mid → ShowTurn mid id (Ok tt) t → (next : Job)
+      → next ≡ record own { phase = Switch } → IsJob t next
   switch_keeps mid t seals shows next begins =
       subst (IsJob t) (sym begins)
       (sealed_keeps out mid t own copying none_left (subst (λ n. Seals out n Readable (Ok tt) mid) copy_is seals)
@@ -56,7 +58,8 @@ module _ (s out : State) (kept : IsKept s) (job own : Job) (running : IsRunning 
     sealed = subst (λ x. Seals x job.copy Readable result mid) left (subst (λ n. Seals out n Readable result mid) copy_same seals);
   }
 
-  pub shows_copy : (result : Result (Unit {0}) LogFault) (mid t : State) → Seals out id Readable (Ok tt) mid → ShowTurn mid id result t → ShowsCopy s job result t
+  pub shows_copy : (result : Result (Unit {0}) LogFault) (mid t : State) → Seals out id Readable (Ok tt) mid → ShowTurn mid id result t
+      → ShowsCopy s job result t
   shows_copy result mid t seals shows = (mid, seals_copy (Ok tt) mid seals, subst (λ n. ShowTurn mid n result t) copy_same shows)
 
   pub ended : (mid shown t : State) → Seals out id Readable (Ok tt) mid → ShowTurn mid id (Ok tt) shown → (next : Job) → next ≡ record own { phase = Switch }
@@ -72,7 +75,8 @@ module _ (s out : State) (kept : IsKept s) (job own : Job) (running : IsRunning 
     ),
   )
 
-  pub not_sealed : (cause : LogFault) (fault : CompactFault) (t : State) → fault ≡ compact_fault_of cause → Seals out id Readable (Err cause) t → EndTurn s (Err fault) t
+  pub not_sealed : (cause : LogFault) (fault : CompactFault) (t : State) → fault ≡ compact_fault_of cause → Seals out id Readable (Err cause) t
+      → EndTurn s (Err fault) t
   not_sealed cause fault t told_so seals = (job, running, inr (cause, told_so, inl (seals_copy (Err cause) t seals)))
 
   pub not_shown : (cause : LogFault) (fault : CompactFault) (mid t : State) → fault ≡ compact_fault_of cause → Seals out id Readable (Ok tt) mid

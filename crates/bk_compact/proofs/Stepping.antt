@@ -1,5 +1,7 @@
 -- Entries are examined one after another, as a scan of the source gives them.
-use Rattle.std.proofs.Common.{◌≡◌, ◌≢◌, ◌⊎◌, inl, inr, ℕ, zero, suc, ◌+◌, ◌-◌, ◌<◌, ◌≤◌, ◌^◌, Bool, true, false, cond, if◌then◌else◌, IsTrue, List, [], ◌∷◌, ◌++◌, length, take, drop, slice_get, not, is_some, Option, Some, None, Result, Ok, Err, refl, sym, ap, subst, ◌∙◌, arith, length-append}
+use Rattle.std.proofs.Common.{◌≡◌, ◌≢◌, ◌⊎◌, inl, inr, ℕ, zero, suc, ◌+◌, ◌-◌, ◌<◌, ◌≤◌, ◌^◌, Bool, true, false, cond}
+use Rattle.std.proofs.Common.{if◌then◌else◌, IsTrue, List, [], ◌∷◌, ◌++◌, length, take, drop, slice_get, not, is_some, Option}
+use Rattle.std.proofs.Common.{Some, None, Result, Ok, Err, refl, sym, ap, subst, ◌∙◌, arith, length-append}
 use Rattle.std.specs.Option.{option_and_then}
 use Rattle.std.proofs.lemmas.List.{take_all}
 use Rattle.std.specs.FinMap as finite
@@ -26,8 +28,10 @@ use Rattle.bk_store.proofs.JobStays.{job_stays, stays_same}
 use Rattle.bk_store.specs.Meaning.{KeepsMeaning}
 use Rattle.bk_compact.specs.declared.entries.Stopped.{Stopped}
 use Rattle.bk_compact.specs.declared.entries.Stopped.TheVariants as stops
-use Rattle.bk_compact.specs.Compacting.{AreFound, Copies, Examines, ExaminesAll, HasUnsoundSource, IsFound, SourceFails, Steps, behind, entries_left, place_of, with_job}
-use Rattle.bk_compact.specs.Going.{CopiesAll, ExaminesOne, IsAhead, IsAtEnd, IsCopying, IsNextFound, IsOut, ScansFrom, StopsAt, told_after, told_read, told_unread}
+use Rattle.bk_compact.specs.Compacting.{AreFound, Copies, Examines, ExaminesAll, HasUnsoundSource, IsFound}
+use Rattle.bk_compact.specs.Compacting.{SourceFails, Steps, behind, entries_left, place_of, with_job}
+use Rattle.bk_compact.specs.Going.{CopiesAll, ExaminesOne, IsAhead, IsAtEnd, IsCopying, IsNextFound, IsOut}
+use Rattle.bk_compact.specs.Going.{ScansFrom, StopsAt, told_after, told_read, told_unread}
 use Rattle.bk_compact.proofs.Positions.{none_bad}
 use Rattle.bk_compact.proofs.Stored.{dishonest, scan_found, scan_come, scan_taken, shown_last, source_bytes, source_honest, source_spelled, source_unhonest}
 
@@ -43,7 +47,8 @@ found_push (e ∷ entries) (f ∷ founds) entry found all is = (all.0, found_pus
 abbrev pub one : Bool → ℕ
 one is_copied = if is_copied then 1 else 0
 
-pub examined_push : (s : State) (job : Job) (founds : List Found) (copied : ℕ) (mid : State) (next : Job) (found : Found) (is_copied : Bool) (t : State) (after : Job)
+pub examined_push : (s : State) (job : Job) (founds : List Found) (copied : ℕ) (mid : State) (next : Job) (found : Found) (is_copied : Bool)
+    (t : State) (after : Job)
     → ExaminesAll s job founds copied mid next → Examines mid next found is_copied t after
     → ExaminesAll s job (founds ++ found ∷ []) (copied + one is_copied) t after
 examined_push s job [] copied mid next found is_copied t after all last =
@@ -174,12 +179,14 @@ module _ (view : View) (s : State) (job : Job) (number : ℕ) (scan : Scan) (cop
 
   -- ---- an entry was found
 
-  module _ (found : Found) (scan' : Scan) (moves : NextMoves scan (Ok (Some found)) scan') (turn : IsTrue scan.honest → NextTurn scan (Ok (Some found)) scan') where
+  module _ (found : Found) (scan' : Scan) (moves : NextMoves scan (Ok (Some found)) scan')
+      (turn : IsTrue scan.honest → NextTurn scan (Ok (Some found)) scan') where
     next_found : IsTrue t.honest → IsNextFound scan.file after.at found
     next_found honest =
         scan_found scan scan'.foreign found (ends honest) (scan_read honest) (turn (view_truth honest)) after.at
         (ap (λ (b : List ℕ). entries_from b after.at) so_far.file ∙ so_far.come (was_honest honest)
-        ∙ ap (λ (b : List ℕ). drop scan.given (entries_from b job.at)) (sym so_far.file) ∙ ap (λ n. drop scan.given (entries_from scan.file n)) (sym so_far.from))
+        ∙ ap (λ (b : List ℕ). drop scan.given (entries_from b job.at)) (sym so_far.file)
+        ∙ ap (λ n. drop scan.given (entries_from scan.file n)) (sym so_far.from))
 
     pub going_ahead : IsAhead t after found
     going_ahead =
@@ -296,7 +303,8 @@ module _ (view : View) (s : State) (job : Job) (number : ℕ) (scan : Scan) (cop
             subst (IsOut u) (sym turn'.2) (record {
               none = ap (λ (x : State). x.job) turn'.1 ∙ so_far.copying.out.none;
               keeps = job_stays t u after
-                  (stays_same t u after (ap (λ (x : State). x.honest) turn'.1) (ap (λ (x : State). x.logs) turn'.1) (ap (λ (x : State). x.index) turn'.1) turn'.0)
+                  (stays_same t u after (ap (λ (x : State). x.honest) turn'.1) (ap (λ (x : State). x.logs) turn'.1)
+                  (ap (λ (x : State). x.index) turn'.1) turn'.0)
                   so_far.copying.out.keeps;
             }),
           )
@@ -470,7 +478,8 @@ module _ (view : View) (s : State) (kept : IsKept s) (job : Job) (is : IsJob s j
   at_end_some found scan' turn = λ honest none.
       let is' = turn (first_truth honest) in
       let listed : slice_get (entries_left s job) 0 ≡ Some (found.at, is'.payload) =
-      ap (λ (l : List (ℕ × List ℕ)). slice_get l 0) (sym (part_list honest)) ∙ ap (slice_get (entries_in scan.from (part_of scan))) (sym none_given) ∙ is'.listed in
+      ap (λ (l : List (ℕ × List ℕ)). slice_get l 0) (sym (part_list honest))
+      ∙ ap (slice_get (entries_in scan.from (part_of scan))) (sym none_given) ∙ is'.listed in
       not_there (entries_left s job) (found.at, is'.payload) none listed
     where
       not_there : (l : List (ℕ × List ℕ)) (e : ℕ × List ℕ) → l ≡ [] → slice_get l 0 ≡ Some e → ⊥

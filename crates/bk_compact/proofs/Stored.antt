@@ -1,5 +1,6 @@
 -- What any store keeps, told of its visible state; the source of a job and what it shows.
-use Rattle.std.proofs.Common.{◌≡◌, ◌≢◌, ◌⊎◌, inl, inr, ℕ, zero, suc, ◌+◌, ◌-◌, ◌<◌, ◌≤◌, ◌^◌, Bool, true, false, if◌then◌else◌, IsTrue, List, [], ◌∷◌, ◌++◌, length, take, drop, slice_get, Option, Some, None, refl, sym, ap, subst, ◌∙◌, arith}
+use Rattle.std.proofs.Common.{◌≡◌, ◌≢◌, ◌⊎◌, inl, inr, ℕ, zero, suc, ◌+◌, ◌-◌, ◌<◌, ◌≤◌, ◌^◌, Bool, true, false, if◌then◌else◌, IsTrue, List, []}
+use Rattle.std.proofs.Common.{◌∷◌, ◌++◌, length, take, drop, slice_get, Option, Some, None, refl, sym, ap, subst, ◌∙◌, arith}
 use Rattle.std.specs.Option.{option_map_or, option_and_then}
 use Rattle.std.proofs.lemmas.Option.{same_Some}
 use Rattle.std.specs.FinMap as finite
@@ -63,7 +64,8 @@ module _ (s : State) (kept : IsKept s) where
 
 -- ---- a log that shows a view
 
-module _ (logs : Logs) (id : ℕ) (log : Log) (view : View) (held : finite.get logs id ≡ Some log) (opened : is_open log.state ≡ true) (view_is : log.view ≡ Some view) where
+module _ (logs : Logs) (id : ℕ) (log : Log) (view : View) (held : finite.get logs id ≡ Some log) (opened : is_open log.state ≡ true)
+    (view_is : log.view ≡ Some view) where
   pub shown_part : open_parts logs id ≡ view.bytes
   shown_part =
       ap (λ (o : Option Log). option_map_or (λ l. if is_open l.state then published_part l else []) o []) held
@@ -99,8 +101,10 @@ pub behind_is : (found : Found) (n : ℕ) → found.size ≡ 4 + n → found.at 
 behind_is found n sized = omega (arith, sized)
 
 -- a scan that began where a log was read to, and that has come to the position, gives it
-module _ (scan : Scan) (foreign : ℕ) (found : Found) (ends : scan.end ≡ view_end scan.file) (read : IsReadTo scan.file scan.from) (given : IsGiven scan found foreign) where
-  passed : IsPassed scan.from (part scan.file scan.from (view_end scan.file)) (behind found) (part scan.file (behind found) (view_end scan.file)) (scan.given + 1) foreign
+module _ (scan : Scan) (foreign : ℕ) (found : Found) (ends : scan.end ≡ view_end scan.file) (read : IsReadTo scan.file scan.from)
+    (given : IsGiven scan found foreign) where
+  passed : IsPassed scan.from (part scan.file scan.from (view_end scan.file)) (behind found)
+      (part scan.file (behind found) (view_end scan.file)) (scan.given + 1) foreign
   passed =
       subst (λ (n : ℕ). IsPassed scan.from (part scan.file scan.from (view_end scan.file)) n (part scan.file n (view_end scan.file)) (scan.given + 1) foreign)
       (behind_is found (length given.payload) given.sized)

@@ -1,5 +1,6 @@
 -- Moves are taken one after another.
-use Rattle.std.proofs.Common.{◌≡◌, inl, inr, ℕ, zero, suc, ◌+◌, ◌<◌, ◌≤◌, Bool, true, false, if◌then◌else◌, IsTrue, List, [], ◌∷◌, ◌++◌, length, take, drop, Some, refl, sym, ap, subst, ◌∙◌, arith}
+use Rattle.std.proofs.Common.{◌≡◌, inl, inr, ℕ, zero, suc, ◌+◌, ◌<◌, ◌≤◌, Bool, true, false, if◌then◌else◌, IsTrue, List, []}
+use Rattle.std.proofs.Common.{◌∷◌, ◌++◌, length, take, drop, Some, refl, sym, ap, subst, ◌∙◌, arith}
 use Rattle.std.proofs.lemmas.List.{take_all}
 use Rattle.std.proofs.Math.ListN.{drop_of_length-le}
 use Rattle.bk_store.specs.State.{State}
@@ -91,7 +92,8 @@ module _ (s : State) (job : Job) (n moved : ℕ) (t : State) (after : Job) (so_f
       let honest : u.honest ≡ t.honest = renamed_honest is_moved turn in
       let more : suc n ≡ n + 1 = omega arith in
       record {
-        takes = subst (λ ms. TakesMoves s ms (moved + (if is_moved then 1 else 0)) u) (sym (next_taken job.moves n first rest.moves next) ∙ ap (λ k. take k job.moves) more)
+        takes = subst (λ ms. TakesMoves s ms (moved + (if is_moved then 1 else 0)) u)
+            (sym (next_taken job.moves n first rest.moves next) ∙ ap (λ k. take k job.moves) more)
             (takes_more s t u (take n job.moves) moved first is_moved so_far.takes turn);
         left = waits.1 ∙ ap (λ (j : Job). record j { moves = rest.moves }) so_far.left
             ∙ ap (λ (ms : List Move). record job { moves = ms }) (sym (next_left job.moves n first rest.moves next) ∙ ap (λ k. drop k job.moves) more);

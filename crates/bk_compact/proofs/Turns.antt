@@ -1,5 +1,6 @@
 -- The turns of the calls, from what their parts did while the job was out of the store.
-use Rattle.std.proofs.Common.{◌≡◌, ◌≢◌, ◌⊎◌, inl, inr, ℕ, zero, suc, ◌+◌, ◌-◌, ◌<◌, ◌≤◌, Bool, true, false, cond, if◌then◌else◌, IsTrue, List, [], ◌∷◌, ◌++◌, length, take, drop, Option, Some, None, Result, Ok, Err, IsErrOf, refl, sym, ap, subst, ◌∙◌, arith}
+use Rattle.std.proofs.Common.{◌≡◌, ◌≢◌, ◌⊎◌, inl, inr, ℕ, zero, suc, ◌+◌, ◌-◌, ◌<◌, ◌≤◌, Bool, true, false, cond, if◌then◌else◌, IsTrue, List, []}
+use Rattle.std.proofs.Common.{◌∷◌, ◌++◌, length, take, drop, Option, Some, None, Result, Ok, Err, IsErrOf, refl, sym, ap, subst, ◌∙◌, arith}
 use Rattle.std.proofs.lemmas.Option.{same_Some}
 use Rattle.std.specs.FinMap as finite
 use Rattle.bk_disk.specs.Disk.{IsCaused}
@@ -26,7 +27,8 @@ use Rattle.bk_compact.specs.declared.entries.Stopped.{Stopped}
 use Rattle.bk_compact.specs.declared.scanning.Unread.{Unread}
 use Rattle.bk_compact.specs.declared.scanning.Unread.TheVariants as unreads
 use Rattle.bk_compact.specs.declared.entries.Stopped.TheVariants as stops
-use Rattle.bk_compact.specs.Compacting.{AreFound, CopyTurn, Copies, EndTurn, Examines, ExaminesAll, HasUnsoundSource, TellsExactly, IsRunning, SourceFails, Steps, TellsFailures, entries_left, with_job}
+use Rattle.bk_compact.specs.Compacting.{AreFound, CopyTurn, Copies, EndTurn, Examines, ExaminesAll, HasUnsoundSource, TellsExactly}
+use Rattle.bk_compact.specs.Compacting.{IsRunning, SourceFails, Steps, TellsFailures, entries_left, with_job}
 use Rattle.bk_compact.specs.Going.{CopiesAll, IsAtEnd, IsCopying, IsOut, told_unread}
 use Rattle.bk_compact.proofs.Stored.{kept_job}
 
@@ -230,7 +232,8 @@ failed_once s job n t after all =
 
 -- ---- a compaction that is abandoned since its source could not be read
 
-module _ (s t : State) (job : Job) (running : IsRunning s Copy job) (set : SetTurn (with_job s None) job.copy Readable t) (unread : Unread) (fault : CompactFault)
+module _ (s t : State) (job : Job) (running : IsRunning s Copy job) (set : SetTurn (with_job s None) job.copy Readable t)
+    (unread : Unread) (fault : CompactFault)
     (told_so : fault ≡ told_unread unread) where
   pub abandoned_end : SourceFails s job (told_unread unread) → EndTurn s (Err fault) t
   abandoned_end fails = subst (λ (f : CompactFault). EndTurn s (Err f) t) (sym told_so) (job, running, inl (fails, set))

@@ -1,6 +1,7 @@
 -- The calls of a compaction, each a turn of the store: it begins, copies entries, ends the copying, switches keys to their
 -- copies, finishes, or is given up.
-use Rattle.std.specs.Prelude.{◌≡◌, ◌⊎◌, ◌↔◌, ℕ, ◌+◌, ◌-◌, ◌<◌, ◌≤◌, Bool, true, false, if◌then◌else◌, IsTrue, List, [], ◌∷◌, length, take, drop, Contains, Option, Some, None, IsSome, Result, Ok, Err, IsErrOf}
+use Rattle.std.specs.Prelude.{◌≡◌, ◌⊎◌, ◌↔◌, ℕ, ◌+◌, ◌-◌, ◌<◌, ◌≤◌, Bool, true, false, if◌then◌else◌, IsTrue, List, [], ◌∷◌, length}
+use Rattle.std.specs.Prelude.{take, drop, Contains, Option, Some, None, IsSome, Result, Ok, Err, IsErrOf}
 use Rattle.std.specs.FinMap as finite
 use Rattle.bk_record.specs.Location.{Place}
 use Rattle.bk_record.specs.Record.{key_of}
@@ -107,7 +108,8 @@ BeginTurn s kind (Ok begins.JobRunning) t = IsSome s.job × (t ≡ s)
 BeginTurn s kind (Ok begins.NothingToDo) t = (s.job ≡ None) × (IsTrue s.honest → Chooses s (threshold_of s.settings kind) None) × (t ≡ s)
 BeginTurn s kind (Ok (begins.Chosen log)) t = IsChosen s kind log
     × ((copy : ℕ) × ((mid : State) × MakeTurn s Copying (Ok copy) mid × (t ≡ with_job mid (Some (new_job log copy)))))
-BeginTurn s kind (Err fault) t = ((log : ℕ) × IsChosen s kind log) × ((cause : MakeFault) × (fault ≡ compact_fault_of_make cause) × MakeTurn s Copying (Err cause) t)
+BeginTurn s kind (Err fault) t = ((log : ℕ) × IsChosen s kind log)
+    × ((cause : MakeFault) × (fault ≡ compact_fault_of_make cause) × MakeTurn s Copying (Err cause) t)
 
 -- ---- copying
 

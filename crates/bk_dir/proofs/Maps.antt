@@ -26,7 +26,8 @@ written file at n inside some = omega (arith, inside.0, inside.1)
 -- more pairs, read from where the others end
 pub pairs_more : (file : List ℕ) (from done some : ℕ) (piece : List ℕ) (before : List (ℕ × ℕ)) (m n : LedgersMap) → 0 < some
     → IsInView file (from + 16 * done) (16 * some) → piece ≡ take (16 * some) (drop (from + 16 * done) file)
-    → (a : AddsPairs before (take (16 * done) (drop from file)) m) → AddsPairs (before ++ a.good) piece n → AddsPairs before (take (16 * (done + some)) (drop from file)) n
+    → (a : AddsPairs before (take (16 * done) (drop from file)) m) → AddsPairs (before ++ a.good) piece n
+    → AddsPairs before (take (16 * (done + some)) (drop from file)) n
 pairs_more file from done some piece before m n more inside is a b =
     let long = written file (from + 16 * done) (16 * some) inside (omega arith) in
     let whole : take (16 * done + 16 * some) (drop from file) ≡ take (16 * done) (drop from file) ++ piece =

@@ -7,7 +7,8 @@
 ghost use Rattle.std.specs.Prelude.{◌≡◌, ℕ, ◌<◌, ◌^◌, Bool, false, List, length, IsTrue, IsErrOf};
 ghost use Rattle.std.specs.List.{All};
 ghost use Rattle.bk_record.specs.Files.{Files};
-ghost use Rattle.bk_disk.specs.Disk.{AreLogFiles, HasCause, Lists, Measures, Creates, Appends, Patches, Syncs, Reads, Views, Removes, ReadsView, ReadsInto, view_end};
+ghost use Rattle.bk_disk.specs.Disk.{AreLogFiles, HasCause, Lists, Measures, Creates, Appends, Patches, Syncs};
+ghost use Rattle.bk_disk.specs.Disk.{Reads, Views, Removes, ReadsView, ReadsInto, view_end};
 
 use crate::DiskFault;
 use bk_record::HEADER_LENGTH;

@@ -13,7 +13,8 @@ use Rattle.bk_collect.specs.declared.answer.RemoveAnswer.TheVariants as removes
 use Rattle.bk_collect.specs.declared.answer.CollectFault.{CollectFault}
 use Rattle.bk_drive.specs.Plain.{HasAt}
 use Rattle.bk_drive.specs.Machine.{Hold, WorkTurn, Closes, RemovesLog, LetsGo, IsUnread}
-use Rattle.bk_drive.specs.Machine.WorkTurn.{swapped, wrote, published, rolled, retired, rebuilt, closed, removed, begun, copied, ended, switched, finished, given_up}
+use Rattle.bk_drive.specs.Machine.WorkTurn.{swapped, wrote, published, rolled, retired, rebuilt, closed, removed}
+use Rattle.bk_drive.specs.Machine.WorkTurn.{begun, copied, ended, switched, finished, given_up}
 use Rattle.bk_drive.specs.Leased.{AreOpenLeases, IsShut}
 use Rattle.bk_drive.specs.declared.step.Step.TheVariants as steps
 use Rattle.bk_drive.specs.declared.step.Work.{Work}
@@ -21,9 +22,11 @@ use Rattle.bk_drive.specs.declared.step.Work.TheVariants as works
 use Rattle.bk_drive.specs.declared.step.Answer.{Answer}
 use Rattle.bk_drive.specs.declared.step.Answer.TheVariants as answers
 use Rattle.bk_drive.proofs.Gone.{GoneStays, gone_same}
-use Rattle.bk_drive.proofs.Leases.{SlotsStay, slots_same, leases_stay, closed_stays, seats_kept, closing_table, closing_meets, closing_leaves, closing_closes, closing_stays, removed_leases, removed_unread, removed_gone, removed_shut}
+use Rattle.bk_drive.proofs.Leases.{SlotsStay, slots_same, leases_stay, closed_stays, seats_kept, closing_table, closing_meets, closing_leaves}
+use Rattle.bk_drive.proofs.Leases.{closing_closes, closing_stays, removed_leases, removed_unread, removed_gone, removed_shut}
 use Rattle.bk_drive.proofs.Runs.{swap_logs}
-use Rattle.bk_drive.proofs.Working.{step_stays, roll_stays, retire_stays, rebuild_stays, close_stays, close_beside, remove_beside, remove_slots, publish_slots, publish_gone}
+use Rattle.bk_drive.proofs.Working.{step_stays, roll_stays, retire_stays, rebuild_stays, close_stays, close_beside}
+use Rattle.bk_drive.proofs.Working.{remove_beside, remove_slots, publish_slots, publish_gone}
 use Rattle.bk_drive.proofs.Compacting.{begin_stays, copy_stays, end_stays, switch_stays, finish_stays, give_up_stays}
 
 -- a log that is gone stays so

@@ -14,7 +14,8 @@ use Rattle.bk_store.specs.declared.job.Phase.{Phase}
 use Rattle.bk_store.specs.declared.job.Phase.TheVariants.{Copy, Switch}
 use Rattle.bk_store.specs.declared.log.LogState.{LogState}
 use Rattle.bk_store.specs.declared.log.LogState.TheVariants.{Copying, Readable, Retired}
-use Rattle.bk_compact.specs.Compacting.{BeginTurn, CopyTurn, EndTurn, SwitchTurn, FinishTurn, GiveUpTurn, GivesUp, GoesOnCopying, Steps, StopsCopying, Copies, Examines, ExaminesAll, SealsCopy, ShowsCopy, TakesMoves, with_job}
+use Rattle.bk_compact.specs.Compacting.{BeginTurn, CopyTurn, EndTurn, SwitchTurn, FinishTurn, GiveUpTurn, GivesUp, GoesOnCopying, Steps}
+use Rattle.bk_compact.specs.Compacting.{StopsCopying, Copies, Examines, ExaminesAll, SealsCopy, ShowsCopy, TakesMoves, with_job}
 use Rattle.bk_compact.specs.declared.answer.Kind.{Kind}
 use Rattle.bk_compact.specs.declared.answer.BeginAnswer.{BeginAnswer}
 use Rattle.bk_compact.specs.declared.answer.BeginAnswer.TheVariants as begins
@@ -40,7 +41,14 @@ job_stays s t job is =
 
 show_stays : (s t : State) (id : ℕ) (r : Result (Unit {0}) LogFault) → ShowTurn s id r t → Stays s t
 show_stays s t id (Ok _) turn =
-    stays_as (record { settings = refl; dead = refl; active = refl; flush = refl; slots = slots_same _ _ refl; gone = gone_changed _ _ id turn.0 _ turn.1 refl refl }) t turn.2.3
+    stays_as (record {
+      settings = refl;
+      dead = refl;
+      active = refl;
+      flush = refl;
+      slots = slots_same _ _ refl;
+      gone = gone_changed _ _ id turn.0 _ turn.1 refl refl;
+    }) t turn.2.3
 show_stays s t id (Err log_faults.Disk) turn =
     stays_as (record { settings = refl; dead = refl; active = refl; flush = refl; slots = slots_same _ _ refl; gone = gone_same _ _ refl refl }) t turn.1
 show_stays s t id (Err log_faults.Memory) turn =

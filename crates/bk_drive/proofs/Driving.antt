@@ -1,5 +1,6 @@
 -- The run that a machine has made so far.
-use Rattle.std.proofs.Common.{◌≡◌, ◌⊎◌, inl, inr, ℕ, ◌<◌, ◌≤◌, List, [], ◌∷◌, ◌++◌, length, take, replicate, Bool, true, Option, None, IsTrue, get_or, ◌+◌, add-one, sym, ap, ◌∙◌, subst, arith}
+use Rattle.std.proofs.Common.{◌≡◌, ◌⊎◌, inl, inr, ℕ, ◌<◌, ◌≤◌, List, [], ◌∷◌, ◌++◌, length, take, replicate, Bool, true}
+use Rattle.std.proofs.Common.{Option, None, IsTrue, get_or, ◌+◌, add-one, sym, ap, ◌∙◌, subst, arith}
 use Rattle.std.specs.List.{All}
 use Rattle.std.proofs.lemmas.List.Elements.{All-nil, All-cons, All-append, All-weaker}
 use Rattle.std.proofs.lemmas.List.{length-append}
@@ -32,7 +33,8 @@ counted_none failures answers none = subst (λ as'. AreCounted failures as') (sy
 pub counted_on : (before now : ℕ) (answers answers' : List Answer) (a : Answer) → AreCounted before answers → before ≤ now
     → (IsDiskFault a → before < now) → answers' ≡ answers ++ a ∷ [] → AreCounted now answers'
 counted_on before now answers answers' a counted later told more =
-    let was : AreCounted now answers = All-weaker (λ x. IsDiskFault x → 0 < before) (λ x. IsDiskFault x → 0 < now) (λ x h is. omega (arith, h is)) answers counted in
+    let was : AreCounted now answers = All-weaker (λ x. IsDiskFault x → 0 < before) (λ x. IsDiskFault x → 0 < now)
+    (λ x h is. omega (arith, h is)) answers counted in
     let one : AreCounted now (a ∷ []) = All-cons (λ x. IsDiskFault x → 0 < now) a [] (λ is. omega (arith, told is)) (All-nil (λ x. IsDiskFault x → 0 < now)) in
     subst (λ as'. AreCounted now as') (sym more) (All-append (λ x. IsDiskFault x → 0 < now) answers (a ∷ []) was one)
 
@@ -41,15 +43,18 @@ counted_never failures answers counted never =
     All-weaker (λ x. IsDiskFault x → 0 < failures) (λ x. ¬ (IsDiskFault x)) (λ x h is. absurd (omega (arith, h is))) answers counted
 
 -- these steps were answered so, from a disk of these files on, by a store that asks an honest disk
-pub record IsDriven (settings : Settings) (files : Files) (dead : List ℕ) (steps : List Step) (answers : List Answer) (store : State) (readers : List (Option Hold)) : Type 0 where
+pub record IsDriven (settings : Settings) (files : Files) (dead : List ℕ) (steps : List Step) (answers : List Answer) (store : State)
+    (readers : List (Option Hold)) : Type 0 where
   pub first : State
   pub opened : IsOpened true files settings dead first
   pub plain : PlainDesk
-  pub run : Run settings.cache_limit (first_desk first) (first_plain files (valid_ledgers dead)) steps answers (record { store = store; readers = readers }) plain
+  pub run : Run settings.cache_limit (first_desk first) (first_plain files (valid_ledgers dead)) steps answers
+      (record { store = store; readers = readers }) plain
   pub honest : IsTrue store.honest
   pub settings_are : store.settings ≡ settings
 
-pub driven_first : (settings : Settings) (files : Files) (dead : List ℕ) (store : State) (readers : List (Option Hold)) (steps : List Step) (answers : List Answer)
+pub driven_first : (settings : Settings) (files : Files) (dead : List ℕ) (store : State) (readers : List (Option Hold))
+    (steps : List Step) (answers : List Answer)
     (honest : Bool) → IsTrue honest → store.honest ≡ honest → IsOpened honest files settings dead store → readers ≡ replicate reader_count None
     → steps ≡ [] → answers ≡ [] → IsDriven settings files dead steps answers store readers
 driven_first settings files dead store readers steps answers honest is same opened free no_steps no_answers =
@@ -91,7 +96,8 @@ driven_on settings files dead steps steps' answers answers' store store' readers
 abbrev pub AllShut : List Step → List Answer → State → Type 0
 AllShut steps answers store = (log : ℕ) → WasLetGo steps answers log → IsShut store log
 
-pub driven_last : (settings : Settings) (files : Files) (dead : List ℕ) (steps steps' : List Step) (answers : List Answer) (store : State) (readers : List (Option Hold))
+pub driven_last : (settings : Settings) (files : Files) (dead : List ℕ) (steps steps' : List Step) (answers : List Answer) (store : State)
+    (readers : List (Option Hold))
     → IsDriven settings files dead steps answers store readers → IsKept store → AreOpenLeases store.keeper readers → AllShut steps answers store
     → steps' ≡ steps → Headline settings files dead steps' answers store readers
 driven_last settings files dead steps steps' answers store readers driven kept leases closed all =

@@ -1,5 +1,6 @@
 -- The leases of the readers stand open in the store's table through each step.
-use Rattle.std.proofs.Common.{◌≡◌, ◌≢◌, ◌⊎◌, inl, inr, ℕ, ◌<◌, zero, suc, List, [], ◌∷◌, replicate, Option, Some, None, Result, Ok, Err, true, refl, sym, ap, subst, ◌∙◌, slice_set}
+use Rattle.std.proofs.Common.{◌≡◌, ◌≢◌, ◌⊎◌, inl, inr, ℕ, ◌<◌, zero, suc, List, [], ◌∷◌, replicate, Option, Some}
+use Rattle.std.proofs.Common.{None, Result, Ok, Err, true, refl, sym, ap, subst, ◌∙◌, slice_set}
 use Rattle.std.specs.FinMap as finite
 use Rattle.std.specs.FinMap.{nat_cmp-IsAntisymmetric}
 use Rattle.std.proofs.lemmas.Cmp.{nat_cmp_total}
@@ -234,7 +235,11 @@ module _ (s t : State) (id : ℕ) (seats : AreSeated s.keeper s.logs) (turn : Cl
 
   pub closing_closes : StandsClosed t.keeper id
   closing_closes = elim turn [
-    | inl was ↦ (was.0.log.slot, ap (λ (x : State). state_at x.keeper.slots was.0.log.slot) was.1 ∙ seats.stands id was.0.log was.0.held ∙ ap (slot_state id) was.0.state_is)
+    | inl was ↦ (
+      was.0.log.slot,
+      ap (λ (x : State). state_at x.keeper.slots was.0.log.slot) was.1 ∙ seats.stands id was.0.log was.0.held
+          ∙ ap (slot_state id) was.0.state_is,
+    )
     | inr now ↦ let log : Log = now.1.1.0 in (log.slot, now_closed log (retired_open log now.1.1.1 now.0) (ap (λ (x : State). x.keeper) now.1.1.2))
   ]
 
@@ -249,7 +254,8 @@ module _ (s t : State) (id : ℕ) (seats : AreSeated s.keeper s.logs) (turn : Cl
   ]
 
 -- no reader holds a lease of a log that stands closed
-pub closed_unread : (s : State) (readers : List (Option Hold)) (log : ℕ) → IsKept s → AreOpenLeases s.keeper readers → StandsClosed s.keeper log → IsUnread readers log
+pub closed_unread : (s : State) (readers : List (Option Hold)) (log : ℕ) → IsKept s → AreOpenLeases s.keeper readers
+    → StandsClosed s.keeper log → IsUnread readers log
 closed_unread s readers log kept leases (slot, is) = λ reader hold has same.
     let seats = seats_kept s kept in
     let lease = leases reader hold has in

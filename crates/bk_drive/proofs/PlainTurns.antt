@@ -14,8 +14,12 @@ use Rattle.bk_store.specs.declared.answer.DeleteFault.{DeleteFault}
 use Rattle.bk_drive.specs.Plain.{PlainDesk, after_work}
 use Rattle.bk_drive.specs.Machine.{Hold, WorkTurn, LetsGo, IsUnread, Turn, ReaderTake, ReaderFetch, ReaderRelease, PlainTurn}
 use Rattle.bk_drive.specs.Machine.Turn.{worked}
-use Rattle.bk_drive.specs.Machine.WorkTurn.{swapped as work_swapped, wrote as work_wrote, published as work_published, rolled as work_rolled, retired as work_retired, rebuilt as work_rebuilt, closed as work_closed, removed as work_removed, begun as work_begun, copied as work_copied, ended as work_ended, switched as work_switched, finished as work_finished, given_up as work_given_up}
-use Rattle.bk_drive.specs.Machine.PlainTurn.{swapped, wrote, published, rolled, retired, rebuilt, closed, removed, begun, copied, ended, switched, finished, given_up, added, deleted, taken, fetched, released}
+use Rattle.bk_drive.specs.Machine.WorkTurn.{swapped as work_swapped, wrote as work_wrote, published as work_published, rolled as work_rolled}
+use Rattle.bk_drive.specs.Machine.WorkTurn.{retired as work_retired, rebuilt as work_rebuilt, closed as work_closed, removed as work_removed}
+use Rattle.bk_drive.specs.Machine.WorkTurn.{begun as work_begun, copied as work_copied, ended as work_ended, switched as work_switched}
+use Rattle.bk_drive.specs.Machine.WorkTurn.{finished as work_finished, given_up as work_given_up}
+use Rattle.bk_drive.specs.Machine.PlainTurn.{swapped, wrote, published, rolled, retired, rebuilt, closed, removed, begun, copied, ended}
+use Rattle.bk_drive.specs.Machine.PlainTurn.{switched, finished, given_up, added, deleted, taken, fetched, released}
 use Rattle.bk_drive.specs.Leased.{AreOpenLeases}
 use Rattle.bk_drive.specs.Headline.{AreOwed, Agrees}
 use Rattle.bk_drive.specs.declared.step.Step.{Step}
@@ -54,7 +58,8 @@ work_beside limit p (work_given_up turn) = given_up
 module _ (s t : State) (readers readers' : List (Option Hold)) (work : Work) (a : Answer) (same : readers' ≡ readers) (turn : WorkTurn s work a t) where
   pub turn_worked : ((log : ℕ) → LetsGo (steps.Work work) a log → IsUnread readers log)
       → Turn (record { store = s; readers = readers }) (steps.Work work) a (record { store = t; readers = readers' })
-  turn_worked unread = subst (λ (rs : List (Option Hold)). Turn (record { store = s; readers = readers }) (steps.Work work) a (record { store = t; readers = rs }))
+  turn_worked unread = subst (λ (rs : List (Option Hold)). Turn (record { store = s; readers = readers }) (steps.Work work) a
+      (record { store = t; readers = rs }))
       (sym same) (worked turn unread)
 
   pub goes_worked : ((p : Plain) → plain.MatchesPlain s p → plain.MatchesPlain t (after_work a p)) → AreOpenLeases t.keeper readers'
@@ -82,7 +87,8 @@ module _ (s t : State) (kept : IsKept s) (honest : IsTrue s.honest) (readers : L
       let done = deleted_plain s t p.store kept honest agrees.store ledger r turn in
       (record p { store = done.0 }, deleted done.1, record { store = done.2; readers = agrees.readers; leases = leases })
 
-pub goes_taken : (s t : State) (readers readers' : List (Option Hold)) (reader : ℕ) (key : EntryKey) (r : Result TakeAnswer TakeFault) → IsKept s → IsTrue s.honest
+pub goes_taken : (s t : State) (readers readers' : List (Option Hold)) (reader : ℕ) (key : EntryKey) (r : Result TakeAnswer TakeFault)
+    → IsKept s → IsTrue s.honest
     → ReaderTake (record { store = s; readers = readers }) reader key r (record { store = t; readers = readers' }) → AreOpenLeases t.keeper readers'
     → GoesOn s readers (steps.Take reader key) (answers.Take r) t readers'
 goes_taken s t readers readers' reader key r kept honest turn leases = λ p agrees.

@@ -37,7 +37,8 @@ Takes s key r t = TakeTurn (λ v. v.bytes) (λ v. v.is_honest) (λ v. v.is_sound
 abbrev Owes : Plain → EntryKey → Result (Taken View) TakeFault → Type 0
 Owes p key r = PlainTake (λ v. v.bytes) (λ v. v.is_honest) p key r
 
-seen_take : (s t : State) (p : Plain) (key : EntryKey) (r : Result (Taken View) TakeFault) → IsKept s → IsTrue s.honest → plain.MatchesPlain s p → Takes s key r t
+seen_take : (s t : State) (p : Plain) (key : EntryKey) (r : Result (Taken View) TakeFault) → IsKept s → IsTrue s.honest
+    → plain.MatchesPlain s p → Takes s key r t
     → Owes p key r × plain.MatchesPlain t p
 seen_take s t p key r kept honest agrees turn =
     plain_take kept.parts kept.keeps (kept.keeps.promises (subst (λ (x : State). IsTrue x.honest) (sym kept.seen) honest)) p
@@ -129,7 +130,8 @@ module _ (d : Desk) (p : PlainDesk) (agrees : Agrees d p) (reader : ℕ) where
     (omega (arith, turn.0, length_owed d.readers p.readers agrees.readers), refl),
     subst (λ (hs : List (Option Hold)). AreOwed hs p.readers) (sym turn.1) agrees.readers,
   )
-  owed_release releases.NoLease readers turn = (p.readers, (free turn.0, refl), subst (λ (hs : List (Option Hold)). AreOwed hs p.readers) (sym turn.1) agrees.readers)
+  owed_release releases.NoLease readers turn =
+      (p.readers, (free turn.0, refl), subst (λ (hs : List (Option Hold)). AreOwed hs p.readers) (sym turn.1) agrees.readers)
   owed_release releases.Released readers turn = (
     slice_set p.readers reader None,
     (busy turn.0, refl),

@@ -118,7 +118,8 @@ get-live m dead key =
     finite.get-retain_keys m lives key (λ x tied. ap lives (sym (key_cmp_antisymmetric key x tied)))
     ∙ elim (set.contains dead key.ledger) as (λ b. cond (not b) (finite.get m key) None ≡ cond b None (finite.get m key)) [ true ↦ refl | false ↦ refl ]
 
-nothing_told : (key : EntryKey) → option_or (finite.get {X = List ℕ} {R = key_cmp} finite.empty key) (finite.get {X = List ℕ} {R = key_cmp} finite.empty key) ≡ None
+nothing_told : (key : EntryKey)
+    → option_or (finite.get {X = List ℕ} {R = key_cmp} finite.empty key) (finite.get {X = List ℕ} {R = key_cmp} finite.empty key) ≡ None
 nothing_told key = ap (λ o. option_or o o) (finite.get-empty key_cmp key)
 
 -- a store that was opened on files agrees with the plain map of their last entries

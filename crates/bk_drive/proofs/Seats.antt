@@ -1,5 +1,6 @@
 -- What a reader that is looked up holds.
-use Rattle.std.proofs.Common.{◌≡◌, ◌∙◌, refl, ap, sym, subst, ℕ, ◌<◌, List, length, map, Option, Some, None, is_some, option_map, slice_get, slice_set, get_or, IfSome}
+use Rattle.std.proofs.Common.{◌≡◌, ◌∙◌, refl, ap, sym, subst, ℕ, ◌<◌, List, length, map, Option, Some, None}
+use Rattle.std.proofs.Common.{is_some, option_map, slice_get, slice_set, get_or, IfSome}
 use Rattle.std.proofs.lemmas.List.{length-map, map-set}
 use Rattle.std.proofs.lemmas.Option.{slice_get-map, slice_get-get_or, slice_get_within}
 use Rattle.std.specs.Bool.{OnTrue}

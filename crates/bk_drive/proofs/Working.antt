@@ -1,5 +1,6 @@
 -- What a call of a flush leaves: the dead ledgers, the pairs that are only cached, and so an agreement with the plain map.
-use Rattle.std.proofs.Common.{◌≡◌, inl, inr, ℕ, ◌<◌, List, Bool, true, false, Option, Some, None, Result, Ok, Err, cond, refl, sym, ap, subst, ◌∙◌, unwrap_or, arith}
+use Rattle.std.proofs.Common.{◌≡◌, inl, inr, ℕ, ◌<◌, List, Bool, true, false, Option, Some, None, Result, Ok}
+use Rattle.std.proofs.Common.{Err, cond, refl, sym, ap, subst, ◌∙◌, unwrap_or, arith}
 use Rattle.std.specs.Option.{option_or}
 use Rattle.std.specs.FinMap as finite
 use Rattle.std.specs.FinSet as set
@@ -99,11 +100,25 @@ then first second = record {
 
 pub seals_stays : {s t : State} {id : ℕ} {state : LogState} {r : Result (Unit {0}) LogFault} → Seals s id state r t → Stays s t
 seals_stays {s = s} {t = t} {id = id} seals =
-    stays_as (record { settings = refl; dead = refl; active = refl; flush = refl; slots = slots_same _ _ refl; gone = gone_changed _ _ id seals.log _ seals.writer.held refl refl }) t seals.left
+    stays_as (record {
+      settings = refl;
+      dead = refl;
+      active = refl;
+      flush = refl;
+      slots = slots_same _ _ refl;
+      gone = gone_changed _ _ id seals.log _ seals.writer.held refl refl;
+    }) t seals.left
 
 restarts_stays : {s t : State} → Restarts s t → Stays s t
 restarts_stays {s = s} {t = t} restarts =
-    stays_as (record { settings = refl; dead = refl; active = refl; flush = refl; slots = slots_same _ _ refl; gone = gone_ruled _ _ settled_as restarts.logs refl }) t restarts.left
+    stays_as (record {
+      settings = refl;
+      dead = refl;
+      active = refl;
+      flush = refl;
+      slots = slots_same _ _ refl;
+      gone = gone_ruled _ _ settled_as restarts.logs refl;
+    }) t restarts.left
 
 left_stays : (fault : FlushFault) {s t : State} → LeftBy fault s t → Stays s t
 left_stays flush_faults.Disk left = restarts_stays left
@@ -137,7 +152,14 @@ unmade_stays s t {failures = failures} unmade =
 
 made_stays : (s t : State) {state : LogState} → IsMade s state t → Stays s t
 made_stays s t made =
-    stays_as (record { settings = refl; dead = refl; active = refl; flush = refl; slots = slots_opened s.keeper made.slot _ made.free.1; gone = gone_made _ _ _ refl refl }) t made.left
+    stays_as (record {
+      settings = refl;
+      dead = refl;
+      active = refl;
+      flush = refl;
+      slots = slots_opened s.keeper made.slot _ made.free.1;
+      gone = gone_made _ _ _ refl refl;
+    }) t made.left
 
 pub make_stays : (s t : State) (state : LogState) (r : Result ℕ MakeFault) → MakeTurn s state r t → Stays s t
 make_stays s t state (Err makes.LogsFull) turn = stays_same s t turn.1
@@ -177,13 +199,34 @@ ready_stays s t payload (Err flush_faults.Odd) turn = unready_stays s t payload 
 
 pub put_stays : (s t : State) (id : ℕ) (payload : List ℕ) (r : Result Place LogFault) → PutTurn s id payload r t → Stays s t
 put_stays s t id payload (Ok place) turn =
-    stays_as (record { settings = refl; dead = refl; active = refl; flush = refl; slots = slots_same _ _ refl; gone = gone_changed _ _ id turn.0 _ turn.1.1.held refl refl }) t turn.1.4
+    stays_as (record {
+      settings = refl;
+      dead = refl;
+      active = refl;
+      flush = refl;
+      slots = slots_same _ _ refl;
+      gone = gone_changed _ _ id turn.0 _ turn.1.1.held refl refl;
+    }) t turn.1.4
 put_stays s t id payload (Err log_faults.Memory) turn =
     stays_as (record { settings = refl; dead = refl; active = refl; flush = refl; slots = slots_same _ _ refl; gone = gone_same _ _ refl refl }) t turn.1
 put_stays s t id payload (Err log_faults.Disk) turn =
-    stays_as (record { settings = refl; dead = refl; active = refl; flush = refl; slots = slots_same _ _ refl; gone = gone_changed _ _ id turn.0 _ turn.1 refl refl }) t turn.3
+    stays_as (record {
+      settings = refl;
+      dead = refl;
+      active = refl;
+      flush = refl;
+      slots = slots_same _ _ refl;
+      gone = gone_changed _ _ id turn.0 _ turn.1 refl refl;
+    }) t turn.3
 put_stays s t id payload (Err log_faults.Odd) turn =
-    stays_as (record { settings = refl; dead = refl; active = refl; flush = refl; slots = slots_same _ _ refl; gone = gone_changed _ _ id turn.1.0 _ turn.1.1 refl refl }) t turn.1.2
+    stays_as (record {
+      settings = refl;
+      dead = refl;
+      active = refl;
+      flush = refl;
+      slots = slots_same _ _ refl;
+      gone = gone_changed _ _ id turn.1.0 _ turn.1.1 refl refl;
+    }) t turn.1.2
 put_stays s t id payload (Err log_faults.Failed) turn = absurd turn
 
 noted_stays : (s : State) (key : EntryKey) (place : Place) → Stays s (noted s key place)
@@ -217,7 +260,14 @@ roll_stays s t (Err fault) turn = seals_stays turn.1.1.3
 
 pub set_stays : (s t : State) (id : ℕ) (state : LogState) → SetTurn s id state t → Stays s t
 set_stays s t id state turn =
-    stays_as (record { settings = refl; dead = refl; active = refl; flush = refl; slots = slots_same _ _ refl; gone = gone_changed _ _ id turn.0 _ turn.1 refl refl }) t turn.2
+    stays_as (record {
+      settings = refl;
+      dead = refl;
+      active = refl;
+      flush = refl;
+      slots = slots_same _ _ refl;
+      gone = gone_changed _ _ id turn.0 _ turn.1 refl refl;
+    }) t turn.2
 
 pub retire_stays : (s t : State) (id : ℕ) (r : RetireAnswer) → RetireTurn s id r t → Stays s t
 retire_stays s t id retires.NoLog turn = stays_same s t turn.1
@@ -229,7 +279,8 @@ retire_stays s t id (retires.Retired log) turn = elim turn.1 [
 ]
 
 pub rebuild_stays : (s t : State) (r : Result ℕ CollectFault) → RebuildTurn s r t → Stays s t
-rebuild_stays s t (Ok n) turn = stays_as (record { settings = refl; dead = refl; active = refl; flush = refl; slots = slots_same _ _ refl; gone = gone_same _ _ refl refl }) t turn.3
+rebuild_stays s t (Ok n) turn =
+    stays_as (record { settings = refl; dead = refl; active = refl; flush = refl; slots = slots_same _ _ refl; gone = gone_same _ _ refl refl }) t turn.3
 rebuild_stays s t (Err fault) turn = stays_same s t turn.1
 
 -- a close of which the answer is another than Closed
@@ -279,7 +330,8 @@ remove_beside s t id (Err collect_faults.Odd) turn =
     beside_as (record { settings = refl; dead = refl; caches = refl; gone = gone_same _ _ refl refl }) t turn.1.1
 
 -- a removal of which the answer is another than Removed
-pub remove_slots : (s t : State) (id : ℕ) (r : Result RemoveAnswer CollectFault) → RemoveTurn s id r t → ¬ (r ≡ Ok removes.Removed) → SlotsStay s.keeper t.keeper
+pub remove_slots : (s t : State) (id : ℕ) (r : Result RemoveAnswer CollectFault) → RemoveTurn s id r t → ¬ (r ≡ Ok removes.Removed)
+    → SlotsStay s.keeper t.keeper
 remove_slots s t id (Ok removes.NoLog) turn other = slots_same _ _ (ap (λ (x : State). x.keeper) turn.1)
 remove_slots s t id (Ok removes.NotClosed) turn other = slots_same _ _ (ap (λ (x : State). x.keeper) turn.1)
 remove_slots s t id (Ok removes.Removed) turn other = absurd (other refl)
@@ -355,7 +407,8 @@ stops_stays {s = s} {t = t} stops = shown_stays _ s t stops.before
 publishes_stays : {s t : State} {done : ℕ} → Publishes s done t → Stays s t
 publishes_stays {s = s} {t = t} done =
     then (shown_stays _ s done.mid done.shown.all)
-    (stays_as (record { settings = refl; dead = refl; active = refl; flush = refl; slots = slots_same _ _ refl; gone = gone_same _ _ refl refl }) t done.named.left)
+    (stays_as (record { settings = refl; dead = refl; active = refl; flush = refl; slots = slots_same _ _ refl; gone = gone_same _ _ refl refl }) t
+    done.named.left)
 
 pub publish_slots : (s t : State) (r : Result PublishAnswer FlushFault) → PublishTurn s r t → SlotsStay s.keeper t.keeper
 publish_slots s t (Ok publishes.NoFlush) turn = (stays_same s t turn.1).slots

@@ -66,9 +66,11 @@ first_plain files dead = record {
 -- From these files, with these ledgers dead, these steps were answered so, and left this store and these readers: a run leads
 -- there from a store that was opened on the files, in which a log was closed, or removed, only where no reader held a lease
 -- of it (`Turn`); and no reader holds a lease of such a log now.
-pub record Headline (settings : Settings) (files : Files) (dead : List ℕ) (steps : List Step) (answers : List Answer) (store : State) (readers : List (Option Hold)) : Type 0 where
+pub record Headline (settings : Settings) (files : Files) (dead : List ℕ) (steps : List Step) (answers : List Answer) (store : State)
+    (readers : List (Option Hold)) : Type 0 where
   pub first : State
   pub opened : IsOpened true files settings dead first
   pub plain : PlainDesk
-  pub run : Run settings.cache_limit (first_desk first) (first_plain files (valid_ledgers dead)) steps answers (record { store = store; readers = readers }) plain
+  pub run : Run settings.cache_limit (first_desk first) (first_plain files (valid_ledgers dead)) steps answers
+      (record { store = store; readers = readers }) plain
   pub unread : (log : ℕ) → WasLetGo steps answers log → IsUnread readers log

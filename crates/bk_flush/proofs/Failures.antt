@@ -46,7 +46,8 @@ told_failed log_faults.Odd = refl
 
 -- ---- the log that is made ready
 
-filled_failures : (s mid : State) (filled : Option ℕ) (result : Result (Unit {0}) LogFault) → FillTurn s filled result mid → mid.failures ≡ s.failures + failed_in result
+filled_failures : (s mid : State) (filled : Option ℕ) (result : Result (Unit {0}) LogFault) → FillTurn s filled result mid
+    → mid.failures ≡ s.failures + failed_in result
 filled_failures s mid None (Ok _) same = let is = same_failures s mid same in omega (arith, is)
 filled_failures s mid None (Err fault) never = absurd never
 filled_failures s mid (Some id) result seals = ap (λ (x : State). x.failures) seals.left

@@ -1,5 +1,6 @@
 -- A log that is filled is sealed, and the next one is made.
-use Rattle.std.proofs.Common.{◌≡◌, ◌⊎◌, inl, inr, ℕ, ◌+◌, ◌<◌, ◌≤◌, ◌^◌, Bool, true, List, length, Option, Some, None, Result, Ok, Err, refl, sym, ap, subst, ◌∙◌, arith}
+use Rattle.std.proofs.Common.{◌≡◌, ◌⊎◌, inl, inr, ℕ, ◌+◌, ◌<◌, ◌≤◌, ◌^◌, Bool, true, List, length, Option, Some}
+use Rattle.std.proofs.Common.{None, Result, Ok, Err, refl, sym, ap, subst, ◌∙◌, arith}
 use Rattle.std.specs.FinMap as finite
 use Rattle.bk_log.specs.declared.fault.LogFault.{LogFault}
 use Rattle.bk_log.specs.declared.fault.LogFault.TheVariants as log_faults
@@ -32,7 +33,8 @@ some_to_fill s size filled id b same is writes over =
     subst (IsToFill s size) (sym same) (record { writing = is; needs = λ payload long. subst (WritesInto s id payload) over (writes payload long) })
 
 -- the log that is filled was sealed, or there is none
-pub fill_some : (s mid after : State) (filled : Option ℕ) (id : ℕ) → filled ≡ Some id → mid ≡ after → Seals s id Filled (Ok tt) after → FillTurn s filled (Ok tt) mid
+pub fill_some : (s mid after : State) (filled : Option ℕ) (id : ℕ) → filled ≡ Some id → mid ≡ after → Seals s id Filled (Ok tt) after
+    → FillTurn s filled (Ok tt) mid
 fill_some s mid after filled id same store seals =
     subst (λ (t : State). FillTurn s filled (Ok tt) t) (sym store) (subst (λ f. FillTurn s f (Ok tt) after) (sym same) seals)
 
@@ -103,7 +105,8 @@ module _ (s mid : State) (size : ℕ) (filled : Option ℕ) (is : IsToFill s siz
   not_sealed fault cause t sealed is_told left =
       subst (λ c. ReadyTurn s payload (Err c) t) (sym is_told) (by_cause fault sealed (subst (λ c. LeftBy c mid t) is_told left))
     where
-      by_cause : (fault : LogFault) → FillTurn s filled (Err fault) mid → LeftBy (flush_fault_of fault) mid t → ReadyTurn s payload (Err (flush_fault_of fault)) t
+      by_cause : (fault : LogFault) → FillTurn s filled (Err fault) mid → LeftBy (flush_fault_of fault) mid t
+          → ReadyTurn s payload (Err (flush_fault_of fault)) t
       by_cause log_faults.Memory sealed left = refused (flush_faults.Memory 0) mid t (inl (log_faults.Memory, refl, sealed)) left
       by_cause log_faults.Disk sealed left = refused flush_faults.Disk mid t (inl (log_faults.Disk, refl, sealed)) left
       by_cause log_faults.Failed sealed left = refused flush_faults.Odd mid t (inl (log_faults.Failed, refl, sealed)) left
@@ -118,7 +121,8 @@ module _ (s mid : State) (size : ℕ) (filled : Option ℕ) (is : IsToFill s siz
       still : MayMake mid
       still = still_may s mid filled sealed may
 
-      by_cause : (fault : MakeFault) → MakeTurn mid Writing (Err fault) after → LeftBy (flush_fault_of_make fault) after t → ReadyTurn s payload (Err (flush_fault_of_make fault)) t
+      by_cause : (fault : MakeFault) → MakeTurn mid Writing (Err fault) after → LeftBy (flush_fault_of_make fault) after t
+          → ReadyTurn s payload (Err (flush_fault_of_make fault)) t
       by_cause makes.LogsFull made left = let room = still.room in let full = made.0 in absurd (omega (arith, room, full))
       by_cause makes.NoMoreIds made left = let id = still.id in let past = made.1 in absurd (omega (arith, id, past))
       by_cause makes.Memory made left = refused (flush_faults.Memory 0) after t (inr (mid, sealed, (makes.Memory, refl, made))) left

@@ -1,5 +1,6 @@
 -- The entries of a flush are named one by one, in the order of their keys.
-use Rattle.std.proofs.Common.{◌≡◌, ◌⊎◌, inl, inr, ℕ, zero, suc, ◌+◌, ◌<◌, ◌≤◌, Bool, true, false, cond, IsTrue, IsSome, is_some, List, [], ◌∷◌, ◌++◌, length, take, drop, Option, Some, None, Result, Ok, Err, slice_get, refl, sym, ap, subst, ◌∙◌, arith}
+use Rattle.std.proofs.Common.{◌≡◌, ◌⊎◌, inl, inr, ℕ, zero, suc, ◌+◌, ◌<◌, ◌≤◌, Bool, true, false, cond, IsTrue, IsSome, is_some, List, [], ◌∷◌, ◌++◌}
+use Rattle.std.proofs.Common.{length, take, drop, Option, Some, None, Result, Ok, Err, slice_get, refl, sym, ap, subst, ◌∙◌, arith}
 use Rattle.std.specs.Option.{option_or}
 use Rattle.std.specs.Ordering.{eq_by_cmp}
 use Rattle.std.specs.FinMap as finite
@@ -49,7 +50,8 @@ found_else q [] e apart = ap (λ b. cond b (Some e.1) None) apart
 found_else q (x ∷ es) e apart = ap (λ o. cond (eq_by_cmp key_cmp q x.0) (Some x.1) o) (found_else q es e apart)
 
 -- the recent entries after one more of a list
-remembers_more : (flush : Payloads) (es : List (EntryKey × Place)) (e : EntryKey × Place) (payload : List ℕ) (old mid new : Recents) → Remembers flush es old mid
+remembers_more : (flush : Payloads) (es : List (EntryKey × Place)) (e : EntryKey × Place) (payload : List ℕ) (old mid new : Recents)
+    → Remembers flush es old mid
     → finite.get flush e.0 ≡ Some payload → IsRecentAfter mid e.0 payload new → Remembers flush (es ++ e ∷ []) old new
 remembers_more flush [] e payload old mid new so_far at after =
     (payload, at, (new, subst (λ r. IsRecentAfter r e.0 payload new) so_far after, refl))

@@ -146,7 +146,8 @@ module _ (s t : State) (from : ℕ) (is : IsShowing s from t) where
         let none : t.failures ≡ t.failures + 0 = omega arith in
         stops u 0 files (left ∙ ap (λ n. record t { files = u.files; failures = n }) none)
 
-    pub not_shown : (cause : LogFault) (fault : FlushFault) (u : State) → ShowTurn t log (Err cause) u → fault ≡ flush_fault_of cause → ShowsLogs s (Err fault) u
+    pub not_shown : (cause : LogFault) (fault : FlushFault) (u : State) → ShowTurn t log (Err cause) u → fault ≡ flush_fault_of cause
+        → ShowsLogs s (Err fault) u
     not_shown cause fault u turn is_told = subst (λ f. ShowsLogs s (Err f) u) (sym is_told) (by_cause cause turn)
       where
         by_cause : (cause : LogFault) → ShowTurn t log (Err cause) u → ShowsLogs s (Err (flush_fault_of cause)) u

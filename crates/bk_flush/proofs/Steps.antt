@@ -43,8 +43,19 @@ module _ (s mid t : State) (key : EntryKey) (payload : List ℕ) (size id : ℕ)
   -- the entry was put
   pub put_step : (place : Place) → ((payload : List ℕ) → finite.get (flush_of mid.caches) key ≡ Some payload → WriteTurn mid id key payload (Ok place) t)
       → StepTurn s (Ok (writes.Wrote place)) t
-  put_step place wrote =
-      (key, (payload, next, record { log = id; mid = mid; ready = ready payload (sym long); put = written s mid t key payload size id next long ready caches (Ok place) wrote }))
+  put_step place wrote = (
+    key,
+    (
+      payload,
+      next,
+      record {
+        log = id;
+        mid = mid;
+        ready = ready payload (sym long);
+        put = written s mid t key payload size id next long ready caches (Ok place) wrote;
+      },
+    ),
+  )
 
   -- or it was not
   pub unput_step : (cause : LogFault) (fault : FlushFault) (u : State)

@@ -1,5 +1,6 @@
 -- Turns of a flush: its next entry is written, it is published, its log is rolled.
-use Rattle.std.specs.Prelude.{◌≡◌, ◌⊎◌, ℕ, ◌+◌, ◌≤◌, ◌<◌, ◌^◌, Bool, true, false, ◌&&◌, nat_lt, List, [], ◌∷◌, length, take, Option, Some, None, IsSome, Result, Ok, Err, IsErrOf, IsTrue}
+use Rattle.std.specs.Prelude.{◌≡◌, ◌⊎◌, ℕ, ◌+◌, ◌≤◌, ◌<◌, ◌^◌, Bool, true, false, ◌&&◌, nat_lt, List, [], ◌∷◌, length}
+use Rattle.std.specs.Prelude.{take, Option, Some, None, IsSome, Result, Ok, Err, IsErrOf, IsTrue}
 use Rattle.std.specs.Option.{option_or}
 use Rattle.std.specs.FinMap as finite
 use Rattle.bk_record.specs.Key.{EntryKey, key_cmp}

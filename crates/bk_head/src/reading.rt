@@ -1,6 +1,7 @@
 //! Reading the ledgers map: batch by batch from the left, so that the fault that is told is the first one.
 
-ghost use Rattle.std.specs.Prelude.{◌≡◌, ◌+◌, ◌*◌, ◌<◌, ◌≤◌, ◌^◌, ℕ, List, Option, Result, length, take, drop, min, OnOk, IfOk, IfErr, IfSome, MatchOption, MatchResult};
+ghost use Rattle.std.specs.Prelude.{◌≡◌, ◌+◌, ◌*◌, ◌<◌, ◌≤◌, ◌^◌, ℕ, List, Option, Result, length, take, drop, min};
+ghost use Rattle.std.specs.Prelude.{OnOk, IfOk, IfErr, IfSome, MatchOption, MatchResult};
 ghost use Rattle.std.specs.FinMap as ledgers;
 ghost use Rattle.bk_head.specs.declared.fault.HeadFault.{HeadFault as Fault};
 ghost use Rattle.bk_head.specs.Ledgers.{LedgersMap, map_of, SpellsMap, IsPair, ledgers_of, AreDistinct};

@@ -1,7 +1,8 @@
 //! The pages of the index, in the order of their keys, and a fence for each: the first key of the page. A search goes
 //! over the fences first, then over one page.
 
-ghost use Rattle.std.specs.Prelude.{◌≡◌, ◌↔◌, ◌<◌, ◌≤◌, ◌+◌, ◌^◌, [], ◌∷◌, ◌++◌, length, take, drop, not, ◌==◌, count_by, filter, slice_get, slice_index_or, option_map, sum_by, All, Some, IsTrue, IsSome, IsOk, IfOk, IfSome, OnOk, OnErr};
+ghost use Rattle.std.specs.Prelude.{◌≡◌, ◌↔◌, ◌<◌, ◌≤◌, ◌+◌, ◌^◌, [], ◌∷◌, ◌++◌, length, take, drop, not, ◌==◌, count_by, filter, slice_get};
+ghost use Rattle.std.specs.Prelude.{slice_index_or, option_map, sum_by, All, Some, IsTrue, IsSome, IsOk, IfOk, IfSome, OnOk, OnErr};
 ghost use Rattle.std.specs.Bool.{OnTrue, OnFalse};
 ghost use Rattle.std.specs.FinMap.{find, put, is_sorted};
 ghost use Rattle.bk_record.specs.Key.{key_cmp};

@@ -162,7 +162,8 @@ record_stands bytes payload at end headed b =
 
 -- the entry that was found is the part's next
 pub given_next : (window : Ahead) (from end given foreign torn size : ℕ) (ended : Bool) (fault : Option ScanFault) (key : EntryKey)
-    → KeepsScan window from end given foreign torn ended fault → IsTrue window.honest → size ≤ end - window.at → IsFront (here window end) (Record size (Some key))
+    → KeepsScan window from end given foreign torn ended fault → IsTrue window.honest → size ≤ end - window.at
+    → IsFront (here window end) (Record size (Some key))
     → IsGiven (window_scan window from end given foreign torn ended fault) (record { key = key; at = window.at + 4; size = size }) foreign
 given_next window from end given foreign torn size ended fault key kept h within (payload, (begins, (sized, is))) =
     let bytes = part window.bytes from end in
@@ -237,7 +238,8 @@ kept_bad window from end given foreign torn ready room value ended fault kept go
         finished = λ e. absurd (false≢true (sym going ∙ e));
         stopped = λ f e. subst (ScanFails (window_scan window from end given foreign torn ended
             (Some (BadLength window.at (cast_signed w32 (cast_unsigned w32 value)))))) (same_some _ _ e)
-            (subst (λ v. ScanFails (window_scan window from end given foreign torn ended (Some (BadLength window.at (cast_signed w32 (cast_unsigned w32 value)))))
+            (subst (λ v. ScanFails (window_scan window from end given foreign torn ended
+            (Some (BadLength window.at (cast_signed w32 (cast_unsigned w32 value)))))
             (BadLength window.at v)) (sym same) (
               all_given from window.at given foreign bytes left passed (bad_stops left value is below),
               bad_at from window.at given foreign bytes left value passed four is below,

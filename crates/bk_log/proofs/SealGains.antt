@@ -39,7 +39,8 @@ module _ (files files' : Files) (w : Writing) (writes : Writes files w) (writabl
     others = (batches n).records;
     foreign = (batches n).foreign;
     gains = gains_file files files' w.log writes.file (writes.file ++ take n (map_bytes w)) (batches n).records (file_at files w.log writes.file writes.stands)
-        (is ∙ grown-stands files w.log writes.file (take n (map_bytes w)) writes.stands) (came n) (longer_append writes.file (take n (map_bytes w))) (λ _. spelled n);
+        (is ∙ grown-stands files w.log writes.file (take n (map_bytes w)) writes.stands) (came n)
+        (longer_append writes.file (take n (map_bytes w))) (λ _. spelled n);
   }
 
   all_map : take (length (map_bytes w)) (map_bytes w) ≡ map_bytes w

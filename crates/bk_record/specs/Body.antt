@@ -1,5 +1,6 @@
 -- The body of an entry log: records one after another, up to what is no whole record.
-use Rattle.std.specs.Prelude.{◌≡◌, ℕ, zero, suc, ◌+◌, ◌<◌, ◌≤◌, ◌^◌, ℤ, pos, ◌<ℤ◌, List, [], ◌∷◌, ◌++◌, length, take, drop, Bool, ◌&&◌, nat_lt, nat_le, if◌then◌else◌}
+use Rattle.std.specs.Prelude.{◌≡◌, ℕ, zero, suc, ◌+◌, ◌<◌, ◌≤◌, ◌^◌, ℤ, pos, ◌<ℤ◌, List, [], ◌∷◌, ◌++◌, length}
+use Rattle.std.specs.Prelude.{take, drop, Bool, ◌&&◌, nat_lt, nat_le, if◌then◌else◌}
 use Rattle.bk_record.specs.Record.{record_of, IsPayload, length_field, signed_field}
 
 -- Less than a whole record: one to three bytes, or a length of 16 or more whose payload isn't all there.

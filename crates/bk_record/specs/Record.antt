@@ -1,5 +1,6 @@
 -- One record of an entry log: a length of four bytes, big-endian, then the payload, which begins with two ids.
-use Rattle.std.specs.Prelude.{ℕ, ◌<◌, ◌≤◌, ◌^◌, ℤ, List, ◌++◌, length, take, drop, Bool, ◌&&◌, not, nat_lt, is_some, if◌then◌else◌, Option, Some, None, Result, Ok, Err}
+use Rattle.std.specs.Prelude.{ℕ, ◌<◌, ◌≤◌, ◌^◌, ℤ, List, ◌++◌, length, take, drop, Bool, ◌&&◌, not, nat_lt}
+use Rattle.std.specs.Prelude.{is_some, if◌then◌else◌, Option, Some, None, Result, Ok, Err}
 use Rattle.std.specs.Int.{w32, w64, to_be_bytes, from_be_bytes, cast_signed}
 use Rattle.std.specs.Option.{ok_or}
 use Rattle.bk_record.specs.Key.{EntryKey}

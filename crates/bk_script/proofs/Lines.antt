@@ -7,7 +7,8 @@ use Rattle.bk_drive.specs.declared.step.Step.TheVariants as steps
 use Rattle.bk_drive.specs.declared.step.Work.{Work}
 use Rattle.bk_drive.specs.declared.step.Work.TheVariants.{Retire, Close, Remove, Copy, Switch}
 use Rattle.bk_record.specs.Key.{EntryKey}
-use Rattle.bk_script.specs.Line.{IsPrintable, IsWord, IsAdd, words, followed, IsAlone, word_of, Spells, work, add, add_text, pad, take, fetch, release, delete, retire, close, remove, copy, switch}
+use Rattle.bk_script.specs.Line.{IsPrintable, IsWord, IsAdd, words, followed, IsAlone, word_of, Spells, work, add, add_text}
+use Rattle.bk_script.specs.Line.{pad, take, fetch, release, delete, retire, close, remove, copy, switch}
 use Rattle.bk_script.specs.declared.line.LineFault.{LineFault}
 use Rattle.bk_script.specs.declared.line.LineFault.TheVariants.{Memory}
 use Rattle.bk_script.proofs.Printable.{printable_behind}
@@ -76,4 +77,5 @@ add_behind text behind n t small is =
 pub add_words : (text behind word : List ℕ) (rest : Option (List ℕ)) (n : ℕ) (t : IsAddText text) → n < 2 ^ 64 → IsWord word
     → text ≡ decimal n ++ 32 ∷ behind → behind ≡ followed word rest → (word ≡ decimal t.entry) × (rest ≡ t.rest)
 add_words text behind word rest n t small is-word is then =
-    followed-injective word (decimal t.entry) rest t.rest is-word (IsWord-decimal t.entry (let h = t.entry_fits in omega arith)) (sym then ∙ add_behind text behind n t small is)
+    followed-injective word (decimal t.entry) rest t.rest is-word (IsWord-decimal t.entry (let h = t.entry_fits in omega arith))
+    (sym then ∙ add_behind text behind n t small is)

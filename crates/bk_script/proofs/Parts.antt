@@ -1,9 +1,11 @@
 -- What the parts of a line that spells a step are: its first word, and what stands behind that word and a space.
-use Rattle.std.proofs.Common.{◌≡◌, ◌≢◌, ℕ, ◌+◌, ◌*◌, ◌<◌, ◌≤◌, ◌^◌, List, [], ◌∷◌, ◌++◌, codes, Option, Some, None, cond, eqb, slice_index, arith, refl, sym, ◌∙◌, ap, subst}
+use Rattle.std.proofs.Common.{◌≡◌, ◌≢◌, ℕ, ◌+◌, ◌*◌, ◌<◌, ◌≤◌, ◌^◌, List, [], ◌∷◌, ◌++◌, codes, Option, Some}
+use Rattle.std.proofs.Common.{None, cond, eqb, slice_index, arith, refl, sym, ◌∙◌, ap, subst}
 use Rattle.std.specs.Fmt.{decimal}
 use Rattle.bk_drive.specs.declared.step.Step.{Step}
 use Rattle.bk_drive.specs.declared.step.Work.{Work}
-use Rattle.bk_script.specs.Line.{IsWord, words, followed, IsAlone, word_of, Spells, work, add, add_text, pad, take, fetch, release, delete, retire, close, remove, copy, switch}
+use Rattle.bk_script.specs.Line.{IsWord, words, followed, IsAlone, word_of, Spells, work, add, add_text, pad, take}
+use Rattle.bk_script.specs.Line.{fetch, release, delete, retire, close, remove, copy, switch}
 use Rattle.bk_script.proofs.Words.{IsWord-from_test, IsWord-word_of, followed-injective}
 
 -- what stands behind `add` and a space

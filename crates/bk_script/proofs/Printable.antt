@@ -15,9 +15,11 @@ use Rattle.std.proofs.lemmas.List.Sums.{AllPass-from_list_all}
 use Rattle.std.proofs.lemmas.Bool.Decides.{nat_tests}
 use Rattle.bk_drive.specs.declared.step.Step.{Step}
 use Rattle.bk_drive.specs.declared.step.Work.{Work}
-use Rattle.bk_drive.specs.declared.step.Work.TheVariants.{Swap, WriteOne, Publish, Roll, Retire, Rebuild, Close, Remove, Begin, Copy, EndCopy, Switch, Finish, GiveUp}
+use Rattle.bk_drive.specs.declared.step.Work.TheVariants.{Swap, WriteOne, Publish, Roll, Retire, Rebuild, Close, Remove}
+use Rattle.bk_drive.specs.declared.step.Work.TheVariants.{Begin, Copy, EndCopy, Switch, Finish, GiveUp}
 use Rattle.bk_compact.specs.declared.answer.Kind.TheVariants.{Minor, Major}
-use Rattle.bk_script.specs.Line.{IsPrintable, word_of, words, Spells, work, add, add_text, pad, take, fetch, release, delete, retire, close, remove, copy, switch}
+use Rattle.bk_script.specs.Line.{IsPrintable, word_of, words, Spells, work, add, add_text, pad, take, fetch}
+use Rattle.bk_script.specs.Line.{release, delete, retire, close, remove, copy, switch}
 
 pub printable_behind : (name rest : List ℕ) → All IsPrintable (name ++ 32 ∷ rest) → All IsPrintable rest
 printable_behind [] rest h = All-tail IsPrintable 32 rest h
@@ -28,7 +30,8 @@ pub text_of_printable : {E : Type 0} (line : List ℕ) (P : E → Type 0) (r : R
     → MatchResult r (λ s. (s.now ≡ line) × IsUtf8 line) (λ e. ¬ (IsUtf8 line) × P e) → All IsPrintable line
     → MatchOption (result_ok r) (¬ (All IsPrintable line)) (λ text. (text.now ≡ line) × All IsPrintable line)
 text_of_printable line P (Ok s) cases all = (cases.0, all)
-text_of_printable line P (Err e) cases all = absurd (cases.0 (IsUtf8-from_ascii line (IsAscii-from_all line (All-weaker IsPrintable (λ b. b < 128) (λ b h. omega (arith, h.1)) line all))))
+text_of_printable line P (Err e) cases all =
+    absurd (cases.0 (IsUtf8-from_ascii line (IsAscii-from_all line (All-weaker IsPrintable (λ b. b < 128) (λ b h. omega (arith, h.1)) line all))))
 
 -- a test that computes
 in_range_test : (b : ℕ) → is_in_range 32 126 b ≡ true → IsPrintable b
@@ -62,14 +65,17 @@ followed_by : (word rest : List ℕ) → All IsPrintable word → All IsPrintabl
 followed_by word rest h k = All-append IsPrintable word (32 ∷ rest) h (All-cons IsPrintable 32 rest (omega arith, omega arith) k)
 
 printable_three : (a b c : ℕ) → a < 2 ^ 63 → b < 2 ^ 63 → c < 2 ^ 63 → All IsPrintable (words (decimal a ∷ decimal b ∷ decimal c ∷ []))
-printable_three a b c first second third = followed_by (decimal a) _ (printable_decimal a first) (followed_by (decimal b) _ (printable_decimal b second) (printable_decimal c third))
+printable_three a b c first second third = followed_by (decimal a) _ (printable_decimal a first)
+    (followed_by (decimal b) _ (printable_decimal b second) (printable_decimal c third))
 
 pub printable_line : {line : List ℕ} {step : Step} → Spells line step → All IsPrintable line
 printable_line (work {call = call} is) = printable_word call
 printable_line (add {ledger = ledger} {entry = entry} low high is) =
-    followed_by (codes "add") _ (printable_test (codes "add") refl) (followed_by (decimal ledger) _ (printable_decimal ledger low) (printable_decimal entry high))
+    followed_by (codes "add") _ (printable_test (codes "add") refl)
+    (followed_by (decimal ledger) _ (printable_decimal ledger low) (printable_decimal entry high))
 printable_line (add_text {ledger = ledger} {entry = entry} {text = text} low high some all is) =
-    followed_by (codes "add") _ (printable_test (codes "add") refl) (followed_by (decimal ledger) _ (printable_decimal ledger low) (followed_by (decimal entry) text (printable_decimal entry high) all))
+    followed_by (codes "add") _ (printable_test (codes "add") refl)
+    (followed_by (decimal ledger) _ (printable_decimal ledger low) (followed_by (decimal entry) text (printable_decimal entry high) all))
 printable_line (pad {ledger = ledger} {entry = entry} {size = size} low high small is) =
     followed_by (codes "pad") _ (printable_test (codes "pad") refl) (printable_three ledger entry size low high (omega arith))
 printable_line (take {reader = reader} {ledger = ledger} {entry = entry} few low high) =

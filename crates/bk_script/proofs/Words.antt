@@ -1,5 +1,6 @@
 -- Words with one space between: a line is cut at its first space in one way.
-use Rattle.std.proofs.Common.{◌≡◌, ◌≢◌, ℕ, ◌<◌, ◌^◌, Bool, true, false, not, cond, eqb, List, [], ◌∷◌, ◌++◌, length, Option, Some, None, Bor, arith, refl, sym, ◌∙◌, ap}
+use Rattle.std.proofs.Common.{◌≡◌, ◌≢◌, ℕ, ◌<◌, ◌^◌, Bool, true, false, not, cond, eqb, List, [], ◌∷◌, ◌++◌}
+use Rattle.std.proofs.Common.{length, Option, Some, None, Bor, arith, refl, sym, ◌∙◌, ap}
 use Rattle.std.specs.List.{list_all}
 use Rattle.std.specs.Fmt.{decimal}
 use Rattle.std.proofs.lemmas.Fmt.{decimal_is_IsNumeral, decimal_injective}
@@ -10,7 +11,8 @@ use Rattle.std.proofs.Math.Dec.{eqb-suc-zero}
 use Rattle.std.proofs.lemmas.List.Sums.{AllPass-from_list_all}
 use Rattle.std.proofs.lemmas.Bool.{ne_eqb, false≢true}
 use Rattle.bk_drive.specs.declared.step.Work.{Work}
-use Rattle.bk_drive.specs.declared.step.Work.TheVariants.{Swap, WriteOne, Publish, Roll, Retire, Rebuild, Close, Remove, Begin, Copy, EndCopy, Switch, Finish, GiveUp}
+use Rattle.bk_drive.specs.declared.step.Work.TheVariants.{Swap, WriteOne, Publish, Roll, Retire, Rebuild, Close, Remove}
+use Rattle.bk_drive.specs.declared.step.Work.TheVariants.{Begin, Copy, EndCopy, Switch, Finish, GiveUp}
 use Rattle.bk_compact.specs.declared.answer.Kind.TheVariants.{Minor, Major}
 use Rattle.bk_script.specs.Line.{IsWord, followed, word_of}
 use Rattle.bk_script.proofs.Numbers.{own}
@@ -25,9 +27,11 @@ unfolding cut
 cut-followed [] None h = refl
 cut-followed [] (Some rest) h = refl
 cut-followed (x ∷ xs) None h =
-    rw (ne_eqb x 32 (All-head (λ byte. byte ≢ 32) x xs h)) (ap (λ (p : List ℕ × Option (List ℕ)). (x ∷ p.0, p.1)) (cut-followed xs None (All-tail (λ byte. byte ≢ 32) x xs h)))
+    rw (ne_eqb x 32 (All-head (λ byte. byte ≢ 32) x xs h))
+    (ap (λ (p : List ℕ × Option (List ℕ)). (x ∷ p.0, p.1)) (cut-followed xs None (All-tail (λ byte. byte ≢ 32) x xs h)))
 cut-followed (x ∷ xs) (Some rest) h =
-    rw (ne_eqb x 32 (All-head (λ byte. byte ≢ 32) x xs h)) (ap (λ (p : List ℕ × Option (List ℕ)). (x ∷ p.0, p.1)) (cut-followed xs (Some rest) (All-tail (λ byte. byte ≢ 32) x xs h)))
+    rw (ne_eqb x 32 (All-head (λ byte. byte ≢ 32) x xs h))
+    (ap (λ (p : List ℕ × Option (List ℕ)). (x ∷ p.0, p.1)) (cut-followed xs (Some rest) (All-tail (λ byte. byte ≢ 32) x xs h)))
 
 pub followed-injective : (a b : List ℕ) (x y : Option (List ℕ)) → IsWord a → IsWord b → followed a x ≡ followed b y
     → (a ≡ b) × (x ≡ y)
@@ -41,7 +45,8 @@ IsWord-from_test word h = All-weaker (λ byte. not (eqb byte 32) ≡ true) (λ b
     (λ byte passes is. false≢true (rw is at passes)) word (AllPass-from_list_all _ word h)
 
 pub IsWord-decimal : (n : ℕ) → n < 2 ^ 64 → IsWord (decimal n)
-IsWord-decimal n small = All-from_get_or (λ byte. byte ≢ 32) (decimal n) 0 (not_in_digits own (decimal n) 32 (decimal_is_IsNumeral n small).0.1 (λ r. omega arith))
+IsWord-decimal n small = All-from_get_or (λ byte. byte ≢ 32) (decimal n) 0
+    (not_in_digits own (decimal n) 32 (decimal_is_IsNumeral n small).0.1 (λ r. omega arith))
 
 pub IsWord-word_of : (call : Work) → IsWord (word_of call)
 IsWord-word_of Swap = IsWord-from_test (word_of Swap) refl

@@ -7,7 +7,8 @@ use Rattle.std.specs.Global.{Vec}
 use Rattle.bk_drive.specs.declared.step.Step.{Step}
 use Rattle.bk_drive.specs.declared.step.Step.TheVariants as steps
 use Rattle.bk_drive.specs.declared.step.Work.{Work}
-use Rattle.bk_drive.specs.declared.step.Work.TheVariants.{Swap, WriteOne, Publish, Roll, Retire, Rebuild, Close, Remove, Begin, Copy, EndCopy, Switch, Finish, GiveUp}
+use Rattle.bk_drive.specs.declared.step.Work.TheVariants.{Swap, WriteOne, Publish, Roll, Retire, Rebuild, Close, Remove}
+use Rattle.bk_drive.specs.declared.step.Work.TheVariants.{Begin, Copy, EndCopy, Switch, Finish, GiveUp}
 use Rattle.bk_compact.specs.declared.answer.Kind.TheVariants.{Minor, Major}
 
 -- words with one space between

@@ -64,7 +64,8 @@ pub(crate) fn tell_fault<E: Write>(fault: StartFault, errors: &mut E) {
 }
 
 /// Does what the words ask for: runs the script that the reader gives with the settings of its options and the dead
-/// ledgers beside them, or a command on a folder, or writes the help that was asked for. Returns the program's status: 0, 1 as `run_script` and `run_dir` say, or where no memory is to be had
+/// ledgers beside them, or a command on a folder, or writes the help that was asked for. Returns the program's status: 0, 1
+/// as `run_script` and `run_dir` say, or where no memory is to be had
 /// or the help can't be written, and 2 where the words are a wrong command line. The error stream gets the reason,
 /// `writer` nothing but answers and help.
 pub(crate) fn run_words<S: AsStr, R: Read, W: Write, E: Write>(

@@ -27,7 +27,8 @@ account_open p keeps id held =
     opened None is = is ∙ held
     opened (Some a) is = refl
 
-pub accounts_open : (p : Parts) → Keeps p → (allowed : List ℕ) → All (λ id. IsSome (finite.get p.state.logs id)) allowed → All (λ id. HasAccount p.accounts id) allowed
+pub accounts_open : (p : Parts) → Keeps p → (allowed : List ℕ) → All (λ id. IsSome (finite.get p.state.logs id)) allowed
+    → All (λ id. HasAccount p.accounts id) allowed
 accounts_open p keeps allowed held k d inside = account_open p keeps _ (held k d inside)
 
 summed : {E : Type 0} (f : List E → ℕ) (o : Option (List E)) → unwrap_or (option_map f o) 0 ≡ option_map_or f o 0

@@ -45,7 +45,8 @@ module _ (p : Parts) (keeps : Keeps p) (id : ℕ) (key : EntryKey) (place : Plac
   each : (at : ℕ) (b : List ℕ) (k : EntryKey) → In (at, b) (put_record w payload) → key_of b ≡ Some k → set.contains p.state.dead k.ledger ≡ false
       → finite.get (keeps.promises honest).carried k ≡ Some b
   each at b k there is_key _ =
-      put_mapped (keeps.promises honest).carried w key payload may.keyed (named_mapped p (keeps.promises honest) id key place payload may honest) at b k there is_key
+      put_mapped (keeps.promises honest).carried w key payload may.keyed
+      (named_mapped p (keeps.promises honest) id key place payload may honest) at b k there is_key
 
   put_means : files ≡ grown p.state.files id (record_of payload) → MeansTheSame p.state (record p.state { files = files })
   put_means grew =
@@ -53,10 +54,11 @@ module _ (p : Parts) (keeps : Keeps p) (id : ℕ) (key : EntryKey) (place : Plac
       (put_gains p.state.files files w payload (Ok (next_place w)) writes may.sized (own_grown (record_of payload) grew)) each
 
   part_means : (n : ℕ) × (files ≡ grown p.state.files id (take n (record_of payload))) → MeansTheSame p.state (record p.state { files = files })
-  part_means grew = elim (put_gains p.state.files files w payload (Err log_faults.Disk) writes may.sized (grew.0, own_grown (take grew.0 (record_of payload)) grew.1)) [
-    | inl all ↦ gained p (keeps.promises honest) w.log files (put_record w payload) all each
-    | inr none ↦ gained p (keeps.promises honest) w.log files [] none (λ at b k never. absurd never)
-  ]
+  part_means grew = elim (put_gains p.state.files files w payload (Err log_faults.Disk) writes may.sized
+      (grew.0, own_grown (take grew.0 (record_of payload)) grew.1)) [
+        | inl all ↦ gained p (keeps.promises honest) w.log files (put_record w payload) all each
+        | inr none ↦ gained p (keeps.promises honest) w.log files [] none (λ at b k never. absurd never)
+      ]
 
 pub copy_means : (p q : Parts) (id : ℕ) (key : EntryKey) (place : Place) (payload : List ℕ) (result : Result Place LogFault) → Keeps p
     → MayCopy p.state id key place payload → PutTurn p.state id payload result q.state → IsTrue p.state.honest → MeansTheSame p.state q.state

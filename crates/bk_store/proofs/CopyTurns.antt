@@ -25,7 +25,8 @@ pub copy_roomy : (p now : Parts) → p ≡ now → Keeps now → (id : ℕ) (key
 copy_roomy p now here keeps id key payload may =
     subst (λ (n : Parts). IsRoomy n id payload) (sym here) (roomy now keeps id Copying payload may.1.takes)
 
-module _ (p now : Parts) (here : p ≡ now) (id : ℕ) (key : EntryKey) (payload : List ℕ) (is : IsRoomy p id payload) (files : Files) (honest : Bool) (failures : ℕ)
+module _ (p now : Parts) (here : p ≡ now) (id : ℕ) (key : EntryKey) (payload : List ℕ) (is : IsRoomy p id payload) (files : Files)
+    (honest : Bool) (failures : ℕ)
     (logs : Logs) (same_honest : honest ≡ p.state.honest) where
   abbrev later : State
   later = record p.state { files = files; honest = honest; failures = failures; logs = logs }

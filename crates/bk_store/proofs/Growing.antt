@@ -53,7 +53,6 @@ module _ {bytes bytes' : Bytes} {index : Places} {cached : Cached} {dead : Ledge
   }
 
 module _ {bytes bytes' : Bytes} (dead : Ledgers) (map : Payloads) where
-
   -- In one log others stand behind the old records, and those of them that have keys of live ledgers have what the map has.
   pub grows_behind : (log : ℕ) → OnlyIn log bytes bytes' → (others : List (ℕ × List ℕ)) → records_of (bytes' log) ≡ records_of (bytes log) ++ others
       → ((at : ℕ) (payload : List ℕ) (key : EntryKey) → In (at, payload) others → key_of payload ≡ Some key → set.contains dead key.ledger ≡ false

@@ -104,7 +104,8 @@ module _ (p : Parts) (payload : List ℕ) (key : EntryKey) (reads : read_added p
         promises = λ honest. promised (keeps.promises honest);
       }
 
-pub keeps_add : (p q : Parts) (payload : List ℕ) (result : Result Added AddFault) → Keeps p → AddTurn p.state payload result q.state → q ≡ with_state p q.state → Keeps q
+pub keeps_add : (p q : Parts) (payload : List ℕ) (result : Result Added AddFault) → Keeps p → AddTurn p.state payload result q.state
+    → q ≡ with_state p q.state → Keeps q
 keeps_add p q payload (Err (add_faults.Bad fault)) keeps turn beside = keeps_same p q keeps beside turn.1
 keeps_add p q payload (Err add_faults.Deleted) keeps turn beside = keeps_same p q keeps beside turn.3
 keeps_add p q payload (Ok Held) keeps turn beside = keeps_same p q keeps beside turn.1

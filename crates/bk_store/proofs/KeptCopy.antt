@@ -1,5 +1,6 @@
 -- An entry that is put in a copy keeps what a store keeps.
-use Rattle.std.proofs.Common.{◌≡◌, ◌≢◌, ◌⊎◌, inl, inr, ℕ, ◌+◌, Bool, true, false, cond, eqb, IsTrue, List, [], length, take, Option, Some, None, Result, Ok, Err, refl, sym, ap, subst, ◌∙◌, arith}
+use Rattle.std.proofs.Common.{◌≡◌, ◌≢◌, ◌⊎◌, inl, inr, ℕ, ◌+◌, Bool, true, false, cond, eqb, IsTrue, List, [], length, take}
+use Rattle.std.proofs.Common.{Option, Some, None, Result, Ok, Err, refl, sym, ap, subst, ◌∙◌, arith}
 use Rattle.std.specs.FinMap as finite
 use Rattle.std.proofs.lemmas.Bool.{eqb-true}
 use Rattle.bk_record.specs.Key.{EntryKey}
@@ -38,7 +39,8 @@ named_mapped p promise id key place payload may honest =
     named.mapped ∙ ap (λ (b : List ℕ). Some b) same
 
 -- a log that is a copy is not the one that flushes write
-unwritten_copy : (p : Parts) → Keeps p → (id : ℕ) (log : Log) → finite.get p.state.logs id ≡ Some log → log.state ≡ Copying → unless_log p.writing id ≡ p.writing
+unwritten_copy : (p : Parts) → Keeps p → (id : ℕ) (log : Log) → finite.get p.state.logs id ≡ Some log → log.state ≡ Copying
+    → unless_log p.writing id ≡ p.writing
 unwritten_copy p keeps id log held was = of p.writing refl
   where
     of : (o : Option ℕ) → p.writing ≡ o → unless_log o id ≡ o
@@ -126,7 +128,8 @@ refused_kept : (p q : Parts) (id ledger : ℕ) → Keeps p → IsReadied p.accou
 refused_kept p q id ledger keeps (inl same) goes beside =
     subst Keeps (sym (beside ∙ ap (λ (a : Book). record p { state = q.state; accounts = a }) same)) (goes p.accounts keeps)
 refused_kept p q id ledger keeps (inr room) goes beside =
-    subst Keeps (sym (beside ∙ ap (λ (a : Book). record p { state = q.state; accounts = a }) room)) (goes (after_ready p.accounts id ledger) (keeps_ready p id ledger keeps))
+    subst Keeps (sym (beside ∙ ap (λ (a : Book). record p { state = q.state; accounts = a }) room))
+    (goes (after_ready p.accounts id ledger) (keeps_ready p id ledger keeps))
 
 pub keeps_copy : (p q : Parts) (id : ℕ) (key : EntryKey) (place : Place) (payload : List ℕ) (result : Result Place LogFault) → Keeps p
     → MayCopy p.state id key place payload → PutTurn p.state id payload result q.state → CopiesBeside p id key payload result q → Keeps q

@@ -1,5 +1,6 @@
 -- A deletion keeps what a store keeps.
-use Rattle.std.proofs.Common.{◌≡◌, ◌≢◌, ◌+◌, ◌≤◌, ℕ, Bool, List, Option, Some, None, true, false, cond, not, eqb, Result, Ok, Err, IsSome, is_some, option_map, unwrap_or, refl, sym, ap, subst, ◌∙◌}
+use Rattle.std.proofs.Common.{◌≡◌, ◌≢◌, ◌+◌, ◌≤◌, ℕ, Bool, List, Option, Some, None, true, false, cond, not, eqb, Result, Ok}
+use Rattle.std.proofs.Common.{Err, IsSome, is_some, option_map, unwrap_or, refl, sym, ap, subst, ◌∙◌}
 use Rattle.std.proofs.lemmas.Bool.{eq-eqb}
 use Rattle.std.specs.Option.{option_or}
 use Rattle.std.specs.FinMap as finite
@@ -48,7 +49,8 @@ module _ {X : Type 0} where
   without_ledger-empty : (ledger : ℕ) → without_ledger (finite.empty {X = X} {R = key_cmp}) ledger ≡ finite.empty
   without_ledger-empty ledger = finite.same_map key_cmp_total key_cmp_antisymmetric _ _ (λ q.
       get-without_ledger finite.empty ledger q
-      ∙ elim (eqb q.ledger ledger) as (λ b. cond b None (finite.get (finite.empty {X = X} {R = key_cmp}) q) ≡ finite.get (finite.empty {X = X} {R = key_cmp}) q) [
+      ∙ elim (eqb q.ledger ledger) as (λ b. cond b None (finite.get (finite.empty {X = X} {R = key_cmp}) q)
+      ≡ finite.get (finite.empty {X = X} {R = key_cmp}) q) [
         | true ↦ sym (finite.get-empty key_cmp q)
         | false ↦ refl
       ])
@@ -131,7 +133,8 @@ named_left index ledger old new id names held left was =
     ap (option_map (λ (account : Account). account.named)) (left id) ∙ either (finite.get old id) held was
   where
     either : (o : Option Account) (h : Option Log) → option_map (λ account. account.named) o ≡ option_map (λ _. names) h
-        → option_map (λ (account : Account). account.named) (option_map (λ (account : Account). record account { named = log_count index id; live = finite.remove account.live ledger }) o)
+        → option_map (λ (account : Account). account.named)
+        (option_map (λ (account : Account). record account { named = log_count index id; live = finite.remove account.live ledger }) o)
         ≡ option_map (λ _. log_count index id) h
     either None None is = refl
     either None (Some log) is = cc
@@ -143,7 +146,8 @@ total_left index ledger old new id left =
     ap (λ o. unwrap_or (option_map (λ (account : Account). account.total) o) 0) (left id) ∙ either (finite.get old id)
   where
     either : (o : Option Account)
-        → unwrap_or (option_map (λ (account : Account). account.total) (option_map (λ (account : Account). record account { named = log_count index id; live = finite.remove account.live ledger }) o)) 0
+        → unwrap_or (option_map (λ (account : Account). account.total)
+        (option_map (λ (account : Account). record account { named = log_count index id; live = finite.remove account.live ledger }) o)) 0
         ≡ unwrap_or (option_map (λ (account : Account). account.total) o) 0
     either None = refl
     either (Some account) = refl
@@ -162,7 +166,8 @@ module _ (p : Parts) (ledger : ℕ) (keeps : Keeps p) (book : Book) (left : AreL
     recent = λ key payload is.
         let old = recent_left p.state ledger key payload is in
         left_same promise.carried ledger key old.0 ∙ promise.recent key payload old.1;
-    counted = sums_left entry_measure promise.counted (set.contains (set.insert p.state.dead ledger)) ledger (log_count (without_ledger p.state.index ledger)) book
+    counted = sums_left entry_measure promise.counted (set.contains (set.insert p.state.dead ledger)) ledger
+        (log_count (without_ledger p.state.index ledger)) book
         (contains-insert_dead p.state.dead ledger) left;
     backed = promise.backed;
     fresh = promise.fresh;
@@ -183,8 +188,10 @@ module _ (p : Parts) (ledger : ℕ) (keeps : Keeps p) (book : Book) (left : AreL
           placed = placed_left p.state ledger fits.placed;
           writing = fits.writing;
           filled = fits.filled;
-          named = λ id. named_left (without_ledger p.state.index ledger) ledger p.accounts book id (log_count p.state.index id) (finite.get p.state.logs id) left (fits.named id);
-          total = λ id log is. subst (λ n. n + header_length ≤ log.acknowledged) (sym (total_left (without_ledger p.state.index ledger) ledger p.accounts book id left)) (fits.total id log is);
+          named = λ id. named_left (without_ledger p.state.index ledger) ledger p.accounts book id (log_count p.state.index id)
+              (finite.get p.state.logs id) left (fits.named id);
+          total = λ id log is. subst (λ n. n + header_length ≤ log.acknowledged)
+              (sym (total_left (without_ledger p.state.index ledger) ledger p.accounts book id left)) (fits.total id log is);
         };
         job = λ job is. job_stays p.state gone.state job (record {
           honest = refl;

@@ -1,5 +1,7 @@
 -- A log that is made keeps what a store keeps, and so does one whose making is refused.
-use Rattle.std.proofs.Common.{◌≡◌, ◌≢◌, ◌⊎◌, inl, inr, ℕ, ◌+◌, ◌≤◌, ◌<◌, ◌^◌, ◌↔◌, Bool, true, false, cond, eqb, IsTrue, List, [], length, take, Option, Some, None, IsSome, IsNone, is_some, option_map, unwrap_or, not, Result, Ok, Err, refl, sym, ap, subst, ◌∙◌, arith, length-take}
+use Rattle.std.proofs.Common.{◌≡◌, ◌≢◌, ◌⊎◌, inl, inr, ℕ, ◌+◌, ◌≤◌, ◌<◌, ◌^◌, ◌↔◌, Bool, true, false, cond, eqb, IsTrue, List}
+use Rattle.std.proofs.Common.{[], length, take, Option, Some, None, IsSome, IsNone, is_some, option_map, unwrap_or, not}
+use Rattle.std.proofs.Common.{Result, Ok, Err, refl, sym, ap, subst, ◌∙◌, arith, length-take}
 use Rattle.std.specs.Option.{option_map_or}
 use Rattle.std.specs.FinMap as finite
 use Rattle.std.specs.FinSet as set
@@ -447,7 +449,8 @@ module _ (p q : Parts) (keeps : Keeps p) (state : LogState) (fault : MakeFault) 
             subst (λ b. CreateFails p.state.files p.state.next b told q.state.files) made (is.files honest) in
             opened_now p q keeps state (Err fault) beside q.state.files failures (unmade_log is.slot) (with_seat p.state is.slot)
             (kept_new p keeps (unmade_log is.slot) refl refl is.slot is.free refl refl q.state.files failures p.writing q.filled may
-            (held_unmade p.state.next is.slot) (writing_as_before p keeps (unmade_log is.slot) (λ wrong. cc)) beside.still (λ wrong. elim wrong [ inl w ↦ cc | inr w ↦ cc ])
+            (held_unmade p.state.next is.slot) (writing_as_before p keeps (unmade_log is.slot) (λ wrong. cc)) beside.still
+            (λ wrong. elim wrong [ inl w ↦ cc | inr w ↦ cc ])
             (λ honest.
             let left = left_made p.state.files q.state.files p.state.next told (fails honest) in (
               create_gains {W = Unit {0}} p.state.files q.state.files p.state.next (Err (record { made = is.made; fault = told })) (is.files honest),
@@ -520,7 +523,8 @@ keeps_make p q state (Err makes.Odd) keeps written none turn beside =
     unmade p q keeps state makes.Odd beside log_faults.Odd p.state.failures turn.0.id turn.0 turn.2
 keeps_make p q Writing (Ok id) keeps written none turn beside =
     made p q Writing id keeps written none turn beside
-    (λ n. subst (λ m. (Some m ≡ Some n) ↔ ((log : Log) × (finite.get (finite.insert p.state.logs p.state.next (made_log Writing p.state.next turn.2.slot)) n ≡ Some log)
+    (λ n. subst (λ m. (Some m ≡ Some n)
+    ↔ ((log : Log) × (finite.get (finite.insert p.state.logs p.state.next (made_log Writing p.state.next turn.2.slot)) n ≡ Some log)
     × (log.state ≡ Writing))) (sym turn.1) (writing_now p keeps (made_log Writing p.state.next turn.2.slot) refl (none refl) n)) (λ wrong. cc)
 keeps_make p q Copying (Ok id) keeps written none turn beside =
     made p q Copying id keeps written none turn beside (writing_as_before p keeps (made_log Copying p.state.next turn.2.slot) (λ wrong. cc)) (λ wrong. cc)

@@ -1,5 +1,6 @@
 -- A key of the flush that is named keeps what a store keeps.
-use Rattle.std.proofs.Common.{◌≡◌, inl, inr, ℕ, ◌+◌, ◌-◌, ◌≤◌, Bool, true, false, cond, eqb, IsTrue, List, [], Option, Some, None, option_map, unwrap_or, Result, Ok, Err, refl, sym, ap, subst, ◌∙◌, arith}
+use Rattle.std.proofs.Common.{◌≡◌, inl, inr, ℕ, ◌+◌, ◌-◌, ◌≤◌, Bool, true, false, cond, eqb, IsTrue, List, [], Option, Some, None}
+use Rattle.std.proofs.Common.{option_map, unwrap_or, Result, Ok, Err, refl, sym, ap, subst, ◌∙◌, arith}
 use Rattle.std.specs.Option.{option_map_or}
 use Rattle.std.specs.FinMap as finite
 use Rattle.std.specs.FinSet as set
@@ -63,7 +64,8 @@ module _ (index : Places) (key : EntryKey) (place : Place) where
   others q = log_count (finite.remove index key) q
 
   later_is : (q : ℕ) → later q ≡ cond (eqb q place.log) (others q + 1) (others q)
-  later_is q = one_name place q (later q) (others q) (let in_all = log_count-insert index key place q in let out = log_count-remove index key q in omega (arith, in_all, out))
+  later_is q = one_name place q (later q) (others q)
+      (let in_all = log_count-insert index key place q in let out = log_count-remove index key q in omega (arith, in_all, out))
 
   was_is : (old : Place) → finite.get index key ≡ Some old → (q : ℕ) → log_count index q ≡ cond (eqb q old.log) (others q + 1) (others q)
   was_is old there q = one_name old q (log_count index q) (others q)
@@ -77,7 +79,8 @@ module _ (index : Places) (key : EntryKey) (place : Place) where
   named_plus None b n m is = refl
   named_plus (Some l) b n m is = ap (λ k. Some k) (sym is)
 
-  named_minus : (o : Option Log) (b : Bool) (n m : ℕ) → n ≡ cond b (m + 1) m → option_map (λ k. cond b (k - 1) k) (option_map (λ _. n) o) ≡ option_map (λ _. m) o
+  named_minus : (o : Option Log) (b : Bool) (n m : ℕ) → n ≡ cond b (m + 1) m
+      → option_map (λ k. cond b (k - 1) k) (option_map (λ _. n) o) ≡ option_map (λ _. m) o
   named_minus None b n m is = refl
   named_minus (Some l) true n m is = ap (λ k. Some k) (omega (arith, is))
   named_minus (Some l) false n m is = ap (λ k. Some k) is
@@ -89,7 +92,8 @@ module _ (index : Places) (key : EntryKey) (place : Place) where
       ∙ named_plus (logs q) (eqb q place.log) (log_count index q) (later q) (new_is none q)
   names_move book logs named (Some old) there q =
       named_in-after_name (after_unname book old.log) place.log q
-      ∙ ap (option_map (λ k. cond (eqb q place.log) (k + 1) k)) (named_in-after_unname book old.log q ∙ ap (option_map (λ k. cond (eqb q old.log) (k - 1) k)) (named q)
+      ∙ ap (option_map (λ k. cond (eqb q place.log) (k + 1) k))
+      (named_in-after_unname book old.log q ∙ ap (option_map (λ k. cond (eqb q old.log) (k - 1) k)) (named q)
       ∙ named_minus (logs q) (eqb q old.log) (log_count index q) (others q) (was_is old there q))
       ∙ named_plus (logs q) (eqb q place.log) (others q) (later q) (later_is q)
 

@@ -43,7 +43,8 @@ with_one p id new files failures accounts writing = with_one_in p.state.keeper p
 abbrev pub IsWritingIn : Logs → ℕ → Type 0
 IsWritingIn logs id = (log : Log) × (finite.get logs id ≡ Some log) × (log.state ≡ Writing)
 
-module _ (p : Parts) (id : ℕ) (log new : Log) (held : finite.get p.state.logs id ≡ Some log) (files : Files) (failures : ℕ) (accounts : Book) (writing : Option ℕ) where
+module _ (p : Parts) (id : ℕ) (log new : Log) (held : finite.get p.state.logs id ≡ Some log) (files : Files) (failures : ℕ) (accounts : Book)
+    (writing : Option ℕ) where
   pub fits_in : (keeper : SlotTable) → IsSeated p.state.settings keeper (finite.insert p.state.logs id new) → Fits p → IsHeld p.state.next id new
       → ((key : EntryKey) (place : Place) → finite.get p.state.index key ≡ Some place → HasOpenView (finite.insert p.state.logs id new) place.log)
       → ((key : EntryKey) (place : Place) → finite.get p.state.places key ≡ Some place → IsFlushLog (finite.insert p.state.logs id new) place.log)
@@ -94,7 +95,8 @@ module _ (p : Parts) (id : ℕ) (log new : Log) (held : finite.get p.state.logs 
   file_else only q apart = ap (λ (o : Option (List ℕ)). unwrap_or o []) (only q apart)
 
   -- another log's writer is still that of its file
-  writes_else : (q : ℕ) (w : writers.Writing) → w.log ≡ q → finite.get files q ≡ finite.get p.state.files q → writers.Writes p.state.files w → writers.Writes files w
+  writes_else : (q : ℕ) (w : writers.Writing) → w.log ≡ q → finite.get files q ≡ finite.get p.state.files q
+      → writers.Writes p.state.files w → writers.Writes files w
   writes_else q w own same writes = record {
     file = writes.file;
     records = writes.records;

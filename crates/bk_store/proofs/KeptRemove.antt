@@ -1,5 +1,6 @@
 -- A closed log that is removed leaves what a store keeps.
-use Rattle.std.proofs.Common.{◌≡◌, ◌≢◌, ◌⊎◌, inl, inr, ℕ, ◌+◌, ◌≤◌, Bool, true, false, cond, eqb, ◌==◌, if◌then◌else◌, IsTrue, List, [], take, Option, Some, None, IsSome, is_some, option_map, unwrap_or, Result, Ok, Err, refl, sym, ap, subst, ◌∙◌, arith}
+use Rattle.std.proofs.Common.{◌≡◌, ◌≢◌, ◌⊎◌, inl, inr, ℕ, ◌+◌, ◌≤◌, Bool, true, false, cond, eqb, ◌==◌, if◌then◌else◌, IsTrue, List, [], take, Option}
+use Rattle.std.proofs.Common.{Some, None, IsSome, is_some, option_map, unwrap_or, Result, Ok, Err, refl, sym, ap, subst, ◌∙◌, arith}
 use Rattle.std.specs.Option.{option_map_or}
 use Rattle.std.specs.FinMap as finite
 use Rattle.std.proofs.lemmas.Bool.{eqb-true, eq-eqb}
@@ -133,10 +134,12 @@ module _ (p : Parts) (keeps : Keeps p) (id : ℕ) (log : Log) (held : finite.get
     parts_left : (q : ℕ) → open_parts (finite.remove p.state.logs id) q ≡ open_parts p.state.logs q
     parts_left q = elim (same_or_apart q id) [
       | inr apart ↦ ap part_of (log-remove_else p.state.logs id q apart)
-      | inl here ↦ ap part_of (ap (finite.get (finite.remove p.state.logs id)) here ∙ log-removed p.state.logs id) ∙ sym (ap (open_parts p.state.logs) here ∙ hidden)
+      | inl here ↦ ap part_of (ap (finite.get (finite.remove p.state.logs id)) here ∙ log-removed p.state.logs id)
+          ∙ sym (ap (open_parts p.state.logs) here ∙ hidden)
     ]
 
-    entries_left : (q : ℕ) → acknowledged_entries files (finite.remove p.state.logs id) q ≡ (if q == id then None else acknowledged_entries p.state.files p.state.logs q)
+    entries_left : (q : ℕ) → acknowledged_entries files (finite.remove p.state.logs id) q
+        ≡ (if q == id then None else acknowledged_entries p.state.files p.state.logs q)
     entries_left q = elim (q == id) as (λ b. (q == id) ≡ b → acknowledged_entries files (finite.remove p.state.logs id) q
         ≡ (if b then None else acknowledged_entries p.state.files p.state.logs q)) [
           | true ↦ λ tied. ap (option_map (λ (l : Log). entries_of (take l.acknowledged (file_of files q))))

@@ -1,5 +1,6 @@
 -- An index made anew keeps what a store keeps: the names of each log are taken out, then given as it says.
-use Rattle.std.proofs.Common.{◌≡◌, ℕ, zero, ◌+◌, ◌≤◌, ◌<◌, ◌==◌, if◌then◌else◌, Bool, true, false, cond, IsTrue, List, [], ◌∷◌, Option, Some, None, IfSome, option_map, unwrap_or, refl, sym, ap, subst, ◌∙◌, arith}
+use Rattle.std.proofs.Common.{◌≡◌, ℕ, zero, ◌+◌, ◌≤◌, ◌<◌, ◌==◌, if◌then◌else◌, Bool, true, false, cond, IsTrue, List, [], ◌∷◌}
+use Rattle.std.proofs.Common.{Option, Some, None, IfSome, option_map, unwrap_or, refl, sym, ap, subst, ◌∙◌, arith}
 use Rattle.std.specs.FinMap as finite
 use Rattle.std.specs.FinSet as set
 use Rattle.std.specs.List.{count_by}
@@ -48,7 +49,8 @@ unnaming_done old now done log = done log ∙ ap (λ n. option_map (with_names n
 -- ---- the names are given
 
 pub unnamed_all : (old now : Book) → AreNamedBy finite.empty old now → AreUnnamed now
-unnamed_all old now named log = subst (λ o. IfSome (option_map (λ (account : Account). account.named) o) (λ n. n ≡ 0)) (sym (named log)) (all (finite.get old log))
+unnamed_all old now named log = subst (λ o. IfSome (option_map (λ (account : Account). account.named) o) (λ n. n ≡ 0)) (sym (named log))
+    (all (finite.get old log))
   where
     all : (o : Option Account)
         → IfSome (option_map (λ (account : Account). account.named) (option_map (with_names (log_count finite.empty log)) o)) (λ n. n ≡ 0)

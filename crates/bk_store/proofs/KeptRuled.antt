@@ -1,5 +1,6 @@
 -- A flush that starts again, or ends, keeps what a store keeps.
-use Rattle.std.proofs.Common.{◌≡◌, ◌≢◌, ◌⊎◌, inl, inr, ℕ, ◌+◌, ◌≤◌, ◌↔◌, Bool, true, false, cond, IsTrue, List, [], Option, Some, None, IsSome, is_some, option_map, take, refl, sym, ap, subst, ◌∙◌}
+use Rattle.std.proofs.Common.{◌≡◌, ◌≢◌, ◌⊎◌, inl, inr, ℕ, ◌+◌, ◌≤◌, ◌↔◌, Bool, true, false, cond, IsTrue, List, [], Option}
+use Rattle.std.proofs.Common.{Some, None, IsSome, is_some, option_map, take, refl, sym, ap, subst, ◌∙◌}
 use Rattle.std.specs.Option.{option_map_or, option_or}
 use Rattle.std.specs.FinMap as finite
 use Rattle.std.specs.FinSet as set
@@ -227,7 +228,8 @@ let_go s named key =
       ]
     ]
 
-still_writing : (p q : Parts) → AllChanged unfilled_as p.state.logs q.state.logs → (id : ℕ) (log : Log) → finite.get q.state.logs id ≡ Some log → log.state ≡ Writing
+still_writing : (p q : Parts) → AllChanged unfilled_as p.state.logs q.state.logs → (id : ℕ) (log : Log)
+    → finite.get q.state.logs id ≡ Some log → log.state ≡ Writing
     → (l : Log) × (finite.get p.state.logs id ≡ Some l) × (l.state ≡ Writing)
 still_writing p q changed id log is writing =
     let w = was unfilled_as unfilled_mild p.state.logs q.state.logs changed id log is in

@@ -41,7 +41,8 @@ not_flushed log (inr (inr is)) (inr wrong) = cc
 module _ (p : Parts) (keeps : Keeps p) (id : ℕ) (state : LogState) (log : Log) (held : finite.get p.state.logs id ≡ Some log) (idle : IsIdle p.state id)
     (other : ¬ (IsFlushed log)) (closed : is_written state ≡ false) (unflushed : ¬ ((state ≡ Writing) ⊎ (state ≡ Filled)))
     (keeper : SlotTable) (seated : IsSeated p.state.settings keeper (finite.insert p.state.logs id (closed_log state log))) where
-  keeps_closed : ((key : EntryKey) (place : Place) → finite.get p.state.index key ≡ Some place → HasOpenView (finite.insert p.state.logs id (closed_log state log)) place.log)
+  keeps_closed : ((key : EntryKey) (place : Place) → finite.get p.state.index key ≡ Some place
+      → HasOpenView (finite.insert p.state.logs id (closed_log state log)) place.log)
       → (Shows (file_of p.state.files) (open_parts p.state.logs) p.state.index
       → Shows (file_of p.state.files) (open_parts (finite.insert p.state.logs id (closed_log state log))) p.state.index)
       → Keeps (with_one_in keeper p id (closed_log state log) p.state.files p.state.failures p.accounts p.writing)
@@ -99,7 +100,8 @@ module _ (p : Parts) (keeps : Keeps p) (id : ℕ) (log : Log) (held : finite.get
 
   -- the log is closed, and its slot with it
   pub closed_kept : log.state ≡ Retired
-      → Keeps (with_one_in (with_slot p.state.keeper log.slot (slots.Closed id)) p id (closed_log Closed log) p.state.files p.state.failures p.accounts p.writing)
+      → Keeps (with_one_in (with_slot p.state.keeper log.slot (slots.Closed id)) p id
+      (closed_log Closed log) p.state.files p.state.failures p.accounts p.writing)
   closed_kept was =
       let new = closed_log Closed log in
       let hidden : is_open new.state ≡ is_open log.state = sym (ap is_open was) in

@@ -18,7 +18,8 @@ use Rattle.bk_store.proofs.ShownMoves.{shows_all_of_one}
 use Rattle.bk_store.proofs.OneLog.{views_stay, flush_logs_stay, writing_same, parts_else, parts_here, entries_stay}
 use Rattle.bk_store.proofs.KeptOne.{with_one, fits_one, promises_one, job_in, keeps_failures}
 
-module _ (p : Parts) (keeps : Keeps p) (id : ℕ) (log : Log) (held : finite.get p.state.logs id ≡ Some log) (opened : is_open log.state ≡ true) (view : View) where
+module _ (p : Parts) (keeps : Keeps p) (id : ℕ) (log : Log) (held : finite.get p.state.logs id ≡ Some log)
+    (opened : is_open log.state ≡ true) (view : View) where
   abbrev shown : Log
   shown = with_view view log
 

@@ -1,5 +1,6 @@
 -- An entry of the flush that is written keeps what a store keeps.
-use Rattle.std.proofs.Common.{◌≡◌, ◌≢◌, ◌⊎◌, inl, inr, ℕ, ◌+◌, ◌≤◌, ◌<◌, Bool, true, false, cond, eqb, IsTrue, List, [], ◌∷◌, ◌++◌, length, take, Option, Some, None, IsSome, is_some, option_map, unwrap_or, Result, Ok, Err, Less, refl, sym, ap, subst, ◌∙◌, arith}
+use Rattle.std.proofs.Common.{◌≡◌, ◌≢◌, ◌⊎◌, inl, inr, ℕ, ◌+◌, ◌≤◌, ◌<◌, Bool, true, false, cond, eqb, IsTrue, List, [], ◌∷◌, ◌++◌, length, take}
+use Rattle.std.proofs.Common.{Option, Some, None, IsSome, is_some, option_map, unwrap_or, Result, Ok, Err, Less, refl, sym, ap, subst, ◌∙◌, arith}
 use Rattle.std.specs.Option.{option_or}
 use Rattle.std.specs.FinMap as finite
 use Rattle.std.specs.FinSet as set
@@ -122,7 +123,8 @@ keeps_ready p log ledger keeps =
 
 pub keeps_noted : (p : Parts) (key : EntryKey) (payload : List ℕ) (place : Place) → Keeps p → finite.get (caches.flush_of p.state.caches) key ≡ Some payload
     → IsIn p.state place.log Writing → finite.get p.state.places key ≡ None
-    → ((earlier : EntryKey) → key_cmp earlier key ≡ Less → IsSome (finite.get (caches.flush_of p.state.caches) earlier) → IsSome (finite.get p.state.places earlier))
+    → ((earlier : EntryKey) → key_cmp earlier key ≡ Less → IsSome (finite.get (caches.flush_of p.state.caches) earlier)
+    → IsSome (finite.get p.state.places earlier))
     → (IsTrue p.state.honest → HasEntry (file_of p.state.files) place key payload)
     → Keeps (with_state p (noted p.state key place))
 keeps_noted p key payload place keeps flushing in_log unplaced first stands =
@@ -173,7 +175,8 @@ keeps_noted p key payload place keeps flushing in_log unplaced first stands =
             ]
           ];
           newest = λ id log held now k pl is.
-              let one : Some id ≡ Some place.log = sym ((fits.writing id).1 (log, held, now)) ∙ (fits.writing place.log).1 (in_log.log, in_log.held, in_log.state_is) in
+              let one : Some id ≡ Some place.log = sym ((fits.writing id).1 (log, held, now))
+              ∙ (fits.writing place.log).1 (in_log.log, in_log.held, in_log.state_is) in
               subst (λ n. pl.log ≤ n) (sym (same_Some id place.log one)) (not_above k pl is);
         };
         writing = fits.writing;
@@ -281,7 +284,8 @@ module _ (p : Parts) (keeps : Keeps p) (id : ℕ) (log : Log) (held : finite.get
     new_writes = writes_put p.state.files files w payload writes legal (ap is_some keyed) grew_own
 
     -- the log has one entry more
-    one_more_entry : entries_of (take new.acknowledged (file_of files id)) ≡ entries_of (take log.acknowledged (file_of p.state.files id)) ++ put_record w payload
+    one_more_entry : entries_of (take new.acknowledged (file_of files id))
+        ≡ entries_of (take log.acknowledged (file_of p.state.files id)) ++ put_record w payload
     one_more_entry =
         (λ i. entries_of (take new.acknowledged (file_of files (sym by.own i)))) ∙ entries_whole files (with_put w payload) new_writes
         ∙ entries_push (file_of p.state.files w.log) (file_of files w.log) (w.end + 4) payload key
@@ -301,7 +305,8 @@ module _ (p : Parts) (keeps : Keeps p) (id : ℕ) (log : Log) (held : finite.get
           | false ↦ λ other. entries_else p.state.logs id log new held p.state.files files put_gained.only q (λ same. let tied = eq-eqb q id same in cc)
         ] refl
 
-    put_sums : AreSums entry_measure (set.contains p.state.dead) (acknowledged_entries files (finite.insert p.state.logs id new)) (log_count p.state.index) counted_book
+    put_sums : AreSums entry_measure (set.contains p.state.dead) (acknowledged_entries files (finite.insert p.state.logs id new))
+        (log_count p.state.index) counted_book
     put_sums =
         let ledger = key_of-ledger payload key keyed in
         let alive = promise.carries.lives key payload mapped in
@@ -330,7 +335,8 @@ module _ (p : Parts) (keeps : Keeps p) (id : ℕ) (log : Log) (held : finite.get
     pub put_stands : HasEntry (file_of files) (next_place w) key payload
     put_stands = record {
       stands =
-          let records = subst (λ n. records_of (file_of files n) ≡ records_of (file_of p.state.files n) ++ put_record w payload) (sym by.own) put_gained.records in
+          let records = subst (λ n. records_of (file_of files n) ≡ records_of (file_of p.state.files n) ++ put_record w payload)
+          (sym by.own) put_gained.records in
           subst (λ rs. In (w.end + 4, payload) rs) (sym records)
           (In-append_right (w.end + 4, payload) (records_of (file_of p.state.files w.log)) (put_record w payload) (inl refl));
       keyed = keyed;
@@ -338,7 +344,8 @@ module _ (p : Parts) (keeps : Keeps p) (id : ℕ) (log : Log) (held : finite.get
 
 -- ---- the turn
 
-written_kept : (p : Parts) (id : ℕ) (key : EntryKey) (payload : List ℕ) → Keeps p → MayWrite p.state id key → finite.get (caches.flush_of p.state.caches) key ≡ Some payload
+written_kept : (p : Parts) (id : ℕ) (key : EntryKey) (payload : List ℕ) → Keeps p → MayWrite p.state id key
+    → finite.get (caches.flush_of p.state.caches) key ≡ Some payload
     → IsSound p.state.caches → (log : Log) (w : writers.Writing) → finite.get p.state.logs id ≡ Some log → log.writer ≡ Some w → (files : Files)
     → (IsTrue p.state.honest → files ≡ grown p.state.files id (record_of payload))
     → Keeps (with_state (with_one p id (grown_log log w payload) files p.state.failures
@@ -374,7 +381,8 @@ written_kept p id key payload keeps may flushing sound log w held writer files g
     put_stands p keeps id log held w writer key payload legal keyed files promise (mapped promise) (grew honest))
 
 -- a write that failed leaves the log Filled, and no log Writing
-failed_kept : (p : Parts) (id : ℕ) (key : EntryKey) (payload : List ℕ) → Keeps p → MayWrite p.state id key → finite.get (caches.flush_of p.state.caches) key ≡ Some payload
+failed_kept : (p : Parts) (id : ℕ) (key : EntryKey) (payload : List ℕ) → Keeps p → MayWrite p.state id key
+    → finite.get (caches.flush_of p.state.caches) key ≡ Some payload
     → IsSound p.state.caches → (log : Log) → finite.get p.state.logs id ≡ Some log → (files : Files) (failures : ℕ)
     → (IsTrue p.state.honest → (n : ℕ) × (files ≡ grown p.state.files id (take n (record_of payload))))
     → Keeps (with_one p id (halted_log log) files failures p.accounts None)

@@ -1,5 +1,6 @@
 -- A set of ledgers, as the keys of a tree.
-use Rattle.std.proofs.Common.{◌≡◌, ℕ, ◌+◌, ◌<◌, ◌≤◌, ◌^◌, arith, nat_lt, true, false, cond, ◌||◌, Bool, List, [], ◌∷◌, ◌++◌, length, take, get_or, refl, sym, ap, ◌∙◌, add-one}
+use Rattle.std.proofs.Common.{◌≡◌, ℕ, ◌+◌, ◌<◌, ◌≤◌, ◌^◌, arith, nat_lt, true, false, cond, ◌||◌, Bool, List, []}
+use Rattle.std.proofs.Common.{◌∷◌, ◌++◌, length, take, get_or, refl, sym, ap, ◌∙◌, add-one}
 use Rattle.std.specs.List.{filter}
 use Rattle.std.proofs.lemmas.Bool.{ltb-true}
 use Rattle.std.proofs.lemmas.List.{append-nil}
@@ -26,7 +27,8 @@ ledgers-insert old new ledger updates = set.same_set nat_cmp_total nat_cmp-IsAnt
     ∙ sym (set.contains-insert nat_cmp_total (set.from_list old.keys) ledger q))
 
 -- a list with one ledger more, which is one, or is past the greatest
-pub listed_push : (listed : List ℕ) (ledger : ℕ) → nat_lt ledger (2 ^ 63) ≡ true → valid_ledgers (listed ++ ledger ∷ []) ≡ set.insert (valid_ledgers listed) ledger
+pub listed_push : (listed : List ℕ) (ledger : ℕ) → nat_lt ledger (2 ^ 63) ≡ true
+    → valid_ledgers (listed ++ ledger ∷ []) ≡ set.insert (valid_ledgers listed) ledger
 listed_push listed ledger is =
     ap set.from_list (filter-append (λ l. nat_lt l (2 ^ 63)) listed (ledger ∷ [])
     ∙ ap (λ b. filter (λ l. nat_lt l (2 ^ 63)) listed ++ cond b (ledger ∷ []) []) is)

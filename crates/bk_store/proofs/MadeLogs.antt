@@ -1,5 +1,6 @@
 -- A log is made: what its slot, its account and its file give the turn.
-use Rattle.std.proofs.Common.{◌≡◌, ◌⊎◌, inl, inr, ℕ, ◌+◌, ◌<◌, ◌^◌, Bool, true, false, cond, IsTrue, List, length, Option, Some, None, IsNone, is_some, option_map, not, Result, Ok, Err, refl, sym, ap, subst, ◌∙◌, arith}
+use Rattle.std.proofs.Common.{◌≡◌, ◌⊎◌, inl, inr, ℕ, ◌+◌, ◌<◌, ◌^◌, Bool, true, false, cond, IsTrue, List, length, Option, Some, None}
+use Rattle.std.proofs.Common.{IsNone, is_some, option_map, not, Result, Ok, Err, refl, sym, ap, subst, ◌∙◌, arith}
 use Rattle.std.specs.FinMap as finite
 use Rattle.std.specs.Ordering.{nat_cmp}
 use Rattle.std.specs.FinMap.{nat_cmp-IsAntisymmetric}
@@ -71,7 +72,8 @@ reopened p keeps book left opened dropped =
     dropped ∙ ap (λ b. after_drop b p.state.next) opened ∙ remove-insert p.accounts p.state.next fresh (no_account p keeps)
 
 module _ (p now : Parts) (here : p ≡ now) (filled : List ℕ) (book : Book) (logs : Logs) (still : AllStay p.filled filled) where
-  pub slot_taken : (state : LogState) (number : ℕ) → book ≡ after_open p.accounts p.state.next → logs ≡ finite.insert p.state.logs p.state.next (unmade_log number)
+  pub slot_taken : (state : LogState) (number : ℕ) → book ≡ after_open p.accounts p.state.next
+      → logs ≡ finite.insert p.state.logs p.state.next (unmade_log number)
       → (state ≡ Writing → In p.state.next filled) → IsFree p.state.keeper.slots number
       → HasSlot now state number (record p { state = record p.state { logs = logs }; accounts = book; filled = filled })
   slot_taken state number opened held listed free =

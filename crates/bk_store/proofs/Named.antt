@@ -1,5 +1,6 @@
 -- A key is sent to a place: what the accounts owe, and what is remembered.
-use Rattle.std.proofs.Common.{◌≡◌, inl, inr, ℕ, ◌+◌, ◌<◌, ◌^◌, Bool, true, false, cond, eqb, List, Option, Some, None, Ok, ◌⊎◌, IfSome, option_map, refl, sym, ap, subst, ◌∙◌, arith}
+use Rattle.std.proofs.Common.{◌≡◌, inl, inr, ℕ, ◌+◌, ◌<◌, ◌^◌, Bool, true, false, cond, eqb, List, Option, Some, None}
+use Rattle.std.proofs.Common.{Ok, ◌⊎◌, IfSome, option_map, refl, sym, ap, subst, ◌∙◌, arith}
 use Rattle.std.specs.FinMap as finite
 use Rattle.std.proofs.lemmas.Bool.{eq-eqb}
 use Rattle.std.proofs.lemmas.Option.{same_Some}

@@ -1,5 +1,6 @@
 -- Pairs in the order of their keys, with one more behind them.
-use Rattle.std.proofs.Common.{◌≡◌, ◌-◌, Bool, true, false, cond, ◌&&◌, List, [], ◌∷◌, ◌++◌, Some, Option, IsSome, IsTrue, Less, refl, sym, ap, subst, ◌∙◌, length, take, is_some, slice_get, option_map, arith}
+use Rattle.std.proofs.Common.{◌≡◌, ◌-◌, Bool, true, false, cond, ◌&&◌, List, [], ◌∷◌, ◌++◌, Some, Option, IsSome, IsTrue, Less}
+use Rattle.std.proofs.Common.{refl, sym, ap, subst, ◌∙◌, length, take, is_some, slice_get, option_map, arith}
 use Rattle.std.specs.Ordering.{eq_by_cmp, is_eq, ordering_reverse}
 use Rattle.std.specs.List.{AllByRecursion}
 use Rattle.std.specs.Cmp.{IsTotalOrder, tied_itself}
@@ -58,29 +59,34 @@ pairs_type = List (EntryKey × Place)
 put_last : (es : pairs_type) (key : EntryKey) (place : Place) → IsTrue (is_sorted key_cmp es) → IsBehind (finite.from_sorted es) key
     → put key_cmp key place es ≡ es ++ (key, place) ∷ []
 put_last es key place sorted behind =
-    put_behind key_cmp key_cmp_total key place es (all_below key_cmp key_cmp_total key es (λ q there. behind q (ap is_some (get-sorted key_cmp es sorted q) ∙ there)))
+    put_behind key_cmp key_cmp_total key place es
+    (all_below key_cmp key_cmp_total key es (λ q there. behind q (ap is_some (get-sorted key_cmp es sorted q) ∙ there)))
 
-pub noted : (es : pairs_type) (places : Places) (key : EntryKey) (place : Place) → IsTrue (is_sorted key_cmp es) → finite.from_sorted es ≡ places → IsBehind places key
+pub noted : (es : pairs_type) (places : Places) (key : EntryKey) (place : Place) → IsTrue (is_sorted key_cmp es)
+    → finite.from_sorted es ≡ places → IsBehind places key
     → finite.from_sorted (es ++ (key, place) ∷ []) ≡ finite.insert places key place
 noted es places key place sorted is behind =
     let here : IsBehind (finite.from_sorted es) key = subst (λ m. IsBehind m key) (sym is) behind in
     ap finite.from_sorted (sym (put_last es key place sorted here)) ∙ sym (insert-sorted key_cmp es sorted key_cmp_total key place)
     ∙ ap (λ m. finite.insert m key place) is
 
-pub noted_sorted : (es : pairs_type) (places : Places) (key : EntryKey) (place : Place) → IsTrue (is_sorted key_cmp es) → finite.from_sorted es ≡ places → IsBehind places key
+pub noted_sorted : (es : pairs_type) (places : Places) (key : EntryKey) (place : Place) → IsTrue (is_sorted key_cmp es)
+    → finite.from_sorted es ≡ places → IsBehind places key
     → IsTrue (is_sorted key_cmp (es ++ (key, place) ∷ []))
 noted_sorted es places key place sorted is behind =
     let here : IsBehind (finite.from_sorted es) key = subst (λ m. IsBehind m key) (sym is) behind in
     subst (λ (l : pairs_type). IsTrue (is_sorted key_cmp l)) (put_last es key place sorted here) (is_sorted_put key_cmp_total key place es sorted)
 
 -- what stands before the pair that was noted last
-pub taken_back : (es left : pairs_type) (places earlier : Places) (key : EntryKey) (place : Place) → IsTrue (is_sorted key_cmp es) → finite.from_sorted es ≡ places
+pub taken_back : (es left : pairs_type) (places earlier : Places) (key : EntryKey) (place : Place) → IsTrue (is_sorted key_cmp es)
+    → finite.from_sorted es ≡ places
     → left ≡ take (length es - 1) es → IsBehind earlier key → places ≡ finite.insert earlier key place → finite.from_sorted left ≡ earlier
 taken_back es left places earlier key place sorted is left_is behind old =
     let front = finite.entries earlier in
     let all : es ≡ front ++ (key, place) ∷ [] =
     sym (entries-sorted key_cmp es sorted) ∙ ap finite.entries (is ∙ old) ∙ finite.entries-insert key_cmp_total earlier key place
-    ∙ put_behind key_cmp key_cmp_total key place front (all_below key_cmp key_cmp_total key front (λ q there. behind q (ap is_some (finite.get-entries earlier q) ∙ there))) in
+    ∙ put_behind key_cmp key_cmp_total key place front
+    (all_below key_cmp key_cmp_total key front (λ q there. behind q (ap is_some (finite.get-entries earlier q) ∙ there))) in
     let cut : take (length es - 1) es ≡ front =
     ap (λ (l : pairs_type). take (length l - 1) l) all
     ∙ ap (λ n. take n (front ++ (key, place) ∷ [])) (let long = length-append front ((key, place) ∷ []) in omega (arith, long))

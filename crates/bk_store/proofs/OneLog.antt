@@ -1,5 +1,6 @@
 -- One log of those that are held changes: what holds of each log, of the views, and of the logs of a flush.
-use Rattle.std.proofs.Common.{◌≡◌, ◌≢◌, ◌⊎◌, inl, inr, ℕ, ◌+◌, ◌↔◌, true, cond, List, [], Option, Some, is_some, option_map, take, unwrap_or, refl, sym, ap, subst, ◌∙◌}
+use Rattle.std.proofs.Common.{◌≡◌, ◌≢◌, ◌⊎◌, inl, inr, ℕ, ◌+◌, ◌↔◌, true, cond, List, [], Option, Some, is_some}
+use Rattle.std.proofs.Common.{option_map, take, unwrap_or, refl, sym, ap, subst, ◌∙◌}
 use Rattle.std.specs.Option.{option_map_or}
 use Rattle.std.specs.FinMap as finite
 use Rattle.std.proofs.lemmas.Cmp.{nat_cmp_total}

@@ -1,5 +1,6 @@
 -- A store that was opened on logs keeps its promise, and holds what the files give.
-use Rattle.std.proofs.Common.{◌≡◌, inl, inr, ℕ, ◌+◌, ◌<◌, ◌≤◌, ◌^◌, Bool, IsTrue, List, [], ◌∷◌, length, take, Some, None, IfSome, Option, option_map, unwrap_or, is_some, if◌then◌else◌, refl, sym, ap, subst, ◌∙◌, arith}
+use Rattle.std.proofs.Common.{◌≡◌, inl, inr, ℕ, ◌+◌, ◌<◌, ◌≤◌, ◌^◌, Bool, IsTrue, List, [], ◌∷◌, length, take, Some, None, IfSome}
+use Rattle.std.proofs.Common.{Option, option_map, unwrap_or, is_some, if◌then◌else◌, refl, sym, ap, subst, ◌∙◌, arith}
 use Rattle.std.specs.Option.{option_or, option_map_or}
 use Rattle.std.specs.List.{AllByRecursion}
 use Rattle.std.proofs.lemmas.List.{length-map, take_all}
@@ -434,7 +435,8 @@ module _ (settings : Settings) (honest honest' : Bool) (files files' : Files) (f
   listed_now : IsTrue honest' → ids ≡ finite.keys files'
   listed_now is' = let is : IsTrue honest = sym stays ∙ is' in listed is ∙ ap finite.keys (sym (same is))
 
-  parts_are : opened_parts settings files' honest' failures t logs keeper next ≡ made_parts settings files' honest' failures kept places now logs keeper next filled
+  parts_are : opened_parts settings files' honest' failures t logs keeper next
+      ≡ made_parts settings files' honest' failures kept places now logs keeper next filled
   parts_are = λ i. made_parts settings files' honest' failures (sym kept_are i) (sym places_are i) (sym now_is i) logs keeper next (sym filled_is i)
 
   pub opened_keeps : IsAllowed settings → IsSeated settings keeper logs

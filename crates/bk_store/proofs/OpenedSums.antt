@@ -1,5 +1,6 @@
 -- The accounts of logs that are taken in entry by entry: the sums over the entries found.
-use Rattle.std.proofs.Common.{◌≡◌, ℕ, ◌+◌, ◌<◌, ◌≤◌, ◌^◌, Bool, true, false, ◌==◌, if◌then◌else◌, List, [], ◌∷◌, ◌++◌, length, Some, None, Option, IfSome, Result, Ok, Err, is_err, OnOk, refl, sym, ap, subst, ◌∙◌, append_assoc, arith, eq-eqb, eqb-true}
+use Rattle.std.proofs.Common.{◌≡◌, ℕ, ◌+◌, ◌<◌, ◌≤◌, ◌^◌, Bool, true, false, ◌==◌, if◌then◌else◌, List, [], ◌∷◌, ◌++◌, length, Some, None, Option}
+use Rattle.std.proofs.Common.{IfSome, Result, Ok, Err, is_err, OnOk, refl, sym, ap, subst, ◌∙◌, append_assoc, arith, eq-eqb, eqb-true}
 use Rattle.std.specs.List.{count_by}
 use Rattle.std.specs.Option.{option_map}
 use Rattle.std.proofs.lemmas.List.{append-nil}

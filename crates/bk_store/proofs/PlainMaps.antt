@@ -1,5 +1,6 @@
 -- A store that keeps its promise beside an honest disk answers as the plain map does.
-use Rattle.std.proofs.Common.{◌≡◌, inl, inr, ℕ, List, Bool, Some, None, IsSome, [], length, ◌+◌, ◌<◌, true, false, cond, IsTrue, Result, Ok, Err, is_some, refl, sym, ap, subst, ◌∙◌, unwrap_or, option_map}
+use Rattle.std.proofs.Common.{◌≡◌, inl, inr, ℕ, List, Bool, Some, None, IsSome, [], length, ◌+◌, ◌<◌, true, false, cond, IsTrue}
+use Rattle.std.proofs.Common.{Result, Ok, Err, is_some, refl, sym, ap, subst, ◌∙◌, unwrap_or, option_map}
 use Rattle.std.specs.Option.{option_or, option_map_or}
 use Rattle.std.specs.FinMap as finite
 use Rattle.std.specs.FinSet as set
@@ -105,22 +106,35 @@ module _ (parts : Parts) (keeps : Keeps parts) (promise : Promises parts) (p : P
   plain_add t payload (Err (add_faults.Bad fault)) turn = (p, (turn.0, refl), agrees_same agrees turn.1)
   plain_add t payload (Err add_faults.Deleted) turn = (p, (turn.0, turn.1, lives_in turn.0 true turn.2, refl), agrees_same agrees turn.3)
   plain_add t payload (Ok Held) turn =
-      let asks = turn.0 in
-      (p, (asks.key, record { reads = asks.reads; lives = lives_in asks.key false asks.lives }, mapped_is asks.key ∙ asks.held, refl), agrees_same agrees turn.1)
+      let asks = turn.0 in (
+        p,
+        (asks.key, record { reads = asks.reads; lives = lives_in asks.key false asks.lives }, mapped_is asks.key ∙ asks.held, refl),
+        agrees_same agrees turn.1,
+      )
   plain_add t payload (Err (add_faults.Full used most)) turn =
       let asks = turn.0 in
-      let new : IsNew p payload asks.key = record { live = record { reads = asks.reads; lives = lives_in asks.key false asks.lives }; missing = missing asks.key asks.held } in (
+      let new : IsNew p payload asks.key =
+      record { live = record { reads = asks.reads; lives = lives_in asks.key false asks.lives }; missing = missing asks.key asks.held } in (
         p,
-        (asks.key, new, subst (λ a. s.caches.limit < caches.used_of a + length payload) agrees.active turn.1, turn.2 ∙ ap caches.used_of agrees.active, turn.3, refl),
+        (
+          asks.key,
+          new,
+          subst (λ a. s.caches.limit < caches.used_of a + length payload) agrees.active turn.1,
+          turn.2 ∙ ap caches.used_of agrees.active,
+          turn.3,
+          refl,
+        ),
         agrees_same agrees turn.4,
       )
   plain_add t payload (Err add_faults.Memory) turn =
       let asks = turn.0 in
-      let new : IsNew p payload asks.key = record { live = record { reads = asks.reads; lives = lives_in asks.key false asks.lives }; missing = missing asks.key asks.held } in
+      let new : IsNew p payload asks.key =
+      record { live = record { reads = asks.reads; lives = lives_in asks.key false asks.lives }; missing = missing asks.key asks.held } in
       (p, (asks.key, new, subst (λ a. ¬ (s.caches.limit < caches.used_of a + length payload)) agrees.active turn.1, refl), agrees_same agrees turn.2)
   plain_add t payload (Ok Accepted) turn =
       let asks = turn.0 in
-      let new : IsNew p payload asks.key = record { live = record { reads = asks.reads; lives = lives_in asks.key false asks.lives }; missing = missing asks.key asks.held } in
+      let new : IsNew p payload asks.key =
+      record { live = record { reads = asks.reads; lives = lives_in asks.key false asks.lives }; missing = missing asks.key asks.held } in
       let q : Plain = record p { map = finite.insert p.map asks.key payload; active = finite.insert p.active asks.key payload } in
       let after = added.carries_accepted parts payload asks.key asks.reads keeps asks.lives asks.held carries in (
         q,
@@ -132,7 +146,8 @@ module _ (parts : Parts) (keeps : Keeps parts) (promise : Promises parts) (p : P
   -- what a read finds in memory is the map's
   cached_mapped : (key : EntryKey) (payload : List ℕ) → cached_at s key ≡ Some payload → finite.get p.map key ≡ Some payload
   cached_mapped key payload is =
-      elim (written_at s key) as (λ o. written_at s key ≡ o → option_or o (recent_of s.caches.recent key) ≡ Some payload → finite.get p.map key ≡ Some payload) [
+      elim (written_at s key) as (λ o. written_at s key ≡ o → option_or o (recent_of s.caches.recent key) ≡ Some payload
+      → finite.get p.map key ≡ Some payload) [
         | Some b ↦ λ written same. carries.cached_is key b written ∙ same
         | None ↦ λ _ recent. ap (λ m. finite.get m key) is_carried ∙ promise.recent key payload recent
       ] refl is

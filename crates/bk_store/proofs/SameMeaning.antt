@@ -113,10 +113,11 @@ module _ (p : Parts) (keeps : Keeps p) (id : ℕ) (key : EntryKey) (payload : Li
       (put_gains p.state.files files w payload (Ok (next_place w)) writes legal (own_grown (record_of payload) grew)) each
 
   part_means : (n : ℕ) × (files ≡ grown p.state.files id (take n (record_of payload))) → MeansTheSame p.state (record p.state { files = files })
-  part_means grew = elim (put_gains p.state.files files w payload (Err log_faults.Disk) writes legal (grew.0, own_grown (take grew.0 (record_of payload)) grew.1)) [
-    | inl all ↦ gained p (keeps.promises honest) w.log files (put_record w payload) all each
-    | inr none ↦ gained p (keeps.promises honest) w.log files [] none (λ at b k never. absurd never)
-  ]
+  part_means grew = elim (put_gains p.state.files files w payload (Err log_faults.Disk) writes legal
+      (grew.0, own_grown (take grew.0 (record_of payload)) grew.1)) [
+        | inl all ↦ gained p (keeps.promises honest) w.log files (put_record w payload) all each
+        | inr none ↦ gained p (keeps.promises honest) w.log files [] none (λ at b k never. absurd never)
+      ]
 
 pub write_means : (p q : Parts) (id : ℕ) (key : EntryKey) (payload : List ℕ) (result : Result Place LogFault) → Keeps p → MayWrite p.state id key
     → finite.get (caches.flush_of p.state.caches) key ≡ Some payload → WriteTurn p.state id key payload result q.state

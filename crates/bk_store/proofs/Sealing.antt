@@ -1,5 +1,6 @@
 -- What the writer of a log and the held logs give a log that is sealed.
-use Rattle.std.proofs.Common.{◌≡◌, ◌⊎◌, inl, inr, ℕ, ◌+◌, ◌↔◌, Bool, true, false, IsTrue, Option, Some, None, IsSome, is_some, Result, Ok, Err, refl, sym, ap, subst, ◌∙◌, arith}
+use Rattle.std.proofs.Common.{◌≡◌, ◌⊎◌, inl, inr, ℕ, ◌+◌, ◌↔◌, Bool, true, false, IsTrue, Option, Some, None}
+use Rattle.std.proofs.Common.{IsSome, is_some, Result, Ok, Err, refl, sym, ap, subst, ◌∙◌, arith}
 use Rattle.std.specs.FinMap as finite
 use Rattle.bk_record.specs.Files.{Files}
 use Rattle.bk_disk.specs.Disk.{IsCaused}

@@ -1,5 +1,6 @@
 -- What a change of the logs, or of a slot, does to the seats of the logs.
-use Rattle.std.proofs.Common.{◌≡◌, ◌≢◌, ◌⊎◌, inl, inr, ℕ, ◌+◌, ◌-◌, ◌<◌, ◌≤◌, true, false, cond, Option, Some, None, is_some, option_map, length, set, refl, sym, ap, subst, ◌∙◌, arith}
+use Rattle.std.proofs.Common.{◌≡◌, ◌≢◌, ◌⊎◌, inl, inr, ℕ, ◌+◌, ◌-◌, ◌<◌, ◌≤◌, true, false, cond, Option, Some, None}
+use Rattle.std.proofs.Common.{is_some, option_map, length, set, refl, sym, ap, subst, ◌∙◌, arith}
 use Rattle.std.specs.FinMap as finite
 use Rattle.std.proofs.lemmas.Cmp.{nat_cmp_total}
 use Rattle.std.proofs.lemmas.List.{length-set}
@@ -147,7 +148,6 @@ module _ (keeper : SlotTable) (logs : Logs) (seats : AreSeated keeper logs) wher
 -- ---- the table of a store
 
 module _ (settings : Settings) (keeper : SlotTable) (logs : Logs) (seated : IsSeated settings keeper logs) where
-
   pub seated_one : (id : ℕ) (log new : Log) → finite.get logs id ≡ Some log → new.slot ≡ log.slot → slot_state id new.state ≡ slot_state id log.state
       → IsSeated settings keeper (finite.insert logs id new)
   seated_one id log new held slot state = record {

@@ -18,7 +18,8 @@ not_failed {before = before} {now = now} cause untold = elim (dec_le now before)
 pub failed_once : {before now : ℕ} {Told : Type 0} → IsCaused before now Told → Told → now ≡ before + 1
 failed_once cause told = let more = cause.failed told in let once = cause.once in omega (arith, more, once)
 
-pub show_ok : (inside now : Parts) → inside ≡ now → (id : ℕ) → IsOpenLog now.state id → (files : Files) (honest : Bool) (failures : ℕ) (logs : Logs) (view : View)
+pub show_ok : (inside now : Parts) → inside ≡ now → (id : ℕ) → IsOpenLog now.state id
+    → (files : Files) (honest : Bool) (failures : ℕ) (logs : Logs) (view : View)
     → honest ≡ inside.state.honest → failures ≡ inside.state.failures
     → ((log : Log) → finite.get inside.state.logs id ≡ Some log → logs ≡ finite.insert inside.state.logs id (with_view view log))
     → (IsTrue inside.state.honest → IsFile inside.state.files id view.bytes × IsTrue view.is_honest × (files ≡ inside.state.files))

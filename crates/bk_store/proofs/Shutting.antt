@@ -1,5 +1,6 @@
 -- The slots of the logs are closed one after another, by rising ids, and opened again.
-use Rattle.std.proofs.Common.{◌≡◌, ◌≢◌, ◌⊎◌, inl, inr, ℕ, ◌+◌, ◌<◌, ◌≤◌, ◌^◌, Option, Some, None, IsSome, is_some, length, set, refl, sym, ap, subst, ◌∙◌, arith, lt_of_not-le}
+use Rattle.std.proofs.Common.{◌≡◌, ◌≢◌, ◌⊎◌, inl, inr, ℕ, ◌+◌, ◌<◌, ◌≤◌, ◌^◌, Option, Some, None, IsSome, is_some}
+use Rattle.std.proofs.Common.{length, set, refl, sym, ap, subst, ◌∙◌, arith, lt_of_not-le}
 use Rattle.std.proofs.lemmas.List.{length-set, ext_get_or}
 use Rattle.std.specs.Option.{option_and_then}
 use Rattle.std.specs.FinMap as finite
@@ -237,7 +238,6 @@ pub record IsShutting (logs : Logs) (old now : SlotTable) (from : ℕ) : Type 0 
   pub unleased : AreUnleased old logs from
 
 module _ (logs : Logs) (old : SlotTable) (seats : AreSeated old logs) where
-
   module _ {now : SlotTable} {from : ℕ} (so_far : IsShutting logs old now from) (id : ℕ) (next : IsNextHeld logs from (Some id)) where
     module _ (slot : ℕ) (there : lent_slot logs id ≡ Some slot) where
       abbrev this : IsOpenIn logs id slot
@@ -330,7 +330,6 @@ module _ {logs : Logs} {begun now : SlotTable} {from end : ℕ} (so_far : IsReop
         stays_closed logs old seats (so_far old seats shut) id this.0 this.1 next.1 below next.2 this.2
 
     module _ (slot : ℕ) (there : lent_slot logs id ≡ Some slot) (was : (x : SlotTable) × AreSeated x logs × AreShut logs x begun 0 end) where
-
       pub reopen_within : slot < length now.slots
       reopen_within =
           let this = open_in logs id slot there in

@@ -1,5 +1,6 @@
 -- The keys of a ledger lose their names one by one, and those that no write cache has are counted.
-use Rattle.std.proofs.Common.{◌≡◌, ℕ, ◌+◌, ◌≤◌, ◌==◌, ◌&&◌, if◌then◌else◌, Bool, true, false, cond, not, List, [], ◌∷◌, length, Option, Some, None, IfSome, is_some, option_map, refl, sym, ap, ◌∙◌, arith}
+use Rattle.std.proofs.Common.{◌≡◌, ℕ, ◌+◌, ◌≤◌, ◌==◌, ◌&&◌, if◌then◌else◌, Bool, true, false, cond, not, List, [], ◌∷◌, length}
+use Rattle.std.proofs.Common.{Option, Some, None, IfSome, is_some, option_map, refl, sym, ap, ◌∙◌, arith}
 use Rattle.std.specs.List.{filter, count_by}
 use Rattle.std.specs.FinMap as finite
 use Rattle.std.proofs.lemmas.Bool.{eq-eqb, eqb-true}
@@ -105,7 +106,8 @@ goes_first index s ledger book names = record {
   counted = omega (arith, count_by-both (λ e. e.0.ledger == ledger) (is_alone s) (finite.entries index));
 }
   where
-    of_both : (log : ℕ) → log_count (without_ledger index ledger) log + in_log log (filter (λ e. e.0.ledger == ledger) (finite.entries index)) ≡ log_count index log
+    of_both : (log : ℕ) → log_count (without_ledger index ledger) log
+        + in_log log (filter (λ e. e.0.ledger == ledger) (finite.entries index)) ≡ log_count index log
     of_both log =
         ap (λ es. log_count (without_ledger index ledger) log + in_log log es)
         (sym (entries-retain_keys key_cmp_total key_cmp_antisymmetric index (λ k. k.ledger == ledger)))
@@ -156,9 +158,11 @@ pub left_behind : (index left : Places) (ledger : ℕ) (old seen now new : Book)
     → new ≡ after_forget now ledger → left ≡ without_ledger index ledger → AreLeft left ledger old new
 left_behind index left ledger old seen now new same named is without log =
     ap (λ b. finite.get b log) is ∙ get-after_forget now ledger log
-    ∙ ap (option_map (without_size ledger)) (named log ∙ ap (λ b. option_map (λ (account : Account). record account { named = log_count (without_ledger index ledger) log }) (finite.get b log)) same)
+    ∙ ap (option_map (without_size ledger)) (named log
+    ∙ ap (λ b. option_map (λ (account : Account). record account { named = log_count (without_ledger index ledger) log }) (finite.get b log)) same)
     ∙ both (finite.get old log)
-    ∙ ap (λ i. option_map (λ (account : Account). record account { named = log_count i log; live = finite.remove account.live ledger }) (finite.get old log)) (sym without)
+    ∙ ap (λ i. option_map (λ (account : Account). record account { named = log_count i log; live = finite.remove account.live ledger })
+    (finite.get old log)) (sym without)
   where
     both : (o : Option Account)
         → option_map (without_size ledger) (option_map (λ (account : Account). record account { named = log_count (without_ledger index ledger) log }) o)

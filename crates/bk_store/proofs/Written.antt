@@ -1,5 +1,6 @@
 -- What the writer of a log, the caches and the accounts give an entry of the flush that is written.
-use Rattle.std.proofs.Common.{◌≡◌, ◌⊎◌, inl, inr, ℕ, ◌+◌, ◌≤◌, ◌<◌, ◌^◌, Bool, true, false, IsTrue, List, length, take, Option, Some, None, IsSome, IfSome, is_some, unwrap_or, Result, Ok, Err, Less, Equal, Greater, refl, sym, ap, subst, ◌∙◌, arith}
+use Rattle.std.proofs.Common.{◌≡◌, ◌⊎◌, inl, inr, ℕ, ◌+◌, ◌≤◌, ◌<◌, ◌^◌, Bool, true, false, IsTrue, List, length, take, Option, Some, None, IsSome}
+use Rattle.std.proofs.Common.{IfSome, is_some, unwrap_or, Result, Ok, Err, Less, Equal, Greater, refl, sym, ap, subst, ◌∙◌, arith}
 use Rattle.std.specs.FinMap as finite
 use Rattle.std.specs.Ordering.{ordering_reverse}
 use Rattle.bk_store.proofs.Cases.{some_value}
@@ -91,7 +92,8 @@ next_behind p keeps key payload next other there = ordered other key (key_cmp ot
 pub total_fits : (p : Parts) (id ledger size : ℕ) (payload : List ℕ) → IsRoomy p id payload → size ≡ length payload + 4
     → IfSome (total_in (after_ready p.accounts id ledger) id) (λ total. total + size < 2 ^ 32)
 total_fits p id ledger size payload is long =
-    elim (total_in p.accounts id) as (λ o. total_in p.accounts id ≡ o → IfSome (total_in (after_ready p.accounts id ledger) id) (λ total. total + size < 2 ^ 32)) [
+    elim (total_in p.accounts id) as (λ o. total_in p.accounts id ≡ o
+    → IfSome (total_in (after_ready p.accounts id ledger) id) (λ total. total + size < 2 ^ 32)) [
       | None ↦ λ none. subst (λ o. IfSome o (λ total. total + size < 2 ^ 32)) (sym (total_in-after_ready p.accounts id ledger id ∙ none)) tt
       | Some total ↦ λ there.
           subst (λ o. IfSome o (λ total. total + size < 2 ^ 32)) (sym (total_in-after_ready p.accounts id ledger id ∙ there))
@@ -103,7 +105,8 @@ total_fits p id ledger size payload is long =
 
 -- ---- the turn
 
-module _ (p now : Parts) (here : p ≡ now) (id : ℕ) (key : EntryKey) (payload : List ℕ) (is : IsRoomy p id payload) (files : Files) (honest : Bool) (failures : ℕ)
+module _ (p now : Parts) (here : p ≡ now) (id : ℕ) (key : EntryKey) (payload : List ℕ) (is : IsRoomy p id payload) (files : Files)
+    (honest : Bool) (failures : ℕ)
     (logs : Logs) (same_honest : honest ≡ p.state.honest) where
   pub written_turn : (place : Place) (places : Places) → places ≡ finite.insert p.state.places key place
       → logs ≡ finite.insert p.state.logs id (grown_log is.log is.w payload) → place ≡ next_place is.w
@@ -179,7 +182,8 @@ refused_turn p now here id key payload places back =
 
 -- ---- what is asked of a put
 
-pub may_put : (p : Parts) (id : ℕ) (payload bytes : List ℕ) → IsRoomy p id payload → bytes ≡ payload → (log : Log) → finite.get p.state.logs id ≡ Some log → MayPut log bytes
+pub may_put : (p : Parts) (id : ℕ) (payload bytes : List ℕ) → IsRoomy p id payload → bytes ≡ payload → (log : Log)
+    → finite.get p.state.logs id ≡ Some log → MayPut log bytes
 may_put p id payload bytes is same log held =
     let both : Some is.log ≡ Some log = sym is.held ∙ held in
     let one : is.log ≡ log = cc in

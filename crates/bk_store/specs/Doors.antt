@@ -1,6 +1,7 @@
 -- The turns by which the crates above change a store: a log is made, written, sealed, shown; a key is named; a flush goes
 -- on, starts again, ends.
-use Rattle.std.specs.Prelude.{◌≡◌, ◌≢◌, ◌⊎◌, ℕ, ◌+◌, ◌<◌, ◌≤◌, ◌^◌, Bool, true, false, if◌then◌else◌, IsTrue, List, length, take, Option, Some, None, IsSome, option_map, Result, Ok, Err}
+use Rattle.std.specs.Prelude.{◌≡◌, ◌≢◌, ◌⊎◌, ℕ, ◌+◌, ◌<◌, ◌≤◌, ◌^◌, Bool, true, false, if◌then◌else◌, IsTrue, List}
+use Rattle.std.specs.Prelude.{length, take, Option, Some, None, IsSome, option_map, Result, Ok, Err}
 use Rattle.std.specs.Option.{option_and_then}
 use Rattle.std.specs.FinMap as finite
 use Rattle.std.specs.declared.cmp.Ordering.TheVariants.{Less}
@@ -22,7 +23,8 @@ use Rattle.bk_lease.specs.declared.slot.Slot.TheVariants.{Open}
 use Rattle.bk_lease.specs.Slots.{IsFree}
 use Rattle.bk_lease.specs.Values.{SlotTable, with_state}
 use Rattle.bk_store.specs.Entries.{IsIndexOf}
-use Rattle.bk_store.specs.Logs.{View, Log, Logs, made_log, unmade_log, closed_log, halted_log, with_view, settled_as, unfilled_as, AllChanged, is_open, open_parts, HasOpenView}
+use Rattle.bk_store.specs.Logs.{View, Log, Logs, made_log, unmade_log, closed_log, halted_log, with_view, settled_as}
+use Rattle.bk_store.specs.Logs.{unfilled_as, AllChanged, is_open, open_parts, HasOpenView}
 use Rattle.bk_store.specs.Jobs.{Job, with_rebuild}
 use Rattle.bk_store.specs.Putting.{next_place, grown_log}
 use Rattle.bk_store.specs.State.{State}

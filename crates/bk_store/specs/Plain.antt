@@ -1,5 +1,6 @@
 -- The plain map: what a store of entries answers that knows no log, no flush and no place.
-use Rattle.std.specs.Prelude.{◌≡◌, ℕ, ◌+◌, ◌<◌, Bool, true, false, if◌then◌else◌, List, length, Option, Some, None, IsSome, unwrap_or, option_map, Result, Ok, Err, IsTrue}
+use Rattle.std.specs.Prelude.{◌≡◌, ℕ, ◌+◌, ◌<◌, Bool, true, false, if◌then◌else◌, List, length, Option, Some}
+use Rattle.std.specs.Prelude.{None, IsSome, unwrap_or, option_map, Result, Ok, Err, IsTrue}
 use Rattle.std.specs.Option.{option_or}
 use Rattle.std.specs.FinMap as finite
 use Rattle.std.specs.FinSet as set
@@ -62,7 +63,8 @@ PlainAdd limit p payload (Ok Accepted) q = (key : EntryKey) × IsNew p payload k
     × (q ≡ record p { map = finite.insert p.map key payload; active = finite.insert p.active key payload })
 
 -- a lease on an entry: on the log of its place, with a view that shows what the log held and has the entry there
-pub record IsLeaseOn {V : Type 0} (bytes : V → List ℕ) (honest : V → Bool) (lease : LeasedView V) (place : Place) (key : EntryKey) (payload : List ℕ) : Type 0 where
+pub record IsLeaseOn {V : Type 0} (bytes : V → List ℕ) (honest : V → Bool) (lease : LeasedView V) (place : Place) (key : EntryKey)
+    (payload : List ℕ) : Type 0 where
   pub log : lease.ticket.log ≡ place.log
   pub held : lease.ticket.is_held ≡ true
   pub honest_is : IsTrue (honest lease.view)

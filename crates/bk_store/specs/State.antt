@@ -89,7 +89,15 @@ abbrev pub settings_code : Coded Settings
 settings_code = code_by (ℕ × (ℕ × (ℕ × (ℕ × (ℕ × (ℕ × ℕ))))))
     (coded× coded_ℕ (coded× coded_ℕ (coded× coded_ℕ (coded× coded_ℕ (coded× coded_ℕ (coded× coded_ℕ coded_ℕ))))))
     (λ s. (s.log_limit, (s.cache_limit, (s.recent, (s.slots, (s.leases, (s.minor, s.major)))))))
-    (λ p. record { log_limit = p.0; cache_limit = p.1.0; recent = p.1.1.0; slots = p.1.1.1.0; leases = p.1.1.1.1.0; minor = p.1.1.1.1.1.0; major = p.1.1.1.1.1.1 })
+    (λ p. record {
+      log_limit = p.0;
+      cache_limit = p.1.0;
+      recent = p.1.1.0;
+      slots = p.1.1.1.0;
+      leases = p.1.1.1.1.0;
+      minor = p.1.1.1.1.1.0;
+      major = p.1.1.1.1.1.1;
+    })
     (λ _. refl)
 
 abbrev pub files_code : Coded Files

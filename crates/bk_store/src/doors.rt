@@ -10,7 +10,8 @@ ghost use Rattle.bk_store.specs.Meaning.{MeansTheSame};
 ghost use Rattle.bk_store.specs.declared.log.LogState.TheVariants.{Writing, Retired};
 ghost use Rattle.bk_lease.specs.Leases.{IsClosed};
 ghost use Rattle.bk_store.specs.Leasing.{CloseTurn};
-ghost use Rattle.bk_store.specs.Doors.{MakeTurn, HasNoWriting, IsIn, MayWrite, WriteTurn, MaySeal, Seals, MayShow, ShowTurn, MayName, NameTurn, AllNamed, Restarts, Ends, MaySet, SetTurn, MayReplace, Replaces};
+ghost use Rattle.bk_store.specs.Doors.{MakeTurn, HasNoWriting, IsIn, MayWrite, WriteTurn, MaySeal, Seals, MayShow, ShowTurn, MayName};
+ghost use Rattle.bk_store.specs.Doors.{NameTurn, AllNamed, Restarts, Ends, MaySet, SetTurn, MayReplace, Replaces};
 
 use crate::{LogState, MakeFault, Store};
 use bk_disk::LogDisk;

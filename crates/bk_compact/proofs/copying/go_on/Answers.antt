@@ -11,7 +11,8 @@ use Rattle.bk_compact.specs.declared.entries.Stopped.{Stopped}
 use Rattle.bk_compact.specs.declared.entries.Stopped.TheVariants as stops
 use Rattle.bk_compact.specs.Compacting.{CopyTurn, with_job}
 use Rattle.bk_compact.specs.Going.{CopiesAll, IsCopying}
-use Rattle.bk_compact.proofs.Turns.{taken_copying, refused_turn, copied_turn, memory_turn, unread_turn, failed_turn, odd_turn, copy_caused, failed_once, never_unsound}
+use Rattle.bk_compact.proofs.Turns.{taken_copying, refused_turn, copied_turn, memory_turn, unread_turn}
+use Rattle.bk_compact.proofs.Turns.{failed_turn, odd_turn, copy_caused, failed_once, never_unsound}
 use Rattle.bk_compact.proofs.copying.go_on.Goals as goal
 
 pub returns-in_default-clone-clause-turn : goal.returns-in_default-clone-clause-turn
@@ -35,7 +36,8 @@ returns-in-Ok-copy_entries-clause-turn g c =
     subst (λ (j : Job). CopiesAll (with_job s None) j c.args.count (Ok c.in-Ok-copy_entries.copied) c.copy_entries.new.store c.copy_entries.new.job) same
     (subst (λ (u : State). CopiesAll u c.in-Some-take_job.job c.args.count (Ok c.in-Ok-copy_entries.copied) c.copy_entries.new.store c.copy_entries.new.job) out
     c.in-Ok-copy_entries.ensures.turn) in
-    let turn = copied_turn s job c.requires.1 c.args.count c.copy_entries.new.store c.copy_entries.new.job c.set_job.new.self c.in-Ok-copy_entries.copied c.requires.2 all c.set_job.ensures in
+    let turn = copied_turn s job c.requires.1 c.args.count c.copy_entries.new.store c.copy_entries.new.job c.set_job.new.self
+    c.in-Ok-copy_entries.copied c.requires.2 all c.set_job.ensures in
     turn
 
 pub returns-in-Ok-copy_entries-clause-sound : goal.returns-in-Ok-copy_entries-clause-sound
@@ -48,7 +50,8 @@ returns-in-Ok-copy_entries-clause-sound g c = λ _.
     subst (λ (j : Job). CopiesAll (with_job s None) j c.args.count (Ok c.in-Ok-copy_entries.copied) c.copy_entries.new.store c.copy_entries.new.job) same
     (subst (λ (u : State). CopiesAll u c.in-Some-take_job.job c.args.count (Ok c.in-Ok-copy_entries.copied) c.copy_entries.new.store c.copy_entries.new.job) out
     c.in-Ok-copy_entries.ensures.turn) in
-    let turn = copied_turn s job c.requires.1 c.args.count c.copy_entries.new.store c.copy_entries.new.job c.set_job.new.self c.in-Ok-copy_entries.copied c.requires.2 all c.set_job.ensures in
+    let turn = copied_turn s job c.requires.1 c.args.count c.copy_entries.new.store c.copy_entries.new.job c.set_job.new.self
+    c.in-Ok-copy_entries.copied c.requires.2 all c.set_job.ensures in
     copy_caused s c.args.count (Ok (copies.Copied c.in-Ok-copy_entries.copied)) c.set_job.new.self turn (λ wrong. cc)
 
 pub returns-in-Err-Memory-clause-turn : goal.returns-in-Err-Memory-clause-turn
@@ -58,10 +61,14 @@ returns-in-Err-Memory-clause-turn g c =
     let out : c.take_job.new.self ≡ with_job s None = c.take_job.ensures.left in
     let same : c.in-Some-take_job.job ≡ job = same_Some c.in-Some-take_job.job job (sym c.in-Some-take_job.is ∙ c.take_job.ensures.job ∙ c.requires.1.runs) in
     let all : CopiesAll (with_job s None) job c.args.count (Err (stops.Memory c.in-Err-Memory.done)) c.copy_entries.new.store c.copy_entries.new.job =
-    subst (λ (j : Job). CopiesAll (with_job s None) j c.args.count (Err (stops.Memory c.in-Err-Memory.done)) c.copy_entries.new.store c.copy_entries.new.job) same
-    (subst (λ (u : State). CopiesAll u c.in-Some-take_job.job c.args.count (Err (stops.Memory c.in-Err-Memory.done)) c.copy_entries.new.store c.copy_entries.new.job) out
-    (subst (λ (r : Stopped). CopiesAll c.take_job.new.self c.in-Some-take_job.job c.args.count (Err r) c.copy_entries.new.store c.copy_entries.new.job) c.in-Err-Memory.field-0-is c.in-Err-Memory.ensures.turn)) in
-    let turn = memory_turn s job c.requires.1 c.args.count c.copy_entries.new.store c.copy_entries.new.job c.set_job-in-Err-Memory.new.self c.in-Err-Memory.done all c.set_job-in-Err-Memory.ensures in
+    subst (λ (j : Job). CopiesAll (with_job s None) j c.args.count
+    (Err (stops.Memory c.in-Err-Memory.done)) c.copy_entries.new.store c.copy_entries.new.job) same
+    (subst (λ (u : State). CopiesAll u c.in-Some-take_job.job c.args.count
+    (Err (stops.Memory c.in-Err-Memory.done)) c.copy_entries.new.store c.copy_entries.new.job) out
+    (subst (λ (r : Stopped). CopiesAll c.take_job.new.self c.in-Some-take_job.job c.args.count
+    (Err r) c.copy_entries.new.store c.copy_entries.new.job) c.in-Err-Memory.field-0-is c.in-Err-Memory.ensures.turn)) in
+    let turn = memory_turn s job c.requires.1 c.args.count c.copy_entries.new.store c.copy_entries.new.job c.set_job-in-Err-Memory.new.self
+    c.in-Err-Memory.done all c.set_job-in-Err-Memory.ensures in
     turn
 
 pub returns-in-Err-Memory-clause-sound : goal.returns-in-Err-Memory-clause-sound
@@ -71,10 +78,14 @@ returns-in-Err-Memory-clause-sound g c = λ _.
     let out : c.take_job.new.self ≡ with_job s None = c.take_job.ensures.left in
     let same : c.in-Some-take_job.job ≡ job = same_Some c.in-Some-take_job.job job (sym c.in-Some-take_job.is ∙ c.take_job.ensures.job ∙ c.requires.1.runs) in
     let all : CopiesAll (with_job s None) job c.args.count (Err (stops.Memory c.in-Err-Memory.done)) c.copy_entries.new.store c.copy_entries.new.job =
-    subst (λ (j : Job). CopiesAll (with_job s None) j c.args.count (Err (stops.Memory c.in-Err-Memory.done)) c.copy_entries.new.store c.copy_entries.new.job) same
-    (subst (λ (u : State). CopiesAll u c.in-Some-take_job.job c.args.count (Err (stops.Memory c.in-Err-Memory.done)) c.copy_entries.new.store c.copy_entries.new.job) out
-    (subst (λ (r : Stopped). CopiesAll c.take_job.new.self c.in-Some-take_job.job c.args.count (Err r) c.copy_entries.new.store c.copy_entries.new.job) c.in-Err-Memory.field-0-is c.in-Err-Memory.ensures.turn)) in
-    let turn = memory_turn s job c.requires.1 c.args.count c.copy_entries.new.store c.copy_entries.new.job c.set_job-in-Err-Memory.new.self c.in-Err-Memory.done all c.set_job-in-Err-Memory.ensures in
+    subst (λ (j : Job). CopiesAll (with_job s None) j c.args.count
+    (Err (stops.Memory c.in-Err-Memory.done)) c.copy_entries.new.store c.copy_entries.new.job) same
+    (subst (λ (u : State). CopiesAll u c.in-Some-take_job.job c.args.count
+    (Err (stops.Memory c.in-Err-Memory.done)) c.copy_entries.new.store c.copy_entries.new.job) out
+    (subst (λ (r : Stopped). CopiesAll c.take_job.new.self c.in-Some-take_job.job c.args.count
+    (Err r) c.copy_entries.new.store c.copy_entries.new.job) c.in-Err-Memory.field-0-is c.in-Err-Memory.ensures.turn)) in
+    let turn = memory_turn s job c.requires.1 c.args.count c.copy_entries.new.store c.copy_entries.new.job c.set_job-in-Err-Memory.new.self
+    c.in-Err-Memory.done all c.set_job-in-Err-Memory.ensures in
     copy_caused s c.args.count (Err (faults.Memory c.in-Err-Memory.done)) c.set_job-in-Err-Memory.new.self turn (λ wrong. cc)
 
 pub returns-in-Err-Unread-clause-turn : goal.returns-in-Err-Unread-clause-turn
@@ -86,8 +97,10 @@ returns-in-Err-Unread-clause-turn g c =
     let all : CopiesAll (with_job s None) job c.args.count (Err stops.Unread) c.copy_entries.new.store c.copy_entries.new.job =
     subst (λ (j : Job). CopiesAll (with_job s None) j c.args.count (Err stops.Unread) c.copy_entries.new.store c.copy_entries.new.job) same
     (subst (λ (u : State). CopiesAll u c.in-Some-take_job.job c.args.count (Err stops.Unread) c.copy_entries.new.store c.copy_entries.new.job) out
-    (subst (λ (r : Stopped). CopiesAll c.take_job.new.self c.in-Some-take_job.job c.args.count (Err r) c.copy_entries.new.store c.copy_entries.new.job) c.in-Err-Unread.field-0-is c.in-Err-Unread.ensures.turn)) in
-    let turn = unread_turn s job c.requires.1 c.args.count c.copy_entries.new.store c.copy_entries.new.job c.set_job-in-Err-Unread.new.self all c.set_job-in-Err-Unread.ensures in
+    (subst (λ (r : Stopped). CopiesAll c.take_job.new.self c.in-Some-take_job.job c.args.count
+    (Err r) c.copy_entries.new.store c.copy_entries.new.job) c.in-Err-Unread.field-0-is c.in-Err-Unread.ensures.turn)) in
+    let turn = unread_turn s job c.requires.1 c.args.count c.copy_entries.new.store c.copy_entries.new.job c.set_job-in-Err-Unread.new.self all
+    c.set_job-in-Err-Unread.ensures in
     turn
 
 pub returns-in-Err-Unread-clause-sound : goal.returns-in-Err-Unread-clause-sound
@@ -99,10 +112,13 @@ returns-in-Err-Unread-clause-sound g c = λ sound.
     let all : CopiesAll (with_job s None) job c.args.count (Err stops.Unread) c.copy_entries.new.store c.copy_entries.new.job =
     subst (λ (j : Job). CopiesAll (with_job s None) j c.args.count (Err stops.Unread) c.copy_entries.new.store c.copy_entries.new.job) same
     (subst (λ (u : State). CopiesAll u c.in-Some-take_job.job c.args.count (Err stops.Unread) c.copy_entries.new.store c.copy_entries.new.job) out
-    (subst (λ (r : Stopped). CopiesAll c.take_job.new.self c.in-Some-take_job.job c.args.count (Err r) c.copy_entries.new.store c.copy_entries.new.job) c.in-Err-Unread.field-0-is c.in-Err-Unread.ensures.turn)) in
+    (subst (λ (r : Stopped). CopiesAll c.take_job.new.self c.in-Some-take_job.job c.args.count
+    (Err r) c.copy_entries.new.store c.copy_entries.new.job) c.in-Err-Unread.field-0-is c.in-Err-Unread.ensures.turn)) in
     let own : c.in-Some.job.now ≡ job = same_Some c.in-Some.job.now job (c.in-Some.ensures ∙ c.requires.1.runs) in
-    let last : last_view s.logs job.source ≡ Some (view_of g.D.View.LogView.bytes g.D.View.LogView.honest g.D.View.LogView.sound c.in-Some-log_view.view.now.value) =
-    subst (λ (n : ℕ). last_view s.logs n ≡ Some (view_of g.D.View.LogView.bytes g.D.View.LogView.honest g.D.View.LogView.sound c.in-Some-log_view.view.now.value))
+    let last : last_view s.logs job.source
+    ≡ Some (view_of g.D.View.LogView.bytes g.D.View.LogView.honest g.D.View.LogView.sound c.in-Some-log_view.view.now.value) =
+    subst (λ (n : ℕ). last_view s.logs n
+    ≡ Some (view_of g.D.View.LogView.bytes g.D.View.LogView.honest g.D.View.LogView.sound c.in-Some-log_view.view.now.value))
     (c.source.ensures ∙ ap (λ (j : Job). j.source) own) (sym c.in-Some-log_view.ensures) in
     absurd (never_unsound g.D.View.LogView.bytes g.D.View.LogView.honest g.D.View.LogView.sound sound s job c.in-Some-log_view.view.now.value last all.1)
 
@@ -115,7 +131,8 @@ returns-in-Err-Failed-clause-turn g c =
     let all : CopiesAll (with_job s None) job c.args.count (Err stops.Failed) c.copy_entries.new.store c.copy_entries.new.job =
     subst (λ (j : Job). CopiesAll (with_job s None) j c.args.count (Err stops.Failed) c.copy_entries.new.store c.copy_entries.new.job) same
     (subst (λ (u : State). CopiesAll u c.in-Some-take_job.job c.args.count (Err stops.Failed) c.copy_entries.new.store c.copy_entries.new.job) out
-    (subst (λ (r : Stopped). CopiesAll c.take_job.new.self c.in-Some-take_job.job c.args.count (Err r) c.copy_entries.new.store c.copy_entries.new.job) c.in-Err-Failed.field-0-is c.in-Err-Failed.ensures.turn)) in
+    (subst (λ (r : Stopped). CopiesAll c.take_job.new.self c.in-Some-take_job.job c.args.count
+    (Err r) c.copy_entries.new.store c.copy_entries.new.job) c.in-Err-Failed.field-0-is c.in-Err-Failed.ensures.turn)) in
     failed_turn s job c.requires.1 c.args.count c.copy_entries.new.store c.copy_entries.new.job c.copy_entries.new.store all
 
 pub returns-in-Err-Failed-clause-sound : goal.returns-in-Err-Failed-clause-sound
@@ -127,7 +144,8 @@ returns-in-Err-Failed-clause-sound g c = λ _.
     let all : CopiesAll (with_job s None) job c.args.count (Err stops.Failed) c.copy_entries.new.store c.copy_entries.new.job =
     subst (λ (j : Job). CopiesAll (with_job s None) j c.args.count (Err stops.Failed) c.copy_entries.new.store c.copy_entries.new.job) same
     (subst (λ (u : State). CopiesAll u c.in-Some-take_job.job c.args.count (Err stops.Failed) c.copy_entries.new.store c.copy_entries.new.job) out
-    (subst (λ (r : Stopped). CopiesAll c.take_job.new.self c.in-Some-take_job.job c.args.count (Err r) c.copy_entries.new.store c.copy_entries.new.job) c.in-Err-Failed.field-0-is c.in-Err-Failed.ensures.turn)) in
+    (subst (λ (r : Stopped). CopiesAll c.take_job.new.self c.in-Some-take_job.job c.args.count
+    (Err r) c.copy_entries.new.store c.copy_entries.new.job) c.in-Err-Failed.field-0-is c.in-Err-Failed.ensures.turn)) in
     failed_once s job c.args.count c.copy_entries.new.store c.copy_entries.new.job all
 
 pub returns-clause-turn : goal.returns-clause-turn
@@ -139,7 +157,8 @@ returns-clause-turn g c =
     let all : CopiesAll (with_job s None) job c.args.count (Err stops.Odd) c.copy_entries.new.store c.copy_entries.new.job =
     subst (λ (j : Job). CopiesAll (with_job s None) j c.args.count (Err stops.Odd) c.copy_entries.new.store c.copy_entries.new.job) same
     (subst (λ (u : State). CopiesAll u c.in-Some-take_job.job c.args.count (Err stops.Odd) c.copy_entries.new.store c.copy_entries.new.job) out
-    (subst (λ (r : Stopped). CopiesAll c.take_job.new.self c.in-Some-take_job.job c.args.count (Err r) c.copy_entries.new.store c.copy_entries.new.job) c.in-Err-Odd.field-0-is c.in-Err-Odd.ensures.turn)) in
+    (subst (λ (r : Stopped). CopiesAll c.take_job.new.self c.in-Some-take_job.job c.args.count
+    (Err r) c.copy_entries.new.store c.copy_entries.new.job) c.in-Err-Odd.field-0-is c.in-Err-Odd.ensures.turn)) in
     let turn = odd_turn s job c.requires.1 c.args.count c.copy_entries.new.store c.copy_entries.new.job c.copy_entries.new.store all in
     turn
 
@@ -152,6 +171,7 @@ returns-clause-sound g c = λ _.
     let all : CopiesAll (with_job s None) job c.args.count (Err stops.Odd) c.copy_entries.new.store c.copy_entries.new.job =
     subst (λ (j : Job). CopiesAll (with_job s None) j c.args.count (Err stops.Odd) c.copy_entries.new.store c.copy_entries.new.job) same
     (subst (λ (u : State). CopiesAll u c.in-Some-take_job.job c.args.count (Err stops.Odd) c.copy_entries.new.store c.copy_entries.new.job) out
-    (subst (λ (r : Stopped). CopiesAll c.take_job.new.self c.in-Some-take_job.job c.args.count (Err r) c.copy_entries.new.store c.copy_entries.new.job) c.in-Err-Odd.field-0-is c.in-Err-Odd.ensures.turn)) in
+    (subst (λ (r : Stopped). CopiesAll c.take_job.new.self c.in-Some-take_job.job c.args.count
+    (Err r) c.copy_entries.new.store c.copy_entries.new.job) c.in-Err-Odd.field-0-is c.in-Err-Odd.ensures.turn)) in
     let turn = odd_turn s job c.requires.1 c.args.count c.copy_entries.new.store c.copy_entries.new.job c.copy_entries.new.store all in
     copy_caused s c.args.count (Err faults.Odd) c.copy_entries.new.store turn (λ wrong. cc)

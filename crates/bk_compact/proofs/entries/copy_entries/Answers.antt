@@ -10,7 +10,8 @@ use Rattle.bk_compact.specs.declared.entries.Stopped.TheVariants as stops
 use Rattle.bk_disk.specs.Disk.{view_end}
 use Rattle.bk_compact.specs.Compacting.{with_job}
 use Rattle.bk_compact.specs.Going.{CopiesAll, ExaminesOne, ScansFrom, told_after}
-use Rattle.bk_compact.proofs.Stepping.{IsGoing, copied_few, going_starts, going_ahead, going_on, going_stops, going_done, going_ends, going_memory, going_unread, going_odd, never_bad, never_odd, one, short_odd, stays_on}
+use Rattle.bk_compact.proofs.Stepping.{IsGoing, copied_few, going_starts, going_ahead, going_on, going_stops, going_done, going_ends}
+use Rattle.bk_compact.proofs.Stepping.{going_memory, going_unread, going_odd, never_bad, never_odd, one, short_odd, stays_on}
 use Rattle.bk_compact.proofs.entries.copy_entries.Goals as goal
 use Rattle.bk_compact.proofs.entries.copy_entries.Goals.{then-is_copied, else-is_copied}
 
@@ -33,14 +34,17 @@ loop-number-preserved g c =
     let view : View = view_of g.D.View.LogView.bytes g.D.View.LogView.honest g.D.View.LogView.sound c.args.view.now in
     let is : c.in-Ok-Some.field-0 ≡ Some c.in-Ok-Some.found = c.in-Ok-Some.field-0-is in
     let moves = subst (λ (o : Option Found). NextMoves c.loop-number.scanner (Ok o) c.next.new.self) is c.in-Ok-Some.ensures.moves in
-    let turn = subst (λ (o : Option Found). IsTrue c.loop-number.scanner.honest → NextTurn c.loop-number.scanner (Ok o) c.next.new.self) is c.in-Ok-Some.ensures.turn in
-    let on = going_on view c.args.store.now c.args.job.now c.loop-number._number c.loop-number.scanner c.loop-number.copied c.loop-number.store c.promise-in-loop-number.ensures c.loop-number.job c.loop-number.invariant
+    let turn = subst (λ (o : Option Found). IsTrue c.loop-number.scanner.honest → NextTurn c.loop-number.scanner (Ok o) c.next.new.self) is
+    c.in-Ok-Some.ensures.turn in
+    let on = going_on view c.args.store.now c.args.job.now c.loop-number._number c.loop-number.scanner c.loop-number.copied c.loop-number.store
+    c.promise-in-loop-number.ensures c.loop-number.job c.loop-number.invariant
     c.in-Ok-Some.found c.next.new.self moves turn c.in-Ok.is_copied c.examine.new.store c.examine.new.job c.in-Ok.ensures.turn c.examine.ensures.stays in
     let count : c.if-is_copied.copied ≡ c.loop-number.copied + one c.in-Ok.is_copied = elim c.if-is_copied.branch [
       | then-is_copied w ↦ w.copied-is ∙ ap (λ (b : Bool). c.loop-number.copied + one b) (sym w.if-is_copied.true)
       | else-is_copied w ↦ w.copied-is ∙ none c.loop-number.copied ∙ ap (λ (b : Bool). c.loop-number.copied + one b) (sym w.if-is_copied.false)
     ] in
-    subst (λ (n : ℕ). IsGoing view c.args.store.now c.args.job.now (c.loop-number._number + 1) c.next.new.self n c.examine.new.store c.examine.new.job) (sym count) on
+    subst (λ (n : ℕ). IsGoing view c.args.store.now c.args.job.now
+    (c.loop-number._number + 1) c.next.new.self n c.examine.new.store c.examine.new.job) (sym count) on
   where
     none : (n : ℕ) → n ≡ n + 0
     none n = omega arith
@@ -50,8 +54,10 @@ returns-in-Ok-None-clause-turn g c =
     let view : View = view_of g.D.View.LogView.bytes g.D.View.LogView.honest g.D.View.LogView.sound c.args.view.now in
     let is : c.in-Ok-None.field-0 ≡ None = c.in-Ok-None.field-0-is in
     let moves = subst (λ (o : Option Found). NextMoves c.loop-number.scanner (Ok o) c.next.new.self) is c.in-Ok-None.ensures.moves in
-    let turn = subst (λ (o : Option Found). IsTrue c.loop-number.scanner.honest → NextTurn c.loop-number.scanner (Ok o) c.next.new.self) is c.in-Ok-None.ensures.turn in
-    going_ends view c.args.store.now c.args.job.now c.loop-number._number c.loop-number.scanner c.loop-number.copied c.loop-number.store c.promise-in-loop-number.ensures c.loop-number.job c.loop-number.invariant
+    let turn = subst (λ (o : Option Found). IsTrue c.loop-number.scanner.honest → NextTurn c.loop-number.scanner (Ok o) c.next.new.self) is
+    c.in-Ok-None.ensures.turn in
+    going_ends view c.args.store.now c.args.job.now c.loop-number._number c.loop-number.scanner c.loop-number.copied c.loop-number.store
+    c.promise-in-loop-number.ensures c.loop-number.job c.loop-number.invariant
     c.args.count (omega arith) c.next.new.self moves turn
 
 pub returns-in-Ok-None-clause-stays : goal.returns-in-Ok-None-clause-stays
@@ -68,14 +74,17 @@ examine-requires-clause-ahead g c κs within =
     let view : View = view_of g.D.View.LogView.bytes g.D.View.LogView.honest g.D.View.LogView.sound c.args.view.now in
     let is : c.in-Ok-Some.field-0 ≡ Some c.in-Ok-Some.found = c.in-Ok-Some.field-0-is in
     let moves = subst (λ (o : Option Found). NextMoves c.loop-number.scanner (Ok o) c.next.new.self) is c.in-Ok-Some.ensures.moves in
-    let turn = subst (λ (o : Option Found). IsTrue c.loop-number.scanner.honest → NextTurn c.loop-number.scanner (Ok o) c.next.new.self) is c.in-Ok-Some.ensures.turn in
-    going_ahead view c.args.store.now c.args.job.now c.loop-number._number c.loop-number.scanner c.loop-number.copied c.loop-number.store c.promise-in-loop-number.ensures c.loop-number.job c.loop-number.invariant
+    let turn = subst (λ (o : Option Found). IsTrue c.loop-number.scanner.honest → NextTurn c.loop-number.scanner (Ok o) c.next.new.self) is
+    c.in-Ok-Some.ensures.turn in
+    going_ahead view c.args.store.now c.args.job.now c.loop-number._number c.loop-number.scanner c.loop-number.copied c.loop-number.store
+    c.promise-in-loop-number.ensures c.loop-number.job c.loop-number.invariant
     c.in-Ok-Some.found c.next.new.self moves turn
 
 pub overflow_add-copied : goal.overflow_add-copied
 overflow_add-copied g c =
     let so_far = c.loop-number.invariant in
-    let few = copied_few (with_job c.args.store.now None) c.args.job.now so_far.steps.founds c.loop-number.copied c.loop-number.store c.loop-number.job so_far.steps.examined in
+    let few = copied_few (with_job c.args.store.now None) c.args.job.now so_far.steps.founds c.loop-number.copied c.loop-number.store
+    c.loop-number.job so_far.steps.examined in
     omega (arith, few, so_far.long, c.loop-number-test.true, c.ranges.count.fits)
 
 pub returns-in-Err-clause-turn : goal.returns-in-Err-clause-turn
@@ -83,9 +92,11 @@ returns-in-Err-clause-turn g c =
     let view : View = view_of g.D.View.LogView.bytes g.D.View.LogView.honest g.D.View.LogView.sound c.args.view.now in
     let is : c.in-Ok-Some.field-0 ≡ Some c.in-Ok-Some.found = c.in-Ok-Some.field-0-is in
     let moves = subst (λ (o : Option Found). NextMoves c.loop-number.scanner (Ok o) c.next.new.self) is c.in-Ok-Some.ensures.moves in
-    let turn = subst (λ (o : Option Found). IsTrue c.loop-number.scanner.honest → NextTurn c.loop-number.scanner (Ok o) c.next.new.self) is c.in-Ok-Some.ensures.turn in
+    let turn = subst (λ (o : Option Found). IsTrue c.loop-number.scanner.honest → NextTurn c.loop-number.scanner (Ok o) c.next.new.self) is
+    c.in-Ok-Some.ensures.turn in
     subst (λ (r : Stopped). CopiesAll c.args.store.now c.args.job.now c.args.count (Err r) c.examine.new.store c.examine.new.job) (sym c.after.ensures)
-    (going_stops view c.args.store.now c.args.job.now c.loop-number._number c.loop-number.scanner c.loop-number.copied c.loop-number.store c.promise-in-loop-number.ensures c.loop-number.job c.loop-number.invariant
+    (going_stops view c.args.store.now c.args.job.now c.loop-number._number c.loop-number.scanner c.loop-number.copied c.loop-number.store
+    c.promise-in-loop-number.ensures c.loop-number.job c.loop-number.invariant
     c.in-Ok-Some.found c.next.new.self moves turn c.in-Err.stopped c.examine.new.store c.examine.new.job c.args.count (omega arith) c.in-Err.ensures.turn)
 
 pub returns-in-Err-clause-stays : goal.returns-in-Err-clause-stays
@@ -94,7 +105,8 @@ returns-in-Err-clause-stays g c = stays_on _ _ _ c.loop-number.invariant.stays c
 pub returns-in-Err-Memory-clause-turn : goal.returns-in-Err-Memory-clause-turn
 returns-in-Err-Memory-clause-turn g c =
     let view : View = view_of g.D.View.LogView.bytes g.D.View.LogView.honest g.D.View.LogView.sound c.args.view.now in
-    going_memory view c.args.store.now c.args.job.now c.loop-number._number c.loop-number.scanner c.loop-number.copied c.loop-number.store c.promise-in-loop-number.ensures c.loop-number.job c.loop-number.invariant
+    going_memory view c.args.store.now c.args.job.now c.loop-number._number c.loop-number.scanner c.loop-number.copied c.loop-number.store
+    c.promise-in-loop-number.ensures c.loop-number.job c.loop-number.invariant
     c.args.count (omega arith)
 
 pub returns-in-Err-Memory-clause-stays : goal.returns-in-Err-Memory-clause-stays
@@ -103,7 +115,8 @@ returns-in-Err-Memory-clause-stays g c = c.loop-number.invariant.stays
 pub returns-in-Err-Disk-clause-turn : goal.returns-in-Err-Disk-clause-turn
 returns-in-Err-Disk-clause-turn g c =
     let view : View = view_of g.D.View.LogView.bytes g.D.View.LogView.honest g.D.View.LogView.sound c.args.view.now in
-    going_unread view c.args.store.now c.args.job.now c.loop-number._number c.loop-number.scanner c.loop-number.copied c.loop-number.store c.promise-in-loop-number.ensures c.loop-number.job c.loop-number.invariant
+    going_unread view c.args.store.now c.args.job.now c.loop-number._number c.loop-number.scanner c.loop-number.copied c.loop-number.store
+    c.promise-in-loop-number.ensures c.loop-number.job c.loop-number.invariant
     c.args.count (omega arith) (c.in-Err-Disk.ensures.cause (ap Err c.in-Err-Disk.field-0-is))
 
 pub returns-in-Err-Disk-clause-stays : goal.returns-in-Err-Disk-clause-stays
@@ -118,11 +131,16 @@ returns-in-Err-BadLength-clause-turn g c =
     let bad = scans.BadLength c.in-Err-BadLength.field-0-0 c.in-Err-BadLength.field-0-1 in
     let is : c.in-Err-BadLength.field-0 ≡ bad = c.in-Err-BadLength.field-0-is in
     let moves = subst (λ (o : ScanFault). NextMoves c.loop-number.scanner (Err o) c.next.new.self) is c.in-Err-BadLength.ensures.moves in
-    let turn = subst (λ (o : ScanFault). IsTrue c.loop-number.scanner.honest → NextTurn c.loop-number.scanner (Err o) c.next.new.self) is c.in-Err-BadLength.ensures.turn in
-    subst (λ (r : Stopped). CopiesAll c.args.store.now c.args.job.now c.args.count (Err r) c.odd-in-Err-BadLength.new.store c.loop-number.job) (sym c.odd-in-Err-BadLength.ensures.value)
-    (going_odd view c.args.store.now c.args.job.now c.loop-number._number c.loop-number.scanner c.loop-number.copied c.loop-number.store c.promise-in-loop-number.ensures c.loop-number.job c.loop-number.invariant
+    let turn = subst (λ (o : ScanFault). IsTrue c.loop-number.scanner.honest → NextTurn c.loop-number.scanner (Err o) c.next.new.self) is
+    c.in-Err-BadLength.ensures.turn in
+    subst (λ (r : Stopped). CopiesAll c.args.store.now c.args.job.now c.args.count (Err r) c.odd-in-Err-BadLength.new.store c.loop-number.job)
+    (sym c.odd-in-Err-BadLength.ensures.value)
+    (going_odd view c.args.store.now c.args.job.now c.loop-number._number c.loop-number.scanner c.loop-number.copied c.loop-number.store
+    c.promise-in-loop-number.ensures c.loop-number.job c.loop-number.invariant
     c.args.count (omega arith) c.odd-in-Err-BadLength.new.store c.loop-number.job
-    (never_bad view c.args.store.now c.args.job.now c.loop-number._number c.loop-number.scanner c.loop-number.copied c.loop-number.store c.promise-in-loop-number.ensures c.loop-number.job c.loop-number.invariant c.in-Err-BadLength.field-0-0 c.in-Err-BadLength.field-0-1 c.next.new.self moves turn)
+    (never_bad view c.args.store.now c.args.job.now c.loop-number._number c.loop-number.scanner c.loop-number.copied c.loop-number.store
+    c.promise-in-loop-number.ensures c.loop-number.job c.loop-number.invariant c.in-Err-BadLength.field-0-0 c.in-Err-BadLength.field-0-1
+    c.next.new.self moves turn)
     c.odd-in-Err-BadLength.ensures.turn)
 
 pub returns-in-Err-BadLength-clause-stays : goal.returns-in-Err-BadLength-clause-stays
@@ -136,11 +154,15 @@ returns-in-Err-Odd-clause-turn g c =
     let view : View = view_of g.D.View.LogView.bytes g.D.View.LogView.honest g.D.View.LogView.sound c.args.view.now in
     let is : c.in-Err-Odd.field-0 ≡ scans.Odd = c.in-Err-Odd.field-0-is in
     let moves = subst (λ (o : ScanFault). NextMoves c.loop-number.scanner (Err o) c.next.new.self) is c.in-Err-Odd.ensures.moves in
-    let turn = subst (λ (o : ScanFault). IsTrue c.loop-number.scanner.honest → NextTurn c.loop-number.scanner (Err o) c.next.new.self) is c.in-Err-Odd.ensures.turn in
-    subst (λ (r : Stopped). CopiesAll c.args.store.now c.args.job.now c.args.count (Err r) c.odd-in-Err-Odd.new.store c.loop-number.job) (sym c.odd-in-Err-Odd.ensures.value)
-    (going_odd view c.args.store.now c.args.job.now c.loop-number._number c.loop-number.scanner c.loop-number.copied c.loop-number.store c.promise-in-loop-number.ensures c.loop-number.job c.loop-number.invariant
+    let turn = subst (λ (o : ScanFault). IsTrue c.loop-number.scanner.honest → NextTurn c.loop-number.scanner (Err o) c.next.new.self) is
+    c.in-Err-Odd.ensures.turn in
+    subst (λ (r : Stopped). CopiesAll c.args.store.now c.args.job.now c.args.count (Err r) c.odd-in-Err-Odd.new.store c.loop-number.job)
+    (sym c.odd-in-Err-Odd.ensures.value)
+    (going_odd view c.args.store.now c.args.job.now c.loop-number._number c.loop-number.scanner c.loop-number.copied c.loop-number.store
+    c.promise-in-loop-number.ensures c.loop-number.job c.loop-number.invariant
     c.args.count (omega arith) c.odd-in-Err-Odd.new.store c.loop-number.job
-    (never_odd view c.args.store.now c.args.job.now c.loop-number._number c.loop-number.scanner c.loop-number.copied c.loop-number.store c.promise-in-loop-number.ensures c.loop-number.job c.loop-number.invariant c.next.new.self turn)
+    (never_odd view c.args.store.now c.args.job.now c.loop-number._number c.loop-number.scanner c.loop-number.copied c.loop-number.store
+    c.promise-in-loop-number.ensures c.loop-number.job c.loop-number.invariant c.next.new.self turn)
     c.odd-in-Err-Odd.ensures.turn)
 
 pub returns-in-Err-Odd-clause-stays : goal.returns-in-Err-Odd-clause-stays
@@ -149,7 +171,8 @@ returns-in-Err-Odd-clause-stays g c = stays_on _ _ _ c.loop-number.invariant.sta
 pub returns-clause-turn : goal.returns-clause-turn
 returns-clause-turn g c =
     let view : View = view_of g.D.View.LogView.bytes g.D.View.LogView.honest g.D.View.LogView.sound c.args.view.now in
-    going_done view c.args.store.now c.args.job.now c.loop-number._number c.loop-number.scanner c.loop-number.copied c.loop-number.store c.promise-2.ensures c.loop-number.job
+    going_done view c.args.store.now c.args.job.now c.loop-number._number c.loop-number.scanner c.loop-number.copied c.loop-number.store
+    c.promise-2.ensures c.loop-number.job
     c.loop-number.invariant c.args.count (omega arith) (omega arith)
 
 pub returns-clause-stays : goal.returns-clause-stays

@@ -58,8 +58,10 @@ put-requires-after_bounds g c κs within =
     let payload = c.in-Ok.payload.items in
     let view : View = view_of g.D.View.LogView.bytes g.D.View.LogView.honest g.D.View.LogView.sound c.args.view.now in
     let entry : IsEntry payload found = subst (λ (p : List ℕ). IsEntry p found) c.deref.ensures.value (c.is_entry.ensures.entry c.if-not-is_entry.false) in
-    let may = may_copy s c.promise.ensures job c.requires.copying found c.requires.ahead c.requires.near payload entry (c.requires.sent ∙ ap Some c.requires.place)
-    (found_filed s c.promise.ensures job c.requires.copying found c.requires.ahead view c.requires.view c.args.from c.requires.place payload c.in-Ok.ensures.turn) in
+    let may = may_copy s c.promise.ensures job c.requires.copying found c.requires.ahead c.requires.near payload entry
+    (c.requires.sent ∙ ap Some c.requires.place)
+    (found_filed s c.promise.ensures job c.requires.copying found c.requires.ahead view c.requires.view c.args.from c.requires.place
+    payload c.in-Ok.ensures.turn) in
     let copy_is : c.copy-2.result ≡ job.copy = c.copy-2.ensures ∙ ap (λ (j : Job). j.copy) c.in-Ok-note.ensures.ok in (
       place_of job found,
       subst (λ (n : ℕ). MayCopy s n found.key (place_of job found) c.deref-2.result.now) (sym copy_is)
@@ -77,7 +79,8 @@ returns-in_default-put-clause-turn g c =
     let copy_is : c.copy-2.result ≡ job.copy = c.copy-2.ensures ∙ ap (λ (j : Job). j.copy) c.in-Ok-note.ensures.ok in
     put_copies s c.put.new.self job c.note.new.self found payload c.in_default-put.field-0 c.place_in-to.result c.put.result c.in_default-put.is
     (c.requires.sent ∙ ap Some c.requires.place)
-    (found_stands s c.promise.ensures job c.requires.copying found c.requires.ahead view c.requires.view c.args.from c.requires.place payload c.in-Ok.ensures.turn)
+    (found_stands s c.promise.ensures job c.requires.copying found c.requires.ahead view c.requires.view c.args.from c.requires.place
+    payload c.in-Ok.ensures.turn)
     (subst (λ (n : ℕ). PutTurn s n payload c.put.result c.put.new.self) copy_is
     (subst (λ (p : List ℕ). PutTurn s c.copy-2.result p c.put.result c.put.new.self) c.deref-2.ensures.value c.put.ensures.turn))
     entry
@@ -94,7 +97,8 @@ returns-clause-turn g c =
     let copy_is : c.copy-2.result ≡ job.copy = c.copy-2.ensures ∙ ap (λ (j : Job). j.copy) c.in-Ok-note.ensures.ok in
     let back : c.take_back.new.self ≡ job = c.take_back.ensures job _ c.in-Ok-note.ensures.ok in
     let stops = put_stops s c.put.new.self job found payload c.in-Err.fault (c.requires.sent ∙ ap Some c.requires.place)
-    (found_stands s c.promise.ensures job c.requires.copying found c.requires.ahead view c.requires.view c.args.from c.requires.place payload c.in-Ok.ensures.turn)
+    (found_stands s c.promise.ensures job c.requires.copying found c.requires.ahead view c.requires.view c.args.from c.requires.place
+    payload c.in-Ok.ensures.turn)
     (subst (λ (n : ℕ). PutTurn s n payload (Err c.in-Err.fault) c.put.new.self) copy_is
     (subst (λ (p : List ℕ). PutTurn s c.copy-2.result p (Err c.in-Err.fault) c.put.new.self) c.deref-2.ensures.value c.in-Err.ensures.turn)) in
     subst (λ (r : Stopped). StopsAt s job found r c.put.new.self c.take_back.new.self) (sym c.put_fault.ensures)

@@ -9,5 +9,6 @@ pub returns-then-named-gt0-clause-retires : goal.returns-then-named-gt0-clause-r
 returns-then-named-gt0-clause-retires g c = λ honest source whole.
     let s = c.args.store.now in
     absurd (still_named s c.promise.ensures c.in-Some.job.now (sym c.in-Some.ensures) c.in-Some-named.named c.if-named-gt0.true
-    (subst (λ n. Some c.in-Some-named.named ≡ option_map (λ (_ : Log). log_count s.index n) (finite.get s.logs n)) c.source-source.ensures c.in-Some-named.ensures)
+    (subst (λ n. Some c.in-Some-named.named ≡ option_map (λ (_ : Log). log_count s.index n) (finite.get s.logs n))
+    c.source-source.ensures c.in-Some-named.ensures)
     honest source whole)

@@ -19,7 +19,8 @@ returns-clause-turn g c =
       c.left-left.ensures ∙ ap (λ (j : Job). length j.moves) turn.left,
       (
         c.take_moves-moved.new.store,
-        subst (λ (s : State). TakesMoves s (take c.args.count job.moves) c.take_moves-moved.result c.take_moves-moved.new.store) c.take_job.ensures.left turn.takes,
+        subst (λ (s : State). TakesMoves s (take c.args.count job.moves) c.take_moves-moved.result c.take_moves-moved.new.store)
+            c.take_job.ensures.left turn.takes,
         c.set_job.ensures ∙ ap (λ (j : Job). record c.take_moves-moved.new.store { job = Some j }) turn.left,
       ),
     )

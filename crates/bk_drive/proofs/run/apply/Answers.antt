@@ -1,6 +1,9 @@
-use Rattle.bk_drive.specs.Machine.WorkTurn.{swapped, wrote, published, rolled, retired, rebuilt, closed, removed, begun, copied, ended, switched, finished, given_up}
-use Rattle.bk_drive.proofs.Working.{step_stays, roll_stays, retire_stays, rebuild_stays, retire_failures, rebuild_failures, close_failures, close_beside, remove_beside, untold, told_of, publish_settings, agrees_still, beside_agrees, publish_agrees}
-use Rattle.bk_drive.proofs.Compacting.{begin_stays, copy_stays, end_stays, switch_stays, finish_stays, give_up_stays, switch_failures, finish_failures, give_up_failures}
+use Rattle.bk_drive.specs.Machine.WorkTurn.{swapped, wrote, published, rolled, retired, rebuilt, closed, removed}
+use Rattle.bk_drive.specs.Machine.WorkTurn.{begun, copied, ended, switched, finished, given_up}
+use Rattle.bk_drive.proofs.Working.{step_stays, roll_stays, retire_stays, rebuild_stays, retire_failures, rebuild_failures, close_failures}
+use Rattle.bk_drive.proofs.Working.{close_beside, remove_beside, untold, told_of, publish_settings, agrees_still, beside_agrees, publish_agrees}
+use Rattle.bk_drive.proofs.Compacting.{begin_stays, copy_stays, end_stays, switch_stays, finish_stays, give_up_stays}
+use Rattle.bk_drive.proofs.Compacting.{switch_failures, finish_failures, give_up_failures}
 use Rattle.bk_drive.proofs.Runs.{swapped_plain, swap_settings, swap_failures}
 use Rattle.bk_drive.proofs.run.apply.Goals as goal
 
@@ -186,7 +189,8 @@ pub returns-in-Swap-clause-plain : goal.returns-in-Swap-clause-plain
 returns-in-Swap-clause-plain g c = λ honest p agrees. swapped_plain _ _ p c.promise.ensures honest agrees _ c.swap.ensures
 
 pub returns-in-WriteOne-clause-plain : goal.returns-in-WriteOne-clause-plain
-returns-in-WriteOne-clause-plain g c = λ honest p agrees. agrees_still _ _ p agrees (c.write_one.ensures.meaning honest) (step_stays _ _ _ c.write_one.ensures.turn)
+returns-in-WriteOne-clause-plain g c = λ honest p agrees. agrees_still _ _ p agrees (c.write_one.ensures.meaning honest)
+    (step_stays _ _ _ c.write_one.ensures.turn)
 
 pub returns-in-Publish-clause-plain : goal.returns-in-Publish-clause-plain
 returns-in-Publish-clause-plain g c = λ honest p agrees. publish_agrees _ _ p agrees (c.publish.ensures.meaning honest) _ c.publish.ensures.turn
@@ -198,13 +202,15 @@ pub returns-in-Retire-clause-plain : goal.returns-in-Retire-clause-plain
 returns-in-Retire-clause-plain g c = λ honest p agrees. agrees_still _ _ p agrees (c.retire.ensures.meaning honest) (retire_stays _ _ _ _ c.retire.ensures.turn)
 
 pub returns-in-Rebuild-clause-plain : goal.returns-in-Rebuild-clause-plain
-returns-in-Rebuild-clause-plain g c = λ honest p agrees. agrees_still _ _ p agrees (c.rebuild.ensures.meaning honest) (rebuild_stays _ _ _ c.rebuild.ensures.turn)
+returns-in-Rebuild-clause-plain g c = λ honest p agrees. agrees_still _ _ p agrees (c.rebuild.ensures.meaning honest)
+    (rebuild_stays _ _ _ c.rebuild.ensures.turn)
 
 pub returns-in-Close-clause-plain : goal.returns-in-Close-clause-plain
 returns-in-Close-clause-plain g c = λ honest p agrees. beside_agrees _ _ p agrees (c.close.ensures.meaning honest) (close_beside _ _ _ _ c.close.ensures.turn)
 
 pub returns-in-Remove-clause-plain : goal.returns-in-Remove-clause-plain
-returns-in-Remove-clause-plain g c = λ honest p agrees. beside_agrees _ _ p agrees (c.remove.ensures.meaning honest) (remove_beside _ _ _ _ c.remove.ensures.turn)
+returns-in-Remove-clause-plain g c = λ honest p agrees. beside_agrees _ _ p agrees (c.remove.ensures.meaning honest)
+    (remove_beside _ _ _ _ c.remove.ensures.turn)
 
 pub returns-in-Begin-clause-plain : goal.returns-in-Begin-clause-plain
 returns-in-Begin-clause-plain g c = λ honest p agrees. agrees_still _ _ p agrees (c.begin.ensures.meaning honest) (begin_stays _ _ _ _ c.begin.ensures.turn)
@@ -222,4 +228,5 @@ pub returns-in-Finish-clause-plain : goal.returns-in-Finish-clause-plain
 returns-in-Finish-clause-plain g c = λ honest p agrees. agrees_still _ _ p agrees (c.finish.ensures.meaning honest) (finish_stays _ _ _ c.finish.ensures.turn)
 
 pub returns-in-GiveUp-clause-plain : goal.returns-in-GiveUp-clause-plain
-returns-in-GiveUp-clause-plain g c = λ honest p agrees. agrees_still _ _ p agrees (c.give_up.ensures.meaning honest) (give_up_stays _ _ _ c.give_up.ensures.turn)
+returns-in-GiveUp-clause-plain g c = λ honest p agrees. agrees_still _ _ p agrees (c.give_up.ensures.meaning honest)
+    (give_up_stays _ _ _ c.give_up.ensures.turn)

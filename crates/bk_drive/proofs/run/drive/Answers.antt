@@ -15,7 +15,8 @@ loop-step-init g c = record {
   even = sym (ap length c.in-Ok.ensures.items);
   leases = leases_at _ _ c.new-readers.ensures;
   closed = λ log was. absurd was;
-  driven = λ honest. driven_first _ _ _ _ _ _ _ _ honest c.in_ok-store.ensures.honest c.in_ok-store.ensures.opened c.new-readers.ensures refl c.in-Ok.ensures.items;
+  driven = λ honest. driven_first _ _ _ _ _ _ _ _ honest c.in_ok-store.ensures.honest c.in_ok-store.ensures.opened c.new-readers.ensures
+      refl c.in-Ok.ensures.items;
 }
 
 pub loop-step-preserved : goal.loop-step-preserved
@@ -25,7 +26,8 @@ loop-step-preserved g c =
     record {
       counted = grind (arith, common_steps);
       room = grind (arith, common_steps);
-      counted_faults = λ sound. counted_on _ _ _ _ c.turn.result (c.loop-step.invariant.counted_faults sound) c.turn.ensures.later (c.turn.ensures.disk sound) items;
+      counted_faults = λ sound. counted_on _ _ _ _ c.turn.result (c.loop-step.invariant.counted_faults sound) c.turn.ensures.later
+          (c.turn.ensures.disk sound) items;
       even = even_on _ _ _ _ c.step-item.result c.turn.result c.loop-step.invariant.even more items;
       leases = c.turn.ensures.leases;
       closed = shut_on _ _ _ _ c.step-item.result c.turn.result c.loop-step.invariant.even more items c.loop-step.store c.turn.new.store
@@ -36,7 +38,8 @@ loop-step-preserved g c =
 
 pub returns-clause-headline : goal.returns-clause-headline
 returns-clause-headline g c = λ honest.
-    driven_last _ _ _ _ _ _ _ _ (c.loop-step.invariant.driven honest) c.promise-2.ensures c.loop-step.invariant.leases c.loop-step.invariant.closed (sym (take_all _ _ c.loop-step-test.false))
+    driven_last _ _ _ _ _ _ _ _ (c.loop-step.invariant.driven honest) c.promise-2.ensures c.loop-step.invariant.leases c.loop-step.invariant.closed
+    (sym (take_all _ _ c.loop-step-test.false))
 
 pub returns-clause-unfailing : goal.returns-clause-unfailing
 returns-clause-unfailing g c = λ never sound.

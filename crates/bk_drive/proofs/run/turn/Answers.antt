@@ -55,12 +55,14 @@ returns-in-Work-clause-plain g c = λ honest.
 
 pub returns-in-Add-clause-plain : goal.returns-in-Add-clause-plain
 returns-in-Add-clause-plain g c = λ honest.
-    rw c.in-Add.is (goes_added _ _ c.promise.ensures honest _ (leases_same _ _ (add_logs c.args.store.now c.add.new.self _ _ c.add.ensures).keeper _ c.requires) _ _
+    rw c.in-Add.is (goes_added _ _ c.promise.ensures honest _
+    (leases_same _ _ (add_logs c.args.store.now c.add.new.self _ _ c.add.ensures).keeper _ c.requires) _ _
     (subst (λ payload. AddTurn c.args.store.now payload c.add.result c.add.new.self) c.deref.ensures.value c.add.ensures))
 
 pub returns-in-Delete-clause-plain : goal.returns-in-Delete-clause-plain
 returns-in-Delete-clause-plain g c = λ honest.
-    rw c.in-Delete.is (goes_deleted _ _ c.promise.ensures honest _ (leases_same _ _ (delete_logs c.args.store.now c.delete.new.self _ _ c.delete.ensures).keeper _ c.requires) _ _ c.delete.ensures)
+    rw c.in-Delete.is (goes_deleted _ _ c.promise.ensures honest _
+    (leases_same _ _ (delete_logs c.args.store.now c.delete.new.self _ _ c.delete.ensures).keeper _ c.requires) _ _ c.delete.ensures)
 
 pub returns-in-Take-clause-plain : goal.returns-in-Take-clause-plain
 returns-in-Take-clause-plain g c = λ honest.

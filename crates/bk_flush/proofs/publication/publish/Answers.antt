@@ -19,12 +19,14 @@ pub end_flush-requires-after_bounds : goal.end_flush-requires-after_bounds
 end_flush-requires-after_bounds g c κs within =
     let placed : AllPlaced c.args.store.now =
     none_next c.args.store.now _ c.next_entry.result (sym c.is_some.ensures ∙ c.if-is_some.false) c.next_entry.ensures.next in
-    all_named c.args.store.now c.promise.ensures placed c.show_logs.new.store c.in_ok-show_logs.ensures.turn c.name_entries.new.store c.in_ok-name_entries.ensures.turn
+    all_named c.args.store.now c.promise.ensures placed c.show_logs.new.store c.in_ok-show_logs.ensures.turn c.name_entries.new.store
+    c.in_ok-name_entries.ensures.turn
 
 pub returns-clause-turn : goal.returns-clause-turn
 returns-clause-turn g c =
     let runs = c.is_flushing.ensures.0 c.if-not-is_flushing.false in
     let placed : AllPlaced c.args.store.now =
     none_next c.args.store.now _ c.next_entry.result (sym c.is_some.ensures ∙ c.if-is_some.false) c.next_entry.ensures.next in
-    published c.args.store.now c.promise.ensures placed c.show_logs.new.store c.in_ok-show_logs.ensures.turn c.name_entries.new.store c.in_ok-name_entries.ensures.turn
+    published c.args.store.now c.promise.ensures placed c.show_logs.new.store c.in_ok-show_logs.ensures.turn c.name_entries.new.store
+    c.in_ok-name_entries.ensures.turn
     c.end_flush.new.self c.flush_len-entries.result runs c.flush_len-entries.ensures c.end_flush.ensures.turn

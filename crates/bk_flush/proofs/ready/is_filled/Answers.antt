@@ -11,13 +11,15 @@ unreachable-requires g c =
 
 pub returns-then-records-gt0-clause-writes : goal.returns-then-records-gt0-clause-writes
 returns-then-records-gt0-clause-writes g c = λ payload long.
-    with_records c.args.store.now c.args.log c.in-Some.writer.now c.requires.writing c.in-Some.ensures.value payload c.records.result c.length.result c.from.result
+    with_records c.args.store.now c.args.log c.in-Some.writer.now c.requires.writing c.in-Some.ensures.value payload c.records.result
+    c.length.result c.from.result
     c.args.size c.records.ensures c.if-records-gt0.true c.length.ensures.value
     (c.from.ensures ∙ ap (λ (settings : Settings). settings.log_limit) c.settings.ensures.value) long
 
 pub returns-then-records-gt0-clause-takes : goal.returns-then-records-gt0-clause-takes
 returns-then-records-gt0-clause-takes g c = λ within payload long.
-    takes_to_limit c.args.store.now c.args.log c.in-Some.writer.now c.requires.writing c.in-Some.ensures.value payload c.settings.result c.length.result c.from.result
+    takes_to_limit c.args.store.now c.args.log c.in-Some.writer.now c.requires.writing c.in-Some.ensures.value payload c.settings.result
+    c.length.result c.from.result
     c.args.size c.settings.ensures.allowed c.from.ensures c.length.ensures.value long within
 
 pub returns-else-records-gt0-clause-writes : goal.returns-else-records-gt0-clause-writes
@@ -27,5 +29,6 @@ returns-else-records-gt0-clause-writes g c = λ payload long.
 
 pub returns-else-records-gt0-clause-takes : goal.returns-else-records-gt0-clause-takes
 returns-else-records-gt0-clause-takes g c = λ none payload long.
-    takes_first c.args.store.now c.args.log c.in-Some.writer.now c.requires.writing c.in-Some.ensures.value payload c.records.result c.args.size c.records.ensures
+    takes_first c.args.store.now c.args.log c.in-Some.writer.now c.requires.writing c.in-Some.ensures.value payload c.records.result
+    c.args.size c.records.ensures
     none c.in-Some.ensures.empty long c.requires.size

@@ -1,6 +1,7 @@
 use Rattle.std.proofs.Common.{inr, Ok}
 use Rattle.bk_flush.specs.Flushing.{FillTurn}
-use Rattle.bk_flush.proofs.Filling.{IsToFill, none_to_fill, some_to_fill, fill_some, fill_none, fill_refused, none_writing, made_takes, ready_made, not_sealed, not_made}
+use Rattle.bk_flush.proofs.Filling.{IsToFill, none_to_fill, some_to_fill, fill_some, fill_none, fill_refused}
+use Rattle.bk_flush.proofs.Filling.{none_writing, made_takes, ready_made, not_sealed, not_made}
 use Rattle.bk_flush.proofs.ready.ready.Goals as goal
 use Rattle.bk_flush.proofs.ready.ready.Goals.{in_default-2, in_default, in-Some-filled+in_default-seal, in_default-filled}
 

@@ -31,7 +31,8 @@ pub returns-in-Err-clause-honest : goal.returns-in-Err-clause-honest
 returns-in-Err-clause-honest g c =
     let size : c.len-size.result ≡ length c.in-Some.next.1.now.value.items =
     c.len-size.ensures ∙ c.deref.result.now.ok.0 ∙ ap (λ v. length v.items) c.deref.ensures in
-    let wrote = write_stays c.args.store.now c.ready.new.store c.write.new.self c.in-Some.next.0 c.in-Some.next.1.now.value.items c.len-size.result c.in_ok-log.log
+    let wrote = write_stays c.args.store.now c.ready.new.store c.write.new.self c.in-Some.next.0 c.in-Some.next.1.now.value.items
+    c.len-size.result c.in_ok-log.log
     c.in-Some.ensures.next size c.in_ok-log.ensures.turn c.in_ok-log.ensures.caches (Err c.in-Err.fault) c.in-Err.ensures.turn
     c.in_ok-log.ensures.stays c.in-Err.ensures.meaning in
     (stays_on _ _ _ wrote c.flush_fault.ensures.stays).honest
@@ -40,7 +41,8 @@ pub returns-in-Err-clause-meaning : goal.returns-in-Err-clause-meaning
 returns-in-Err-clause-meaning g c =
     let size : c.len-size.result ≡ length c.in-Some.next.1.now.value.items =
     c.len-size.ensures ∙ c.deref.result.now.ok.0 ∙ ap (λ v. length v.items) c.deref.ensures in
-    let wrote = write_stays c.args.store.now c.ready.new.store c.write.new.self c.in-Some.next.0 c.in-Some.next.1.now.value.items c.len-size.result c.in_ok-log.log
+    let wrote = write_stays c.args.store.now c.ready.new.store c.write.new.self c.in-Some.next.0 c.in-Some.next.1.now.value.items
+    c.len-size.result c.in_ok-log.log
     c.in-Some.ensures.next size c.in_ok-log.ensures.turn c.in_ok-log.ensures.caches (Err c.in-Err.fault) c.in-Err.ensures.turn
     c.in_ok-log.ensures.stays c.in-Err.ensures.meaning in
     (stays_on _ _ _ wrote c.flush_fault.ensures.stays).meaning

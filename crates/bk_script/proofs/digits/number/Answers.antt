@@ -9,7 +9,8 @@ returns-then-has_odd_start-clause-none c = λ n small is.
 pub returns-in-Ok-clause-value : goal.returns-in-Ok-clause-value
 returns-in-Ok-clause-value c = (
   c.if-n-most.true,
-  word_of_parsed _ _ _ c.parse.ensures.value.0 (λ odd. let odd' = rw (← c.as_bytes.ensures.value) at odd in let is = c.has_odd_start.ensures.1 odd' in cc) c.in-Ok.is,
+  word_of_parsed _ _ _ c.parse.ensures.value.0
+      (λ odd. let odd' = rw (← c.as_bytes.ensures.value) at odd in let is = c.has_odd_start.ensures.1 odd' in cc) c.in-Ok.is,
 )
 
 pub returns-in_default-clause-none : goal.returns-in_default-clause-none

@@ -1,5 +1,6 @@
 use Rattle.std.proofs.Common.{◌≡◌}
-use Rattle.bk_script.proofs.Parts.{Opener, opener, opener_of, add_opens, pad_opens, take_opens, fetch_opens, release_opens, delete_opens, retire_opens, close_opens, remove_opens, copy_opens, switch_opens}
+use Rattle.bk_script.proofs.Parts.{Opener, opener, opener_of, add_opens, pad_opens, take_opens, fetch_opens, release_opens}
+use Rattle.bk_script.proofs.Parts.{delete_opens, retire_opens, close_opens, remove_opens, copy_opens, switch_opens}
 use Rattle.bk_script.proofs.line.read_call.Goals as goal
 
 pub returns-in_default-clause-bad : goal.returns-in_default-clause-bad

@@ -9,7 +9,8 @@ use Rattle.bk_shell.proofs.cli.script_call.Goals as goal
 
 pub returns-in_err-matches-clause-refused : goal.returns-in_err-matches-clause-refused
 returns-in_err-matches-clause-refused g c =
-    refused_by_parse _ (map g.S.AsStr.text c.args.words.now) (app_of c.in_ok-command.command) c.in_err-matches.field-0.0 c.in_ok-command.ensures c.from_residual-in_err-matches.ensures.1 c.in_err-matches.ensures.kinds
+    refused_by_parse _ (map g.S.AsStr.text c.args.words.now) (app_of c.in_ok-command.command) c.in_err-matches.field-0.0 c.in_ok-command.ensures
+    c.from_residual-in_err-matches.ensures.1 c.in_err-matches.ensures.kinds
 
 pub returns-in_err-error-clause-refused : goal.returns-in_err-error-clause-refused
 returns-in_err-error-clause-refused g c = refused_for_memory _ (map g.S.AsStr.text c.args.words.now) c.from_residual-in_err-error.ensures.1
@@ -18,7 +19,8 @@ pub returns-in_err-told-in-Err-clause-refused : goal.returns-in_err-told-in-Err-
 returns-in_err-told-in-Err-clause-refused g c = refused_for_memory _ (map g.S.AsStr.text c.args.words.now) c.from_residual-in_err-told-in-Err.ensures.1
 
 pub returns-in_err-script_error-in-Err-clause-refused : goal.returns-in_err-script_error-in-Err-clause-refused
-returns-in_err-script_error-in-Err-clause-refused g c = refused_for_memory _ (map g.S.AsStr.text c.args.words.now) c.from_residual-in_err-script_error-in-Err.ensures.1
+returns-in_err-script_error-in-Err-clause-refused g c = refused_for_memory _
+    (map g.S.AsStr.text c.args.words.now) c.from_residual-in_err-script_error-in-Err.ensures.1
 
 pub returns-in_err-dead-clause-refused : goal.returns-in_err-dead-clause-refused
 returns-in_err-dead-clause-refused g c = refused_for_memory _ (map g.S.AsStr.text c.args.words.now) c.from_residual-in_err-dead.ensures.1
@@ -27,7 +29,8 @@ pub returns-in_err-told-in-Err-2-clause-refused : goal.returns-in_err-told-in-Er
 returns-in_err-told-in-Err-2-clause-refused g c = refused_for_memory _ (map g.S.AsStr.text c.args.words.now) c.from_residual-in_err-told-in-Err-2.ensures.1
 
 pub returns-in_err-script_error-in-Err-2-clause-refused : goal.returns-in_err-script_error-in-Err-2-clause-refused
-returns-in_err-script_error-in-Err-2-clause-refused g c = refused_for_memory _ (map g.S.AsStr.text c.args.words.now) c.from_residual-in_err-script_error-in-Err-2.ensures.1
+returns-in_err-script_error-in-Err-2-clause-refused g c =
+    refused_for_memory _ (map g.S.AsStr.text c.args.words.now) c.from_residual-in_err-script_error-in-Err-2.ensures.1
 
 pub returns-in-Ok-2-clause-asked : goal.returns-in-Ok-2-clause-asked
 returns-in-Ok-2-clause-asked g c =
@@ -64,4 +67,5 @@ returns-clause-refused g c = λ settings dead asks.
     let met = rows_met (app_of c.in_ok-command.command) words c.in_ok-matches.matches c.in_ok-command.ensures c.in_ok-matches.ensures.ok.2 in
     let called = sym met ∙ pair_in _ (codes "script") rows (c.in-Some.ensures.found.0 (search rules)) c.in-Some.ensures.rows in
     let refused = rw c.in-Err-2.is at c.in_ok-dead.ensures in
-    absurd (refused dead (subst (λ (r : List Row). AsksLedgers (all_of (codes "LEDGER") r) dead) (asked_rows words settings dead asks rows called) asks.ledgers))
+    absurd (refused dead (subst (λ (r : List Row). AsksLedgers (all_of (codes "LEDGER") r) dead)
+    (asked_rows words settings dead asks rows called) asks.ledgers))

@@ -8,6 +8,7 @@ pub returns : goal.returns
 returns c = λ s t p payload answer kept honest agrees turn.
     let keeps = kept.keeps in
     let turn' = subst (λ x. AddTurn x payload answer t) (sym kept.seen) turn in
-    let done = plain_add kept.parts keeps (keeps.promises (subst (λ x. IsTrue x.honest) (sym kept.seen) honest)) p (subst (λ x. MatchesPlain x p) (sym kept.seen) agrees)
+    let done = plain_add kept.parts keeps (keeps.promises (subst (λ x. IsTrue x.honest) (sym kept.seen) honest)) p
+    (subst (λ x. MatchesPlain x p) (sym kept.seen) agrees)
     t payload answer turn' in
     (done.0, subst (λ x. PlainAdd x.caches.limit p payload answer done.0) kept.seen done.1, done.2)

@@ -36,7 +36,8 @@ invariant_of-self c =
           let found = account_lent c.self.inside.logs.entries (from_entries c.self.inside.logs.entries) c.args.log c.get_mut.result w.in-Some.account refl
           c.get_mut.ensures.value w.in-Some.is in
           subst (λ s. AreListed (from_entries s.logs.entries) s.rooms) (sym w.self-inside-is)
-          (listed_through c.self.inside.logs (c.get_mut.follows.lender w.count_dead.new.self) c.self.inside.rooms c.args.log w.in-Some.account.now w.count_dead.new.self
+          (listed_through c.self.inside.logs (c.get_mut.follows.lender w.count_dead.new.self) c.self.inside.rooms c.args.log
+          w.in-Some.account.now w.count_dead.new.self
           (with_dead_size c.args.size) c.self.invariant found (c.get_mut.follows.holds w.count_dead.new.self) w.count_dead.ensures (λ _. refl))
       | in_default w ↦
           subst (λ s. AreListed (from_entries s.logs.entries) s.rooms) (sym w.self-inside-is)

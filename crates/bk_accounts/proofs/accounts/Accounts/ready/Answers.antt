@@ -28,7 +28,8 @@ invariant_of-self-then-has_room c =
     let book = from_entries c.self.inside.logs.entries in
     let found = account_lent c.self.inside.logs.entries book c.args.log c.get_mut.result c.in-Some.account refl c.get_mut.ensures.value c.in-Some.is in
     subst (λ b. AreListed b c.self.inside.rooms)
-    (sym (kept_through c.self.inside.logs (c.get_mut.follows.lender c.in-Some.account.now) book c.args.log c.in-Some.account.now c.in-Some.account.now refl found
+    (sym (kept_through c.self.inside.logs (c.get_mut.follows.lender c.in-Some.account.now) book c.args.log c.in-Some.account.now
+    c.in-Some.account.now refl found
     (c.get_mut.follows.holds c.in-Some.account.now) refl)) c.self.invariant
 
 pub returns-then-has_room-clause-ok : goal.returns-then-has_room-clause-ok
@@ -59,7 +60,8 @@ invariant_of-self-in_err-insert c =
     let book = from_entries c.self.inside.logs.entries in
     let found = account_lent c.self.inside.logs.entries book c.args.log c.get_mut.result c.in-Some.account refl c.get_mut.ensures.value c.in-Some.is in
     subst (λ b. AreListed b c.insert.new.self)
-    (sym (kept_through c.self.inside.logs (c.get_mut.follows.lender c.in-Some.account.now) book c.args.log c.in-Some.account.now c.in-Some.account.now refl found
+    (sym (kept_through c.self.inside.logs (c.get_mut.follows.lender c.in-Some.account.now) book c.args.log c.in-Some.account.now
+    c.in-Some.account.now refl found
     (c.get_mut.follows.holds c.in-Some.account.now) refl))
     (listed_same book c.self.inside.rooms c.insert.new.self c.self.invariant c.in_err-insert.ensures.err)
 
@@ -120,7 +122,8 @@ invariant_of-self-else-is_err c =
     subst (λ b. AreListed b c.insert.new.self)
     (sym (changed_through c.self.inside.logs (c.get_mut.follows.lender c.add_room.new.self) book c.args.log c.in-Some.account.now c.add_room.new.self
     (with_room c.args.ledger) refl found (c.get_mut.follows.holds c.add_room.new.self) made))
-    (listed_room book c.self.inside.rooms c.insert.new.self c.args.log c.args.ledger c.in-Some.account.now c.self.invariant found c.in_ok-insert.ensures.updates)
+    (listed_room book c.self.inside.rooms c.insert.new.self c.args.log c.args.ledger c.in-Some.account.now c.self.invariant found
+    c.in_ok-insert.ensures.updates)
 
 pub returns-clause-ok : goal.returns-clause-ok
 returns-clause-ok c =

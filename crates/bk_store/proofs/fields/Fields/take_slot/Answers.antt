@@ -6,7 +6,8 @@ use Rattle.bk_store.proofs.MadeLogs.{not_open, reopened, slot_taken, slot_there,
 use Rattle.bk_store.proofs.fields.Fields.take_slot.Goals as goal
 
 pub returns-in_default-list_written-clause-err : goal.returns-in_default-list_written-clause-err
-returns-in_default-list_written-clause-err g c = no_slot _ c.args.self.now c.self.view_is c.list_written.new.filled.items _ _ c.list_written.ensures.still refl refl
+returns-in_default-list_written-clause-err g c =
+    no_slot _ c.args.self.now c.self.view_is c.list_written.new.filled.items _ _ c.list_written.ensures.still refl refl
 
 pub open-requires : goal.open-requires
 open-requires g c = not_open _ (subst Keeps (sym c.self.view_is) c.requires.keeps)
@@ -25,7 +26,8 @@ pub returns-clause-ok : goal.returns-clause-ok
 returns-clause-ok g c =
     slot_taken _ c.args.self.now c.self.view_is c.list_written.new.filled.items c.open.new.self c.hold.new.self c.list_written.ensures.still c.args.state
     c.in-Some.slot
-    c.in-Ok-open.ensures.ok (c.in-Ok-hold.ensures.ok ∙ ap (finite.insert c.self.inside.logs c.self.inside.next) c.unmade.ensures) c.in-Ok.ensures.listed c.in-Some.ensures.free
+    c.in-Ok-open.ensures.ok (c.in-Ok-hold.ensures.ok ∙ ap (finite.insert c.self.inside.logs c.self.inside.next) c.unmade.ensures)
+    c.in-Ok.ensures.listed c.in-Some.ensures.free
 
 pub unreachable-requires : goal.unreachable-requires
 unreachable-requires g c =

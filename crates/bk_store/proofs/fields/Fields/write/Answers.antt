@@ -62,7 +62,8 @@ count-requires-clause-fits g c =
     let may = subst (λ (p : Parts). MayWrite p.state c.args.log c.args.key) (sym c.self.view_is) c.requires.may in
     let is = roomy _ (subst Keeps (sym c.self.view_is) c.requires.keeps) c.args.log Writing may.payload may.takes in
     let found = sym (ap (option_map (λ b. b.now.value.items)) c.in-Some.is) ∙ c.get.ensures.value in
-    let items = ap (λ v. v.items) c.deref-in-Ok-put.ensures ∙ found_payload c.self.inside.caches c.args.key may.payload _ c.get.ensures.sound may.next.flushing found in
+    let items = ap (λ v. v.items) c.deref-in-Ok-put.ensures
+    ∙ found_payload c.self.inside.caches c.args.key may.payload _ c.get.ensures.sound may.next.flushing found in
     let long : c.len.result ≡ length may.payload = c.len.ensures ∙ c.deref-in-Ok-put.result.now.ok.0 ∙ ap length items in
     subst (λ b. IfSome (total_in b c.args.log) (λ total. total + (c.len.result + 4) < 2 ^ 32)) (sym c.in-Ok-ready.ensures.ok)
     (total_fits _ c.args.log c.ledger.result (c.len.result + 4) may.payload is (ap (λ n. n + 4) long))
@@ -79,7 +80,8 @@ returns-in-Ok-put-clause-turn g c = λ payload flushing.
     let same : payload ≡ may.payload = cc in
     let mine = roomy_same is (sym same) in
     let put = bytes ∙ sym same in
-    let known = ap (option_and_then (λ (l : Log). l.writer)) (ap (λ (p : Parts). finite.get p.state.logs c.args.log) (sym c.self.view_is) ∙ mine.held) ∙ mine.writer in
+    let known = ap (option_and_then (λ (l : Log). l.writer)) (ap (λ (p : Parts). finite.get p.state.logs c.args.log) (sym c.self.view_is)
+    ∙ mine.held) ∙ mine.writer in
     let at = c.in-Ok-put.ensures.place mine.log mine.w mine.held mine.writer in
     written_turn _ c.args.self.now c.self.view_is c.args.log c.args.key payload mine _ _ _ _ c.put.ensures.honest c.in-Ok-put.place c.note.new.self
     (c.in-Ok.ensures.ok ∙ ap (finite.insert c.self.inside.places c.args.key) (c.next_place-place.ensures mine.w known ∙ sym at))

@@ -36,5 +36,6 @@ loop-id-preserved g c =
 
 pub returns : goal.returns
 returns g c =
-    all_over settled_as settling (map.from_entries c.self.inside.logs.entries) c.args.self.now (map.from_entries c.loop-id.self-inside.logs.entries) c.args.ids.now
+    all_over settled_as settling (map.from_entries c.self.inside.logs.entries) c.args.self.now
+    (map.from_entries c.loop-id.self-inside.logs.entries) c.args.ids.now
     c.loop-id.id-index c.self.view_is c.loop-id-test.false c.loop-id.invariant c.requires

@@ -14,4 +14,5 @@ returns g c = λ log held.
     let same : c.unwrap.result.now ≡ log = cc in
     changed_at c.self.inside.logs c.args.self.now c.args.id c.self.view_is (c.get_mut.follows.lender c.show.new.self) c.show.new.self
     (c.get_mut.follows.holds c.show.new.self) c.requires
-    ∙ ap (map.insert c.args.self.now c.args.id) (c.show.ensures ∙ ap (with_view (view_of g.V.LogView.bytes g.V.LogView.honest g.V.LogView.sound c.args.view.value)) same)
+    ∙ ap (map.insert c.args.self.now c.args.id)
+    (c.show.ensures ∙ ap (with_view (view_of g.V.LogView.bytes g.V.LogView.honest g.V.LogView.sound c.args.view.value)) same)

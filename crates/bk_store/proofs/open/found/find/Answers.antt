@@ -33,7 +33,8 @@ returns-clause-ok g c =
     subst (λ fs. IsFile fs c.args.id (g.D.View.LogView.bytes c.in-Ok.view)) (c.in_ok-check_file.ensures.files is)
     (c.in-Ok.ensures.turn (c.in_ok-check_file.ensures.honest ∙ is)).0 in
     subst (λ v. IsTaken (g.D.LogDisk.honest c.args.disk.now) files c.args.id c.args.slot
-    (found_log (view_of g.D.View.LogView.bytes g.D.View.LogView.honest g.D.View.LogView.sound v) c.args.slot c.end-end.result) c.args.tally.now c.scan.new.tally)
+    (found_log (view_of g.D.View.LogView.bytes g.D.View.LogView.honest g.D.View.LogView.sound v) c.args.slot c.end-end.result)
+    c.args.tally.now c.scan.new.tally)
     (sym c.in-Ok-new.ensures.ok)
     (log_taken (g.D.LogDisk.honest c.args.disk.now) files c.args.id c.args.slot c.end-end.result
     (view_of g.D.View.LogView.bytes g.D.View.LogView.honest g.D.View.LogView.sound c.in-Ok.view) c.args.tally.now _ c.scan.new.tally

@@ -16,4 +16,5 @@ invariant_of-self c =
 pub returns : goal.returns
 returns c =
     let kept = filter_same _ (λ e. not (e.0.ledger == c.args.ledger)) _ (λ x b f' r. search rules) _ _ c.retain.ensures.filtered in
-    rw kept (sym (retain_keys-sorted key_cmp _ c.self.invariant key_cmp_total key_cmp_antisymmetric _)) ∙ ap (λ m. without_ledger m c.args.ledger) c.self.view_is
+    rw kept (sym (retain_keys-sorted key_cmp _ c.self.invariant key_cmp_total key_cmp_antisymmetric _))
+    ∙ ap (λ m. without_ledger m c.args.ledger) c.self.view_is

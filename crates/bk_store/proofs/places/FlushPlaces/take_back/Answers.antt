@@ -9,4 +9,5 @@ invariant_of-self c = sorted_front key_cmp c.pop.new.self.items _ (subst (λ l. 
 
 pub returns : goal.returns
 returns c = λ earlier key place behind old.
-    taken_back c.self.inside.pairs.items c.pop.new.self.items c.args.self.now earlier key place c.self.invariant c.self.view_is (c.pop.ensures.rest ∙ ap (λ n. take (n - 1) c.self.inside.pairs.items) c.self.inside.pairs.ok.0) behind old
+    taken_back c.self.inside.pairs.items c.pop.new.self.items c.args.self.now earlier key place c.self.invariant c.self.view_is
+    (c.pop.ensures.rest ∙ ap (λ n. take (n - 1) c.self.inside.pairs.items) c.self.inside.pairs.ok.0) behind old

@@ -15,7 +15,8 @@ pub returns-in-Some-number_between-clause-ok : goal.returns-in-Some-number_betwe
 returns-in-Some-number_between-clause-ok c =
     let option = c.args.self.now in
     let some = row_some (found_of c.args.matches.now) option.name.now _ c.in-Some.text c.get_str.ensures c.in-Some.is in
-    subst (λ (value : Option Text). AsksNumber option.default option.least option.most value c.in-Some-number_between.number) (sym some) c.in-Some-number_between.ensures.value
+    subst (λ (value : Option Text). AsksNumber option.default option.least option.most value c.in-Some-number_between.number)
+    (sym some) c.in-Some-number_between.ensures.value
 
 pub returns-in-None-clause-err : goal.returns-in-None-clause-err
 returns-in-None-clause-err c = λ n asks.
