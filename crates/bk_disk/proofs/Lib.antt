@@ -1,4 +1,5 @@
 pub mod Cuts
+pub mod InChunks
 pub mod FileMaps
 pub mod Listings
 pub mod Answered

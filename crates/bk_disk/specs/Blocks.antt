@@ -1,23 +1,34 @@
--- The bytes of a log cut into blocks of one size, of which only the last is not full.
-use Rattle.std.specs.Prelude.{◌≡◌, ℕ, ◌<◌, ◌^◌, List, ◌++◌, length, Vec}
+-- The bytes of a log cut into blocks of one size, and its full blocks into chunks of one size: only the last is not full.
+use Rattle.std.specs.Prelude.{◌≡◌, ℕ, ◌<◌, ◌^◌, List, ◌++◌, length, map, Vec}
 use Rattle.std.specs.Global.{Global}
 use Rattle.std.specs.declared.sync.Arc.{Arc}
-use Rattle.std.specs.List.{All, concat}
-use Rattle.bk_disk.specs.declared.blocks.TheConstants.{BLOCK}
+use Rattle.std.specs.List.{All, flat_map}
 
--- the bytes of a shared block
-abbrev pub bytes_of : Arc (Vec ℕ Global) Global → List ℕ
+-- a block, and a chunk of blocks, that the log shares with its views
+abbrev pub Block : Type 0
+Block = Arc (Vec ℕ Global) Global
+
+abbrev pub Chunk : Type 0
+Chunk = Arc (Vec Block Global) Global
+
+-- the bytes of a block
+abbrev pub bytes_of : Block → List ℕ
 bytes_of block = block.value.items
 
--- the bytes of the full blocks, one after another, and then those of the last
-abbrev pub joined : List (List ℕ) → List ℕ → List ℕ
-joined full last = concat full ++ last
+-- the blocks of a chunk, each as its bytes
+abbrev pub blocks_of : Chunk → List (List ℕ)
+blocks_of chunk = map bytes_of chunk.value.items
 
--- each block but the last is full, and together they have no more bytes than a log may have
-pub record IsCut (full : List (List ℕ)) (last : List ℕ) : Type 0 where
-  pub each : All (λ block. length block ≡ BLOCK) full
-  pub short : length last < BLOCK
-  pub fits : length (joined full last) < 2 ^ 32
+module _ {A : Type 0} where
+  -- what stands in the full pieces, one after another, and then in the last
+  abbrev pub joined : List (List A) → List A → List A
+  joined full last = flat_map (λ piece. piece) full ++ last
+
+  -- each piece but the last has this many, the last fewer, and together they have no more than a log may have bytes
+  pub record IsCut (size : ℕ) (full : List (List A)) (last : List A) : Type 0 where
+    pub each : All (λ piece. length piece ≡ size) full
+    pub short : length last < size
+    pub fits : length (joined full last) < 2 ^ 32
 
 -- the bytes begin with these
 abbrev pub HasPrefix : List ℕ → List ℕ → Type 0

@@ -2,11 +2,13 @@
 //!
 //! Every block but the last is full and never changes in place, so that any number of views may share it; a patch puts
 //! another block in its stead. The last block belongs to the log alone: an append writes in it, and a view copies it.
+//! The list of the full blocks is shared too (`Chunks`).
 
-ghost use Rattle.std.specs.Prelude.{◌≡◌, ◌+◌, ◌-◌, ◌%◌, ◌<◌, ◌≤◌, ◌^◌, [], ◌++◌, length, take, drop, IfOk, OnOk, OnErr};
+ghost use Rattle.std.specs.Prelude.{◌≡◌, ◌+◌, ◌-◌, ◌%◌, ◌<◌, ◌≤◌, ◌^◌, [], ◌++◌, length, map, take, drop, IfOk, OnOk, OnErr};
 ghost use Rattle.std.specs.List.{All};
-ghost use Rattle.bk_disk.specs.Blocks.{HasPrefix};
+ghost use Rattle.bk_disk.specs.Blocks.{bytes_of, joined, IsCut, HasPrefix};
 
+use crate::chunks::{Block, Chunks};
 use std::alloc::{AllocError, Global};
 use std::marker::Model;
 use std::sync::Arc;
@@ -17,19 +19,20 @@ pub(crate) const BLOCK: usize = 65_536;
 /// The bytes of a log, at most 2^32 - 1.
 #[derive(Drop)]
 pub(crate) struct Blocks {
-    full: Vec<Arc<Vec<u8>>>,
+    full: Chunks,
     last: Vec<u8>,
 }
 
 impl Model for Blocks {
-    ghost use Rattle.std.specs.Prelude.{ℕ, List, map};
-    ghost use Rattle.bk_disk.specs.Blocks.{bytes_of, joined, IsCut};
+    ghost use Rattle.std.specs.Prelude.{ℕ, List};
+    ghost use Rattle.bk_disk.specs.Blocks.{joined, IsCut};
+    ghost use Rattle.bk_disk.specs.declared.blocks.TheConstants.{BLOCK};
 
     ghost Value = { List ℕ };
 
-    ghost view = { λ b. joined (map bytes_of b.full.items) b.last.items };
+    ghost view = { λ b. joined b.full b.last.items };
 
-    ghost invariant = { λ b. IsCut (map bytes_of b.full.items) b.last.items };
+    ghost invariant = { λ b. IsCut BLOCK b.full b.last.items };
 }
 
 impl Blocks {
@@ -37,7 +40,7 @@ impl Blocks {
         ensures { result ≡ [] }
     {
         Blocks {
-            full: Vec::new(alloc),
+            full: Chunks::new(alloc),
             last: Vec::new(alloc),
         }
     }
@@ -52,7 +55,7 @@ impl Blocks {
         Ok(blocks)
     }
 
-    #[tactic(auto, using(crate::proofs::Cuts::length_joined))]
+    #[tactic(auto, using(crate::proofs::Cuts::length_blocks))]
     pub(crate) fn len(&self) -> u64
         ensures value { result ≡ length self.now }
         ensures bound { result < 2 ^ 32 }
@@ -64,7 +67,7 @@ impl Blocks {
     pub(crate) fn share(&self) -> Result<Blocks, AllocError>
         ensures { IfOk result (λ copy. copy ≡ self.now) }
     {
-        let full = self.full.clone()?;
+        let full = self.full.share()?;
         let last = Vec::from_slice(*self.last.allocator(), &self.last)?;
         Ok(Blocks { full, last })
     }
@@ -104,31 +107,10 @@ impl Blocks {
         ensures value { HasPrefix (drop at self.now) (drop (at % BLOCK) result.now) }
     {
         if at / BLOCK < self.full.len() {
-            &self.full[at / BLOCK]
+            self.full.block(at / BLOCK)
         } else {
             &self.last
         }
-    }
-
-    /// The bytes of a block that isn't full and then others, cut into blocks.
-    pub(crate) fn cut(alloc: Global, begun: &[u8], bytes: &[u8]) -> Result<Blocks, AllocError>
-        requires short { length begun.now < BLOCK }
-        requires fits { length begun.now + length bytes.now < 2 ^ 32 }
-        ensures { IfOk result (λ blocks. blocks ≡ begun.now ++ bytes.now) }
-    {
-        let mut full = Vec::new(alloc);
-        let mut last = Vec::with_capacity(alloc, BLOCK)?;
-        last.extend_from_slice(begun)?;
-        let mut rest = bytes;
-        while rest.len() >= BLOCK - last.len() {
-            let (head, behind) = rest.split_at(BLOCK - last.len());
-            last.extend_from_slice(head)?;
-            full.push(Arc::new(alloc, last)?)?;
-            last = Vec::with_capacity(alloc, BLOCK)?;
-            rest = behind;
-        }
-        last.extend_from_slice(rest)?;
-        Ok(Blocks { full, last })
     }
 
     pub(crate) fn append(&mut self, bytes: &[u8]) -> Result<(), AllocError>
@@ -139,8 +121,8 @@ impl Blocks {
         if bytes.len() < BLOCK - self.last.len() {
             return self.last.extend_from_slice(bytes);
         }
-        let Blocks { mut full, last } = Blocks::cut(*self.last.allocator(), &self.last, bytes)?;
-        self.full.append(&mut full)?;
+        let (full, last) = cut(*self.last.allocator(), &self.last, bytes)?;
+        self.full.append(full)?;
         self.last = last;
         Ok(())
     }
@@ -150,15 +132,37 @@ impl Blocks {
         ensures ok { OnOk result (self.new ≡ take 8 self.old ++ bytes.now ++ drop 20 self.old) }
         ensures err { OnErr result (self.new ≡ self.old) }
     {
-        if self.full.is_empty() {
+        if self.full.len() == 0 {
             self.last[8..20].copy_from_slice(bytes);
             return Ok(());
         }
         let alloc = *self.last.allocator();
-        let first = patched(alloc, &self.full[0], bytes)?;
-        self.full[0] = Arc::new(alloc, first)?;
+        let first = patched(alloc, self.full.block(0), bytes)?;
+        self.full.replace_first(Arc::new(alloc, first)?)?;
         Ok(())
     }
+}
+
+// The bytes of a block that isn't full and then others, cut into full blocks and the bytes of one that isn't.
+fn cut(alloc: Global, begun: &[u8], bytes: &[u8]) -> Result<(Vec<Block>, Vec<u8>), AllocError>
+    requires short { length begun.now < BLOCK }
+    requires fits { length begun.now + length bytes.now < 2 ^ 32 }
+    ensures cut { IfOk result (λ made. IsCut BLOCK (map bytes_of made.0.items) made.1.items) }
+    ensures whole { IfOk result (λ made. joined (map bytes_of made.0.items) made.1.items ≡ begun.now ++ bytes.now) }
+{
+    let mut full = Vec::new(alloc);
+    let mut last = Vec::with_capacity(alloc, BLOCK)?;
+    last.extend_from_slice(begun)?;
+    let mut rest = bytes;
+    while rest.len() >= BLOCK - last.len() {
+        let (head, behind) = rest.split_at(BLOCK - last.len());
+        last.extend_from_slice(head)?;
+        full.push(Arc::new(alloc, last)?)?;
+        last = Vec::with_capacity(alloc, BLOCK)?;
+        rest = behind;
+    }
+    last.extend_from_slice(rest)?;
+    Ok((full, last))
 }
 
 // A copy of a block with other bytes at 8 to 20.

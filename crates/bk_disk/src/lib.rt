@@ -2,6 +2,7 @@
 #![tactic(auto)]
 
 mod blocks;
+mod chunks;
 mod countdown;
 mod dir_disk;
 mod dir_view;

@@ -1,7 +1,7 @@
 use Rattle.std.proofs.Common.{◌≡◌, ◌<◌, ◌++◌, length, map}
 use Rattle.std.specs.List.{All}
 use Rattle.bk_disk.specs.Blocks.{bytes_of, joined}
-use Rattle.bk_disk.proofs.blocks.Blocks.cut.Given as goal
+use Rattle.bk_disk.proofs.blocks.cut.Given as goal
 
 abbrev pub invariant-loop-rest : goal.invariant-loop-rest
 invariant-loop-rest l = record {

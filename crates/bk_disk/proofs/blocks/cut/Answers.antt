@@ -2,7 +2,7 @@ use Rattle.bk_disk.specs.Blocks.{bytes_of}
 use Rattle.std.proofs.Common.{◌≡◌, ◌++◌, [], ◌∷◌, length, ap, ◌∙◌, refl, arith, length-append, take-append-drop}
 use Rattle.std.proofs.lemmas.List.Elements.{All-nil}
 use Rattle.bk_disk.proofs.Cuts.{each_push, joined_push}
-use Rattle.bk_disk.proofs.blocks.Blocks.cut.Goals as goal
+use Rattle.bk_disk.proofs.blocks.cut.Goals as goal
 
 pub loop-rest-init : goal.loop-rest-init
 loop-rest-init c =
