@@ -22,7 +22,7 @@ impl Model for FlushPlaces {
     ghost use Rattle.std.specs.Prelude.{IsTrue};
     ghost use Rattle.std.specs.FinMap as map;
     ghost use Rattle.bk_record.specs.Key.{key_cmp};
-    ghost use Rattle.bk_record.specs.Keyed.{places_code};
+    ghost use Rattle.bk_record.specs.Keyed.{Places, places_code};
 
     ghost Value = { Places };
 
