@@ -9,8 +9,6 @@ mod rebuilding;
 mod removing;
 mod retiring;
 mod scanning;
-#[cfg(test)]
-mod tests;
 
 pub use answer::{CloseAnswer, CollectFault, RemoveAnswer, RetireAnswer};
 pub use closing::close;

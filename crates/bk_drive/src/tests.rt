@@ -12,6 +12,7 @@ use bk_record::Key;
 use std::alloc::{AllocError, Global};
 use std::test::Fail;
 
+mod calls;
 mod collecting;
 mod compacting;
 mod compaction_series;
@@ -40,7 +41,7 @@ const HELLO: [u8; 21] = [
 ];
 
 /// A step to be taken.
-#[derive(Clone, Copy, Debug)]
+#[derive(Clone, Copy)]
 enum Plan {
     /// An add of `hello` as entry 0 of ledger 1.
     Hello,

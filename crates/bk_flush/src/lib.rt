@@ -7,8 +7,6 @@ mod faults;
 mod publication;
 mod ready;
 mod sealing;
-#[cfg(test)]
-mod tests;
 mod writing;
 
 pub use answer::{FlushFault, PublishAnswer, RollAnswer, WriteAnswer};

@@ -24,8 +24,6 @@ mod settings;
 mod showing;
 mod states;
 mod store;
-#[cfg(test)]
-mod tests;
 mod writing;
 
 pub use answer::{

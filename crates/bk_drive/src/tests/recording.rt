@@ -10,7 +10,7 @@ use std::alloc::Global;
 use std::test::Fail;
 
 /// A call on a disk, with the log that it is for.
-#[derive(Clone, Copy, Debug, PartialEq, Eq)]
+#[derive(Clone, Copy, PartialEq, Eq)]
 enum Call {
     List,
     Length(u32),
@@ -24,7 +24,7 @@ enum Call {
 }
 
 /// A call, and the bytes that it was to write.
-#[derive(Debug, Drop)]
+#[derive(Drop)]
 struct Noted {
     call: Call,
     bytes: Vec<u8>,

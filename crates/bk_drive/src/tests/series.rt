@@ -29,11 +29,12 @@ const SEALED: Found = (
 \0\0\0\0\0\0\0\x01\0\0\0\0\0\0\0\x15\0\0\0\0\0\0\0\x02\0\0\0\0\0\0\0\x15",
 );
 
-/// Entry 0 of ledger 3, and a torn record.
+/// Entry 0 of ledger 3, and 20 bytes of a record of 21.
 const TORN: Found = (
     1,
     &[0; 12],
-    b"\0\0\0\x11\0\0\0\0\0\0\0\x03\0\0\0\0\0\0\0\0c\0\0\0\x11\0\0\0\0\0\0\0\x02",
+    b"\0\0\0\x11\0\0\0\0\0\0\0\x03\0\0\0\0\0\0\0\0c\
+\0\0\0\x11\0\0\0\0\0\0\0\x02\0\0\0\0\0\0\0\0",
 );
 
 /// Entry 0 of ledger 1 once more, with other bytes, and of ledger 4, which is dead.
