@@ -1,7 +1,7 @@
 //! A log of more than 16 MiB, and hundreds of logs.
 
 use super::table::{Call, Want, check};
-use crate::{LogDisk, LogView, MemDisk};
+use crate::{DiskFault, LogDisk, LogView, MemDisk, MemView};
 use std::alloc::Global;
 use std::process::Abort;
 
@@ -50,6 +50,38 @@ fn a_log_of_twenty_million_bytes(rt: HostRuntime) {
     let mut read = [0u8; 2];
     assert_eq!(rt; early.read_into(19_000_018, &mut read), Ok(()));
     assert_eq!(rt; read, [18, 19]);
+}
+
+// A view has these two bytes at a position.
+fn check_view(rt: &impl Abort, view: &MemView, at: u64, want: [u8; 2]) {
+    let mut read = [0u8; 2];
+    assert_eq!(rt; view.read_into(at, &mut read), Ok(()));
+    assert_eq!(rt; read, want);
+}
+
+#[test]
+fn a_view_of_hundreds_of_blocks_stays(rt: HostRuntime) {
+    let alloc = rt.alloc();
+    let mut disk = MemDisk::new(alloc);
+    check(&rt, alloc, &mut disk, &[(Call::Create(7), Want::Done)]);
+    for number in 0..17u8 {
+        append_piece(&rt, alloc, &mut disk, number, PIECE);
+    }
+    let early = disk.view(alloc, 7).expect(&rt, "a view");
+    let patch = [(Call::Patch(7, b"twelve bytes"), Want::Done)];
+    check(&rt, alloc, &mut disk, &patch);
+    for number in 17..35u8 {
+        append_piece(&rt, alloc, &mut disk, number, PIECE);
+        check_border(&rt, alloc, &mut disk, number);
+    }
+    assert_eq!(rt; disk.length(alloc, 7), Ok(35 * PIECE));
+    assert_eq!(rt; early.end(), 17 * PIECE);
+    check_view(&rt, &early, 1024, [0, 0]);
+    check_view(&rt, &early, PIECE - 1, [0, 1]);
+    check_view(&rt, &early, 256 * 65_536 - 1, [16, 16]);
+    check_view(&rt, &early, 17 * PIECE - 2, [16, 16]);
+    let past = early.read_into(17 * PIECE - 1, &mut [0u8; 2]);
+    assert_eq!(rt; past, Err(DiskFault::PastEnd));
 }
 
 // Makes a log of an id up to two thousand million, with two bytes.

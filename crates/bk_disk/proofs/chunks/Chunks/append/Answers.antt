@@ -1,4 +1,4 @@
-use Rattle.std.proofs.Common.{◌≡◌, ◌++◌, ◌∙◌, ap, map, length, arith}
+use Rattle.std.proofs.Common.{◌≡◌, ◌++◌, ◌∙◌, ap, map, arith}
 use Rattle.std.proofs.lemmas.List.{length-map, map-append}
 use Rattle.bk_disk.specs.Blocks.{bytes_of, blocks_of, joined, IsCut}
 use Rattle.bk_disk.proofs.Cuts.{appended, map_clones}

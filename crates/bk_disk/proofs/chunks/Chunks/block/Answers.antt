@@ -1,5 +1,5 @@
-use Rattle.std.proofs.Common.{◌≡◌, ◌/◌, ◌%◌, length, get_or, ◌∙◌, ap, arith}
-use Rattle.bk_disk.specs.Blocks.{Block, Chunk, bytes_of, blocks_of}
+use Rattle.std.proofs.Common.{◌≡◌, ◌/◌, ◌%◌, get_or, ◌∙◌, ap, arith}
+use Rattle.bk_disk.specs.Blocks.{Block, Chunk}
 use Rattle.bk_disk.proofs.InChunks.{length_chunks, length_chunk, block_of_full, block_of_last}
 use Rattle.bk_disk.proofs.chunks.Chunks.block.Goals as goal
 
