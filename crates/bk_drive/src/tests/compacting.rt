@@ -3,10 +3,10 @@
 
 use super::collecting::two_logs;
 use super::{PUBLISH, Plan, ROLL, SETTINGS, SWAP, Told, WRITE, first_other, step_of};
-use crate::{Answer, CollectFault, CompactFault, Kind, Ran, Settings, Work, drive};
+use crate::{Answer, CollectFault, CompactFault, Kind, Ran, Settings, Step, Work, drive};
 use bk_disk::{FaultDisk, MemDisk};
 use bk_log::FetchFault;
-use std::alloc::Global;
+use std::alloc::{AllocError, Global};
 use std::test::Fail;
 
 const MINOR: Plan = Plan::Do(Work::Begin(Kind::Minor));
@@ -136,6 +136,28 @@ fn sound(disk: MemDisk) -> FaultDisk<MemDisk> {
     FaultDisk::new(disk, 0, 0)
 }
 
+/// The steps of these parts.
+fn steps_of_parts(alloc: Global, parts: &[Part]) -> Result<Vec<Step>, AllocError> {
+    let mut steps = Vec::new(alloc);
+    for part in parts {
+        for (plan, _) in *part {
+            steps.push(step_of(alloc, *plan)?)?;
+        }
+    }
+    Ok(steps)
+}
+
+/// What they are to tell.
+fn told_of_parts(alloc: Global, parts: &[Part]) -> Result<Vec<Told>, AllocError> {
+    let mut told = Vec::new(alloc);
+    for part in parts {
+        for (_, expected) in *part {
+            told.push(*expected)?;
+        }
+    }
+    Ok(told)
+}
+
 /// The answers of a run of these parts, with ledger 4 dead, and what they are to tell.
 fn answers_of(
     alloc: Global,
@@ -143,14 +165,8 @@ fn answers_of(
     settings: Settings,
     parts: &[Part],
 ) -> Result<(Vec<Answer>, Vec<Told>), Fail> {
-    let mut steps = Vec::new(alloc);
-    let mut told = Vec::new(alloc);
-    for part in parts {
-        for (plan, expected) in *part {
-            steps.push(step_of(alloc, *plan)?)?;
-            told.push(*expected)?;
-        }
-    }
+    let steps = steps_of_parts(alloc, parts)?;
+    let told = told_of_parts(alloc, parts)?;
     let Ran { answers, .. } = drive(alloc, disk, settings, &[4], &steps)?;
     Ok((answers, told))
 }
