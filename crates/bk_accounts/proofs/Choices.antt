@@ -17,7 +17,7 @@ IsLowest total remaining threshold seen None = NoneBelow total remaining thresho
 IsLowest total remaining threshold seen (Some usage) =
     IsChoice total remaining threshold seen usage.log × (usage.total ≡ total usage.log) × (usage.remaining ≡ remaining usage.log)
 
-only : (log other : ℕ) → Contains (log ∷ []) other → log ≡ other
+pub only : (log other : ℕ) → Contains (log ∷ []) other → log ≡ other
 only log other (zero, within, is) = is
 only log other (suc k, within, is) = absurd (omega arith)
 

@@ -30,7 +30,7 @@ both_eq Less s = refl
 both_eq Equal s = refl
 both_eq Greater s = refl
 
-swapped : (a b : ℕ) → (a == b) ≡ (b == a)
+pub swapped : (a b : ℕ) → (a == b) ≡ (b == a)
 swapped a b = sym (unsigned_tied a b) ∙ (eq_by_cmp_equiv nat_cmp_total).symm a b ∙ unsigned_tied b a
 
 -- two rooms tie where both ids do

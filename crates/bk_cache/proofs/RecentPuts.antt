@@ -12,6 +12,7 @@ use Rattle.lru.proofs.Pairs.{lookup-lookup_entry}
 use Rattle.bk_record.specs.Key.{EntryKey}
 use Rattle.bk_cache.specs.Recents.{Recents, same_key, recent_of, remembered}
 use Rattle.bk_cache.proofs.Seen.{seen}
+use Rattle.bk_cache.proofs.Options.{is_some-option_map}
 
 -- keys that compare alike are one
 pub same_key_exact : (a b : EntryKey) → same_key a b ≡ true → a ≡ b
@@ -23,10 +24,6 @@ same_key_exact a b same =
 
 pub same_key-refl : (key : EntryKey) → same_key key key ≡ true
 same_key-refl key = rw (eq-eqb key.ledger key.ledger refl, eq-eqb key.entry key.entry refl)
-
-is_some-option_map : {A B : Type 0} (f : A → B) (o : Option A) → is_some (option_map f o) ≡ is_some o
-is_some-option_map f None = refl
-is_some-option_map f (Some x) = refl
 
 module _ {K X Y : Type 0} (f : X → Y) where
   remove_entry-seen : (test : K → Bool) (es : List (K × X)) → remove_entry test (seen f es) ≡ seen f (remove_entry test es)

@@ -41,9 +41,13 @@ used_of m = sum_by length (map.values m)
 abbrev pub IsFull : CacheState → List ℕ → Type 0
 IsFull s payload = s.limit < used_of s.active + length payload
 
--- what the running flush writes, nothing where none runs
+-- what a flush writes, nothing where none runs
+abbrev pub entries_of_flush : Option Payloads → Payloads
+entries_of_flush flush = unwrap_or flush map.empty
+
+-- what the running flush writes
 abbrev pub flush_of : CacheState → Payloads
-flush_of s = unwrap_or s.flush map.empty
+flush_of s = entries_of_flush s.flush
 
 -- the payload that one of the two write caches has for the key
 abbrev pub held : CacheState → EntryKey → Option (List ℕ)

@@ -1,6 +1,6 @@
 -- The entries of one log, taken into an index as a scan gives them.
 use Rattle.std.proofs.Common.{◌≡◌, ◌⊎◌, inl, inr, ℕ, zero, suc, ◌+◌, ◌-◌, ◌≤◌, true, false, IsTrue, if◌then◌else◌, List, [], ◌∷◌, ◌++◌}
-use Rattle.std.proofs.Common.{length, take, drop, Some, None, Ok, slice_get, sym, ap, ◌∙◌, arith, length-drop}
+use Rattle.std.proofs.Common.{length, take, drop, Some, None, Ok, slice_get, sym, ap, ◌∙◌, arith}
 use Rattle.std.proofs.lemmas.List.{take_all}
 use Rattle.std.proofs.lemmas.Option.{same_Some}
 use Rattle.std.specs.FinMap as finite
@@ -15,8 +15,9 @@ use Rattle.bk_log.specs.declared.found.Found.{Found}
 use Rattle.bk_log.specs.Ranges.{entries_in, part}
 use Rattle.bk_log.specs.Scanned.{new_scan}
 use Rattle.bk_log.specs.Scanning.{Scan, part_of, NextMoves, NextTurn}
-use Rattle.bk_log.proofs.Ranges.{entries_in-file}
+use Rattle.bk_log.proofs.Ranges.{entries_in-file, whole_view}
 use Rattle.bk_record.specs.Keyed.{Places}
+use Rattle.bk_record.proofs.Growth.{take_next}
 use Rattle.bk_store.specs.Logs.{View}
 use Rattle.bk_store.proofs.KeyMaps.{inserted_cases}
 use Rattle.bk_collect.specs.Taking.{with_key, with_record_at, with_records, TakesIn}
@@ -42,12 +43,6 @@ sent_on dead index key place k p is =
         | inr old ↦ inl old.1
       ]
     ] is
-
-take_next : {X : Type 0} (xs : List X) (n : ℕ) (x : X) → slice_get xs n ≡ Some x → take (n + 1) xs ≡ take n xs ++ x ∷ []
-take_next [] n x is = cc
-take_next (y ∷ ys) zero x is = let same : y ≡ x = same_Some y x is in ap (λ z. z ∷ []) same
-take_next (y ∷ ys) (suc n) x is =
-    let one : suc n + 1 ≡ suc (n + 1) = omega arith in ap (λ k. take k (y ∷ ys)) one ∙ ap (λ l. y ∷ l) (take_next ys n x is)
 
 slice_get-In : {X : Type 0} (xs : List X) (n : ℕ) (x : X) → slice_get xs n ≡ Some x → In x xs
 slice_get-In [] n x is = cc
@@ -80,13 +75,9 @@ taking_starts dead log end view old s is = record {
       ap (λ n. with_records dead log old (take n (entries_of view.bytes))) (sym none);
 }
 
--- the part of a view that is scanned to its end is all behind the header
-whole_part : (file : List ℕ) (end : ℕ) → end ≡ view_end file → part file header_length end ≡ drop header_length file
-whole_part file end is = take_all (end - header_length) (drop header_length file) (omega (arith, is, length-drop header_length file))
-
 module _ {dead : Ledgers} {log end : ℕ} {view : View} {old : Places} {s : Scan} {now : Places} (so_far : IsTaking dead log end view old s now) where
   pub scan_part : end ≡ view_end view.bytes → part_of s ≡ drop header_length view.bytes
-  scan_part whole = (λ i. part (so_far.bytes i) (so_far.from i) (so_far.to i)) ∙ whole_part view.bytes end whole
+  scan_part whole = (λ i. part (so_far.bytes i) (so_far.from i) (so_far.to i)) ∙ whole_view view.bytes end whole
 
   scan_entries : end ≡ view_end view.bytes → entries_in s.from (part_of s) ≡ entries_of view.bytes
   scan_entries whole = (λ i. entries_in (so_far.from i) (scan_part whole i)) ∙ entries_in-file view.bytes

@@ -1,20 +1,19 @@
 -- What a store keeps of the views that a rebuild reads, and why one is refused.
-use Rattle.std.proofs.Common.{◌≡◌, ℕ, zero, suc, ◌<◌, ◌^◌, Bool, true, false, not, if◌then◌else◌, IsTrue, List, [], ◌∷◌}
+use Rattle.std.proofs.Common.{◌≡◌, ℕ, ◌<◌, ◌^◌, Bool, true, false, not, if◌then◌else◌, IsTrue, List, []}
 use Rattle.std.proofs.Common.{Option, Some, None, Ok, Err, unwrap_or, refl, sym, ap, subst, ◌∙◌, arith}
 use Rattle.std.specs.Option.{option_map_or, option_and_then}
-use Rattle.std.specs.List.{All}
-use Rattle.std.proofs.lemmas.List.Elements.{All-head, All-tail}
 use Rattle.std.proofs.lemmas.Option.{none-some}
 use Rattle.std.specs.FinMap as finite
+use Rattle.std.proofs.lemmas.Bool.{false_from_ne_true}
 use Rattle.bk_record.specs.Key.{EntryKey}
 use Rattle.bk_record.specs.Location.{Place}
 use Rattle.bk_record.specs.Record.{key_of, is_foreign}
 use Rattle.bk_record.specs.Body.{IsBadAt}
 use Rattle.bk_record.specs.Files.{file_of, header_length, records_of, In}
 use Rattle.bk_record.specs.Scan.{Ledgers, entries_of}
-use Rattle.bk_record.specs.Spelling.{IsBytes}
 use Rattle.bk_record.proofs.Entries.{filter-In}
 use Rattle.bk_record.specs.Keyed.{Places}
+use Rattle.bk_record.proofs.Records.{each_byte}
 use Rattle.bk_disk.specs.Disk.{AreLogFiles, view_end}
 use Rattle.bk_log.specs.Growing.{HasNoBadLength}
 use Rattle.bk_log.specs.declared.found.Found.{Found}
@@ -35,15 +34,6 @@ use Rattle.bk_collect.specs.Taking.{EntryFails, collect_fault_of}
 use Rattle.bk_collect.specs.declared.answer.CollectFault.{CollectFault}
 use Rattle.bk_collect.specs.declared.answer.CollectFault.TheVariants as faults
 use Rattle.bk_collect.proofs.Taking.{IsTaking, scan_part, scan_honest, next_stands}
-
-each_byte : (bytes : List ℕ) → All (λ b. b < 2 ^ 8) bytes → IsBytes bytes
-each_byte [] all i = omega arith
-each_byte (b ∷ bytes) all zero = All-head (λ x. x < 2 ^ 8) b bytes all
-each_byte (b ∷ bytes) all (suc i) = each_byte bytes (All-tail (λ x. x < 2 ^ 8) b bytes all) i
-
-not_true : (b : Bool) → (IsTrue b → ⊥) → b ≡ false
-not_true true never = absurd (never refl)
-not_true false never = refl
 
 -- ---- a log that keys may be sent to, and its view
 
@@ -129,7 +119,7 @@ module _ (s : State) (kept : IsKept s) (id : ℕ) (view : View) (shown : open_vi
 module _ (s : State) (kept : IsKept s) (id : ℕ) (view : View) (shown : open_view s.logs id ≡ Some view) where
   -- what an honest view never answers
   pub never_honest : (IsTrue view.is_honest → ⊥) → s.honest ≡ false
-  never_honest never = not_true s.honest (λ honest. never (view_honest s kept id view shown honest))
+  never_honest never = false_from_ne_true s.honest (λ honest. never (view_honest s kept id view shown honest))
 
   module _ {dead : Ledgers} {end : ℕ} {old : Places} {scan : Scan} {now : Places} (so_far : IsTaking dead id end view old scan now)
       (whole : IsTrue view.is_honest → end ≡ view_end view.bytes) where
@@ -147,7 +137,7 @@ module _ (s : State) (kept : IsKept s) (id : ℕ) (view : View) (shown : open_vi
 
     pub scan_refused : (fault : ScanFault) (scan' : Scan) → NextMoves scan (Err fault) scan' → (IsTrue scan.honest → NextTurn scan (Err fault) scan')
         → (fault ≡ scans.Disk → scan.sound ≡ false) → RebuildFails s (collect_fault_of id fault)
-    scan_refused (scans.BadLength at value) scan' moves turn cause = not_true s.honest (no_bad scan' at value moves turn)
+    scan_refused (scans.BadLength at value) scan' moves turn cause = false_from_ne_true s.honest (no_bad scan' at value moves turn)
     scan_refused scans.Disk scan' moves turn cause = (id, (view, shown, sym so_far.sound ∙ cause refl))
     scan_refused scans.Memory scan' moves turn cause = tt
     scan_refused scans.Odd scan' moves turn cause = never_honest (λ is. turn (scan_honest so_far is))
@@ -159,7 +149,7 @@ module _ (s : State) (kept : IsKept s) (id : ℕ) (view : View) (shown : open_vi
     entry_refused found scan' moves turn files faults.Disk never = absurd never
     entry_refused found scan' moves turn files faults.Memory fails = tt
     entry_refused found scan' moves turn files (faults.Log log cause) never = absurd never
-    entry_refused found scan' moves turn files faults.Odd far = not_true s.honest (λ honest.
+    entry_refused found scan' moves turn files faults.Odd far = false_from_ne_true s.honest (λ honest.
         let is = view_honest s kept id view shown honest in
         let given = turn (scan_honest so_far is) in
         let near = entry_near s kept id view shown honest (files honest) found.at given.payload found.key

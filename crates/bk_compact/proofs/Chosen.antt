@@ -1,13 +1,13 @@
 -- The choice among the logs that were looked at, and one more.
-use Rattle.std.proofs.Common.{◌≡◌, ◌⊎◌, inl, inr, ℕ, zero, suc, ◌+◌, ◌*◌, ◌<◌, ◌≤◌, ◌↔◌, Bool, true, false, IsTrue, if◌then◌else◌, List, []}
-use Rattle.std.proofs.Common.{◌∷◌, ◌++◌, Option, Some, None, IsSome, IfSome, is_some, refl, sym, ap, subst, ◌∙◌, arith}
+use Rattle.std.proofs.Common.{◌≡◌, ◌⊎◌, inl, inr, ℕ, zero, suc, ◌+◌, ◌*◌, ◌<◌, ◌≤◌, true, false, IsTrue, List, []}
+use Rattle.std.proofs.Common.{◌∷◌, ◌++◌, Option, Some, None, IsSome, IfSome, is_some, refl, sym, ap, subst, arith}
 use Rattle.std.proofs.lemmas.Bool.{cases_lt}
 use Rattle.std.proofs.Math.Decide.{dec_le}
 use Rattle.std.specs.List.{Contains}
 use Rattle.std.proofs.lemmas.List.Elements.{Contains-append_left, Contains-append_right, Contains-append_cases}
 use Rattle.std.specs.FinMap as finite
 use Rattle.bk_accounts.specs.Choice.{IsBelow, IsChoice, NoneBelow}
-use Rattle.bk_accounts.proofs.Choices.{taken_first, taken, kept}
+use Rattle.bk_accounts.proofs.Choices.{only, taken_first, taken, kept}
 use Rattle.bk_store.specs.Logs.{IsNextHeld}
 use Rattle.bk_store.specs.State.{State}
 use Rattle.bk_store.specs.Copying.{IsLeastUsed, log_bytes, live_log_bytes}
@@ -15,10 +15,6 @@ use Rattle.bk_compact.specs.Compacting.{Chooses, IsCandidate}
 use Rattle.bk_compact.specs.Going.{IsBetter, IsChoosing}
 
 -- ---- lists of one or two
-
-only : (log other : ℕ) → Contains (log ∷ []) other → log ≡ other
-only log other (zero, within, is) = is
-only log other (suc k, within, is) = absurd (omega arith)
 
 either : (best log other : ℕ) → Contains (best ∷ log ∷ []) other → (best ≡ other) ⊎ (log ≡ other)
 either best log other (zero, within, is) = inl is

@@ -1,5 +1,5 @@
 -- A job that is out of the store goes on by an entry, and keeps what a job keeps.
-use Rattle.std.proofs.Common.{◌≡◌, ◌≢◌, ◌⊎◌, inl, inr, ℕ, zero, suc, ◌+◌, ◌-◌, ◌<◌, ◌≤◌, ◌^◌, Bool, true, false, IsTrue, List, [], ◌∷◌, ◌++◌}
+use Rattle.std.proofs.Common.{◌≡◌, ◌≢◌, ◌⊎◌, inl, inr, ℕ, zero, suc, ◌+◌, ◌-◌, ◌<◌, ◌≤◌, ◌^◌, true, false, IsTrue, List, [], ◌∷◌, ◌++◌}
 use Rattle.std.proofs.Common.{length, Option, Some, None, Result, Ok, Err, unwrap_or, refl, sym, ap, subst, ◌∙◌, arith}
 use Rattle.std.specs.Option.{option_and_then}
 use Rattle.std.proofs.lemmas.Option.{same_Some}
@@ -10,7 +10,6 @@ use Rattle.bk_record.specs.Record.{key_of, record_of}
 use Rattle.bk_record.specs.Files.{Files, file_of, header_length, records_of, In}
 use Rattle.bk_record.proofs.Growth.{In-append_left, In-append_right, In-append_cases}
 use Rattle.bk_record.proofs.Places.{same_place}
-use Rattle.bk_record.proofs.SortedPairs.{Some-same}
 use Rattle.bk_log.specs.Growing.{Gains, put_record}
 use Rattle.bk_log.specs.Places.{HasEntryAt, FetchFails}
 use Rattle.bk_log.specs.declared.fault.FetchFault.{FetchFault}
@@ -32,9 +31,9 @@ use Rattle.bk_store.specs.Entries.{HasEntry}
 use Rattle.bk_store.specs.Logs.{Log, Logs, View, is_written, open_parts, last_view}
 use Rattle.bk_store.specs.State.{State}
 use Rattle.bk_store.specs.Jobs.{Job, with_move, Waits}
-use Rattle.bk_store.specs.JobKept.{IsJob, IsCopied, IsMoveOf, IsReadTo, entries_from, copied_in, copy_state}
+use Rattle.bk_store.specs.JobKept.{IsJob, IsReadTo, copied_in, copy_state}
 use Rattle.bk_store.specs.Putting.{next_place, grown_log}
-use Rattle.bk_store.specs.Doors.{IsIn, IsWriter, CanTake, IsIdle, PutTurn, SetTurn, with_log, writer_of}
+use Rattle.bk_store.specs.Doors.{IsIn, CanTake, PutTurn, SetTurn, writer_of}
 use Rattle.bk_store.specs.Copying.{MayCopy}
 use Rattle.bk_store.specs.Plain.{IsKept}
 use Rattle.bk_store.specs.declared.job.Move.{Move}
@@ -44,13 +43,14 @@ use Rattle.bk_store.specs.declared.log.LogState.TheVariants.{Copying, Readable}
 use Rattle.bk_store.proofs.Cases.{some_value, same_or_apart}
 use Rattle.bk_store.proofs.Growing.{entry_same}
 use Rattle.bk_store.proofs.LogMaps.{log-inserted, log-insert_else}
-use Rattle.bk_store.proofs.JobStays.{job_stays, stays_same, part_same, view_same, in_same}
+use Rattle.bk_store.proofs.JobStays.{part_same, view_same, in_same}
 use Rattle.bk_compact.specs.declared.entries.Stopped.{Stopped}
 use Rattle.bk_compact.specs.declared.entries.Stopped.TheVariants as stops
-use Rattle.bk_compact.specs.Compacting.{Copies, Examines, behind, entries_left, place_of}
-use Rattle.bk_compact.specs.Going.{CopiesEntry, IsAhead, IsCopying, IsEntry, IsNextFound, IsOut, StopsAt, told_put}
-use Rattle.bk_compact.proofs.Stored.{dishonest, kept_backed, kept_headed, kept_held, kept_ids, kept_shows}
+use Rattle.bk_compact.specs.Compacting.{Copies, Examines, behind, place_of}
+use Rattle.bk_compact.specs.Going.{CopiesEntry, IsAhead, IsCopying, IsEntry, StopsAt, told_put}
+use Rattle.bk_compact.proofs.Stored.{kept_backed, kept_headed, kept_held, kept_ids, kept_shows}
 use Rattle.bk_compact.proofs.Stored.{named_ahead, next_entry, source_bytes, source_honest, behind_is}
+use Rattle.std.proofs.lemmas.Bool.{false_from_ne_true}
 
 -- ---- the copy and its writer
 
@@ -165,13 +165,13 @@ module _ (s : State) (kept : IsKept s) (job : Job) (is : IsCopying s job) (found
   -- a fetch that finds no such record, or an odd one, is of a disk that is not honest
   pub never_missing : (fault : FetchFault) → (IsTrue view.is_honest → FetchFails view.bytes from_place.at found.key fault)
       → (fault ≡ fetches.NotThere) ⊎ (fault ≡ fetches.Odd) → s.honest ≡ false
-  never_missing fetches.NotThere fails is_so = dishonest s.honest (λ honest.
+  never_missing fetches.NotThere fails is_so = false_from_ne_true s.honest (λ honest.
       let next = ahead.next honest in
       let here : HasEntryAt view.bytes found.at found.key next.payload =
       subst (λ (b : List ℕ). HasEntryAt b found.at found.key next.payload) whole next.stands in
       fails (source_honest s kept job is.out.keeps view last honest) next.payload
       (subst (λ n. HasEntryAt view.bytes n found.key next.payload) (sym (ap (λ (p : Place). p.at) place)) here))
-  never_missing fetches.Odd fails is_so = dishonest s.honest (λ honest. fails (source_honest s kept job is.out.keeps view last honest))
+  never_missing fetches.Odd fails is_so = false_from_ne_true s.honest (λ honest. fails (source_honest s kept job is.out.keeps view last honest))
   never_missing fetches.Disk fails is_so = absurd (elim is_so [ inl wrong ↦ other wrong | inr wrong ↦ another wrong ])
     where
       other : fetches.Disk ≡ fetches.NotThere → ⊥

@@ -1,13 +1,13 @@
 -- The entries of a log from a position on, at which whole records end.
-use Rattle.std.proofs.Common.{◌≡◌, ◌⊎◌, inl, inr, ℕ, zero, suc, ◌+◌, ◌-◌, ◌<◌, ◌≤◌, ℤ, Bool, true, false, cond, not, max}
-use Rattle.std.proofs.Common.{Option, List, [], ◌∷◌, ◌++◌, length, take, drop, Some, is_some, slice_get}
+use Rattle.std.proofs.Common.{◌≡◌, inl, inr, ℕ, zero, suc, ◌+◌, ◌-◌, ◌<◌, ◌≤◌, ℤ, Bool, not}
+use Rattle.std.proofs.Common.{Option, List, [], ◌∷◌, ◌++◌, length, drop, Some, is_some, slice_get}
 use Rattle.std.proofs.Common.{refl, sym, ap, ◌∙◌, subst, arith, length-append, length-drop, length-take, append_assoc}
 use Rattle.std.proofs.lemmas.List.{take_all}
 use Rattle.std.proofs.lemmas.Option.{same_Some}
 use Rattle.std.specs.List.{filter}
 use Rattle.bk_record.specs.Key.{EntryKey}
-use Rattle.bk_record.specs.Record.{key_of, is_foreign, record_of, length_field}
-use Rattle.bk_record.specs.Body.{Body, IsBadAt, pieces, starts_with_record}
+use Rattle.bk_record.specs.Record.{key_of, is_foreign, record_of}
+use Rattle.bk_record.specs.Body.{Body, IsBadAt}
 use Rattle.bk_record.specs.Body.Body.{done, more, torn}
 use Rattle.bk_record.specs.Files.{header_length, records_of, In}
 use Rattle.bk_record.specs.Spelling.{all_pieces}
@@ -15,9 +15,10 @@ use Rattle.bk_record.proofs.Records.{length-record_of}
 use Rattle.bk_record.proofs.Bodies.{body_append}
 use Rattle.bk_record.proofs.Entries.{In-filter, filter-In}
 use Rattle.bk_record.proofs.Growth.{In-append_cases}
+use Rattle.bk_record.proofs.Orders.{pieces_behind}
 use Rattle.bk_disk.specs.Disk.{view_end}
 use Rattle.bk_log.specs.Growing.{HasNoBadLength}
-use Rattle.bk_log.specs.Ranges.{IsPassed, GoesOn, entries_in, part}
+use Rattle.bk_log.specs.Ranges.{IsPassed, entries_in, part}
 use Rattle.bk_log.proofs.Ranges.{all_pieces-behind, all_pieces-file}
 use Rattle.bk_log.proofs.Passes.{goes_on, passed_none}
 use Rattle.bk_store.specs.JobKept.{IsReadTo, entries_from}
@@ -38,19 +39,6 @@ body_ends at payload (more {from = from} {payload = first} {behind = behind} leg
 body_ends at payload (more {from = from} {payload = first} {behind = behind} legal body) (inr later) =
     let next = body_ends at payload body later in
     omega (arith, next, length-append (record_of first) behind, length-record_of first)
-
-pieces_behind : (most from : ℕ) (bytes : List ℕ) (at : ℕ) (payload : List ℕ) → In (at, payload) (pieces most from bytes) → from < at
-pieces_behind zero from bytes at payload there = absurd there
-pieces_behind (suc most) from bytes at payload there =
-    let n = length_field bytes in
-    elim (starts_with_record bytes) as (λ b. In (at, payload)
-    (cond b ((from + 4, take n (drop 4 bytes)) ∷ pieces most (from + 4 + n) (drop (4 + n) bytes)) []) → from < at) [
-      | false ↦ λ none. absurd none
-      | true ↦ λ some. elim some [
-        | inl here ↦ let place : from + 4 ≡ at = ap (λ (r : ℕ × List ℕ). r.0) here in omega arith
-        | inr later ↦ let far = pieces_behind most (from + 4 + n) (drop (4 + n) bytes) at payload later in omega arith
-      ]
-    ] there
 
 -- a record of a log stands behind its header
 pub record_behind : (bytes : List ℕ) (at : ℕ) (payload : List ℕ) → In (at, payload) (records_of bytes) → header_length < at
@@ -149,12 +137,6 @@ drop_next (y ∷ ys) zero x is = let same : y ≡ x = same_Some y x is in ap (λ
 drop_next (y ∷ ys) (suc n) x is =
     let one : suc n + 1 ≡ suc (n + 1) = omega arith in
     drop_next ys n x is ∙ ap (λ k. x ∷ drop k (y ∷ ys)) (sym one)
-
-pub take_next : {X : Type 0} (xs : List X) (n : ℕ) (x : X) → slice_get xs n ≡ Some x → take (n + 1) xs ≡ take n xs ++ x ∷ []
-take_next [] n x is = cc
-take_next (y ∷ ys) zero x is = let same : y ≡ x = same_Some y x is in ap (λ z. z ∷ []) same
-take_next (y ∷ ys) (suc n) x is =
-    let one : suc n + 1 ≡ suc (n + 1) = omega arith in ap (λ k. take k (y ∷ ys)) one ∙ ap (λ l. y ∷ l) (take_next ys n x is)
 
 -- what is passed behind a position that a scan has come to
 pub entries_passed : (bytes : List ℕ) (from next given foreign : ℕ)

@@ -1,39 +1,37 @@
 -- Entries are examined one after another, as a scan of the source gives them.
-use Rattle.std.proofs.Common.{◌≡◌, ◌≢◌, ◌⊎◌, inl, inr, ℕ, zero, suc, ◌+◌, ◌-◌, ◌<◌, ◌≤◌, ◌^◌, Bool, true, false, cond}
+use Rattle.std.proofs.Common.{◌≡◌, ◌≢◌, inl, inr, ℕ, ◌+◌, ◌-◌, ◌<◌, ◌≤◌, ◌^◌, Bool, true, false}
 use Rattle.std.proofs.Common.{if◌then◌else◌, IsTrue, List, [], ◌∷◌, ◌++◌, length, take, drop, slice_get, not, is_some, Option}
-use Rattle.std.proofs.Common.{Some, None, Result, Ok, Err, refl, sym, ap, subst, ◌∙◌, arith, length-append}
+use Rattle.std.proofs.Common.{Some, None, Ok, Err, refl, sym, ap, subst, ◌∙◌, arith, length-append}
 use Rattle.std.specs.Option.{option_and_then}
 use Rattle.std.proofs.lemmas.List.{take_all}
-use Rattle.std.specs.FinMap as finite
+use Rattle.std.proofs.lemmas.Bool.{false_from_ne_true}
 use Rattle.bk_disk.specs.Disk.{view_end}
 use Rattle.bk_record.specs.Body.{IsBadAt}
 use Rattle.bk_log.specs.Growing.{HasNoBadLength}
 use Rattle.bk_log.specs.Ranges.{entries_in, part}
-use Rattle.bk_log.specs.Scanned.{new_scan}
-use Rattle.bk_log.specs.Scanning.{Scan, IsWithin, NextMoves, NextTurn, part_of}
+use Rattle.bk_log.specs.Scanning.{Scan, NextMoves, NextTurn, part_of}
 use Rattle.bk_log.specs.declared.found.Found.{Found}
 use Rattle.bk_log.specs.declared.fault.ScanFault.{ScanFault}
 use Rattle.bk_log.specs.declared.fault.ScanFault.TheVariants as scans
-use Rattle.bk_log.specs.declared.fault.LogFault.TheVariants as log_faults
 use Rattle.bk_store.specs.Logs.{Log, Logs, View, last_view, open_parts}
 use Rattle.bk_store.specs.State.{State}
 use Rattle.bk_store.specs.Jobs.{Job}
 use Rattle.bk_store.specs.JobKept.{IsJob, IsReadTo, entries_from}
 use Rattle.bk_store.specs.Doors.{SetTurn}
 use Rattle.bk_store.specs.Plain.{IsKept}
-use Rattle.bk_store.specs.declared.job.Phase.TheVariants.{Copy, Switch}
 use Rattle.bk_store.specs.declared.log.LogState.TheVariants.{Readable}
 use Rattle.bk_store.proofs.LogMaps.{log-insert_else}
 use Rattle.bk_store.proofs.JobStays.{job_stays, stays_same}
 use Rattle.bk_store.specs.Meaning.{KeepsMeaning}
+use Rattle.bk_store.proofs.SameMeaning.{stays_on}
 use Rattle.bk_compact.specs.declared.entries.Stopped.{Stopped}
 use Rattle.bk_compact.specs.declared.entries.Stopped.TheVariants as stops
-use Rattle.bk_compact.specs.Compacting.{AreFound, Copies, Examines, ExaminesAll, HasUnsoundSource, IsFound}
-use Rattle.bk_compact.specs.Compacting.{SourceFails, Steps, behind, entries_left, place_of, with_job}
+use Rattle.bk_compact.specs.Compacting.{AreFound, Examines, ExaminesAll, HasUnsoundSource, IsFound}
+use Rattle.bk_compact.specs.Compacting.{SourceFails, Steps, behind, entries_left, with_job}
 use Rattle.bk_compact.specs.Going.{CopiesAll, ExaminesOne, IsAhead, IsAtEnd, IsCopying, IsNextFound, IsOut}
 use Rattle.bk_compact.specs.Going.{ScansFrom, StopsAt, told_after, told_read, told_unread}
 use Rattle.bk_compact.proofs.Positions.{none_bad}
-use Rattle.bk_compact.proofs.Stored.{dishonest, scan_found, scan_come, scan_taken, shown_last, source_bytes, source_honest, source_spelled, source_unhonest}
+use Rattle.bk_compact.proofs.Stored.{scan_found, scan_come, scan_taken, source_bytes, source_honest, source_spelled}
 
 -- ---- one entry more
 
@@ -87,12 +85,6 @@ copied_few s job (f ∷ founds) copied t after all =
 
 pub out_same : (s : State) → s.job ≡ None → s ≡ with_job s None
 out_same s none = ap (λ j. with_job s j) none
-
-pub stays_on : (s t u : State) → KeepsMeaning s t → KeepsMeaning t u → KeepsMeaning s u
-stays_on s t u first second = record {
-  honest = second.honest ∙ first.honest;
-  meaning = λ honest key. second.meaning (first.honest ∙ honest) key ∙ first.meaning honest key;
-}
 
 pub stays_itself : (s : State) → KeepsMeaning s s
 stays_itself s = record { honest = refl; meaning = λ _ key. refl }
@@ -396,7 +388,7 @@ module _ (view : View) (s : State) (job : Job) (number : ℕ) (scan : Scan) (cop
   -- what an honest view never answers
   pub never_bad : (at : ℕ) (value : _) (scan' : Scan) → NextMoves scan (Err (scans.BadLength at value)) scan'
       → (IsTrue scan.honest → NextTurn scan (Err (scans.BadLength at value)) scan') → t.honest ≡ false
-  never_bad at value scan' moves turn = dishonest t.honest (λ honest.
+  never_bad at value scan' moves turn = false_from_ne_true t.honest (λ honest.
       let bad = (turn (view_truth honest)).1 in
       let list : part_of scan' ≡ part scan.file scan.from (view_end scan.file) =
       (λ i. part (ap (λ (x : Scan). x.file) moves i) (ap (λ (x : Scan). x.from) moves i) (ap (λ (x : Scan). x.end) moves i))
@@ -407,14 +399,14 @@ module _ (view : View) (s : State) (job : Job) (number : ℕ) (scan : Scan) (cop
       (subst (λ n. IsBadAt n (part_of scan') at value) (ap (λ (x : Scan). x.from) moves) bad)))
 
   pub never_odd : (scan' : Scan) → (IsTrue scan.honest → NextTurn scan (Err scans.Odd) scan') → t.honest ≡ false
-  never_odd scan' turn = dishonest t.honest (λ honest. turn (view_truth honest))
+  never_odd scan' turn = false_from_ne_true t.honest (λ honest. turn (view_truth honest))
 
 -- ---- the scan does not begin
 
 module _ (view : View) (s : State) (kept : IsKept s) (job : Job) (is : IsCopying s job) (last : last_view s.logs job.source ≡ Some view)
     (before : IsTrue view.is_honest → view_end view.bytes < job.at) where
   pub view_short : s.honest ≡ false
-  view_short = dishonest s.honest (λ honest.
+  view_short = false_from_ne_true s.honest (λ honest.
       let read = (is.out.keeps.honest honest).read in
       let within : job.at ≤ view_end view.bytes =
       subst (λ (b : List ℕ). job.at ≤ view_end b) (source_bytes s kept job is.out.keeps view last) read.within in
@@ -497,8 +489,8 @@ module _ (view : View) (s : State) (kept : IsKept s) (job : Job) (is : IsJob s j
       → (fault ≡ scans.Disk → scan.sound ≡ false) → SourceFails s job (told_unread (told_read fault))
   read_fails scans.Disk scan' moves turn cause = (view, last, sym (ap (λ (x : Scan). x.sound) begins.is) ∙ cause refl)
   read_fails scans.Memory scan' moves turn cause = refl
-  read_fails scans.Odd scan' moves turn cause = dishonest s.honest (λ honest. turn (first_truth honest))
-  read_fails (scans.BadLength at value) scan' moves turn cause = dishonest s.honest (λ honest.
+  read_fails scans.Odd scan' moves turn cause = false_from_ne_true s.honest (λ honest. turn (first_truth honest))
+  read_fails (scans.BadLength at value) scan' moves turn cause = false_from_ne_true s.honest (λ honest.
       let bad = (turn (first_truth honest)).1 in
       let list : part_of scan' ≡ part scan.file scan.from (view_end scan.file) =
       (λ i. part (ap (λ (x : Scan). x.file) moves i) (ap (λ (x : Scan). x.from) moves i) (ap (λ (x : Scan). x.end) moves i))

@@ -1,9 +1,10 @@
 -- What any store keeps, told of its visible state; the source of a job and what it shows.
-use Rattle.std.proofs.Common.{◌≡◌, ◌≢◌, ◌⊎◌, inl, inr, ℕ, zero, suc, ◌+◌, ◌-◌, ◌<◌, ◌≤◌, ◌^◌, Bool, true, false, if◌then◌else◌, IsTrue, List, []}
-use Rattle.std.proofs.Common.{◌∷◌, ◌++◌, length, take, drop, slice_get, Option, Some, None, refl, sym, ap, subst, ◌∙◌, arith}
+use Rattle.std.proofs.Common.{◌≡◌, ◌⊎◌, inl, inr, ℕ, ◌+◌, ◌-◌, ◌<◌, ◌≤◌, ◌^◌, true, false, if◌then◌else◌, IsTrue, List, []}
+use Rattle.std.proofs.Common.{◌∷◌, ◌++◌, length, take, drop, slice_get, Option, Some, refl, sym, ap, subst, ◌∙◌, arith}
 use Rattle.std.specs.Option.{option_map_or, option_and_then}
 use Rattle.std.proofs.lemmas.Option.{same_Some}
 use Rattle.std.specs.FinMap as finite
+use Rattle.std.proofs.lemmas.Bool.{false_from_ne_true}
 use Rattle.bk_record.specs.Key.{EntryKey}
 use Rattle.bk_record.specs.Location.{Place}
 use Rattle.bk_record.specs.Record.{key_of}
@@ -13,12 +14,10 @@ use Rattle.bk_record.proofs.SortedPairs.{Some-same}
 use Rattle.bk_disk.specs.Disk.{view_end}
 use Rattle.bk_log.specs.Growing.{HasNoBadLength}
 use Rattle.bk_log.specs.Ranges.{IsPassed, entries_in, part}
-use Rattle.bk_log.specs.Places.{HasEntryAt}
 use Rattle.bk_log.specs.Scanning.{Scan, IsGiven}
-use Rattle.bk_log.specs.Writing as writers
 use Rattle.bk_log.specs.declared.found.Found.{Found}
 use Rattle.bk_store.specs.Entries.{HasEntry}
-use Rattle.bk_store.specs.Logs.{View, Log, Logs, HasOpenView, is_open, is_written, last_view, open_parts, published_part}
+use Rattle.bk_store.specs.Logs.{View, Log, Logs, HasOpenView, is_open, last_view, open_parts, published_part}
 use Rattle.bk_store.specs.State.{State}
 use Rattle.bk_store.specs.Shown.{Shows}
 use Rattle.bk_store.specs.Jobs.{Job}
@@ -27,11 +26,8 @@ use Rattle.bk_store.specs.Kept.{IsHeld, IsBacked}
 use Rattle.bk_store.specs.Plain.{IsKept}
 use Rattle.bk_compact.specs.Compacting.{behind, place_of, entries_left}
 use Rattle.bk_compact.specs.Going.{IsNextFound}
-use Rattle.bk_compact.proofs.Positions.{read_on, entry_ahead, ahead_behind, ahead_stands, drop_next, take_next, entries_passed}
-
-pub dishonest : (honest : Bool) → (IsTrue honest → ⊥) → honest ≡ false
-dishonest true wrong = absurd (wrong refl)
-dishonest false wrong = refl
+use Rattle.bk_compact.proofs.Positions.{read_on, entry_ahead, ahead_behind, ahead_stands, drop_next, entries_passed}
+use Rattle.bk_record.proofs.Growth.{take_next}
 
 -- ---- any store
 
@@ -93,7 +89,7 @@ module _ (s : State) (kept : IsKept s) (job : Job) (is : IsJob s job) (view : Vi
   source_spelled honest = (kept_backed s kept honest job.source is.shown.log is.shown.held).shown view view_there
 
   pub source_unhonest : (IsTrue view.is_honest → ⊥) → s.honest ≡ false
-  source_unhonest never = dishonest s.honest (λ honest. never (source_honest honest))
+  source_unhonest never = false_from_ne_true s.honest (λ honest. never (source_honest honest))
 
 -- ---- the next entry of a log
 

@@ -1,6 +1,6 @@
 -- The lines of a scan: one for each entry that was given, and the counts at the end.
 use Rattle.std.proofs.Common.{◌≡◌, ℕ, ◌+◌, ◌-◌, ◌*◌, ◌≤◌, true, false, cond, ◌&&◌, Bool, IsTrue, List, [], ◌∷◌, ◌++◌, length, take, drop, nat_lt, Option}
-use Rattle.std.proofs.Common.{Some, None, Ok, slice_get, refl, sym, ap, ap₂, ◌∙◌, subst, arith, length-drop}
+use Rattle.std.proofs.Common.{Some, None, Ok, slice_get, refl, sym, ap, ap₂, ◌∙◌, subst, arith}
 use Rattle.std.specs.Prelude.{flat_map, ◌^◌}
 use Rattle.std.specs.Io.KnownBytes.{Appends}
 use Rattle.std.proofs.lemmas.List.{take_more, take_all, flat_map_more}
@@ -11,14 +11,13 @@ use Rattle.bk_record.specs.Body.{Body}
 use Rattle.bk_record.specs.Files.{header_length, rest_of}
 use Rattle.bk_record.specs.Scan.{entries_of, foreign_of, torn_of}
 use Rattle.bk_record.specs.Spelling.{all_pieces, all_leftover}
-use Rattle.bk_disk.specs.Disk.{view_end}
 use Rattle.bk_log.specs.declared.found.Found.{Found}
-use Rattle.bk_log.specs.Ranges.{entries_in, foreign_in, part}
+use Rattle.bk_log.specs.Ranges.{entries_in, foreign_in}
 use Rattle.bk_log.specs.Scanning.{Scan, part_of, IsGiven, IsFinished, NextMoves}
 use Rattle.bk_log.proofs.Ranges.{all_pieces-file, all_leftover-file, entries_in-file, foreign_in-file}
 use Rattle.bk_dir.specs.Texts.{found_line, entry_line, counts_line}
 use Rattle.bk_dir.specs.Shown.{WritesText, IsScanText}
-use Rattle.bk_dir.proofs.Lines.{appends_none, appends_then}
+use Rattle.bk_dir.proofs.Lines.{appends_then}
 
 -- how far a scan has come that gave so many entries, each with its line
 pub record Shown (first now : Scan) (entries : ℕ) (before after : Option (List ℕ)) : Type 0 where
@@ -72,10 +71,6 @@ shown_more first now next entries before mid after found shown moves given line 
       subst (λ (l : List ℕ). Appends before after l) (lines_more (entries_in first.from (part_of first)) entries (found.at, is.payload) listed)
       (appends_then before mid after _ _ (shown.written honest) (subst (λ (l : List ℕ). Appends mid after l) text line));
 }
-
--- the part of a log that a view has is all behind the header
-pub whole_view : (file : List ℕ) (end : ℕ) → end ≡ view_end file → part file header_length end ≡ drop header_length file
-whole_view file end is = take_all (end - header_length) (drop header_length file) (omega (arith, is, length-drop header_length file))
 
 -- what was shown when the scan came to its end
 pub shown_all : (first now next : Scan) (entries : ℕ) (file : List ℕ) (before mid after : Option (List ℕ)) → Shown first now entries before mid

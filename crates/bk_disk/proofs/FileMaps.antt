@@ -1,20 +1,14 @@
 -- The files that a map of logs is, against what the calls on that map say.
-use Rattle.std.proofs.Common.{◌≡◌, ℕ, ◌≤◌, List, [], ◌∷◌, ◌++◌, map, length, take, drop, if◌then◌else◌, Some, None, sym, ◌∙◌}
-use Rattle.std.proofs.Common.{ap, subst, refl, IsSome, Less}
+use Rattle.std.proofs.Common.{◌≡◌, ℕ, ◌≤◌, List, ◌++◌, map, length, take, drop, if◌then◌else◌, Some, None, sym, ◌∙◌}
+use Rattle.std.proofs.Common.{ap, subst, refl, IsSome}
 use Rattle.std.specs.Ordering.{nat_cmp}
-use Rattle.std.specs.Cmp.{nat_cmp_total}
-use Rattle.std.specs.List.Sorted.{IsStrictlySortedBy}
 use Rattle.std.specs.BTreeMap.{BTreeMap, keys}
 use Rattle.std.specs.BTreeMap as tree
-use Rattle.std.specs.Map.{keys_of}
 use Rattle.std.specs.Option.{option_map_or}
 use Rattle.std.proofs.lemmas.Bool.{le-leb}
 use Rattle.std.specs.FinMap as files
-use Rattle.std.specs.FinMap.{put}
-use Rattle.std.proofs.lemmas.List.{nil_from_length}
-use Rattle.std.proofs.lemmas.Map.Keys.{sorted_head, sorted_tail}
 use Rattle.bk_record.specs.Files.{Files}
-use Rattle.bk_record.proofs.NumberMaps.{get-entries, inserted, removed, get-insert_same, insert-insert}
+use Rattle.bk_record.proofs.NumberMaps.{get-entries, inserted, removed, get-insert_same, insert-insert, entries-from_rising}
 use Rattle.bk_disk.specs.Disk.{grown, patched, patched_file}
 use Rattle.bk_disk.specs.Logs.{files_of}
 
@@ -29,22 +23,6 @@ files_of-insert m n k file updates = inserted m.entries n.entries k file updates
 -- a key that goes
 pub files_of-remove : (m n : BTreeMap ℕ (List ℕ)) (k : ℕ) → tree.Updates nat_cmp m n k None → files_of n ≡ files.remove (files_of m) k
 files_of-remove m n k updates = removed m.entries n.entries k updates.0
-
-no_entries : {X : Type 0} → files.entries (files.empty {X = X} {R = nat_cmp}) ≡ []
-no_entries {X} = nil_from_length _ (sym (files.len-entries (files.empty {X = X} {R = nat_cmp})) ∙ files.len-empty nat_cmp X)
-
--- a key below all others is put in front
-put_first : {X : Type 0} (e : ℕ × X) (es : List (ℕ × X)) → IsStrictlySortedBy nat_cmp (keys_of (e ∷ es)) → put nat_cmp e.0 e.1 es ≡ e ∷ es
-put_first e [] rises = refl
-put_first e (f ∷ fs) rises =
-    let less : nat_cmp e.0 f.0 ≡ Less = (sorted_head nat_cmp e.0 (keys_of (f ∷ fs)) rises).0 in
-    rw less refl
-
-entries-from_rising : {X : Type 0} (es : List (ℕ × X)) → IsStrictlySortedBy nat_cmp (keys_of es) → files.entries (files.from_entries {R = nat_cmp} es) ≡ es
-entries-from_rising [] rises = no_entries
-entries-from_rising (e ∷ es) rises =
-    files.entries-insert nat_cmp_total (files.from_entries es) e.0 e.1
-    ∙ ap (put nat_cmp e.0 e.1) (entries-from_rising es (sorted_tail nat_cmp e.0 (keys_of es) rises)) ∙ put_first e es rises
 
 -- the ids of the logs, rising
 pub keys-files_of : (logs : BTreeMap ℕ (List ℕ)) → tree.IsOrdered nat_cmp logs → files.keys (files_of logs) ≡ tree.keys logs

@@ -1,6 +1,6 @@
 -- The leases of the readers stand open in the store's table through each step.
 use Rattle.std.proofs.Common.{◌≡◌, ◌≢◌, ◌⊎◌, inl, inr, ℕ, ◌<◌, zero, suc, List, [], ◌∷◌, replicate, Option, Some}
-use Rattle.std.proofs.Common.{None, Result, Ok, Err, true, refl, sym, ap, subst, ◌∙◌, slice_set}
+use Rattle.std.proofs.Common.{None, Result, Ok, Err, refl, sym, ap, subst, ◌∙◌, slice_set}
 use Rattle.std.specs.FinMap as finite
 use Rattle.std.specs.FinMap.{nat_cmp-IsAntisymmetric}
 use Rattle.std.proofs.lemmas.Cmp.{nat_cmp_total}
@@ -12,16 +12,16 @@ use Rattle.bk_lease.specs.declared.slot.Slot.TheVariants.{Free, Open, Closed}
 use Rattle.bk_lease.specs.Leases.{state_at, IsClosed, log_of}
 use Rattle.bk_lease.specs.Values.{SlotTable, Ticket, with_given, with_state}
 use Rattle.bk_lease.proofs.Slots.{inside_slots, state_at-set_here, state_at-set_else}
-use Rattle.bk_store.specs.Logs.{View, Log, Logs, is_open}
+use Rattle.bk_store.specs.Logs.{View, Log, Logs}
 use Rattle.bk_store.specs.State.{State}
 use Rattle.bk_store.specs.Seated.{AreSeated, slot_state}
 use Rattle.bk_store.specs.Leasing.{IsLeaseOf}
 use Rattle.bk_store.specs.Doors.{IsIn}
 use Rattle.bk_store.specs.Plain.{IsKept}
-use Rattle.bk_store.specs.declared.log.LogState.{LogState}
 use Rattle.bk_store.specs.declared.log.LogState.TheVariants as states
 use Rattle.bk_store.specs.declared.answer.TakeFault.{TakeFault}
 use Rattle.bk_store.specs.declared.answer.TakeFault.TheVariants as take_faults
+use Rattle.bk_store.proofs.Seats.{slot_state-opened}
 use Rattle.bk_collect.specs.Collecting.{CloseTurn, RemoveTurn}
 use Rattle.bk_collect.specs.declared.answer.CloseAnswer.TheVariants as closes
 use Rattle.bk_collect.specs.declared.answer.RemoveAnswer.TheVariants as removes
@@ -149,15 +149,6 @@ leases_more keeper hs i more leases is = λ reader hold has. elim (set_at hs i (
 
 -- ---- a take
 
--- a log that keys may be sent to stands open in its slot
-open_state : (id : ℕ) (state : LogState) → is_open state ≡ true → slot_state id state ≡ Open id
-open_state id states.Writing is = refl
-open_state id states.Filled is = refl
-open_state id states.Copying is = refl
-open_state id states.Readable is = refl
-open_state id states.Retired is = cc
-open_state id states.Closed is = cc
-
 pub lease_open : (keeper : SlotTable) (logs : Logs) (hold : Hold) (id : ℕ) → AreSeated keeper logs → IsLeaseOf keeper logs id hold.ticket hold.view
     → IsOpenLease (with_given keeper) hold
 lease_open keeper logs hold id seats lease =
@@ -166,7 +157,7 @@ lease_open keeper logs hold id seats lease =
       table = ap (λ (t : Ticket). t.table) ticket;
       held = ap (λ (t : Ticket). t.is_held) ticket;
       opened = ap (λ (t : Ticket). state_at keeper.slots t.slot) ticket ∙ seats.stands id lease.log lease.held
-          ∙ open_state id lease.log.state lease.opened ∙ ap (λ (t : Ticket). Open t.log) (sym ticket);
+          ∙ slot_state-opened id lease.log.state lease.opened ∙ ap (λ (t : Ticket). Open t.log) (sym ticket);
     }
 
 -- ---- a log is closed

@@ -13,28 +13,10 @@ use Rattle.bk_lease.specs.Values.{SlotTable}
 use Rattle.bk_lease.proofs.Slots.{inside_slots, taken_count-set, state_at-set_else}
 use Rattle.bk_store.specs.Logs.{Log, Logs}
 use Rattle.bk_store.specs.Seated.{AreSeated, slot_state}
-use Rattle.bk_store.specs.declared.log.LogState.{LogState}
-use Rattle.bk_store.specs.declared.log.LogState.TheVariants as states
 use Rattle.bk_store.proofs.Cases.{same_or_apart}
 use Rattle.bk_store.proofs.Walks.{AreAscending}
 use Rattle.bk_store.proofs.HeldWalks.{keys_ascending}
-
--- a log's slot is taken, by that log
-pub own : (id : ℕ) (state : LogState) → log_of (slot_state id state) ≡ id
-own id states.Writing = refl
-own id states.Filled = refl
-own id states.Copying = refl
-own id states.Readable = refl
-own id states.Retired = refl
-own id states.Closed = refl
-
-taken : (id : ℕ) (state : LogState) → taken_of (slot_state id state) ≡ 1
-taken id states.Writing = refl
-taken id states.Filled = refl
-taken id states.Copying = refl
-taken id states.Readable = refl
-taken id states.Retired = refl
-taken id states.Closed = refl
+use Rattle.bk_store.proofs.Seats.{slot_state-log, slot_state-taken}
 
 -- each log of the list stands in its slot
 abbrev AllStand : List Slot → List (ℕ × Log) → Type 0
@@ -59,10 +41,10 @@ count-le (e ∷ es) slots ascending stand =
     let here = stand e.0 e.1 (inl refl) in
     let apart : (id : ℕ) (log : Log) → In (id, log) es → log.slot ≢ e.1.slot = λ id log there same.
     let less = ascending.0 id (In-map (λ (x : ℕ × Log). x.0) (id, log) es there) in
-    let one : e.0 ≡ id = sym (own e.0 e.1.state) ∙ ap log_of (sym here) ∙ ap (λ n. log_of (state_at slots n)) (sym same)
-    ∙ ap log_of (stand id log (inr there)) ∙ own id log.state in
+    let one : e.0 ≡ id = sym (slot_state-log e.0 e.1.state) ∙ ap log_of (sym here) ∙ ap (λ n. log_of (state_at slots n)) (sym same)
+    ∙ ap log_of (stand id log (inr there)) ∙ slot_state-log id log.state in
     omega (arith, less, one) in
-    let fewer = freed slots e.1.slot (ap taken_of here ∙ taken e.0 e.1.state) in
+    let fewer = freed slots e.1.slot (ap taken_of here ∙ slot_state-taken e.0 e.1.state) in
     let rest = count-le es (set slots e.1.slot Free) ascending.1 (still slots e.1.slot es (λ id log there. stand id log (inr there)) apart) in
     omega (arith, fewer, rest)
 

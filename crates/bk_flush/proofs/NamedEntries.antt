@@ -1,6 +1,6 @@
 -- The entries of a flush are named one by one, in the order of their keys.
-use Rattle.std.proofs.Common.{◌≡◌, ◌⊎◌, inl, inr, ℕ, zero, suc, ◌+◌, ◌<◌, ◌≤◌, Bool, true, false, cond, IsTrue, IsSome, is_some, List, [], ◌∷◌, ◌++◌}
-use Rattle.std.proofs.Common.{length, take, drop, Option, Some, None, Result, Ok, Err, slice_get, refl, sym, ap, subst, ◌∙◌, arith}
+use Rattle.std.proofs.Common.{◌≡◌, inl, inr, ℕ, zero, suc, ◌+◌, false, cond, IsTrue, List, [], ◌∷◌, ◌++◌}
+use Rattle.std.proofs.Common.{take, drop, Some, None, Ok, slice_get, refl, sym, ap, subst, ◌∙◌}
 use Rattle.std.specs.Option.{option_or}
 use Rattle.std.specs.Ordering.{eq_by_cmp}
 use Rattle.std.specs.FinMap as finite
@@ -12,11 +12,12 @@ use Rattle.bk_record.specs.Scan.{Payloads}
 use Rattle.bk_record.proofs.Keys.{key_cmp_total, key_cmp_antisymmetric}
 use Rattle.bk_record.proofs.Maps.{key_cases}
 use Rattle.bk_record.proofs.SortedPairs.{find_at}
-use Rattle.bk_cache.specs.Caches.{CacheState, flush_of}
+use Rattle.bk_record.proofs.Growth.{take_next}
+use Rattle.bk_cache.specs.Caches.{flush_of}
 use Rattle.bk_cache.specs.Recents.{Recents}
 use Rattle.bk_store.specs.State.{State}
 use Rattle.bk_store.specs.Meaning.{MeansTheSame, KeepsMeaning}
-use Rattle.bk_store.specs.Doors.{IsRecentAfter, MayName, NameTurn, ShowsAll}
+use Rattle.bk_store.specs.Doors.{IsRecentAfter, MayName, NameTurn}
 use Rattle.bk_store.proofs.KeyMaps.{inserted_here, get-insert_other}
 use Rattle.bk_store.proofs.Noted.{sorted_front}
 use Rattle.bk_flush.specs.Flushing.{NamesFirst, Remembers, first_places}
@@ -29,14 +30,6 @@ pub record IsNaming (s : State) (n : ℕ) (t : State) : Type 0 where
   pub stays : KeepsMeaning s t
 
 -- ---- the first pairs of a list
-
--- one more of the first pairs
-take_more : {X : Type 0} (es : List X) (n : ℕ) (e : X) → slice_get es n ≡ Some e → take (n + 1) es ≡ take n es ++ e ∷ []
-take_more [] n e is = cc
-take_more (x ∷ es) zero e is = let same : x ≡ e = cc in ap (λ y. y ∷ []) same
-take_more (x ∷ es) (suc n) e is =
-    let next : suc n + 1 ≡ suc (n + 1) = omega arith in
-    ap (λ k. take k (x ∷ es)) next ∙ ap (λ ys. x ∷ ys) (take_more es n e is)
 
 at_end : {X : Type 0} (es : List X) (n : ℕ) (e : X) → slice_get es n ≡ Some e → slice_get (take n es ++ e ∷ []) n ≡ Some e
 at_end [] n e is = cc
@@ -96,7 +89,7 @@ module _ (s t : State) (n : ℕ) (is : IsNaming s n t) where
         }
 
     more : first_places (n + 1) s ≡ first_places n s ++ (key, place) ∷ []
-    more = take_more (finite.entries s.places) n (key, place) at_first
+    more = take_next (finite.entries s.places) n (key, place) at_first
 
     -- the key is found among the first pairs then
     found_last : find key_cmp key (first_places (n + 1) s) ≡ Some place

@@ -1,5 +1,5 @@
 -- One step of a flush: a log is made ready, and the next entry is put there.
-use Rattle.std.proofs.Common.{◌≡◌, ◌⊎◌, inl, inr, ℕ, IsTrue, List, length, Some, Result, Ok, Err, refl, sym, ap, ◌∙◌}
+use Rattle.std.proofs.Common.{◌≡◌, inr, ℕ, IsTrue, List, length, Some, Result, Ok, Err, sym, ap, ◌∙◌}
 use Rattle.std.specs.FinMap as finite
 use Rattle.bk_record.specs.Key.{EntryKey}
 use Rattle.bk_record.specs.Location.{Place}
@@ -9,16 +9,10 @@ use Rattle.bk_cache.specs.Caches.{CacheState, flush_of}
 use Rattle.bk_store.specs.State.{State}
 use Rattle.bk_store.specs.Meaning.{MeansTheSame, KeepsMeaning}
 use Rattle.bk_store.specs.Doors.{IsNext, WriteTurn}
+use Rattle.bk_store.proofs.SameMeaning.{stays_on}
 use Rattle.bk_flush.specs.Flushing.{LeftBy, ReadyTurn, StepTurn, flush_fault_of}
 use Rattle.bk_flush.specs.declared.answer.WriteAnswer.TheVariants as writes
 use Rattle.bk_flush.specs.declared.answer.FlushFault.{FlushFault}
-
--- what stays in one call and in the next stays in both
-pub stays_on : (s t u : State) → KeepsMeaning s t → KeepsMeaning t u → KeepsMeaning s u
-stays_on s t u one two = record {
-  honest = two.honest ∙ one.honest;
-  meaning = λ honest key. two.meaning (one.honest ∙ honest) key ∙ one.meaning honest key;
-}
 
 written_honest : (s t : State) (id : ℕ) (key : EntryKey) (payload : List ℕ) (result : Result Place LogFault) → WriteTurn s id key payload result t
     → t.honest ≡ s.honest

@@ -1,6 +1,5 @@
 -- Lists in which nothing stands twice, and looking a ledger up among pairs.
 use Rattle.std.proofs.Common.{◌≡◌, ℕ, true, cond, List, [], ◌∷◌, ◌++◌, Some, None, sym, ap, ◌∙◌, inl, inr}
-use Rattle.std.specs.Prelude.{◌⊎◌}
 use Rattle.std.specs.Ordering.{nat_cmp, eq_by_cmp}
 use Rattle.std.specs.Cmp.{unsigned_tied}
 use Rattle.std.specs.FinMap.{find}
@@ -8,14 +7,8 @@ use Rattle.std.proofs.lemmas.Bool.{cases_Bool, both_ways, eqb-true, eq-eqb}
 use Rattle.std.proofs.lemmas.List.{map-append}
 use Rattle.std.proofs.lemmas.Option.{none-some}
 use Rattle.bk_record.specs.Files.{In}
-use Rattle.bk_record.proofs.Growth.{In-append_left, In-append_right}
+use Rattle.bk_record.proofs.Growth.{In-append_left, In-append_right, In-push_cases}
 use Rattle.bk_head.specs.Ledgers.{ledgers_of, AreDistinct}
-
-In-push_cases : (x y : ℕ) (xs : List ℕ) → In x (xs ++ y ∷ []) → In x xs ⊎ (y ≡ x)
-In-push_cases x y [] (inl e) = inr e
-In-push_cases x y [] (inr h) = absurd h
-In-push_cases x y (z ∷ xs) (inl e) = inl (inl e)
-In-push_cases x y (z ∷ xs) (inr h) = elim (In-push_cases x y xs h) [ inl g ↦ inl (inr g) | inr e ↦ inr e ]
 
 -- one more, which isn't there yet
 pub AreDistinct-push : (xs : List ℕ) (y : ℕ) → AreDistinct xs → ¬ (In y xs) → AreDistinct (xs ++ y ∷ [])

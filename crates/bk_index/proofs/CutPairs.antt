@@ -1,5 +1,5 @@
 -- Pairs in the order of their keys, cut in two: what each part has of the order, and where a key is found or put.
-use Rattle.std.proofs.Common.{◌≡◌, Bool, cond, ◌&&◌, List, [], ◌∷◌, ◌++◌, Some, None, refl, ap, ◌∙◌}
+use Rattle.std.proofs.Common.{◌≡◌, cond, List, [], ◌∷◌, ◌++◌, Some, None, refl, ap, ◌∙◌}
 use Rattle.std.specs.declared.cmp.Ordering.{Ordering}
 use Rattle.std.specs.declared.cmp.Ordering.TheVariants.{Less, Equal, Greater}
 use Rattle.std.specs.Ordering.{eq_by_cmp, ordering_reverse}
@@ -9,6 +9,7 @@ use Rattle.std.specs.List.{AllByRecursion}
 use Rattle.std.specs.FinMap.{find, put, is_sorted}
 use Rattle.std.specs.FinMap.Entries.{by_order, below_all}
 use Rattle.std.proofs.lemmas.Bool.{and_parts}
+use Rattle.std.specs.Cmp.Derive.{both_true}
 use Rattle.bk_record.proofs.SortedPairs.{less_from_test}
 
 module _ {A : Type 0} (P : A → Type 0) where
@@ -24,9 +25,6 @@ pub each_weaker : {A : Type 0} (P Q : A → Type 0) → ((x : A) → P x → Q x
 each_weaker P Q weaker [] each = tt
 each_weaker P Q weaker (x ∷ xs) each = (weaker x each.0, each_weaker P Q weaker xs each.1)
 
-and_true : (a b : Bool) → IsTrue a → IsTrue b → IsTrue (a && b)
-and_true a b left right = rw left right
-
 module _ {K X : Type 0} (R : K → K → Ordering) where
   each_above : (k : K) (es : List (K × X)) → IsTrue (below_all R k es) → AllByRecursion (λ e. R k e.0 ≡ Less) es
   each_above k [] below = tt
@@ -34,7 +32,7 @@ module _ {K X : Type 0} (R : K → K → Ordering) where
 
   below_front : (k : K) (xs ys : List (K × X)) → IsTrue (below_all R k (xs ++ ys)) → IsTrue (below_all R k xs)
   below_front k [] ys below = refl
-  below_front k (x ∷ xs) ys below = let parts = and_parts _ _ below in and_true _ _ parts.0 (below_front k xs ys parts.1)
+  below_front k (x ∷ xs) ys below = let parts = and_parts _ _ below in both_true parts.0 (below_front k xs ys parts.1)
 
   -- the first key is below those behind it
   pub head_below : (e : K × X) (es : List (K × X)) → IsTrue (is_sorted R (e ∷ es)) → AllByRecursion (λ d. R e.0 d.0 ≡ Less) es
@@ -43,7 +41,7 @@ module _ {K X : Type 0} (R : K → K → Ordering) where
   pub sorted_front : (xs ys : List (K × X)) → IsTrue (is_sorted R (xs ++ ys)) → IsTrue (is_sorted R xs)
   sorted_front [] ys sorted = refl
   sorted_front (x ∷ xs) ys sorted =
-      let parts = and_parts _ _ sorted in and_true _ _ (below_front x.0 xs ys parts.0) (sorted_front xs ys parts.1)
+      let parts = and_parts _ _ sorted in both_true (below_front x.0 xs ys parts.0) (sorted_front xs ys parts.1)
 
   pub sorted_back : (xs ys : List (K × X)) → IsTrue (is_sorted R (xs ++ ys)) → IsTrue (is_sorted R ys)
   sorted_back [] ys sorted = sorted

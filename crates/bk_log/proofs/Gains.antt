@@ -22,6 +22,7 @@ use Rattle.bk_record.proofs.Growth.{grown_body, records_of-short, records_of-rec
 use Rattle.bk_record.proofs.Spellings.{never_both}
 use Rattle.bk_record.proofs.Bodies.{body_record, prefix_is_torn}
 use Rattle.bk_record.proofs.Records.{length-record_of}
+use Rattle.bk_record.proofs.NumberMaps.{get-insert_same}
 use Rattle.bk_disk.specs.Disk.{IsFile, grown, patched_file}
 use Rattle.bk_head.specs.Header.{empty_header}
 use Rattle.bk_log.specs.declared.fault.LogFault.{LogFault}
@@ -31,7 +32,7 @@ use Rattle.bk_log.specs.Places.{HasRecordAt}
 use Rattle.bk_log.specs.Writing.{Writing, Writes, CreateTurn, CreateFails, PutTurn}
 use Rattle.bk_log.specs.Growing.{Gains, HasNoBadLength, PutGains, put_record}
 use Rattle.bk_log.proofs.Fetches.{record_fits}
-use Rattle.bk_log.proofs.Files.{stands-insert, grown-stands}
+use Rattle.bk_log.proofs.Files.{grown-stands}
 use Rattle.bk_log.proofs.Makes.{length-empty_header}
 use Rattle.bk_log.proofs.Sealed.{whole_of}
 
@@ -116,7 +117,7 @@ pub gains_file : (files files' : Files) (log : ℕ) (file file' : List ℕ) (oth
     → files' ≡ insert files log file'
     → records_of file' ≡ records_of file ++ others → IsLonger file file' → (HasNoBadLength file → HasNoBadLength file') → Gains files log others files'
 gains_file files files' log file file' others was is records longer spelled =
-    let stands : IsFile files' log file' = ap (λ m. get m log) is ∙ stands-insert files log file' in
+    let stands : IsFile files' log file' = ap (λ m. get m log) is ∙ get-insert_same files log file' in
     let now = file_at files' log file' stands in
     let grown_file : IsLonger (file_of files log) (file_of files' log) =
     subst (λ f. IsLonger f (file_of files' log)) (sym was) (subst (λ f. IsLonger file f) (sym now) longer) in

@@ -3,6 +3,7 @@ use Rattle.std.proofs.Common.{◌≡◌, ℕ, true, List, [], length, take, IsNo
 use Rattle.std.specs.FinMap.{get, insert}
 use Rattle.bk_record.specs.Files.{Files}
 use Rattle.bk_record.specs.Body.Body.{done}
+use Rattle.bk_record.proofs.NumberMaps.{get-insert_same}
 use Rattle.bk_disk.specs.Disk.{grown}
 use Rattle.bk_log.specs.declared.fault.LogFault.{LogFault}
 use Rattle.bk_log.specs.declared.fault.LogFault.TheVariants.{Disk, Failed, Memory, Odd}
@@ -11,7 +12,7 @@ use Rattle.bk_log.specs.Text.{IsLogText}
 use Rattle.bk_log.specs.Sizes.{sizes_of}
 use Rattle.bk_log.specs.Calls.{Adds}
 use Rattle.bk_log.specs.Writing.{Writing, new_writing, CreateFails, Writes}
-use Rattle.bk_log.proofs.Files.{stands-insert, grown-insert}
+use Rattle.bk_disk.proofs.FileMaps.{grown-insert}
 
 pub length-empty_header : length empty_header ≡ 1024
 unfolding empty_header head_of patch_of
@@ -48,7 +49,7 @@ unfolding sizes_of
 writes_new files files' log w is same = subst (λ (v : Writing). Writes files' v) (sym same) (record {
   file = empty_header;
   records = [];
-  stands = ap (λ m. get m log) is ∙ stands-insert files log empty_header;
+  stands = ap (λ m. get m log) is ∙ get-insert_same files log empty_header;
   long = sym length-empty_header;
   text = header_text;
   counted = refl;

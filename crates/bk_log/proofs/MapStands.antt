@@ -11,6 +11,7 @@ use Rattle.bk_record.specs.Record.{key_of, is_foreign}
 use Rattle.bk_record.specs.Files.{Files, file_of}
 use Rattle.bk_record.specs.Scan.{entries_of}
 use Rattle.bk_record.proofs.Growth.{records_of-body}
+use Rattle.bk_record.proofs.NumberMaps.{get-insert_same}
 use Rattle.bk_disk.specs.Disk.{patched, patched_file}
 use Rattle.bk_head.specs.Header.{IsHeader, empty_header, head_of, patch_of}
 use Rattle.bk_head.specs.declared.header.Header.{Header}
@@ -22,7 +23,6 @@ use Rattle.bk_log.specs.Sizes.{sizes_of}
 use Rattle.bk_log.specs.Writing.{Writing, Writes}
 use Rattle.bk_log.specs.Sealing.{map_bytes, map_fits, mapped, sealed, SealTurn, HasMap}
 use Rattle.bk_log.specs.declared.fault.LogFault.{LogFault}
-use Rattle.bk_log.proofs.Files.{stands-insert}
 use Rattle.bk_log.proofs.Writes.{text_is_long}
 use Rattle.bk_log.proofs.Others.{is_entry, keeps_patch}
 use Rattle.bk_log.proofs.Sealed.{all_entries, patched-mapped, long_enough, length-patch_of}
@@ -109,7 +109,7 @@ sealed_has_map files files' w now same writes writable is fits =
     let stands : files' ≡ insert files now.log file =
     is ∙ ap (λ b. cond b (patched (mapped files now) now.log put) files) fits ∙ patched-mapped files now put writes in
     map_stands files now (file_of files' now.log) writes writable'
-    (ap (λ m. unwrap_or (get m now.log) []) stands ∙ ap (λ o. unwrap_or o []) (stands-insert files now.log file))
+    (ap (λ m. unwrap_or (get m now.log) []) stands ∙ ap (λ o. unwrap_or o []) (get-insert_same files now.log file))
 
 pub seal_map : (files files' : Files) (w now : Writing) (result : Result (Unit {0}) LogFault) → w ≡ now → Writes files now → IsWritable w.sizes
     → SealTurn files now result files' → map_fits now ≡ true → OnOk result (HasMap (file_of files' now.log))

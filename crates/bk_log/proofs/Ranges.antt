@@ -1,7 +1,7 @@
 -- The records of a part of a log: how many are looked for makes no difference, and those behind whole records follow them.
 use Rattle.std.proofs.Common.{◌≡◌, ℕ, zero, suc, ◌+◌, ◌≤◌, Bool, true, false, cond, not, List, [], ◌∷◌, ◌++◌, length, take, drop, refl, sym, ap, ◌∙◌, arith}
-use Rattle.std.proofs.Common.{length-append, append_assoc, length-drop}
-use Rattle.std.proofs.lemmas.List.{take_at}
+use Rattle.std.proofs.Common.{◌-◌, length-append, append_assoc, length-drop}
+use Rattle.std.proofs.lemmas.List.{take_all, take_at}
 use Rattle.std.specs.List.{filter}
 use Rattle.bk_record.specs.Record.{record_of, IsPayload, length_field, is_foreign}
 use Rattle.bk_record.specs.Body.{starts_with_record, Body, pieces, leftover}
@@ -13,7 +13,8 @@ use Rattle.bk_record.proofs.Records.{length-record_of, length_field-record_of, s
 use Rattle.bk_record.proofs.Bodies.{pieces-stop, leftover-stop}
 use Rattle.bk_record.proofs.EntryLists.{pieces-enough}
 use Rattle.bk_record.specs.Spelling.{all_pieces, all_leftover}
-use Rattle.bk_log.specs.Ranges.{entries_in, foreign_in, IsWholePart}
+use Rattle.bk_disk.specs.Disk.{view_end}
+use Rattle.bk_log.specs.Ranges.{entries_in, foreign_in, IsWholePart, part}
 
 -- what is found in bytes, by whether they begin with a record
 pieces_by : Bool → ℕ → ℕ → List ℕ → List (ℕ × List ℕ)
@@ -117,3 +118,7 @@ foreign_in-file file = ap (λ l. length (filter (λ r. is_foreign r.1) l)) (all_
 
 pub whole_part : (file : List ℕ) → IsWholePart file
 whole_part file = record { entries = entries_in-file file; foreign = foreign_in-file file; rest = all_leftover-file file }
+
+-- the part of a log that a view has is all behind the header
+pub whole_view : (file : List ℕ) (end : ℕ) → end ≡ view_end file → part file header_length end ≡ drop header_length file
+whole_view file end is = take_all (end - header_length) (drop header_length file) (omega (arith, is, length-drop header_length file))

@@ -5,6 +5,7 @@ use Rattle.std.proofs.lemmas.List.{take_all}
 use Rattle.std.specs.FinMap.{insert, len}
 use Rattle.bk_record.specs.Files.{Files, IsWhole}
 use Rattle.bk_record.specs.Scan.{entries_of}
+use Rattle.bk_record.proofs.NumberMaps.{insert-insert, get-insert_same}
 use Rattle.bk_disk.specs.Disk.{grown, patched, patched_file}
 use Rattle.bk_head.specs.Header.{patch_of}
 use Rattle.bk_head.specs.Written.{IsWritable}
@@ -13,8 +14,7 @@ use Rattle.bk_log.specs.declared.fault.LogFault.{LogFault}
 use Rattle.bk_log.specs.declared.fault.LogFault.TheVariants.{Disk, Failed, Memory, Odd}
 use Rattle.bk_log.specs.Writing.{Writing, Writes}
 use Rattle.bk_log.specs.Sealing.{map_bytes, map_fits, mapped, SealTurn, KeepsEntries}
-use Rattle.bk_log.proofs.Files.{stands-insert, grown-stands, patched-stands}
-use Rattle.bk_record.proofs.NumberMaps.{insert-insert}
+use Rattle.bk_log.proofs.Files.{grown-stands, patched-stands}
 use Rattle.bk_log.proofs.Writes.{text_is_long}
 use Rattle.bk_log.proofs.Others.{batches_prefix, keeps_append, keeps_patch, keeps_insert}
 
@@ -49,7 +49,7 @@ pub patched-mapped : (files : Files) (w : Writing) (left : List ℕ) (writes : W
 patched-mapped files w left writes =
     let whole = writes.file ++ map_bytes w in
     let is : mapped files w ≡ insert files w.log whole = grown-stands files w.log writes.file (map_bytes w) writes.stands in
-    ap (λ m. patched m w.log left) is ∙ patched-stands (insert files w.log whole) w.log whole left (stands-insert files w.log whole)
+    ap (λ m. patched m w.log left) is ∙ patched-stands (insert files w.log whole) w.log whole left (get-insert_same files w.log whole)
     ∙ insert-insert files w.log whole (patched_file whole left)
 
 pub long_enough : (files : Files) (w : Writing) (writes : Writes files w) → 20 ≤ length (writes.file ++ map_bytes w)

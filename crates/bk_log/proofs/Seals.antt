@@ -1,17 +1,18 @@
 -- A log that is sealed, call by call.
-use Rattle.std.proofs.Common.{◌≡◌, inl, inr, ℕ, ◌+◌, ◌<◌, ◌≤◌, ◌^◌, true, cond, List, [], ◌∷◌, ◌++◌, length, Result, Ok, Err, refl, sym, ap, ◌∙◌, subst, arith}
+use Rattle.std.proofs.Common.{◌≡◌, inl, inr, ℕ, ◌+◌, ◌<◌, ◌^◌, true, cond, List, [], ◌∷◌, ◌++◌, length, Result, Ok, Err, refl, sym, ap, ◌∙◌, subst, arith}
 use Rattle.std.proofs.Common.{length-append}
-use Rattle.std.proofs.lemmas.Bool.{lt-ltb, le-ltb}
+use Rattle.std.proofs.lemmas.Bool.{lt-ltb}
 use Rattle.std.specs.FinMap.{get, len}
 use Rattle.bk_record.specs.Files.{Files}
+use Rattle.bk_record.proofs.NumberMaps.{get-insert_same}
 use Rattle.bk_disk.specs.Disk.{grown, patched}
 use Rattle.bk_head.specs.Header.{patch_of}
 use Rattle.bk_log.specs.declared.fault.LogFault.{LogFault}
 use Rattle.bk_log.specs.declared.fault.LogFault.TheVariants.{Disk, Failed, Memory, Odd}
 use Rattle.bk_log.specs.Calls.{HasRoom, Adds, HasHeader, Overwrites}
 use Rattle.bk_log.specs.Writing.{Writing, Writes}
-use Rattle.bk_log.specs.Sealing.{map_bytes, map_fits, mapped, sealed, SealTurn}
-use Rattle.bk_log.proofs.Files.{stands-insert, grown-stands, grown-nothing}
+use Rattle.bk_log.specs.Sealing.{map_bytes, map_fits, mapped, SealTurn}
+use Rattle.bk_log.proofs.Files.{grown-stands, grown-nothing}
 use Rattle.bk_log.proofs.Writes.{text_is_long}
 
 -- there is room for a map that fits
@@ -30,7 +31,7 @@ header_there files files' w now bytes same writes grew =
     let long = text_is_long writes'.file writes'.records writes'.text in
     record {
       file = writes'.file ++ bytes;
-      stands = ap (λ m. get m w.log) is ∙ stands-insert files w.log (writes'.file ++ bytes);
+      stands = ap (λ m. get m w.log) is ∙ get-insert_same files w.log (writes'.file ++ bytes);
       long = omega (arith, long, length-append writes'.file bytes);
     }
 

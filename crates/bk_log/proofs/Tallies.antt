@@ -1,14 +1,14 @@
 -- Sizes that are added up with the last ledger's beside the others.
-use Rattle.std.proofs.Common.{◌≡◌, ℕ, zero, suc, ◌+◌, ◌<◌, ◌^◌, true, false, cond, ◌&&◌, nat_lt, nat_cmp, List, [], ◌∷◌, ◌++◌, take, Some, None, slice_get}
+use Rattle.std.proofs.Common.{◌≡◌, ℕ, zero, suc, ◌+◌, ◌<◌, ◌^◌, true, false, cond, ◌&&◌, nat_lt, nat_cmp, List, take, Some, None}
 use Rattle.std.proofs.Common.{unwrap_or, refl, sym, ap, ◌∙◌, subst, arith}
 use Rattle.std.specs.FinMap.{get, insert, empty, get-empty}
 use Rattle.bk_record.specs.Key.{EntryKey}
 use Rattle.bk_record.specs.Record.{key_of, ledger_field, entry_field}
 use Rattle.bk_log.specs.declared.found.Found.{Found}
 use Rattle.bk_log.specs.Sizes.{Sizes, Tally, size_in, with_bytes, with_last, with_record, sizes_of, IsLast, CountsNext}
-use Rattle.bk_record.proofs.NumberMaps.{insert-insert, insert_same}
-use Rattle.bk_log.proofs.Files.{stands-insert}
 use Rattle.bk_log.proofs.Sums.{sizes_of-push}
+use Rattle.bk_record.proofs.NumberMaps.{get-insert_same, insert-insert, insert_same}
+use Rattle.bk_record.proofs.Growth.{take_next}
 
 -- where the last ledger has bytes, it is put in with them
 pub with_last-some : (others : Sizes) (ledger size : ℕ) → 0 < size → with_last others ledger size ≡ insert others ledger size
@@ -21,7 +21,7 @@ with_last-none others ledger size none = ap (with_last others ledger) none
 -- the bytes of the last ledger
 pub size_in-with_last : (others : Sizes) (ledger size : ℕ) → IsLast others ledger size → size_in (with_last others ledger size) ledger ≡ size
 size_in-with_last others ledger zero last = last refl
-size_in-with_last others ledger (suc n) last = ap (λ o. unwrap_or o 0) (stands-insert others ledger (suc n))
+size_in-with_last others ledger (suc n) last = ap (λ o. unwrap_or o 0) (get-insert_same others ledger (suc n))
 
 -- and with more
 pub with_last-add : (others : Sizes) (ledger size more : ℕ) → IsLast others ledger size → 0 < more
@@ -80,11 +80,6 @@ key_of-ledger payload key is =
       | true ↦ λ e. let same : read ≡ key = cc in sym (ap (λ k. k.ledger) same)
       | false ↦ λ e. cc
     ] is
-
-take_next : {X : Type 0} (xs : List X) (n : ℕ) (x : X) → slice_get xs n ≡ Some x → take (n + 1) xs ≡ take n xs ++ x ∷ []
-take_next [] n x is = cc
-take_next (y ∷ ys) zero x is = let e : Some y ≡ Some x = is in let same : y ≡ x = cc in ap (λ z. z ∷ []) same
-take_next (y ∷ ys) (suc n) x is = let one : suc n + 1 ≡ suc (n + 1) = omega arith in ap (λ k. take k (y ∷ ys)) one ∙ ap (λ l. y ∷ l) (take_next ys n x is)
 
 -- one entry more of a list was counted
 pub counts_next : (before now : Sizes) (found : Found) → now ≡ with_bytes before found.key.ledger found.size → CountsNext before found now

@@ -9,6 +9,7 @@ use Rattle.bk_record.specs.Files.{Files}
 use Rattle.bk_record.specs.Body.{Body}
 use Rattle.bk_record.proofs.Records.{length-record_of}
 use Rattle.bk_record.proofs.Bodies.{body_append, body_record}
+use Rattle.bk_record.proofs.NumberMaps.{get-insert_same}
 use Rattle.bk_disk.specs.Disk.{grown}
 use Rattle.bk_log.specs.declared.fault.LogFault.{LogFault}
 use Rattle.bk_log.specs.declared.fault.LogFault.TheVariants.{Disk, Failed, Memory, Odd}
@@ -17,7 +18,7 @@ use Rattle.bk_log.specs.Text.{IsLogText}
 use Rattle.bk_log.specs.Sizes.{Sizes, with_bytes, with_record}
 use Rattle.bk_log.specs.Calls.{HasRoom, Adds}
 use Rattle.bk_log.specs.Writing.{Writing, with_put, Puts, PutTurn, Writes}
-use Rattle.bk_log.proofs.Files.{stands-insert, grown-stands}
+use Rattle.bk_log.proofs.Files.{grown-stands}
 use Rattle.bk_log.proofs.Sums.{sizes_of-push}
 use Rattle.bk_log.proofs.Makes.{length-empty_header}
 
@@ -61,7 +62,7 @@ writes_put files files' w payload writes legal keyed grew =
     record {
       file = writes.file ++ record_of payload;
       records = writes.records ++ (length writes.file + 4, payload) ∷ [];
-      stands = ap (λ m. get m w.log) is ∙ stands-insert files w.log (writes.file ++ record_of payload);
+      stands = ap (λ m. get m w.log) is ∙ get-insert_same files w.log (writes.file ++ record_of payload);
       long = omega (arith, writes.long, length-append writes.file (record_of payload), length-record_of payload);
       text = text_push writes.file payload writes.records writes.text legal;
       counted = omega (arith, writes.counted, length-append writes.records ((length writes.file + 4, payload) ∷ []));

@@ -1,8 +1,9 @@
 -- A log's records as its file grows.
 use Rattle.std.proofs.Common.{◌≡◌, ◌⊎◌, inl, inr, ℕ, zero, suc, ◌+◌, ◌≤◌, List, [], ◌∷◌, ◌++◌, length, take, drop}
-use Rattle.std.proofs.Common.{refl, sym, ap, ◌∙◌, subst, arith, length-drop}
+use Rattle.std.proofs.Common.{Some, slice_get, refl, sym, ap, ◌∙◌, subst, arith, length-drop}
 use Rattle.std.proofs.Math.Decide.{dec_le}
 use Rattle.std.proofs.lemmas.List.{append-nil, take_all, drop-append-le, drop_all}
+use Rattle.std.proofs.lemmas.Option.{same_Some}
 use Rattle.bk_record.specs.Record.{record_of, IsPayload}
 use Rattle.bk_record.specs.Body.{Body}
 use Rattle.bk_record.specs.Body.Body.{done, torn}
@@ -74,3 +75,16 @@ pub In-append_cases : {X : Type 0} (x : X) (xs ys : List X) → In x (xs ++ ys) 
 In-append_cases x [] ys is = inr is
 In-append_cases x (z ∷ xs) ys (inl e) = inl (inl e)
 In-append_cases x (z ∷ xs) ys (inr later) = elim (In-append_cases x xs ys later) [ inl l ↦ inl (inr l) | inr r ↦ inr r ]
+
+pub In-push_cases : {X : Type 0} (x y : X) (xs : List X) → In x (xs ++ y ∷ []) → In x xs ⊎ (y ≡ x)
+In-push_cases x y xs is = elim (In-append_cases x xs (y ∷ []) is) [
+  | inl there ↦ inl there
+  | inr last ↦ elim last [ inl here ↦ inr here | inr none ↦ absurd none ]
+]
+
+-- one more of the first elements
+pub take_next : {X : Type 0} (xs : List X) (n : ℕ) (x : X) → slice_get xs n ≡ Some x → take (n + 1) xs ≡ take n xs ++ x ∷ []
+take_next [] n x is = cc
+take_next (y ∷ ys) zero x is = let same : y ≡ x = same_Some y x is in ap (λ z. z ∷ []) same
+take_next (y ∷ ys) (suc n) x is =
+    let one : suc n + 1 ≡ suc (n + 1) = omega arith in ap (λ k. take k (y ∷ ys)) one ∙ ap (λ l. y ∷ l) (take_next ys n x is)

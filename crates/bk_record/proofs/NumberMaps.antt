@@ -1,9 +1,13 @@
 -- Finite maps at keys that are numbers: those made of a `BTreeMap`'s entries, and what is put in or taken out there.
-use Rattle.std.proofs.Common.{◌≡◌, ℕ, cond, List, Some, None, nat_cmp, sym, ap, ◌∙◌}
+use Rattle.std.proofs.Common.{◌≡◌, ℕ, cond, List, [], ◌∷◌, Some, None, Less, nat_cmp, refl, sym, ap, ◌∙◌}
 use Rattle.std.specs.Cmp.{nat_cmp_total, eq_by_cmp_equiv}
 use Rattle.std.specs.BTreeMap.{is_at}
-use Rattle.std.specs.Map.{lookup}
+use Rattle.std.specs.Map.{lookup, keys_of}
+use Rattle.std.specs.List.Sorted.{IsStrictlySortedBy}
+use Rattle.std.specs.FinMap as finite
 use Rattle.std.specs.FinMap.{FinMap, get, insert, remove, from_entries, get-insert, get-remove, get-from_entries, same_map, nat_cmp-IsAntisymmetric}
+use Rattle.std.proofs.lemmas.List.{nil_from_length}
+use Rattle.std.proofs.lemmas.Map.Keys.{sorted_head, sorted_tail}
 use Rattle.bk_record.proofs.Maps as maps
 use Rattle.bk_record.proofs.SortedPairs.{find-lookup}
 
@@ -46,3 +50,22 @@ insert-insert m k v w = maps.insert-insert nat_cmp_total nat_cmp-IsAntisymmetric
 -- a key that is there, put in again
 pub insert_same : {X : Type 0} (m : FinMap nat_cmp X) (k : ℕ) (v : X) → get m k ≡ Some v → insert m k v ≡ m
 insert_same m k v is = maps.insert-same nat_cmp_total nat_cmp-IsAntisymmetric m k v is
+
+-- ---- maps made of pairs in order
+
+entries-empty : {X : Type 0} → finite.entries (finite.empty {X = X} {R = nat_cmp}) ≡ []
+entries-empty {X} = nil_from_length _ (sym (finite.len-entries (finite.empty {X = X} {R = nat_cmp})) ∙ finite.len-empty nat_cmp X)
+
+-- a key below all others is put in front
+put_first : {X : Type 0} (e : ℕ × X) (es : List (ℕ × X)) → IsStrictlySortedBy nat_cmp (keys_of (e ∷ es)) → finite.put nat_cmp e.0 e.1 es ≡ e ∷ es
+put_first e [] rises = refl
+put_first e (f ∷ fs) rises =
+    let less : nat_cmp e.0 f.0 ≡ Less = (sorted_head nat_cmp e.0 (keys_of (f ∷ fs)) rises).0 in
+    rw less refl
+
+-- pairs whose keys rise are those of their map
+pub entries-from_rising : {X : Type 0} (es : List (ℕ × X)) → IsStrictlySortedBy nat_cmp (keys_of es) → finite.entries (from_entries {R = nat_cmp} es) ≡ es
+entries-from_rising [] rises = entries-empty
+entries-from_rising (e ∷ es) rises =
+    finite.entries-insert nat_cmp_total (from_entries es) e.0 e.1
+    ∙ ap (finite.put nat_cmp e.0 e.1) (entries-from_rising es (sorted_tail nat_cmp e.0 (keys_of es) rises)) ∙ put_first e es rises

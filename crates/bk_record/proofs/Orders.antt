@@ -32,7 +32,7 @@ in_order-append (r ∷ xs) ys first second between = (
 -- ---- one log
 
 -- the pieces of bytes at a position stand behind it
-pieces_behind : (most from : ℕ) (bytes : List ℕ) (at : ℕ) (payload : List ℕ) → In (at, payload) (pieces most from bytes) → from < at
+pub pieces_behind : (most from : ℕ) (bytes : List ℕ) (at : ℕ) (payload : List ℕ) → In (at, payload) (pieces most from bytes) → from < at
 pieces_behind zero from bytes at payload there = absurd there
 pieces_behind (suc most) from bytes at payload there =
     let n = length_field bytes in

@@ -1,6 +1,8 @@
 -- One record in bytes: what its length field says, and when bytes begin with a whole record.
 use Rattle.std.proofs.Common.{◌≡◌, ℕ, zero, suc, ◌+◌, ◌<◌, ◌≤◌, ◌^◌, List, [], ◌∷◌, ◌++◌, length, take, drop, true, false}
 use Rattle.std.proofs.Common.{refl, sym, ap, ◌∙◌, arith, length-append, append_assoc, length-drop}
+use Rattle.std.specs.List.{All}
+use Rattle.std.proofs.lemmas.List.Elements.{All-head, All-tail}
 use Rattle.std.proofs.lemmas.List.{drop_at, length-take, take-append-drop, drop-drop, get_or-drop}
 use Rattle.std.proofs.lemmas.Nat.{from_be_bytes-to_be_bytes_4, be_bytes_4}
 use Rattle.std.proofs.lemmas.Bool.{and_from, and_parts, le-leb, lt-ltb, leb-true, ltb-true}
@@ -77,6 +79,12 @@ starts-torn bytes (cut four least most less) = starts_false bytes (λ s. omega (
 
 pub starts-nil : starts_with_record [] ≡ false
 starts-nil = starts_false [] (λ s. omega (arith, s.field))
+
+-- numbers below 2^8 are bytes
+pub each_byte : (bytes : List ℕ) → All (λ b. b < 2 ^ 8) bytes → IsBytes bytes
+each_byte [] all i = omega arith
+each_byte (b ∷ bytes) all zero = All-head (λ x. x < 2 ^ 8) b bytes all
+each_byte (b ∷ bytes) all (suc i) = each_byte bytes (All-tail (λ x. x < 2 ^ 8) b bytes all) i
 
 pub bytes_take : (n : ℕ) (bytes : List ℕ) → IsBytes bytes → IsBytes (take n bytes)
 bytes_take zero bytes each i = omega arith

@@ -12,12 +12,9 @@ use Rattle.bk_record.specs.Scan.{entries_of}
 use Rattle.bk_record.specs.Longer.{IsLonger}
 use Rattle.bk_record.proofs.Growth.{records_of-body}
 use Rattle.bk_record.proofs.Longer.{longer_same}
+use Rattle.bk_record.proofs.EntryLists.{entries_of-same}
 use Rattle.bk_log.specs.Writing.{Writing, Writes}
 use Rattle.bk_log.proofs.Writes.{text_is_long}
-
-pub entries_by_records : (a b : List ℕ) → records_of a ≡ records_of b → entries_of a ≡ entries_of b
-unfolding entries_of
-entries_by_records a b same = ap (filter (λ (r : ℕ × List ℕ). not (is_foreign r.1))) same
 
 -- behind its header the log's first bytes are what it had
 front_body : (front whole : List ℕ) → IsLonger front whole → header_length ≤ length front
@@ -47,7 +44,7 @@ module _ (files : Files) (w : Writing) (writes : Writes files w) where
 
   -- the acknowledged entries are the log's
   pub entries_acknowledged : (whole : List ℕ) → IsLonger (file_of files w.log) whole → entries_of (take w.end whole) ≡ entries_of (file_of files w.log)
-  entries_acknowledged whole longer = entries_by_records (take w.end whole) (file_of files w.log) (records_acknowledged whole longer)
+  entries_acknowledged whole longer = entries_of-same (take w.end whole) (file_of files w.log) (records_acknowledged whole longer)
 
   pub entries_whole : entries_of (take w.end (file_of files w.log)) ≡ entries_of (file_of files w.log)
   entries_whole = entries_acknowledged (file_of files w.log) (longer_same (file_of files w.log))

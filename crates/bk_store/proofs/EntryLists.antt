@@ -4,15 +4,14 @@ use Rattle.std.specs.FinMap as finite
 use Rattle.std.specs.FinSet as set
 use Rattle.std.proofs.lemmas.Option.{none-some}
 use Rattle.bk_record.specs.Key.{EntryKey, key_cmp}
-use Rattle.bk_record.specs.Location.{Place}
+use Rattle.bk_record.specs.Location.{Place, Precedes}
 use Rattle.bk_record.specs.Files.{In}
-use Rattle.bk_record.specs.Location.{Precedes}
 use Rattle.bk_record.specs.Scan.{Ledgers}
 use Rattle.bk_record.proofs.Growth.{In-append_right, In-append_cases}
 use Rattle.bk_record.specs.Keyed.{Places}
+use Rattle.bk_record.proofs.Places.{precedes_not_itself, precedes_one_way}
 use Rattle.bk_store.specs.Entries.{Bytes, HasEntry, IsIndexOf}
 use Rattle.bk_store.proofs.KeyMaps.{get-insert_other, same_key, inserted_cases, inserted_here}
-use Rattle.bk_store.proofs.PlaceOrder.{precedes_irreflexive, precedes_one_way}
 
 -- entries as a walk over logs meets them: each with its place and its key
 abbrev pub Listed : Type 0
@@ -153,7 +152,7 @@ list_index lists made = record {
                 | inl before ↦ precedes_one_way place other follows
                     (rising_before place key l.before l.behind other key (subst AreRising l.entries_are lists.rising) before)
                 | inr behind ↦ elim behind [
-                  | inl here ↦ precedes_irreflexive other (subst (λ (x : Place × EntryKey). Precedes x.0 other) here follows)
+                  | inl here ↦ precedes_not_itself other (subst (λ (x : Place × EntryKey). Precedes x.0 other) here follows)
                   | inr later ↦ l.last other later
                 ]
               ];

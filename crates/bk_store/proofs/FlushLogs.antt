@@ -7,6 +7,7 @@ use Rattle.std.specs.List.{filter}
 use Rattle.std.specs.Option.{option_eq}
 use Rattle.std.proofs.lemmas.Bool.{eq-eqb}
 use Rattle.bk_record.specs.Files.{In}
+use Rattle.bk_record.proofs.Growth.{In-push_cases}
 use Rattle.bk_store.specs.Logs.{Log, Logs, AllChanged, IsFlushLog, settled_as, unfilled_as}
 use Rattle.bk_store.specs.declared.log.LogState.{LogState}
 use Rattle.bk_store.specs.declared.log.LogState.TheVariants.{Writing, Filled, Copying, Readable, Retired, Closed}
@@ -61,14 +62,8 @@ abbrev pub ChangedSoFar : (LogState → Log → Log) → Logs → Logs → List 
 ChangedSoFar rule old now met = (id : ℕ)
     → (finite.get now id ≡ option_map (λ log. rule log.state log) (finite.get old id)) ⊎ ((finite.get now id ≡ finite.get old id) × ¬ (In id met))
 
-behind-cases : (q id : ℕ) (xs : List ℕ) → In q (xs ++ id ∷ []) → In q xs ⊎ (id ≡ q)
-behind-cases q id [] (inl is) = inr is
-behind-cases q id [] (inr never) = absurd never
-behind-cases q id (x ∷ xs) (inl is) = inl (inl is)
-behind-cases q id (x ∷ xs) (inr later) = elim (behind-cases q id xs later) [ inl l ↦ inl (inr l) | inr r ↦ inr r ]
-
 met_else : (met : List ℕ) (id q : ℕ) → q ≢ id → ¬ (In q met) → ¬ (In q (met ++ id ∷ []))
-met_else met id q apart unmet there = elim (behind-cases q id met there) [ inl before ↦ unmet before | inr here ↦ apart (sym here) ]
+met_else met id q apart unmet there = elim (In-push_cases q id met there) [ inl before ↦ unmet before | inr here ↦ apart (sym here) ]
 
 module _ (rule : LogState → Log → Log) (settles : IsSettling rule) (old now : Logs) (met : List ℕ) (so_far : ChangedSoFar rule old now met) (id : ℕ) where
   others_go_on : (now' : Logs) (q : ℕ) → q ≢ id → finite.get now' q ≡ finite.get now q

@@ -1,27 +1,18 @@
 -- A walk over the keys of a finite map of logs, as of all files, or of the logs that a store holds.
-use Rattle.std.proofs.Common.{◌≡◌, inl, inr, ℕ, ◌<◌, List, [], ◌∷◌, None, true, false, cond, refl, ap, subst, map, unwrap_or, T}
-use Rattle.std.specs.Prelude.{nat_lt, ◌==◌}
-use Rattle.std.specs.declared.cmp.Ordering.TheVariants.{Less, Equal, Greater}
-use Rattle.std.specs.Ordering.{nat_cmp, is_lt}
+use Rattle.std.proofs.Common.{◌≡◌, inl, inr, ℕ, ◌<◌, List, [], ◌∷◌, None, ap, subst, map, unwrap_or, T}
+use Rattle.std.specs.Ordering.{nat_cmp}
 use Rattle.std.specs.FinMap as finite
 use Rattle.std.specs.FinMap.{nat_cmp-IsAntisymmetric}
 use Rattle.std.specs.FinMap.Entries.{is_sorted}
-use Rattle.std.proofs.lemmas.Bool.{ltb-true}
 use Rattle.std.proofs.lemmas.Cmp.{nat_cmp_total}
 use Rattle.bk_record.specs.Files.{Files, file_of}
 use Rattle.bk_record.proofs.Entries.{and_left, and_right, below-In, get-In, In-map, map-In}
+use Rattle.bk_record.proofs.Orders.{less_told}
 use Rattle.bk_store.specs.Entries.{Bytes}
 use Rattle.bk_store.proofs.Cases.{some_or_none}
 use Rattle.bk_store.proofs.Growing.{none_stands}
 use Rattle.bk_store.proofs.EntryLists.{AreEntriesOf}
 use Rattle.bk_store.proofs.Walks.{AreAscending, walked, walked_lists}
-
-less_told : (a b : ℕ) → T (is_lt (nat_cmp a b)) → a < b
-less_told a b is =
-    elim (nat_lt a b) as (λ l. nat_lt a b ≡ l → T (is_lt (cond l Less (cond (a == b) Equal Greater))) → a < b) [
-      | true ↦ λ less _. ltb-true a b less
-      | false ↦ λ _ told. elim (a == b) as (λ e. T (is_lt (cond e Equal Greater)) → a < b) [ true ↦ λ never. absurd never | false ↦ λ never. absurd never ] told
-    ] refl is
 
 module _ {X : Type 0} where
   sorted_ascending : (es : List (ℕ × X)) → T (is_sorted nat_cmp es) → AreAscending (map (λ e. e.0) es)

@@ -3,15 +3,14 @@ use Rattle.std.proofs.Common.{◌≡◌, ◌⊎◌, inl, inr, Some, None, IsSome
 use Rattle.std.specs.FinMap as finite
 use Rattle.std.proofs.lemmas.Option.{same_Some}
 use Rattle.bk_record.specs.Key.{EntryKey}
-use Rattle.bk_record.specs.Location.{Place}
+use Rattle.bk_record.specs.Location.{Place, Precedes}
 use Rattle.bk_record.specs.Scan.{Payloads, Ledgers}
-use Rattle.bk_record.specs.Location.{Precedes}
 use Rattle.bk_record.specs.Keyed.{Places}
+use Rattle.bk_record.proofs.Places.{precedes_trans}
 use Rattle.bk_store.specs.Entries.{Bytes}
 use Rattle.bk_store.specs.Carried.{Cached, IsIndexed, Carries}
 use Rattle.bk_store.proofs.Cases.{some_value}
 use Rattle.bk_store.proofs.KeyMaps.{get-insert_other, same_key, inserted_cases, inserted_here}
-use Rattle.bk_store.proofs.PlaceOrder.{precedes_transitive}
 
 -- the second place is the first, or behind it
 abbrev pub IsForward : Place → Place → Type 0
@@ -39,7 +38,7 @@ module _ {bytes : Bytes} {index : Places} {cached : Cached} {dead : Ledgers} {ma
             sent = now.1;
             later = elim (forward key stale.behind now.0 stale.uncached stale.sent now.1) [
               | inl same ↦ subst (λ p. Precedes place p) same stale.later
-              | inr before ↦ precedes_transitive place stale.behind now.0 stale.later before
+              | inr before ↦ precedes_trans place stale.behind now.0 stale.later before
             ];
           })
     ];

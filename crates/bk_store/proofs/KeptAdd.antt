@@ -73,7 +73,7 @@ module _ (p : Parts) (payload : List ℕ) (key : EntryKey) (reads : read_added p
         counted = promise.counted;
         backed = promise.backed;
         fresh = promise.fresh;
-        placed = λ k place is. let old = promise.placed k place is in record { payload = old.payload; flushing = old.flushing; stands = old.stands };
+        placed = promise.placed;
       }
 
   added_kept : Keeps added
@@ -87,14 +87,7 @@ module _ (p : Parts) (payload : List ℕ) (key : EntryKey) (reads : read_added p
           seated = fits.seated;
           held = fits.held;
           sent = fits.sent;
-          placed = record {
-            idle = fits.placed.idle;
-            flushing = fits.placed.flushing;
-            logs = fits.placed.logs;
-            front = fits.placed.front;
-            rising = fits.placed.rising;
-            newest = fits.placed.newest;
-          };
+          placed = fits.placed;
           writing = fits.writing;
           filled = fits.filled;
           named = fits.named;

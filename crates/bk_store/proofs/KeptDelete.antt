@@ -89,7 +89,7 @@ module _ (s : State) (ledger : ℕ) where
 
   -- ---- the places of the flush
 
-  placed_left : IsPlaced s → IsPlaced (deleted s ledger)
+  placed_left : IsPlaced s.caches.flush s.places s.logs → IsPlaced (deleted s ledger).caches.flush (deleted s ledger).places s.logs
   placed_left placed = record {
     idle = λ none. ap (λ m. without_ledger m ledger) (placed.idle (none_left s.caches.flush none)) ∙ without_ledger-empty ledger;
     flushing = λ key place is.
@@ -115,7 +115,8 @@ module _ (s : State) (ledger : ℕ) where
           ap is_some (ap (λ m. finite.get m key) (flush_left s.caches ledger) ∙ left_same (caches.flush_of s.caches) ledger key apart) ∙ there
 
   written_still : (key : EntryKey) (place : Place) → finite.get (deleted s ledger).places key ≡ Some place
-      → ((k : EntryKey) (p : Place) → finite.get s.places k ≡ Some p → IsWrittenAt s k p) → IsWrittenAt (deleted s ledger) key place
+      → ((k : EntryKey) (p : Place) → finite.get s.places k ≡ Some p → IsWrittenAt s.caches.flush s.files k p)
+      → IsWrittenAt (deleted s ledger).caches.flush s.files key place
   written_still key place is written =
       let was = left_cases s.places ledger key place is in
       let old = written key place was.1 in

@@ -1,6 +1,5 @@
 -- A job that is taken out of a store, or given back, keeps what a store keeps.
 use Rattle.std.proofs.Common.{◌≡◌, Option, Some, None, ℕ, refl, sym, ap, subst, ◌∙◌}
-use Rattle.std.specs.FinMap as finite
 use Rattle.bk_store.specs.Jobs.{Job}
 use Rattle.bk_store.specs.JobKept.{IsJob}
 use Rattle.bk_store.specs.State.{State, Parts}
@@ -26,14 +25,7 @@ keeps_job p now keeps each =
         seated = fits.seated;
         held = fits.held;
         sent = fits.sent;
-        placed = record {
-          idle = fits.placed.idle;
-          flushing = fits.placed.flushing;
-          logs = fits.placed.logs;
-          front = fits.placed.front;
-          rising = fits.placed.rising;
-          newest = fits.placed.newest;
-        };
+        placed = fits.placed;
         writing = fits.writing;
         filled = fits.filled;
         named = fits.named;
@@ -52,9 +44,7 @@ keeps_job p now keeps each =
             counted = promise.counted;
             backed = promise.backed;
             fresh = promise.fresh;
-            placed = λ key place is.
-                let old = promise.placed key place is in
-                record { payload = old.payload; flushing = old.flushing; stands = old.stands };
+            placed = promise.placed;
           };
     }
 

@@ -1,43 +1,38 @@
 -- A log that is made keeps what a store keeps, and so does one whose making is refused.
-use Rattle.std.proofs.Common.{◌≡◌, ◌≢◌, ◌⊎◌, inl, inr, ℕ, ◌+◌, ◌≤◌, ◌<◌, ◌^◌, ◌↔◌, Bool, true, false, cond, eqb, IsTrue, List}
-use Rattle.std.proofs.Common.{[], length, take, Option, Some, None, IsSome, IsNone, is_some, option_map, unwrap_or, not}
+use Rattle.std.proofs.Common.{◌≡◌, ◌≢◌, ◌⊎◌, inl, inr, ℕ, ◌+◌, ◌≤◌, ◌<◌, ◌^◌, ◌↔◌, true, false, cond, eqb, IsTrue, List}
+use Rattle.std.proofs.Common.{[], length, take, Option, Some, None, IsSome, is_some, option_map, unwrap_or, not}
 use Rattle.std.proofs.Common.{Result, Ok, Err, refl, sym, ap, subst, ◌∙◌, arith, length-take}
 use Rattle.std.specs.Option.{option_map_or}
 use Rattle.std.specs.FinMap as finite
-use Rattle.std.specs.FinSet as set
-use Rattle.std.proofs.lemmas.Cmp.{nat_cmp_total}
 use Rattle.std.proofs.lemmas.Bool.{eqb-true, eq-eqb}
 use Rattle.bk_record.specs.Key.{EntryKey}
 use Rattle.bk_record.specs.Location.{Place}
 use Rattle.bk_record.specs.Files.{Files, file_of, header_length, In}
-use Rattle.bk_record.specs.Record.{is_foreign}
-use Rattle.std.specs.List.{filter}
 use Rattle.bk_record.specs.Scan.{entries_of}
 use Rattle.bk_record.specs.Keyed.{log_count}
-use Rattle.bk_record.proofs.Growth.{records_of-short}
 use Rattle.bk_record.proofs.KeyedCounts.{log_count-none}
+use Rattle.bk_record.proofs.EntryLists.{entries_of-short}
 use Rattle.bk_head.specs.Header.{empty_header}
 use Rattle.bk_log.specs.Writing as writers
-use Rattle.bk_log.specs.Writing.{CreateTurn, CreateFails, new_writing}
+use Rattle.bk_log.specs.Writing.{CreateFails, new_writing}
 use Rattle.bk_log.specs.Growing.{Gains, HasNoBadLength}
 use Rattle.bk_log.specs.declared.fault.LogFault.{LogFault}
 use Rattle.bk_log.specs.declared.fault.LogFault.TheVariants as log_faults
 use Rattle.bk_log.proofs.Gains.{create_gains, spelled_short}
 use Rattle.bk_log.proofs.Makes.{writes_new, length-empty_header}
-use Rattle.bk_accounts.specs.Book.{Book, named_in, total_at, total_in, after_open}
-use Rattle.bk_accounts.specs.Sums.{AreSums}
+use Rattle.bk_accounts.specs.Book.{named_in, total_at, total_in, after_open}
 use Rattle.bk_accounts.proofs.BookLaws.{named_in-after_open, total_in-after_open}
 use Rattle.bk_accounts.proofs.CallerLaws.{sums_open}
 use Rattle.bk_store.specs.Shown.{Shows}
-use Rattle.bk_store.specs.Logs.{Log, Logs, HasOpenView, IsFlushLog, is_open, is_written, made_log, unmade_log, open_parts, published_part}
+use Rattle.bk_store.specs.Logs.{Log, is_open, is_written, made_log, unmade_log, open_parts, published_part}
 use Rattle.bk_store.specs.State.{State, Parts}
 use Rattle.bk_store.specs.Kept.{Keeps, Fits, Promises, IsHeld, IsWrittenBy, IsBacked, entry_measure, acknowledged_entries}
 use Rattle.bk_lease.specs.declared.slot.Slot.TheVariants as slots
 use Rattle.bk_lease.specs.Slots.{IsFree}
 use Rattle.bk_lease.specs.Values.{SlotTable}
 use Rattle.bk_store.specs.Seated.{slot_state}
-use Rattle.bk_store.specs.Doors.{MakeTurn, MayMake, IsUnmade, HasNoWriting, IsIn, with_next, with_seat, logs_left, keeper_left}
-use Rattle.bk_store.specs.Beside.{MakesBeside, AllStay, opened_for, writing_in, made_writing}
+use Rattle.bk_store.specs.Doors.{MakeTurn, MayMake, IsUnmade, HasNoWriting, with_next, with_seat, logs_left, keeper_left}
+use Rattle.bk_store.specs.Beside.{MakesBeside, AllStay, opened_for, made_writing}
 use Rattle.bk_store.specs.declared.log.LogState.{LogState}
 use Rattle.bk_store.specs.declared.log.LogState.TheVariants.{Writing, Filled, Copying, Readable, Retired, Closed}
 use Rattle.bk_store.specs.declared.answer.MakeFault.{MakeFault}
@@ -48,11 +43,6 @@ use Rattle.bk_store.proofs.Growing.{Grows, grows_behind, carries_grown}
 use Rattle.bk_store.proofs.ShownMoves.{shows_grown}
 use Rattle.bk_store.proofs.LogMaps.{log-inserted, log-insert_else, log-insert_cases}
 use Rattle.bk_store.proofs.JobStays.{job_stays, stays_same, stays_else}
-
--- a file that is no longer than a header has no entry
-no_entries : (file : List ℕ) → length file ≤ header_length → entries_of file ≡ []
-unfolding entries_of
-no_entries file short = ap (filter (λ (r : ℕ × List ℕ). not (is_foreign r.1))) (records_of-short file short)
 
 -- a writer goes by its file alone
 writes_same : {files files' : Files} (w : writers.Writing) → finite.get files' w.log ≡ finite.get files w.log → writers.Writes files w → writers.Writes files' w
@@ -134,14 +124,7 @@ module _ (p : Parts) (keeps : Keeps p) where
           seated = fits.seated;
           held = λ id log is. held_later id log (fits.held id log is);
           sent = fits.sent;
-          placed = record {
-            idle = fits.placed.idle;
-            flushing = fits.placed.flushing;
-            logs = fits.placed.logs;
-            front = fits.placed.front;
-            rising = fits.placed.rising;
-            newest = fits.placed.newest;
-          };
+          placed = fits.placed;
           writing = fits.writing;
           filled = λ id log is flushed. goes id (fits.filled id log is flushed);
           named = fits.named;
@@ -160,9 +143,7 @@ module _ (p : Parts) (keeps : Keeps p) where
               counted = promise.counted;
               backed = promise.backed;
               fresh = λ id above. promise.fresh id (omega (arith, above));
-              placed = λ key place is.
-                  let old = promise.placed key place is in
-                  record { payload = old.payload; flushing = old.flushing; stands = old.stands };
+              placed = promise.placed;
             });
       }
 
@@ -275,7 +256,7 @@ module _ (p : Parts) (keeps : Keeps p) where
               let here = eqb-true id next tied in
               ap (option_map (λ (l : Log). entries_of (take l.acknowledged (file_of files id)))) (log-inserted p.state.logs next new id here)
               ∙ ap (λ n. Some (entries_of (take new.acknowledged (file_of files n)))) here
-              ∙ ap (λ (es : List (ℕ × List ℕ)). Some es) (no_entries (take new.acknowledged (file_of files next))
+              ∙ ap (λ (es : List (ℕ × List ℕ)). Some es) (entries_of-short (take new.acknowledged (file_of files next))
               (let cut = length-take new.acknowledged (file_of files next) in omega (arith, cut, empty)))
           | false ↦ λ other.
               let there : id ≢ next = λ same. let tied = eq-eqb id next same in cc in

@@ -130,14 +130,7 @@ module _ (p : Parts) (keeps : Keeps p) (key : EntryKey) (place : Place) (may : M
               (record { log = shown.log; view = shown.view; held = shown.held; opened = shown.opened; view_is = shown.view_is })
           | inr old ↦ fits.sent k pl old.1
         ];
-        placed = record {
-          idle = fits.placed.idle;
-          flushing = fits.placed.flushing;
-          logs = fits.placed.logs;
-          front = fits.placed.front;
-          rising = fits.placed.rising;
-          newest = fits.placed.newest;
-        };
+        placed = fits.placed;
         writing = fits.writing;
         filled = fits.filled;
         named = names_move p.state.index key place p.accounts (finite.get p.state.logs) fits.named (finite.get p.state.index key) refl;
@@ -177,7 +170,7 @@ module _ (p : Parts) (keeps : Keeps p) (key : EntryKey) (place : Place) (may : M
             (finite.get p.state.index key) refl;
         backed = promise.backed;
         fresh = promise.fresh;
-        placed = λ k pl is. let old = promise.placed k pl is in record { payload = old.payload; flushing = old.flushing; stands = old.stands };
+        placed = promise.placed;
       }
 
   pub named_kept : Keeps named

@@ -176,14 +176,7 @@ keeps_failures p files failures keeps same =
         seated = fits.seated;
         held = fits.held;
         sent = fits.sent;
-        placed = record {
-          idle = fits.placed.idle;
-          flushing = fits.placed.flushing;
-          logs = fits.placed.logs;
-          front = fits.placed.front;
-          rising = fits.placed.rising;
-          newest = fits.placed.newest;
-        };
+        placed = fits.placed;
         writing = fits.writing;
         filled = fits.filled;
         named = fits.named;
@@ -202,8 +195,6 @@ keeps_failures p files failures keeps same =
             counted = promise.counted;
             backed = promise.backed;
             fresh = promise.fresh;
-            placed = λ key place is.
-                let old = promise.placed key place is in
-                record { payload = old.payload; flushing = old.flushing; stands = old.stands };
+            placed = promise.placed;
           });
     }

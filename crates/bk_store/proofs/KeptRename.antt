@@ -1,20 +1,18 @@
 -- A key that is sent on to a later log keeps what a store keeps.
-use Rattle.std.proofs.Common.{◌≡◌, ◌⊎◌, inl, inr, ℕ, ◌+◌, ◌≤◌, ◌<◌, Bool, true, false, IsTrue, List, Option}
-use Rattle.std.proofs.Common.{Some, None, unwrap_or, refl, sym, ap, subst, ◌∙◌, arith}
+use Rattle.std.proofs.Common.{◌≡◌, inl, inr, ◌+◌, ◌≤◌, ◌<◌, Bool, true, false, IsTrue}
+use Rattle.std.proofs.Common.{Some, unwrap_or, refl, sym, ap, subst, ◌∙◌, arith}
 use Rattle.std.specs.FinMap as finite
 use Rattle.std.specs.FinSet as set
 use Rattle.std.proofs.lemmas.Option.{none-some, same_Some}
 use Rattle.bk_record.specs.Key.{EntryKey}
 use Rattle.bk_record.specs.Location.{Place}
 use Rattle.bk_record.specs.Files.{file_of, header_length}
-use Rattle.bk_accounts.specs.Book.{after_name}
 use Rattle.bk_store.specs.Carried.{IsIndexed}
-use Rattle.bk_store.specs.Jobs.{Job}
 use Rattle.bk_store.specs.Logs.{HasOpenView}
-use Rattle.bk_store.specs.State.{State, Parts}
+use Rattle.bk_store.specs.State.{Parts}
 use Rattle.bk_store.specs.Kept.{Keeps, Fits, Promises, acknowledged_entries}
 use Rattle.bk_store.specs.Copying.{MayRename, RenameTurn}
-use Rattle.bk_store.specs.Beside.{RenamesBeside, renamed, sent}
+use Rattle.bk_store.specs.Beside.{RenamesBeside, sent}
 use Rattle.bk_store.proofs.KeyMaps.{inserted_cases}
 use Rattle.bk_store.proofs.IndexMoves.{carries_sent}
 use Rattle.bk_store.proofs.ShownMoves.{shows_sent}
@@ -35,14 +33,7 @@ module _ (p : Parts) (keeps : Keeps p) (key : EntryKey) (from_place to_place : P
           | inl here ↦ subst (λ (x : Place). HasOpenView p.state.logs x.log) here.1 may.seen
           | inr old ↦ fits.sent k pl old.1
         ];
-        placed = record {
-          idle = fits.placed.idle;
-          flushing = fits.placed.flushing;
-          logs = fits.placed.logs;
-          front = fits.placed.front;
-          rising = fits.placed.rising;
-          newest = fits.placed.newest;
-        };
+        placed = fits.placed;
         writing = fits.writing;
         filled = fits.filled;
         named = names_move p.state.index key to_place p.accounts (finite.get p.state.logs) fits.named (finite.get p.state.index key) refl;
@@ -82,7 +73,7 @@ module _ (p : Parts) (keeps : Keeps p) (key : EntryKey) (from_place to_place : P
         (finite.get p.state.index key) refl;
     backed = promise.backed;
     fresh = promise.fresh;
-    placed = λ k pl is. let old = promise.placed k pl is in record { payload = old.payload; flushing = old.flushing; stands = old.stands };
+    placed = promise.placed;
   }
 
   sent_kept : Keeps (sent p key to_place)

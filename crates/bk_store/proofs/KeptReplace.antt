@@ -1,26 +1,19 @@
 -- An index made anew keeps what a store keeps: the names of each log are taken out, then given as it says.
-use Rattle.std.proofs.Common.{◌≡◌, ℕ, zero, ◌+◌, ◌≤◌, ◌<◌, ◌==◌, if◌then◌else◌, Bool, true, false, cond, IsTrue, List, [], ◌∷◌}
+use Rattle.std.proofs.Common.{◌≡◌, ℕ, ◌+◌, ◌≤◌, ◌==◌, if◌then◌else◌, Bool, true, false, IsTrue, List, [], ◌∷◌}
 use Rattle.std.proofs.Common.{Option, Some, None, IfSome, option_map, unwrap_or, refl, sym, ap, subst, ◌∙◌, arith}
 use Rattle.std.specs.FinMap as finite
-use Rattle.std.specs.FinSet as set
-use Rattle.std.specs.List.{count_by}
-use Rattle.std.proofs.lemmas.Bool.{eq-eqb}
-use Rattle.std.proofs.lemmas.List.Sums.{sum_by-cons}
 use Rattle.bk_record.specs.Key.{EntryKey}
 use Rattle.bk_record.specs.Location.{Place}
-use Rattle.bk_record.specs.Files.{file_of, header_length}
+use Rattle.bk_record.specs.Files.{header_length}
 use Rattle.bk_record.specs.Keyed.{log_count, Places}
 use Rattle.bk_record.proofs.KeyedCounts.{log_count-none}
-use Rattle.bk_record.specs.Key.{key_cmp}
 use Rattle.bk_accounts.specs.Account.{Account, with_name, remaining_size, ledger_size}
-use Rattle.bk_accounts.specs.Book.{Book, named_in, total_at, after_name}
-use Rattle.bk_accounts.specs.Sums.{AreSums}
+use Rattle.bk_accounts.specs.Book.{Book, named_in, after_name}
 use Rattle.bk_accounts.proofs.Books.{get-changed}
-use Rattle.bk_store.specs.Logs.{Log, open_parts}
 use Rattle.bk_store.specs.Jobs.{Job, with_rebuild}
 use Rattle.bk_store.specs.JobKept.{IsJob}
 use Rattle.bk_store.specs.State.{State, Parts}
-use Rattle.bk_store.specs.Kept.{Keeps, Fits, Promises, entry_measure, acknowledged_entries}
+use Rattle.bk_store.specs.Kept.{Keeps, Fits, Promises, acknowledged_entries}
 use Rattle.bk_store.specs.Doors.{MayReplace, Replaces}
 use Rattle.bk_store.specs.Beside.{ReplacesBeside}
 use Rattle.bk_store.specs.Deletion.{AreNamedBy}
@@ -134,14 +127,7 @@ module _ (p : Parts) (keeps : Keeps p) (index : Places) (may : MayReplace p.stat
         seated = fits.seated;
         held = fits.held;
         sent = may.sent;
-        placed = record {
-          idle = fits.placed.idle;
-          flushing = fits.placed.flushing;
-          logs = fits.placed.logs;
-          front = fits.placed.front;
-          rising = fits.placed.rising;
-          newest = fits.placed.newest;
-        };
+        placed = fits.placed;
         writing = fits.writing;
         filled = fits.filled;
         named = λ id. names_now id (log_count p.state.index id) (finite.get p.state.logs id) (fits.named id);
@@ -165,7 +151,7 @@ module _ (p : Parts) (keeps : Keeps p) (index : Places) (may : MayReplace p.stat
         };
         backed = promise.backed;
         fresh = promise.fresh;
-        placed = λ key place is. let old = promise.placed key place is in record { payload = old.payload; flushing = old.flushing; stands = old.stands };
+        placed = promise.placed;
       }
 
   pub replaced_kept : Keeps new

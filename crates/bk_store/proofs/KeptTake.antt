@@ -2,7 +2,7 @@
 use Rattle.std.proofs.Common.{◌≡◌, ℕ, List, Bool, Result, Ok, Err, refl, sym, ap, subst, ◌∙◌}
 use Rattle.bk_record.specs.Key.{EntryKey}
 use Rattle.bk_lease.specs.Values.{with_given}
-use Rattle.bk_store.specs.State.{State, Parts}
+use Rattle.bk_store.specs.State.{Parts}
 use Rattle.bk_store.specs.Turns.{TakeTurn}
 use Rattle.bk_store.specs.Kept.{Keeps}
 use Rattle.bk_store.specs.declared.answer.Taken.{Taken}
@@ -29,14 +29,7 @@ keeps_given p keeps =
         };
         held = fits.held;
         sent = fits.sent;
-        placed = record {
-          idle = fits.placed.idle;
-          flushing = fits.placed.flushing;
-          logs = fits.placed.logs;
-          front = fits.placed.front;
-          rising = fits.placed.rising;
-          newest = fits.placed.newest;
-        };
+        placed = fits.placed;
         writing = fits.writing;
         filled = fits.filled;
         named = fits.named;
@@ -55,9 +48,7 @@ keeps_given p keeps =
             counted = promise.counted;
             backed = promise.backed;
             fresh = promise.fresh;
-            placed = λ key place is.
-                let old = promise.placed key place is in
-                record { payload = old.payload; flushing = old.flushing; stands = old.stands };
+            placed = promise.placed;
           };
     }
 

@@ -1,5 +1,5 @@
 -- An entry of the flush that is written keeps what a store keeps.
-use Rattle.std.proofs.Common.{◌≡◌, ◌≢◌, ◌⊎◌, inl, inr, ℕ, ◌+◌, ◌≤◌, ◌<◌, Bool, true, false, cond, eqb, IsTrue, List, [], ◌∷◌, ◌++◌, length, take}
+use Rattle.std.proofs.Common.{◌≡◌, ◌≢◌, inl, inr, ℕ, ◌+◌, ◌≤◌, Bool, true, false, cond, eqb, IsTrue, List, [], ◌∷◌, ◌++◌, length, take}
 use Rattle.std.proofs.Common.{Option, Some, None, IsSome, is_some, option_map, unwrap_or, Result, Ok, Err, Less, refl, sym, ap, subst, ◌∙◌, arith}
 use Rattle.std.specs.Option.{option_or}
 use Rattle.std.specs.FinMap as finite
@@ -8,7 +8,7 @@ use Rattle.std.proofs.lemmas.Bool.{eqb-true, eq-eqb}
 use Rattle.std.proofs.lemmas.Option.{same_Some}
 use Rattle.bk_record.specs.Key.{EntryKey, key_cmp}
 use Rattle.bk_record.specs.Location.{Place}
-use Rattle.bk_record.specs.Record.{IsPayload, key_of, ledger_field, read_added, record_of}
+use Rattle.bk_record.specs.Record.{IsPayload, key_of, record_of}
 use Rattle.bk_record.specs.Files.{Files, file_of, records_of, header_length, In}
 use Rattle.bk_record.specs.Scan.{Payloads, entries_of}
 use Rattle.bk_record.specs.Keyed.{log_count}
@@ -25,27 +25,27 @@ use Rattle.bk_log.proofs.Writes.{writes_put}
 use Rattle.bk_log.proofs.Tallies.{key_of-ledger}
 use Rattle.bk_cache.specs.Caches as caches
 use Rattle.bk_cache.specs.Kept.{IsSound}
-use Rattle.bk_accounts.specs.Book.{Book, total_in, total_at, named_in, after_ready, after_count}
+use Rattle.bk_accounts.specs.Book.{Book, total_in, total_at, after_ready, after_count}
 use Rattle.bk_accounts.specs.Sums.{AreSums}
 use Rattle.bk_accounts.proofs.BookLaws.{total_in-after_count, total_in-after_ready, named_in-after_count, named_in-after_ready}
 use Rattle.bk_accounts.proofs.CallerLaws.{sums_ready, sums_count}
 use Rattle.bk_store.specs.Entries.{HasEntry}
 use Rattle.bk_store.specs.Shown.{Shows}
-use Rattle.bk_store.specs.Logs.{Log, Logs, IsFlushLog, is_open, closed_log, halted_as, halted_log, open_parts}
+use Rattle.bk_store.specs.Logs.{Log, IsFlushLog, is_open, closed_log, halted_as, halted_log}
 use Rattle.bk_store.specs.State.{State, Parts}
 use Rattle.bk_store.specs.Meaning.{written_at}
-use Rattle.bk_store.specs.Kept.{Keeps, Fits, Promises, IsHeld, IsWrittenBy, IsBacked, entry_measure, acknowledged_entries}
+use Rattle.bk_store.specs.Kept.{Keeps, Fits, Promises, IsHeld, IsWrittenBy, entry_measure, acknowledged_entries}
 use Rattle.bk_store.specs.Putting.{next_place, grown_log}
-use Rattle.bk_store.specs.Doors.{IsIn, IsNext, MayWrite, WriteTurn, PutTurn, noted}
-use Rattle.bk_store.specs.Beside.{WritesBeside, IsReadied, unless_log}
+use Rattle.bk_store.specs.Doors.{IsIn, MayWrite, WriteTurn, noted}
+use Rattle.bk_store.specs.Beside.{WritesBeside, unless_log}
 use Rattle.bk_store.specs.declared.log.LogState.TheVariants.{Writing, Filled}
-use Rattle.bk_store.proofs.Cases.{some_or_none, same_or_apart}
+use Rattle.bk_store.proofs.Cases.{some_or_none}
 use Rattle.bk_store.proofs.KeyMaps.{get-insert_other, inserted_cases, inserted_here, same_key}
 use Rattle.bk_store.proofs.KeptParts.{with_state}
 use Rattle.bk_store.proofs.ShownMoves.{shows_grown}
 use Rattle.bk_store.proofs.LogMaps.{log-inserted}
 use Rattle.bk_store.proofs.OneLog.{views_stay, flush_logs_stay, writing_same, entries_here, entries_else, entries_were}
-use Rattle.bk_store.proofs.Acknowledged.{entries_acknowledged, entries_whole, entries_push}
+use Rattle.bk_store.proofs.Acknowledged.{entries_whole, entries_push}
 use Rattle.bk_store.proofs.Closing.{parts_same}
 use Rattle.bk_store.proofs.KeptSet.{one_log}
 use Rattle.bk_store.proofs.KeptSeal.{closed_promise, closed_fits, filled_flush}
@@ -91,14 +91,7 @@ keeps_ready p log ledger keeps =
         seated = fits.seated;
         held = fits.held;
         sent = fits.sent;
-        placed = record {
-          idle = fits.placed.idle;
-          flushing = fits.placed.flushing;
-          logs = fits.placed.logs;
-          front = fits.placed.front;
-          rising = fits.placed.rising;
-          newest = fits.placed.newest;
-        };
+        placed = fits.placed;
         writing = fits.writing;
         filled = fits.filled;
         named = λ q. named_in-after_ready p.accounts log ledger q ∙ fits.named q;

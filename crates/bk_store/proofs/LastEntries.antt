@@ -9,9 +9,10 @@ use Rattle.bk_record.specs.Scan.{scan_of}
 use Rattle.bk_record.specs.Entry as record_entries
 use Rattle.bk_record.proofs.LastEntries.{scan_takes_last}
 use Rattle.bk_record.proofs.Scans.{scan-none}
+use Rattle.bk_record.proofs.Places.{precedes_not_itself, precedes_one_way, precedes_cases}
 use Rattle.bk_store.specs.Entries.{Bytes, HasEntry, IsLastEntry}
 use Rattle.bk_store.proofs.Cases.{some_or_none}
-use Rattle.bk_store.proofs.PlaceOrder.{precedes_irreflexive, precedes_one_way, precedes_cases, one_payload}
+use Rattle.bk_store.proofs.PlaceOrder.{one_payload}
 
 -- an entry of the files is one of their records
 pub entry_record : (files : Files) (place : Place) (key : EntryKey) (payload : List ℕ) → HasEntry (file_of files) place key payload
@@ -28,9 +29,9 @@ record_entry files place key payload there keyed = record { stands = there; keye
 pub one_last : {bytes : Bytes} {first second : Place} {key : EntryKey} {payload payload' : List ℕ}
     → IsLastEntry bytes first key payload → IsLastEntry bytes second key payload' → first ≡ second
 one_last {first = first} {second = second} {payload = payload} {payload' = payload'} one two = elim (precedes_cases first second) [
-  | inl same ↦ same
-  | inr apart ↦ elim apart [
-    | inl before ↦ absurd (one.last second payload' two.here before)
+  | inl before ↦ absurd (one.last second payload' two.here before)
+  | inr rest ↦ elim rest [
+    | inl same ↦ same
     | inr behind ↦ absurd (two.last first payload one.here behind)
   ]
 ]
@@ -42,7 +43,7 @@ last_entry files place key payload l = record {
   here = record_entry files place key payload l.here.stands l.here.keyed;
   last = λ other held entry follows.
       elim (l.last other held (record { stands = entry_record files other key held entry; keyed = entry.keyed })) [
-        | inl same ↦ precedes_irreflexive place (subst (Precedes place) same follows)
+        | inl same ↦ precedes_not_itself place (subst (Precedes place) same follows)
         | inr before ↦ precedes_one_way place other follows before
       ];
 }

@@ -1,17 +1,17 @@
 -- A log is made: what its slot, its account and its file give the turn.
-use Rattle.std.proofs.Common.{◌≡◌, ◌⊎◌, inl, inr, ℕ, ◌+◌, ◌<◌, ◌^◌, Bool, true, false, cond, IsTrue, List, length, Option, Some, None}
+use Rattle.std.proofs.Common.{◌≡◌, inl, inr, ℕ, ◌+◌, ◌<◌, Bool, true, false, cond, IsTrue, List, length, Option, Some, None}
 use Rattle.std.proofs.Common.{IsNone, is_some, option_map, not, Result, Ok, Err, refl, sym, ap, subst, ◌∙◌, arith}
 use Rattle.std.specs.FinMap as finite
 use Rattle.std.specs.Ordering.{nat_cmp}
 use Rattle.std.specs.FinMap.{nat_cmp-IsAntisymmetric}
 use Rattle.std.proofs.lemmas.Cmp.{nat_cmp_total}
+use Rattle.std.proofs.lemmas.Bool.{false_from_ne_true}
 use Rattle.bk_record.specs.Files.{Files, In}
 use Rattle.bk_record.proofs.Maps.{key_cases, get-insert_else, get-remove_here, get-remove_else, insert-insert}
 use Rattle.bk_record.specs.Keyed.{log_count}
 use Rattle.bk_head.specs.Header.{empty_header}
 use Rattle.bk_disk.specs.Disk.{IsCaused}
-use Rattle.bk_log.specs.Writing as writers
-use Rattle.bk_log.specs.Writing.{CreateFails, new_writing}
+use Rattle.bk_log.specs.Writing.{CreateFails}
 use Rattle.bk_log.specs.declared.fault.LogFault.{LogFault}
 use Rattle.bk_log.specs.declared.fault.LogFault.TheVariants as log_faults
 use Rattle.bk_accounts.specs.Account.{Account, fresh}
@@ -27,11 +27,9 @@ use Rattle.bk_store.specs.Beside.{MakesBeside, HasSlot, HasNoSlot, AllStay, make
 use Rattle.bk_store.specs.declared.log.LogState.{LogState}
 use Rattle.bk_store.specs.declared.log.LogState.TheVariants.{Writing}
 use Rattle.bk_store.specs.declared.answer.MakeFault.{MakeFault}
-use Rattle.bk_store.specs.declared.answer.MakeFault.TheVariants as makes
 use Rattle.bk_store.proofs.KeptMake.{unheld}
 use Rattle.bk_store.proofs.LogMaps.{log-inserted}
 use Rattle.bk_store.proofs.ShowTurns.{not_failed, failed_once}
-use Rattle.bk_store.proofs.Sealing.{dishonest}
 
 pub not_made : (b : Bool) → not b ≡ true → b ≡ false
 not_made true wrong = sym wrong
@@ -239,12 +237,12 @@ module _ (p s : Parts) (state : LogState) (number : ℕ) (slot : HasSlot p state
           (may, unmade_is log_faults.Disk (p.state.failures + 1) (failed_once cause refl ∙ ap (λ n. n + 1) failures_now) fails)
       unmade_turn log_faults.Odd cause fails = (
         may,
-        dishonest p.state.honest (λ h. never_odd h (fails h)),
+        false_from_ne_true p.state.honest (λ h. never_odd h (fails h)),
         unmade_is log_faults.Odd p.state.failures (not_failed cause (λ wrong. cc) ∙ failures_now) fails,
       )
       unmade_turn log_faults.Failed cause fails = (
         may,
-        dishonest p.state.honest (λ h. never_failed (fails h)),
+        false_from_ne_true p.state.honest (λ h. never_failed (fails h)),
         unmade_is log_faults.Odd p.state.failures (not_failed cause (λ wrong. cc) ∙ failures_now) (λ h. absurd (never_failed (fails h))),
       )
 

@@ -1,5 +1,5 @@
 -- The first entry of a flush behind the last one that has a place is the flush's next.
-use Rattle.std.proofs.Common.{◌≡◌, ◌⊎◌, inl, inr, ℕ, suc, ◌-◌, ◌≤◌, Bool, true, false, cond, List, [], ◌∷◌, length, Option, Some, None, IsSome}
+use Rattle.std.proofs.Common.{◌≡◌, inl, inr, ℕ, suc, ◌-◌, ◌≤◌, Bool, true, false, cond, List, [], ◌∷◌, length, Option, Some, None, IsSome}
 use Rattle.std.proofs.Common.{IsTrue, Less, Equal, Greater, is_some, slice_get, option_map, refl, sym, ap, ◌∙◌, arith}
 use Rattle.std.specs.declared.cmp.Ordering.{Ordering}
 use Rattle.std.specs.Ordering.{is_lt, ordering_reverse}
@@ -12,7 +12,6 @@ use Rattle.std.proofs.lemmas.List.{drop_all}
 use Rattle.std.proofs.lemmas.Option.{slice_get_cases}
 use Rattle.bk_record.specs.Key.{EntryKey, key_cmp}
 use Rattle.bk_record.specs.Location.{Place}
-use Rattle.bk_record.specs.Scan.{Payloads}
 use Rattle.bk_record.proofs.Keys.{key_cmp_total, key_cmp_antisymmetric}
 use Rattle.bk_record.proofs.Maps.{key_cases}
 use Rattle.bk_record.proofs.SortedPairs.{is_true, Some-same, find_at, filter-behind}
@@ -114,7 +113,7 @@ last_pair : (o : Option (EntryKey × Place)) (k : EntryKey) → option_map (λ e
 last_pair None k is = cc
 last_pair (Some e) k is = (e.1, ap (λ x. Some (x, e.1)) (Some-same is))
 
-module _ (s : State) (is : IsPlaced s) where
+module _ (s : State) (is : IsPlaced s.caches.flush s.places s.logs) where
   flush_sorted : IsTrue (is_sorted key_cmp (finite.entries (flush_of s.caches)))
   flush_sorted = is_true _ (finite.entries_sorted (flush_of s.caches))
 

@@ -1,5 +1,5 @@
 -- Pairs in the order of their keys, with one more behind them.
-use Rattle.std.proofs.Common.{◌≡◌, ◌-◌, Bool, true, false, cond, ◌&&◌, List, [], ◌∷◌, ◌++◌, Some, Option, IsSome, IsTrue, Less}
+use Rattle.std.proofs.Common.{◌≡◌, ◌-◌, Bool, true, false, cond, List, [], ◌∷◌, ◌++◌, Some, Option, IsSome, IsTrue, Less}
 use Rattle.std.proofs.Common.{refl, sym, ap, subst, ◌∙◌, length, take, is_some, slice_get, option_map, arith}
 use Rattle.std.specs.Ordering.{eq_by_cmp, is_eq, ordering_reverse}
 use Rattle.std.specs.List.{AllByRecursion}
@@ -11,6 +11,7 @@ use Rattle.std.specs.FinMap.Entries.{below_all}
 use Rattle.std.proofs.lemmas.Bool.{and_parts}
 use Rattle.std.proofs.Math.Seq.{take-append_seam}
 use Rattle.std.proofs.lemmas.List.{length-append}
+use Rattle.std.specs.Cmp.Derive.{both_true}
 use Rattle.bk_record.specs.Key.{EntryKey, key_cmp}
 use Rattle.bk_record.specs.Location.{Place}
 use Rattle.bk_record.proofs.Keys.{key_cmp_total}
@@ -19,21 +20,17 @@ use Rattle.bk_record.proofs.SortedMaps.{get-sorted, insert-sorted, entries-sorte
 use Rattle.bk_record.specs.Keyed.{Places}
 use Rattle.bk_store.specs.Placed.{IsBehind, last_key}
 
-both_true : (a b : Bool) → IsTrue a → IsTrue b → IsTrue (a && b)
-both_true true b one two = two
-both_true false b one two = cc
-
 module _ {K X : Type 0} (R : K → K → Ordering) where
   below_front : (x : K) (front behind : List (K × X)) → IsTrue (below_all R x (front ++ behind)) → IsTrue (below_all R x front)
   below_front x [] behind below = refl
-  below_front x (e ∷ front) behind below = let parts = and_parts _ _ below in both_true _ _ parts.0 (below_front x front behind parts.1)
+  below_front x (e ∷ front) behind below = let parts = and_parts _ _ below in both_true parts.0 (below_front x front behind parts.1)
 
   -- the first of some pairs in order are in order
   pub sorted_front : (front behind : List (K × X)) → IsTrue (is_sorted R (front ++ behind)) → IsTrue (is_sorted R front)
   sorted_front [] behind sorted = refl
   sorted_front (e ∷ front) behind sorted =
       let parts = and_parts _ _ sorted in
-      both_true _ _ (below_front e.0 front behind parts.0) (sorted_front front behind parts.1)
+      both_true (below_front e.0 front behind parts.0) (sorted_front front behind parts.1)
 
   module _ (o : IsTotalOrder R) (key : K) where
     still_found : (b : Bool) (value : X) (rest : Option X) → IsSome rest → IsSome (cond b (Some value) rest)

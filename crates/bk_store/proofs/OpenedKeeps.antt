@@ -52,6 +52,7 @@ use Rattle.bk_store.proofs.OpenedSums.{found_measure, Lists, with_lists, no_name
 use Rattle.bk_store.proofs.OpenedTotals.{same_total, same_live, same_part}
 use Rattle.bk_store.proofs.OpenedLists.{found_in, found_in_all, indexed_reads, found_walked}
 use Rattle.bk_store.proofs.OpenedLogs.{IsHeldAs, IsElsewhere, HeldOr, each_log, id_below, next_cases, all-In}
+use Rattle.bk_store.proofs.Seating.{none_held}
 
 -- nothing was taken in yet
 abbrev pub started : Ledgers → Tally
@@ -81,9 +82,6 @@ opened_parts settings files honest failures t logs keeper next = record {
 
 abbrev no_lists : Lists
 no_lists _ = None
-
-none_held : (id : ℕ) (log : Log) → finite.get {R = nat_cmp} finite.empty id ≡ Some log → ⊥
-none_held id log is = none-some log (sym (finite.get-empty nat_cmp id) ∙ is)
 
 -- what a log shows, where keys may be sent to it
 abbrev shown_part : Log → List ℕ

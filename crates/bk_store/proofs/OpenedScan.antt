@@ -1,11 +1,10 @@
 -- A scan of a log that was found, entry by entry, to its end or to a fault.
-use Rattle.std.proofs.Common.{◌≡◌, ℕ, zero, suc, ◌+◌, ◌-◌, ◌<◌, ◌≤◌, ◌^◌, Bool, true, false, ◌==◌, if◌then◌else◌, IsTrue}
-use Rattle.std.proofs.Common.{List, [], ◌∷◌, ◌++◌, length, take, drop, Option, Some, None, IfSome, IsSome, Ok, Err}
-use Rattle.std.proofs.Common.{slice_get, refl, sym, ap, subst, ◌∙◌, arith, eq-eqb, length-drop}
+use Rattle.std.proofs.Common.{◌≡◌, ℕ, ◌+◌, ◌-◌, ◌<◌, ◌≤◌, ◌^◌, Bool, true, false, ◌==◌, if◌then◌else◌, IsTrue}
+use Rattle.std.proofs.Common.{List, [], ◌∷◌, ◌++◌, length, take, drop, Option, Some, None, IsSome, Ok, Err}
+use Rattle.std.proofs.Common.{slice_get, refl, sym, ap, subst, ◌∙◌, arith, eq-eqb}
 use Rattle.std.specs.Option.{option_map}
 use Rattle.std.proofs.lemmas.List.{take_all}
 use Rattle.std.proofs.lemmas.List.Sums.{sum_by_push}
-use Rattle.std.proofs.lemmas.Option.{same_Some}
 use Rattle.std.specs.FinMap as finite
 use Rattle.std.specs.FinSet as set
 use Rattle.bk_record.specs.Files.{header_length}
@@ -13,14 +12,14 @@ use Rattle.bk_record.specs.Scan.{entries_of}
 use Rattle.bk_record.specs.Body.{IsBadAt}
 use Rattle.bk_record.specs.Spelling.{all_pieces, all_leftover}
 use Rattle.bk_record.proofs.Spellings.{never_both}
+use Rattle.bk_record.proofs.Growth.{take_next}
 use Rattle.bk_disk.specs.Disk.{view_end}
 use Rattle.bk_log.specs.declared.found.Found.{Found}
 use Rattle.bk_log.specs.declared.fault.ScanFault.{ScanFault}
 use Rattle.bk_log.specs.declared.fault.ScanFault.TheVariants as scans
 use Rattle.bk_log.specs.Ranges.{entries_in, part}
-use Rattle.bk_log.specs.Scanned.{new_scan}
 use Rattle.bk_log.specs.Scanning.{Scan, part_of, NextMoves, NextTurn}
-use Rattle.bk_log.proofs.Ranges.{entries_in-file}
+use Rattle.bk_log.proofs.Ranges.{entries_in-file, whole_view}
 use Rattle.bk_accounts.specs.Account.{Account}
 use Rattle.bk_accounts.specs.Book.{HasAccount, total_in, after_ready, after_count, after_count_dead}
 use Rattle.bk_accounts.proofs.BookLaws.{total_in-after_count, total_in-after_count_dead, total_in-after_ready}
@@ -69,11 +68,6 @@ found_push [] (f ∷ founds) r found are is = absurd are
 found_push (x ∷ records) [] r found are is = absurd are
 found_push (x ∷ records) (f ∷ founds) r found are is = (are.0, found_push records founds r found are.1 is)
 
-take_next : {X : Type 0} (xs : List X) (n : ℕ) (x : X) → slice_get xs n ≡ Some x → take (n + 1) xs ≡ take n xs ++ x ∷ []
-take_next [] n x is = cc
-take_next (y ∷ ys) zero x is = let same : y ≡ x = same_Some y x is in ap (λ z. z ∷ []) same
-take_next (y ∷ ys) (suc n) x is = let one : suc n + 1 ≡ suc (n + 1) = omega arith in ap (λ k. take k (y ∷ ys)) one ∙ ap (λ l. y ∷ l) (take_next ys n x is)
-
 -- ---- the scan so far
 
 -- The scan is one of this log's whole part. The entries that it gave were taken in, and there was room for them.
@@ -88,13 +82,9 @@ pub record IsScanning (log end : ℕ) (honest : Bool) (file : List ℕ) (old : T
   pub honest_is : s.honest ≡ honest
   pub stand : IsTrue honest → AreFoundAt (take s.given (entries_of file)) founds
 
--- the part of a view that is scanned to its end is all behind the header
-whole_part : (file : List ℕ) (end : ℕ) → end ≡ view_end file → part file header_length end ≡ drop header_length file
-whole_part file end is = take_all (end - header_length) (drop header_length file) (omega (arith, is, length-drop header_length file))
-
 module _ (log end : ℕ) (honest : Bool) (file : List ℕ) (old : Tally) (s : Scan) (now : Tally) (so_far : IsScanning log end honest file old s now) where
   scan_part : end ≡ view_end file → part_of s ≡ drop header_length file
-  scan_part whole = (λ i. part (so_far.bytes i) (so_far.from i) (so_far.to i)) ∙ whole_part file end whole
+  scan_part whole = (λ i. part (so_far.bytes i) (so_far.from i) (so_far.to i)) ∙ whole_view file end whole
 
   scan_entries : end ≡ view_end file → entries_in s.from (part_of s) ≡ entries_of file
   scan_entries whole = (λ i. entries_in (so_far.from i) (scan_part whole i)) ∙ entries_in-file file

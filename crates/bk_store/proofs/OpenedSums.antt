@@ -1,6 +1,6 @@
 -- The accounts of logs that are taken in entry by entry: the sums over the entries found.
 use Rattle.std.proofs.Common.{◌≡◌, ℕ, ◌+◌, ◌<◌, ◌≤◌, ◌^◌, Bool, true, false, ◌==◌, if◌then◌else◌, List, [], ◌∷◌, ◌++◌, length, Some, None, Option}
-use Rattle.std.proofs.Common.{IfSome, Result, Ok, Err, is_err, OnOk, refl, sym, ap, subst, ◌∙◌, append_assoc, arith, eq-eqb, eqb-true}
+use Rattle.std.proofs.Common.{IfSome, Result, Ok, Err, is_err, OnOk, refl, sym, ap, subst, ◌∙◌, append_assoc, arith, eq-eqb}
 use Rattle.std.specs.List.{count_by}
 use Rattle.std.specs.Option.{option_map}
 use Rattle.std.proofs.lemmas.List.{append-nil}
@@ -13,7 +13,8 @@ use Rattle.bk_accounts.specs.Book.{Book, named_in, total_in, after_open, after_r
 use Rattle.bk_accounts.specs.Sums.{Measure, AreSums}
 use Rattle.bk_accounts.proofs.CallerLaws.{sums_open, sums_ready, sums_count, sums_count_dead, sums_name}
 use Rattle.bk_accounts.proofs.BookLaws.{named_in-after_name, total_in-after_ready}
-use Rattle.bk_store.specs.Found.{LogRead, AreUnnamed, with_entry, with_entries, with_read, with_reads, named_by}
+use Rattle.bk_accounts.proofs.Listings.{swapped}
+use Rattle.bk_store.specs.Found.{LogRead, with_entry, with_entries, with_read, with_reads, named_by}
 use Rattle.bk_store.specs.declared.open.tally.Tally.{Tally}
 
 -- an entry that was found is measured by its ledger and the size of its record
@@ -105,15 +106,6 @@ sums_reads t lists (r ∷ later) sums =
 abbrev pub names_in : List (EntryKey × Place) → ℕ → ℕ
 names_in pairs log = count_by (λ e. e.1.log == log) pairs
 
-turned : (a b : ℕ) → (a == b) ≡ (b == a)
-turned a b = elim (a == b) as (λ c. (a == b) ≡ c → c ≡ (b == a)) [
-  | true ↦ λ same. sym (eq-eqb b a (sym (eqb-true a b same)))
-  | false ↦ λ apart. elim (b == a) as (λ d. (b == a) ≡ d → false ≡ d) [
-    | true ↦ λ same. sym apart ∙ eq-eqb a b (sym (eqb-true b a same))
-    | false ↦ λ _. refl
-  ] refl
-] refl
-
 pub plus_none : (n : ℕ) → n ≡ n + 0
 plus_none n = omega arith
 
@@ -127,7 +119,7 @@ name_moved n rest false false same = omega arith
 pub name_counted : (names : ℕ → ℕ) (e : EntryKey × Place) (pairs : List (EntryKey × Place)) (log : ℕ)
     → (if log == e.1.log then names log + 1 else names log) + names_in pairs log ≡ names log + names_in (e ∷ pairs) log
 name_counted names e pairs log =
-    name_moved (names log) (names_in pairs log) (log == e.1.log) (e.1.log == log) (turned log e.1.log)
+    name_moved (names log) (names_in pairs log) (log == e.1.log) (e.1.log == log) (swapped log e.1.log)
     ∙ ap (λ n. names log + n) (sym (sum_by-cons (λ (x : EntryKey × Place). if x.1.log == log then 1 else 0) e pairs))
 
 module _ {is_dead : ℕ → Bool} {lists : Lists} where

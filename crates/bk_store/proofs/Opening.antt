@@ -8,10 +8,11 @@ use Rattle.bk_record.specs.Files.{Files, file_of}
 use Rattle.bk_record.specs.Scan.{Ledgers, Payloads, scan_of, live}
 use Rattle.bk_record.proofs.Keys.{key_cmp_total, key_cmp_antisymmetric}
 use Rattle.bk_record.specs.Keyed.{Places}
+use Rattle.bk_record.proofs.Places.{precedes_cases}
 use Rattle.bk_store.specs.Entries.{Bytes, HasEntry, IsIndexOf}
 use Rattle.bk_store.specs.Carried.{Carries}
 use Rattle.bk_store.proofs.Cases.{some_or_none}
-use Rattle.bk_store.proofs.PlaceOrder.{precedes_cases, one_payload}
+use Rattle.bk_store.proofs.PlaceOrder.{one_payload}
 use Rattle.bk_store.proofs.LastEntries.{one_last, scan_entry, entry_scan}
 
 -- what lives has no dead ledger, and is the map's
@@ -58,11 +59,11 @@ carries_opened files {index = index} {dead = dead} made = record {
     | inr named ↦
         let last = made.sent key named.0 named.1 in
         elim (precedes_cases place named.0) [
-          | inl same ↦
-              let here = subst (λ p. HasEntry (file_of files) p key payload) same entry in
-              inl (live_same (scan_of files) dead key lives ∙ entry_scan files named.0 key last.0 last.1 ∙ ap Some (one_payload last.1.here here))
-          | inr apart ↦ elim apart [
-            | inl before ↦ inr (record { uncached = refl; behind = named.0; sent = named.1; later = before })
+          | inl before ↦ inr (record { uncached = refl; behind = named.0; sent = named.1; later = before })
+          | inr rest ↦ elim rest [
+            | inl same ↦
+                let here = subst (λ p. HasEntry (file_of files) p key payload) same entry in
+                inl (live_same (scan_of files) dead key lives ∙ entry_scan files named.0 key last.0 last.1 ∙ ap Some (one_payload last.1.here here))
             | inr behind ↦ absurd (last.1.last place payload entry behind)
           ]
         ]

@@ -5,11 +5,11 @@ use Rattle.bk_record.specs.Key.{EntryKey}
 use Rattle.bk_record.specs.Location.{Place}
 use Rattle.bk_record.specs.Scan.{Payloads, Ledgers}
 use Rattle.bk_record.specs.Keyed.{Places}
+use Rattle.bk_record.proofs.Places.{precedes_cases}
 use Rattle.bk_store.specs.Entries.{Bytes, IsIndexOf}
 use Rattle.bk_store.specs.Carried.{Cached, IsIndexed, Carries}
 use Rattle.bk_store.specs.Shown.{Shows}
 use Rattle.bk_store.proofs.Cases.{some_or_none, some_value}
-use Rattle.bk_store.proofs.PlaceOrder.{precedes_cases}
 use Rattle.bk_store.proofs.IndexMoves.{IsForward, carries_moved}
 use Rattle.bk_store.proofs.ShownMoves.{shows_moved}
 
@@ -42,9 +42,9 @@ module _ {bytes parts : Bytes} {index index' : Places} {cached : Cached} {dead :
       let entry = shows.shown key was named in
       let last = made.sent key place now in
       elim (precedes_cases was place) [
-        | inl same ↦ inl same
-        | inr apart ↦ elim apart [
-          | inl before ↦ inr before
+        | inl before ↦ inr before
+        | inr rest ↦ elim rest [
+          | inl same ↦ inl same
           | inr behind ↦ absurd (last.1.last was entry.0 entry.1 behind)
         ]
       ]

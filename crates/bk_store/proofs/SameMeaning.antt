@@ -1,5 +1,5 @@
 -- No door changes what a store means: beside an honest disk each key has the payload that it had.
-use Rattle.std.proofs.Common.{◌≡◌, ◌⊎◌, inl, inr, ℕ, ◌+◌, false, IsTrue, List, [], take, Some, None, unwrap_or, Result, Ok, Err, refl, sym, ap, subst, ◌∙◌}
+use Rattle.std.proofs.Common.{◌≡◌, inl, inr, ℕ, ◌+◌, false, IsTrue, List, [], take, Some, None, unwrap_or, Result, Ok, Err, refl, sym, ap, subst, ◌∙◌}
 use Rattle.std.specs.FinMap as finite
 use Rattle.std.specs.FinSet as set
 use Rattle.bk_record.specs.Key.{EntryKey}
@@ -18,7 +18,7 @@ use Rattle.bk_cache.specs.Caches as caches
 use Rattle.bk_cache.specs.Kept.{IsSound}
 use Rattle.bk_store.specs.Carried.{Carries}
 use Rattle.bk_store.specs.State.{State, Parts}
-use Rattle.bk_store.specs.Meaning.{MeansTheSame, meaning_at, written_at}
+use Rattle.bk_store.specs.Meaning.{KeepsMeaning, MeansTheSame, meaning_at, written_at}
 use Rattle.bk_store.specs.Kept.{Keeps, Promises}
 use Rattle.bk_store.specs.Putting.{next_place}
 use Rattle.bk_lease.specs.declared.answers.Leased.{Leased}
@@ -152,3 +152,10 @@ end_means p q keeps named turn honest =
 pub close_means : (s t : State) (id : ℕ) (result : Result (Unit {0}) Leased) → CloseTurn s id result t → MeansTheSame s t
 close_means s t id (Ok _) turn = subst (MeansTheSame s) (sym turn.1.2) (λ key. refl)
 close_means s t id (Err leased) turn = means_same s t turn.1
+
+-- what stays in one call and in the next stays in both
+pub stays_on : (s t u : State) → KeepsMeaning s t → KeepsMeaning t u → KeepsMeaning s u
+stays_on s t u first second = record {
+  honest = second.honest ∙ first.honest;
+  meaning = λ honest key. second.meaning (first.honest ∙ honest) key ∙ first.meaning honest key;
+}

@@ -1,16 +1,17 @@
 -- What the writer of a log and the held logs give a log that is sealed.
-use Rattle.std.proofs.Common.{◌≡◌, ◌⊎◌, inl, inr, ℕ, ◌+◌, ◌↔◌, Bool, true, false, IsTrue, Option, Some, None}
-use Rattle.std.proofs.Common.{IsSome, is_some, Result, Ok, Err, refl, sym, ap, subst, ◌∙◌, arith}
+use Rattle.std.proofs.Common.{◌≡◌, inl, inr, ℕ, ◌+◌, ◌↔◌, Bool, true, false, IsTrue, Some}
+use Rattle.std.proofs.Common.{Result, Ok, Err, refl, sym, ap, subst, ◌∙◌, arith}
 use Rattle.std.specs.FinMap as finite
+use Rattle.std.proofs.lemmas.Bool.{false_from_ne_true}
 use Rattle.bk_record.specs.Files.{Files}
 use Rattle.bk_disk.specs.Disk.{IsCaused}
 use Rattle.bk_log.specs.Writing as writers
 use Rattle.bk_log.specs.declared.fault.LogFault.{LogFault}
 use Rattle.bk_log.specs.declared.fault.LogFault.TheVariants as log_faults
 use Rattle.bk_store.specs.Logs.{Log, Logs, is_written, closed_log}
-use Rattle.bk_store.specs.State.{State, Parts}
+use Rattle.bk_store.specs.State.{Parts}
 use Rattle.bk_store.specs.Kept.{Keeps}
-use Rattle.bk_store.specs.Doors.{MaySeal, Seals, IsIn, IsWriter, IsSealed, failed_in}
+use Rattle.bk_store.specs.Doors.{MaySeal, Seals, IsWriter, IsSealed, failed_in}
 use Rattle.bk_store.specs.declared.log.LogState.{LogState}
 use Rattle.bk_store.specs.declared.log.LogState.TheVariants.{Writing, Filled, Copying, Readable, Retired, Closed}
 use Rattle.bk_store.proofs.Cases.{some_value}
@@ -53,10 +54,6 @@ counted before now (Err log_faults.Failed) cause = let same = not_failed cause (
 counted before now (Err log_faults.Memory) cause = let same = not_failed cause (λ wrong. cc) in omega (arith, same)
 counted before now (Err log_faults.Odd) cause = let same = not_failed cause (λ wrong. cc) in omega (arith, same)
 
-pub dishonest : (honest : Bool) → (IsTrue honest → ⊥) → honest ≡ false
-dishonest true wrong = absurd (wrong refl)
-dishonest false wrong = refl
-
 sealed_inside : (p : Parts) (id : ℕ) (state : LogState) (is : IsWrittenLog p id) (w : writers.Writing) (result : Result (Unit {0}) LogFault)
     (files : Files) (honest : Bool) (failures : ℕ) (logs : Logs) → w ≡ is.w → honest ≡ p.state.honest
     → IsCaused p.state.failures failures (result ≡ Err log_faults.Disk)
@@ -70,7 +67,7 @@ sealed_inside p id state is w result files honest failures logs same same_honest
   writer = is.writer;
   sealed = subst (λ v. IsTrue p.state.honest → IsSealed p.state v result files) same sealed;
   never = λ wrong. let both : true ≡ false = sym (failed.0 wrong) ∙ ap (λ (v : writers.Writing). v.failed) same ∙ is.going in cc;
-  odd = λ told. dishonest p.state.honest (λ h. subst (λ r. IsSealed p.state w r files → ⊥) (sym told) (λ s. s.sealed) (sealed h));
+  odd = λ told. false_from_ne_true p.state.honest (λ h. subst (λ r. IsSealed p.state w r files → ⊥) (sym told) (λ s. s.sealed) (sealed h));
   left = λ i. record p.state { files = files; honest = same_honest i; failures = counted p.state.failures failures result cause i; logs = closed i };
 }
 

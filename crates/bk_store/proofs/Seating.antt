@@ -1,5 +1,5 @@
 -- Logs that are found are seated one behind the other.
-use Rattle.std.proofs.Common.{◌≡◌, inl, inr, ℕ, ◌+◌, ◌<◌, ◌≤◌, ◌^◌, Some, None, length, replicate, set, refl, sym, ap, subst, ◌∙◌, arith, lt_of_not-le}
+use Rattle.std.proofs.Common.{◌≡◌, inl, inr, ℕ, ◌+◌, ◌<◌, ◌≤◌, Some, None, length, replicate, refl, sym, ap, subst, ◌∙◌, arith, lt_of_not-le}
 use Rattle.std.proofs.lemmas.List.{length-set, length-replicate, get_or-replicate}
 use Rattle.std.proofs.Math.ListN.{get_or-eq_default}
 use Rattle.std.specs.Ordering.{nat_cmp}
@@ -31,7 +31,7 @@ all_free n slot = dite (dec_le n slot)
     (λ past. get_or-eq_default (replicate n slots.Free) slots.Free (subst (λ (k : ℕ). k ≤ slot) (sym (length-replicate n slots.Free)) past))
     (λ within. get_or-replicate n slot slots.Free slots.Free (lt_of_not-le within))
 
-none_held : (id : ℕ) (log : Log) → finite.get {R = nat_cmp} finite.empty id ≡ Some log → ⊥
+pub none_held : (id : ℕ) (log : Log) → finite.get {R = nat_cmp} finite.empty id ≡ Some log → ⊥
 none_held id log is = let wrong : None ≡ Some log = sym (finite.get-empty nat_cmp id) ∙ is in cc
 
 -- at the beginning no slot is taken

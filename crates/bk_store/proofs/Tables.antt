@@ -1,36 +1,16 @@
 -- A table by number, as the finite map of its entries.
-use Rattle.std.proofs.Common.{◌≡◌, ℕ, List, [], ◌∷◌, length, refl, sym, ap, ◌∙◌, Less, IsSome, is_some, Option, Some, MutBor}
+use Rattle.std.proofs.Common.{◌≡◌, ℕ, List, length, sym, ap, ◌∙◌, IsSome, is_some, Option, Some, MutBor}
 use Rattle.std.specs.Option.{option_copied_mut}
 use Rattle.std.specs.Ordering.{nat_cmp}
-use Rattle.std.specs.Cmp.{nat_cmp_total}
 use Rattle.std.specs.BTreeMap.{BTreeMap, WritesThrough, is_at}
 use Rattle.std.specs.FinMap as finite
-use Rattle.std.specs.FinMap.{put}
 use Rattle.std.specs.Map.{keys_of, lookup}
 use Rattle.std.specs.List.Sorted.{IsStrictlySortedBy}
-use Rattle.std.proofs.lemmas.List.{nil_from_length}
-use Rattle.std.proofs.lemmas.Map.Keys.{sorted_head, sorted_tail}
+use Rattle.bk_record.proofs.NumberMaps.{entries-from_rising}
 use Rattle.bk_accounts.proofs.Maps.{get-found, get-entries, written, lent as lent_some}
 
-no_entries : {X : Type 0} → finite.entries (finite.empty {X = X} {R = nat_cmp}) ≡ []
-no_entries {X} = nil_from_length _ (sym (finite.len-entries (finite.empty {X = X} {R = nat_cmp})) ∙ finite.len-empty nat_cmp X)
-
--- a key below all others is put in front
-put_first : {X : Type 0} (e : ℕ × X) (es : List (ℕ × X)) → IsStrictlySortedBy nat_cmp (keys_of (e ∷ es)) → put nat_cmp e.0 e.1 es ≡ e ∷ es
-put_first e [] rises = refl
-put_first e (f ∷ fs) rises =
-    let less : nat_cmp e.0 f.0 ≡ Less = (sorted_head nat_cmp e.0 (keys_of (f ∷ fs)) rises).0 in
-    rw less refl
-
--- the entries of a table that rise are those of its map
-pub entries-table : {X : Type 0} (es : List (ℕ × X)) → IsStrictlySortedBy nat_cmp (keys_of es) → finite.entries (finite.from_entries {R = nat_cmp} es) ≡ es
-entries-table [] rises = no_entries
-entries-table (e ∷ es) rises =
-    finite.entries-insert nat_cmp_total (finite.from_entries es) e.0 e.1
-    ∙ ap (put nat_cmp e.0 e.1) (entries-table es (sorted_tail nat_cmp e.0 (keys_of es) rises)) ∙ put_first e es rises
-
 pub len-table : {X : Type 0} (es : List (ℕ × X)) → IsStrictlySortedBy nat_cmp (keys_of es) → finite.len (finite.from_entries {R = nat_cmp} es) ≡ length es
-len-table es rises = finite.len-entries (finite.from_entries es) ∙ ap length (entries-table es rises)
+len-table es rises = finite.len-entries (finite.from_entries es) ∙ ap length (entries-from_rising es rises)
 
 module _ {X : Type 0} (m : BTreeMap ℕ X) (table : finite.FinMap nat_cmp X) (key : ℕ) (view_is : finite.from_entries m.entries ≡ table) where
   -- what a loan of a value lends

@@ -1,5 +1,5 @@
 -- What the writer of a log, the caches and the accounts give an entry of the flush that is written.
-use Rattle.std.proofs.Common.{◌≡◌, ◌⊎◌, inl, inr, ℕ, ◌+◌, ◌≤◌, ◌<◌, ◌^◌, Bool, true, false, IsTrue, List, length, take, Option, Some, None, IsSome}
+use Rattle.std.proofs.Common.{◌≡◌, ℕ, ◌+◌, ◌≤◌, ◌<◌, ◌^◌, Bool, false, IsTrue, List, length, take, Option, Some, None}
 use Rattle.std.proofs.Common.{IfSome, is_some, unwrap_or, Result, Ok, Err, Less, Equal, Greater, refl, sym, ap, subst, ◌∙◌, arith}
 use Rattle.std.specs.FinMap as finite
 use Rattle.std.specs.Ordering.{ordering_reverse}
@@ -15,23 +15,23 @@ use Rattle.bk_log.specs.Writing as writers
 use Rattle.bk_log.specs.declared.fault.LogFault.{LogFault}
 use Rattle.bk_log.specs.declared.fault.LogFault.TheVariants as log_faults
 use Rattle.std.specs.Option.{SomeIff, option_or}
+use Rattle.std.proofs.lemmas.Bool.{false_from_ne_true}
 use Rattle.bk_cache.specs.Caches.{CacheState, flush_of, cached}
 use Rattle.bk_cache.specs.Kept.{IsSound}
 use Rattle.bk_cache.specs.Recents.{recent_of}
 use Rattle.bk_store.proofs.KeptWrite.{flush_held}
-use Rattle.bk_accounts.specs.Book.{Book, total_in, total_at, after_ready}
+use Rattle.bk_accounts.specs.Book.{total_in, total_at, after_ready}
 use Rattle.bk_accounts.proofs.BookLaws.{total_in-after_ready}
 use Rattle.bk_record.specs.Keyed.{Places}
-use Rattle.bk_store.specs.Logs.{Log, Logs, halted_log}
+use Rattle.bk_store.specs.Logs.{Log, Logs}
 use Rattle.bk_store.specs.Placed.{IsBehind}
-use Rattle.bk_store.specs.State.{State, Parts}
-use Rattle.bk_store.specs.Kept.{Keeps, IsWrittenBy}
+use Rattle.bk_store.specs.State.{Parts}
+use Rattle.bk_store.specs.Kept.{Keeps}
 use Rattle.bk_store.specs.Putting.{MayPut, put_log, grown_log, next_place, IsPutAt}
-use Rattle.bk_store.specs.Doors.{CanTake, MayWrite, WriteTurn, PutTurn, IsNext, noted}
+use Rattle.bk_store.specs.Doors.{CanTake, WriteTurn, PutTurn, IsNext}
 use Rattle.bk_store.specs.declared.log.LogState.{LogState}
 use Rattle.bk_store.proofs.LogMaps.{log-same}
 use Rattle.bk_store.proofs.ShowTurns.{not_failed, failed_once}
-use Rattle.bk_store.proofs.Sealing.{dishonest}
 
 -- what is known of a log that can take a record
 pub record IsRoomy (p : Parts) (id : ℕ) (payload : List ℕ) : Type 0 where
@@ -153,7 +153,7 @@ module _ (p now : Parts) (here : p ≡ now) (id : ℕ) (key : EntryKey) (payload
     (λ i. record p.state { files = files; honest = same_honest i; failures = failed_once cause refl i; logs = put i }),
   )
   failed_inside log_faults.Odd put at cause turn = (
-    dishonest p.state.honest turn,
+    false_from_ne_true p.state.honest turn,
     (
       is.log,
       is.held,

@@ -10,7 +10,7 @@ use Rattle.bk_record.specs.Files.{Files, file_of, header_length, In}
 use Rattle.bk_record.specs.Scan.{Payloads, entries_of}
 use Rattle.bk_log.specs.Writing as writers
 use Rattle.bk_log.specs.Growing.{HasNoBadLength}
-use Rattle.bk_record.specs.Keyed.{log_count}
+use Rattle.bk_record.specs.Keyed.{log_count, Places}
 use Rattle.bk_cache.specs.Caches as caches
 use Rattle.bk_cache.specs.Recents.{recent_of}
 use Rattle.bk_accounts.specs.Book.{named_in, total_at}
@@ -21,7 +21,7 @@ use Rattle.bk_store.specs.Shown.{Shows}
 use Rattle.bk_store.specs.Jobs.{Job}
 use Rattle.bk_store.specs.JobKept.{IsJob}
 use Rattle.bk_store.specs.Logs.{View, Log, Logs, HasOpenView, IsFlushLog, is_written, open_parts, acknowledged_part}
-use Rattle.bk_store.specs.State.{State, Parts}
+use Rattle.bk_store.specs.State.{Parts}
 use Rattle.bk_store.specs.Meaning.{written_at}
 use Rattle.bk_store.specs.Limits.{IsAllowed}
 use Rattle.bk_store.specs.Seated.{IsSeated}
@@ -43,16 +43,16 @@ pub record IsHeld (next id : ℕ) (log : Log) : Type 0 where
 
 -- The places of a flush are of its entries, in logs that it wrote; an entry before one with a place has one too. Their logs
 -- rise with the keys, and none is above the log that flushes write.
-pub record IsPlaced (s : State) : Type 0 where
-  pub idle : s.caches.flush ≡ None → s.places ≡ finite.empty
-  pub flushing : (key : EntryKey) (place : Place) → finite.get s.places key ≡ Some place → IsSome (finite.get (caches.flush_of s.caches) key)
-  pub logs : (key : EntryKey) (place : Place) → finite.get s.places key ≡ Some place → IsFlushLog s.logs place.log
-  pub front : (key earlier : EntryKey) (place : Place) → finite.get s.places key ≡ Some place → key_cmp earlier key ≡ Less
-      → IsSome (finite.get (caches.flush_of s.caches) earlier) → IsSome (finite.get s.places earlier)
-  pub rising : (key later : EntryKey) (place other : Place) → finite.get s.places key ≡ Some place → finite.get s.places later ≡ Some other
+pub record IsPlaced (flush : Option Payloads) (places : Places) (held : Logs) : Type 0 where
+  pub idle : flush ≡ None → places ≡ finite.empty
+  pub flushing : (key : EntryKey) (place : Place) → finite.get places key ≡ Some place → IsSome (finite.get (caches.entries_of_flush flush) key)
+  pub logs : (key : EntryKey) (place : Place) → finite.get places key ≡ Some place → IsFlushLog held place.log
+  pub front : (key earlier : EntryKey) (place : Place) → finite.get places key ≡ Some place → key_cmp earlier key ≡ Less
+      → IsSome (finite.get (caches.entries_of_flush flush) earlier) → IsSome (finite.get places earlier)
+  pub rising : (key later : EntryKey) (place other : Place) → finite.get places key ≡ Some place → finite.get places later ≡ Some other
       → key_cmp key later ≡ Less → place.log ≤ other.log
-  pub newest : (id : ℕ) (log : Log) → finite.get s.logs id ≡ Some log → log.state ≡ Writing
-      → (key : EntryKey) (place : Place) → finite.get s.places key ≡ Some place → place.log ≤ id
+  pub newest : (id : ℕ) (log : Log) → finite.get held id ≡ Some log → log.state ≡ Writing
+      → (key : EntryKey) (place : Place) → finite.get places key ≡ Some place → place.log ≤ id
 
 -- What is kept beside any disk.
 pub record Fits (p : Parts) : Type 0 where
@@ -62,7 +62,7 @@ pub record Fits (p : Parts) : Type 0 where
   pub seated : IsSeated p.state.settings p.state.keeper p.state.logs
   pub held : (id : ℕ) (log : Log) → finite.get p.state.logs id ≡ Some log → IsHeld p.state.next id log
   pub sent : (key : EntryKey) (place : Place) → finite.get p.state.index key ≡ Some place → HasOpenView p.state.logs place.log
-  pub placed : IsPlaced p.state
+  pub placed : IsPlaced p.state.caches.flush p.state.places p.state.logs
   -- what is kept so that no call has to look for it
   pub writing : (id : ℕ) → (p.writing ≡ Some id) ↔ ((log : Log) × (finite.get p.state.logs id ≡ Some log) × (log.state ≡ Writing))
   pub filled : (id : ℕ) (log : Log) → finite.get p.state.logs id ≡ Some log → (log.state ≡ Writing) ⊎ (log.state ≡ Filled) → In id p.filled
@@ -87,10 +87,10 @@ pub record IsBacked (files : Files) (id : ℕ) (log : Log) : Type 0 where
   pub shown : (view : View) → log.view ≡ Some view → HasNoBadLength view.bytes
 
 -- an entry of the flush that has a place stands there
-pub record IsWrittenAt (s : State) (key : EntryKey) (place : Place) : Type 0 where
+pub record IsWrittenAt (flush : Option Payloads) (files : Files) (key : EntryKey) (place : Place) : Type 0 where
   pub payload : List ℕ
-  pub flushing : finite.get (caches.flush_of s.caches) key ≡ Some payload
-  pub stands : HasEntry (file_of s.files) place key payload
+  pub flushing : finite.get (caches.entries_of_flush flush) key ≡ Some payload
+  pub stands : HasEntry (file_of files) place key payload
 
 -- What is kept beside an honest disk: the files, the index and the caches carry a map, the logs show what the index names,
 -- each recent entry is a pair of the map, and the accounts are those of the acknowledged parts.
@@ -102,7 +102,7 @@ pub record Promises (p : Parts) : Type 0 where
   pub counted : AreSums entry_measure (set.contains p.state.dead) (acknowledged_entries p.state.files p.state.logs) (log_count p.state.index) p.accounts
   pub backed : (id : ℕ) (log : Log) → finite.get p.state.logs id ≡ Some log → IsBacked p.state.files id log
   pub fresh : (id : ℕ) → p.state.next ≤ id → finite.get p.state.files id ≡ None
-  pub placed : (key : EntryKey) (place : Place) → finite.get p.state.places key ≡ Some place → IsWrittenAt p.state key place
+  pub placed : (key : EntryKey) (place : Place) → finite.get p.state.places key ≡ Some place → IsWrittenAt p.state.caches.flush p.state.files key place
 
 -- a store's parts keep both, and so does the job of a compaction that runs
 pub record Keeps (p : Parts) : Type 0 where

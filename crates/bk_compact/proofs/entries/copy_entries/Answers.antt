@@ -1,17 +1,16 @@
-use Rattle.std.proofs.Common.{◌≡◌, ℕ, ◌+◌, ◌<◌, ◌≤◌, ◌^◌, IsTrue, true, false, Bool, Option, Some, None, Result, Ok, Err, refl, sym, ap, subst, ◌∙◌, arith}
+use Rattle.std.proofs.Common.{◌≡◌, ℕ, ◌+◌, ◌<◌, IsTrue, true, false, Bool, Option, Some, None, Ok, Err, sym, ap, subst, ◌∙◌, arith}
 use Rattle.bk_log.specs.declared.found.Found.{Found}
 use Rattle.bk_log.specs.declared.fault.ScanFault.{ScanFault}
 use Rattle.bk_log.specs.declared.fault.ScanFault.TheVariants as scans
 use Rattle.bk_log.specs.Scanning.{NextMoves, NextTurn}
 use Rattle.bk_store.specs.Logs.{View, view_of}
-use Rattle.bk_store.specs.State.{State}
 use Rattle.bk_compact.specs.declared.entries.Stopped.{Stopped}
-use Rattle.bk_compact.specs.declared.entries.Stopped.TheVariants as stops
 use Rattle.bk_disk.specs.Disk.{view_end}
+use Rattle.bk_store.proofs.SameMeaning.{stays_on}
 use Rattle.bk_compact.specs.Compacting.{with_job}
-use Rattle.bk_compact.specs.Going.{CopiesAll, ExaminesOne, ScansFrom, told_after}
+use Rattle.bk_compact.specs.Going.{CopiesAll, ScansFrom}
 use Rattle.bk_compact.proofs.Stepping.{IsGoing, copied_few, going_starts, going_ahead, going_on, going_stops, going_done, going_ends}
-use Rattle.bk_compact.proofs.Stepping.{going_memory, going_unread, going_odd, never_bad, never_odd, one, short_odd, stays_on}
+use Rattle.bk_compact.proofs.Stepping.{going_memory, going_unread, going_odd, never_bad, never_odd, one, short_odd}
 use Rattle.bk_compact.proofs.entries.copy_entries.Goals as goal
 use Rattle.bk_compact.proofs.entries.copy_entries.Goals.{then-is_copied, else-is_copied}
 

@@ -1,7 +1,6 @@
-use Rattle.std.proofs.Common.{◌≡◌, ℕ, ◌+◌, ◌<◌, ◌^◌, IsTrue, inl, inr, true, false, Some, Result, Err, List, refl, sym, ap, subst, ◌∙◌, arith}
+use Rattle.std.proofs.Common.{◌≡◌, ℕ, inl, inr, true, false, Some, Err, List, sym, ap, subst, ◌∙◌}
 use Rattle.bk_record.specs.Location.{Place}
 use Rattle.bk_log.specs.Writing.{Writing}
-use Rattle.bk_log.specs.declared.fault.LogFault.{LogFault}
 use Rattle.bk_store.specs.Logs.{View, view_of}
 use Rattle.bk_store.specs.Doors.{writer_of, PutTurn}
 use Rattle.bk_store.specs.Putting.{next_place}
@@ -10,9 +9,9 @@ use Rattle.bk_store.specs.Jobs.{Job, with_move}
 use Rattle.bk_compact.specs.declared.entries.Stopped.{Stopped}
 use Rattle.bk_compact.specs.Compacting.{place_of}
 use Rattle.bk_compact.specs.Going.{IsEntry, StopsAt, told_put}
-use Rattle.bk_compact.proofs.Stored.{dishonest}
 use Rattle.bk_compact.proofs.Copied.{may_copy, never_missing, found_entry, found_stands, found_filed, put_copies, put_stops, stops_odd}
 use Rattle.bk_compact.proofs.entries.copy_entry.Goals as goal
+use Rattle.std.proofs.lemmas.Bool.{false_from_ne_true}
 
 not_both : {b : _} → b ≡ true → b ≡ false → ⊥
 not_both one other = cc
@@ -41,7 +40,7 @@ returns-then-not-is_entry-clause-turn g c =
     let found = c.args.found.now in
     let view : View = view_of g.D.View.LogView.bytes g.D.View.LogView.honest g.D.View.LogView.sound c.args.view.now in
     stops_odd s c.odd-then-not-is_entry.new.store c.args.job.now found c.odd-then-not-is_entry.result c.odd-then-not-is_entry.ensures.value
-    (dishonest s.honest (λ honest.
+    (false_from_ne_true s.honest (λ honest.
     not_both
     (c.is_entry.ensures.honest
     (subst (λ (p : List ℕ). IsEntry p found) (sym c.deref.ensures.value)

@@ -1,24 +1,24 @@
-use Rattle.std.proofs.Common.{◌≡◌, ℕ, ◌+◌, ◌<◌, ◌≤◌, ◌^◌, IsTrue, true, false, Bool, Ok, Some, is_some, refl, sym, ap, subst, ◌∙◌, arith}
+use Rattle.std.proofs.Common.{◌≡◌, ℕ, ◌+◌, true, false, Bool, Ok, Some, is_some, sym, ap, subst, ◌∙◌, arith}
 use Rattle.bk_disk.specs.Disk.{AreLogFiles}
 use Rattle.bk_record.proofs.Places.{same_place}
 use Rattle.std.proofs.lemmas.Option.{same_Some}
-use Rattle.std.specs.FinMap as finite
 use Rattle.bk_store.specs.State.{State}
 use Rattle.bk_store.specs.Jobs.{Job}
 use Rattle.bk_store.proofs.Written.{some_iff}
 use Rattle.bk_compact.specs.Compacting.{Examines, place_of, behind}
 use Rattle.bk_compact.specs.Going.{CopiesEntry, IsCopying}
-use Rattle.bk_compact.proofs.Stored.{dishonest, kept_held, kept_ids}
+use Rattle.bk_compact.proofs.Stored.{kept_held, kept_ids}
 use Rattle.bk_compact.proofs.Copied.{next_near, stops_odd, examined_copied, examined_past}
 use Rattle.bk_compact.proofs.entries.examine.Goals as goal
 use Rattle.bk_compact.proofs.entries.examine.Goals.{then-named+in_ok-copy_entry, else-named}
+use Rattle.std.proofs.lemmas.Bool.{false_from_ne_true}
 
 pub returns-then-behind-from-clause-turn : goal.returns-then-behind-from-clause-turn
 returns-then-behind-from-clause-turn g c =
     let s = c.args.store.now in
     let found = c.args.found.now in
     stops_odd s c.odd.new.store c.args.job.now found c.odd.result c.odd.ensures.value
-    (dishonest s.honest (λ honest.
+    (false_from_ne_true s.honest (λ honest.
     let near = next_near s c.promise.ensures c.args.job.now c.requires.copying.out.keeps found c.requires.ahead
     (λ truth. subst AreLogFiles c.disk.ensures.files (c.bounds.ensures (c.disk.ensures.honest ∙ truth))) honest in
     omega (arith, near, c.if-behind-from.true, c.from-2.ensures, c.from.ensures)))

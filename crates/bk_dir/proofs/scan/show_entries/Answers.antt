@@ -4,7 +4,8 @@ use Rattle.bk_dir.specs.Texts.{counts_line}
 use Rattle.bk_disk.specs.Disk.{view_end}
 use Rattle.bk_log.specs.declared.found.Found.{Found}
 use Rattle.bk_log.specs.Scanning.{Scan, part_of, NextMoves, NextTurn}
-use Rattle.bk_dir.proofs.Scans.{shown_more, shown_all, whole_view}
+use Rattle.bk_log.proofs.Ranges.{whole_view}
+use Rattle.bk_dir.proofs.Scans.{shown_more, shown_all}
 use Rattle.bk_dir.proofs.scan.show_entries.Goals as goal
 
 pub loop-scanner-preserved : goal.loop-scanner-preserved

@@ -1,6 +1,7 @@
 use Rattle.std.proofs.Common.{◌≡◌, length, Err, ap, ◌∙◌}
+use Rattle.bk_store.proofs.SameMeaning.{stays_on}
 use Rattle.bk_flush.proofs.Failures.{step_caused}
-use Rattle.bk_flush.proofs.Steps.{put_step, unput_step, write_stays, stays_on}
+use Rattle.bk_flush.proofs.Steps.{put_step, unput_step, write_stays}
 use Rattle.bk_flush.proofs.writing.write_one.Goals as goal
 
 pub returns-in-Ok-clause-turn : goal.returns-in-Ok-clause-turn
