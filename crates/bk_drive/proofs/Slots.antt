@@ -80,7 +80,7 @@ module _ (keeper : SlotTable) (logs : Logs) (seats : AreSeated keeper logs) wher
       elim (find_seat es slot) [
         | inl found ↦
             let mine = held found.0.0 found.0.1 found.1 in
-            let one : found.0.0 ≡ id = sym (own found.0.0 found.0.1.state) ∙ ap log_of (sym (seats.stands found.0.0 found.0.1 mine))
+            let one : found.0.0 ≡ id = sym (slot_state-log found.0.0 found.0.1.state) ∙ ap log_of (sym (seats.stands found.0.0 found.0.1 mine))
             ∙ ap (λ n. log_of (state_at slots n)) found.2 ∙ ap log_of is ∙ by in
             let here : finite.get logs id ≡ Some found.0.1 = subst (λ n. finite.get logs n ≡ Some found.0.1) one mine in
             record {

@@ -24,7 +24,7 @@ use Rattle.bk_store.specs.Doors.{CanTake, PutTurn}
 use Rattle.bk_store.specs.Copying.{MayCopy}
 use Rattle.bk_store.specs.Beside.{CopiesBeside, IsReadied, unless_log}
 use Rattle.bk_store.specs.declared.log.LogState.TheVariants.{Writing, Copying, Readable}
-use Rattle.bk_store.proofs.PlaceOrder.{one_payload}
+use Rattle.bk_store.proofs.OneEntry.{one_payload}
 use Rattle.bk_store.proofs.KeptSet.{one_log}
 use Rattle.bk_store.proofs.KeptSeal.{closed_promise, closed_fits, copy_flush, readable_unflushed}
 use Rattle.bk_store.proofs.KeptOne.{with_one, job_in, keeps_failures}

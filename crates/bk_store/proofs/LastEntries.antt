@@ -12,7 +12,7 @@ use Rattle.bk_record.proofs.Scans.{scan-none}
 use Rattle.bk_record.proofs.Places.{precedes_not_itself, precedes_one_way, precedes_cases}
 use Rattle.bk_store.specs.Entries.{Bytes, HasEntry, IsLastEntry}
 use Rattle.bk_store.proofs.Cases.{some_or_none}
-use Rattle.bk_store.proofs.PlaceOrder.{one_payload}
+use Rattle.bk_store.proofs.OneEntry.{one_payload}
 
 -- an entry of the files is one of their records
 pub entry_record : (files : Files) (place : Place) (key : EntryKey) (payload : List ℕ) → HasEntry (file_of files) place key payload

@@ -1,5 +1,5 @@
 pub mod Cases
-pub mod PlaceOrder
+pub mod OneEntry
 pub mod LastEntries
 pub mod Meaning
 pub mod KeyMaps

@@ -13,7 +13,7 @@ use Rattle.bk_record.specs.Keyed.{Places}
 use Rattle.bk_store.specs.Entries.{Bytes, HasEntry}
 use Rattle.bk_store.specs.Carried.{Cached, Carries}
 use Rattle.bk_store.proofs.Cases.{some_or_none, some_value}
-use Rattle.bk_store.proofs.PlaceOrder.{one_payload}
+use Rattle.bk_store.proofs.OneEntry.{one_payload}
 use Rattle.bk_store.proofs.LastEntries.{entry_record, scan_entry}
 
 module _ {bytes : Bytes} {index : Places} {cached : Cached} {dead : Ledgers} {map : Payloads} (carries : Carries bytes index cached dead map) where

@@ -12,7 +12,7 @@ use Rattle.bk_record.proofs.Places.{precedes_cases}
 use Rattle.bk_store.specs.Entries.{Bytes, HasEntry, IsIndexOf}
 use Rattle.bk_store.specs.Carried.{Carries}
 use Rattle.bk_store.proofs.Cases.{some_or_none}
-use Rattle.bk_store.proofs.PlaceOrder.{one_payload}
+use Rattle.bk_store.proofs.OneEntry.{one_payload}
 use Rattle.bk_store.proofs.LastEntries.{one_last, scan_entry, entry_scan}
 
 -- what lives has no dead ledger, and is the map's

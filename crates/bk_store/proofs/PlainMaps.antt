@@ -34,7 +34,7 @@ use Rattle.bk_store.specs.declared.answer.DeleteFault.TheVariants as delete_faul
 use Rattle.bk_store.specs.declared.answer.SwapAnswer.{SwapAnswer}
 use Rattle.bk_store.specs.declared.answer.SwapAnswer.TheVariants.{Running, Nothing, Swapped}
 use Rattle.bk_store.proofs.Cases.{some_or_none, some_value}
-use Rattle.bk_store.proofs.PlaceOrder.{one_payload}
+use Rattle.bk_store.proofs.OneEntry.{one_payload}
 use Rattle.bk_store.proofs.Meaning.{carries_meaning, unheld_unmapped, held_exactly}
 use Rattle.bk_store.proofs.CachedMoves.{carries_same_cached}
 use Rattle.bk_store.proofs.LedgerLeaves.{carries_without_ledger}
