@@ -1,11 +1,10 @@
 -- The lines of a ledgers map: those that are written and those that are still to be written are all.
-use Rattle.std.proofs.Common.{◌≡◌, ℕ, List, [], ◌∷◌, ◌++◌, length, Option, Some, IfSome, option_map, Result, Ok, Err, OnOk, BTreeMap, nat_cmp}
+use Rattle.std.proofs.Common.{◌≡◌, ℕ, List, ◌∷◌, ◌++◌, length, Option, Some, IfSome, option_map, Result, Ok, Err, OnOk, BTreeMap, nat_cmp}
 use Rattle.std.proofs.Common.{sym, ap, ◌∙◌, subst, append_assoc}
 use Rattle.std.specs.Prelude.{flat_map}
 use Rattle.std.specs.Io.KnownBytes.{Appends}
 use Rattle.std.specs.BTreeMap.{IsOrdered}
 use Rattle.std.specs.FinMap as map
-use Rattle.std.proofs.lemmas.List.{append-nil}
 use Rattle.bk_record.specs.Files.{Files}
 use Rattle.bk_disk.specs.Disk.{IsFile}
 use Rattle.bk_head.specs.declared.header.Header.{Header}
@@ -17,7 +16,7 @@ use Rattle.bk_dir.specs.Heads.{IsHead}
 use Rattle.bk_dir.specs.Maps.{ledger_line, IsMapIn}
 use Rattle.bk_dir.specs.Reading.{OfFile}
 use Rattle.bk_dir.specs.Shown.{MapText, WritesText}
-use Rattle.bk_dir.proofs.Lines.{appends_none, appends_then}
+use Rattle.bk_dir.proofs.Lines.{appends_then}
 
 -- some of the lines of these ledgers were written, and the rest's are to be written
 pub record WroteSome (rest all : List (ℕ × ℕ)) (before now : Option (List ℕ)) : Type 0 where

@@ -5,3 +5,4 @@ pub mod Scans
 pub mod Sums
 pub mod Maps
 pub mod LedgerLines
+pub mod Fits

@@ -3,7 +3,7 @@ use Rattle.std.proofs.Common.{◌≡◌, ℕ, ◌+◌, ◌<◌, List, [], ◌∷
 use Rattle.std.proofs.lemmas.List.{append-nil, take_more}
 use Rattle.std.specs.Io.KnownBytes.{Appends}
 use Rattle.bk_dir.specs.Shown.{WritesText, AreLines}
-use Rattle.bk_dir.specs.Shown.AreLines.{none, more}
+use Rattle.bk_dir.specs.Shown.AreLines.{more}
 
 pub appends_none : (before : Option (List ℕ)) → Appends before before []
 appends_none None = tt

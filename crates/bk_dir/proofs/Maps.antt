@@ -4,7 +4,7 @@ use Rattle.std.proofs.Common.{ℤ, pos, negsuc, Bool, true, false, cond, ◌&&�
 use Rattle.std.proofs.Common.{BTreeMap, btree_map_len, nat_cmp}
 use Rattle.std.specs.BTreeMap as tree
 use Rattle.std.specs.FinMap as ledgers
-use Rattle.std.proofs.lemmas.List.{drop-drop, take_all, take_min, length-take-le}
+use Rattle.std.proofs.lemmas.List.{drop-drop, take_min, length-take-le}
 use Rattle.bk_disk.specs.Disk.{IsInView, view_end}
 use Rattle.bk_record.specs.Files.{header_length}
 use Rattle.bk_head.specs.declared.fault.HeadFault.{HeadFault}

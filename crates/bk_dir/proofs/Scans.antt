@@ -1,5 +1,5 @@
 -- The lines of a scan: one for each entry that was given, and the counts at the end.
-use Rattle.std.proofs.Common.{◌≡◌, ℕ, ◌+◌, ◌-◌, ◌*◌, ◌≤◌, true, false, cond, ◌&&◌, Bool, IsTrue, List, [], ◌∷◌, ◌++◌, length, take, drop, nat_lt, Option}
+use Rattle.std.proofs.Common.{◌≡◌, ℕ, ◌+◌, ◌*◌, ◌≤◌, true, false, cond, ◌&&◌, Bool, IsTrue, List, [], ◌∷◌, ◌++◌, length, take, drop, nat_lt, Option}
 use Rattle.std.proofs.Common.{Some, None, Ok, slice_get, refl, sym, ap, ap₂, ◌∙◌, subst, arith}
 use Rattle.std.specs.Prelude.{flat_map, ◌^◌}
 use Rattle.std.specs.Io.KnownBytes.{Appends}

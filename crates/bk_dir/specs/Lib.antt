@@ -2,4 +2,5 @@ pub mod Heads
 pub mod Reading
 pub mod Texts
 pub mod Maps
+pub mod Digests
 pub mod Shown

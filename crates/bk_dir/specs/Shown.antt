@@ -5,7 +5,7 @@ use Rattle.std.specs.FinMap as map
 use Rattle.bk_record.specs.Files.{Files, header_length, records_of, rest_of}
 use Rattle.bk_record.specs.Body.{Body}
 use Rattle.bk_dir.specs.declared.command.DirCommand.{DirCommand}
-use Rattle.bk_dir.specs.declared.command.DirCommand.TheVariants.{Logs, Header, Map, Scan, Find, Check}
+use Rattle.bk_dir.specs.declared.command.DirCommand.TheVariants.{Logs, Header, Map, Scan, Find, Check, CheckDigests}
 use Rattle.bk_dir.specs.declared.header.Head.{Head}
 use Rattle.bk_dir.specs.declared.header.Head.TheVariants as heads
 use Rattle.bk_dir.specs.declared.listing.LogStanding.{LogStanding}
@@ -53,3 +53,4 @@ Prints (Scan log) files before now = WritesText (λ text. OfFile files log (λ f
 Prints (Map log) files before now = WritesText (λ text. OfFile files log (λ file. (head : Head) × IsHead file head × MapText file head text)) before now
 Prints (Find key) files before now = Unit {0}
 Prints Check files before now = Unit {0}
+Prints (CheckDigests choice) files before now = Unit {0}

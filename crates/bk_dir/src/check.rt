@@ -32,7 +32,7 @@ pub(crate) enum Health {
 
 impl Health {
     /// Whether something is wrong with the log.
-    fn is_bad(self) -> bool {
+    pub(crate) fn is_bad(self) -> bool {
         matches!(self, Health::Faulty(_) | Health::MapDiffers)
     }
 }
@@ -73,7 +73,11 @@ pub(crate) fn show_check<D: LogDisk, W: Write>(
 }
 
 /// What is to be told of a log that the disk has listed.
-fn health_of<D: LogDisk>(alloc: Global, disk: &mut D, log: u32) -> Result<Health, DirFault>
+pub(crate) fn health_of<D: LogDisk>(
+    alloc: Global,
+    disk: &mut D,
+    log: u32,
+) -> Result<Health, DirFault>
     ensures reads { OnlyReads (D.honest disk.old) (D.files disk.old) (D.honest disk.new) (D.files disk.new) }
 {
     match examine(alloc, disk, log) {

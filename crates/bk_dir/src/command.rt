@@ -1,5 +1,6 @@
 //! What can be asked of a folder of entry logs.
 
+use crate::DigestChoice;
 use bk_record::Key;
 
 /// A command on a folder of entry logs. No command writes.
@@ -17,4 +18,6 @@ pub enum DirCommand {
     Find(Key),
     /// Of each log whether it can be read, and whether its map is that of its entries.
     Check,
+    /// The same, and of each entry whether it fits the digest in its payload.
+    CheckDigests(DigestChoice),
 }

@@ -5,8 +5,11 @@ mod calls;
 mod check;
 mod command;
 mod data;
+mod digest;
+mod digests;
 mod fault;
 mod find;
+mod fitting;
 mod header;
 mod ledgers;
 mod listing;
@@ -17,5 +20,6 @@ mod tests;
 mod written;
 
 pub use command::DirCommand;
+pub use digest::{Digest, DigestChoice};
 use fault::{BytesFault, DirFault};
 pub use run::run_dir;

@@ -5,6 +5,7 @@ ghost use Rattle.bk_dir.specs.Reading.{OnlyReads};
 ghost use Rattle.bk_dir.specs.Shown.{Prints};
 
 use crate::check::show_check;
+use crate::digests::show_digests;
 use crate::find::show_last;
 use crate::header::show_header;
 use crate::ledgers::show_map;
@@ -21,7 +22,7 @@ use std::io::Write;
 /// 1 comes with a line `fault TEXT` on the error stream where the command ends early: a log that isn't there, a header,
 /// map or record that can't be read where that is what was asked for, a device that fails, want of memory, a disk that
 /// answers what an honest one can't, or an output that can't be written. What was shown before it stays written. From
-/// `check` it comes too, with no such line, where a line says that something is wrong with a log.
+/// `check` it comes too, with no such line, where a line says that something is wrong with a log, or with an entry.
 pub fn run_dir<D: LogDisk, W: Write, E: Write>(
     alloc: Global,
     disk: &mut D,
@@ -82,6 +83,7 @@ fn show<D: LogDisk, W: Write>(
         DirCommand::Scan(log) => show_scan(alloc, disk, log, writer)?,
         DirCommand::Find(key) => show_last(alloc, disk, key, writer)?,
         DirCommand::Check => return show_check(alloc, disk, writer),
+        DirCommand::CheckDigests(choice) => return show_digests(alloc, disk, choice, writer),
     }
     Ok(0)
 }

@@ -2,6 +2,7 @@
 
 ghost use Rattle.std.specs.Prelude.{◌<◌, ◌^◌};
 
+mod digests;
 mod failing;
 mod folder;
 mod hostile;

@@ -1,28 +1,21 @@
-//! Worked runs over a disk in memory, with bytes and numbers written by hand. Logs are short: two records of 500 bytes
-//! are the most that one has, and there are two of them.
+//! Runs that a script of steps can't say: each allocation refused in turn, a step that is done again where it was refused,
+//! the store's own calls between steps, and leases that a caller holds. Runs of steps alone are files of `bk_runs`.
+//!
+//! Bytes and numbers are written by hand. Logs are short: two records of 500 bytes are the most that one has.
 
 use crate::{
-    AddFault, Added, Answer, BeginAnswer, CloseAnswer, CompactFault, CopyAnswer, DeleteFault,
-    EndAnswer, FetchAnswer, FinishAnswer, FlushFault, GiveUpAnswer, OpenFault, PublishAnswer, Ran,
+    AddFault, Added, Answer, BeginAnswer, CloseAnswer, CollectFault, CompactFault, CopyAnswer,
+    DeleteFault, EndAnswer, FetchAnswer, FinishAnswer, FlushFault, GiveUpAnswer, PublishAnswer,
     ReleaseAnswer, RemoveAnswer, RetireAnswer, RollAnswer, Settings, Step, SwapAnswer,
-    SwitchAnswer, TakeAnswer, TakeFault, Work, WriteAnswer, drive,
+    SwitchAnswer, TakeAnswer, TakeFault, Work, WriteAnswer,
 };
-use bk_disk::{LogDisk, MemDisk};
 use bk_record::Key;
 use std::alloc::{AllocError, Global};
-use std::test::Fail;
 
 mod calls;
-mod collecting;
-mod compacting;
 mod compaction_series;
-mod deleting;
-mod failing;
-mod found;
-mod one_log;
-mod recording;
 mod series;
-mod several_logs;
+mod using;
 
 /// The limits of these runs.
 const SETTINGS: Settings = Settings {
@@ -35,16 +28,9 @@ const SETTINGS: Settings = Settings {
     major: 800,
 };
 
-/// The payload of entry 0 of ledger 1 with the data `hello`.
-const HELLO: [u8; 21] = [
-    0, 0, 0, 0, 0, 0, 0, 1, 0, 0, 0, 0, 0, 0, 0, 0, 0x68, 0x65, 0x6c, 0x6c, 0x6f,
-];
-
 /// A step to be taken.
 #[derive(Clone, Copy)]
 enum Plan {
-    /// An add of `hello` as entry 0 of ledger 1.
-    Hello,
     /// An add of so many zero bytes as this entry of this ledger.
     Zeros(u8, u8, usize),
     /// A take by a reader of this entry of this ledger.
@@ -63,14 +49,12 @@ const PUBLISH: Plan = Plan::Do(Work::Publish);
 
 const ROLL: Plan = Plan::Do(Work::Roll);
 
-/// What an answer tells: a word and a number, 0 where it has none. Of a cached payload it is the number of its bytes, and a
-/// fetch tells whether it read `hello`.
+/// What an answer tells: a word and a number, 0 where it has none. Of a payload it is the number of its bytes.
 type Told = (&'static str, u64);
 
 /// The step of a plan. An id past 2^63 - 1 is told as want of memory.
 fn step_of(alloc: Global, plan: Plan) -> Result<Step, AllocError> {
     Ok(match plan {
-        Plan::Hello => Step::Add(HELLO.to_vec(alloc)?),
         Plan::Zeros(ledger, entry, size) => Step::Add(zeros(alloc, ledger, entry, size)?),
         Plan::Take(reader, ledger, entry) => {
             Step::Take(reader, Key::new(ledger, entry).ok_or(AllocError)?)
@@ -91,28 +75,6 @@ fn zeros(alloc: Global, ledger: u8, entry: u8, size: usize) -> Result<Vec<u8>, A
         payload.push(0)?;
     }
     Ok(payload)
-}
-
-fn steps_of(alloc: Global, plans: &[Plan]) -> Result<Vec<Step>, AllocError> {
-    let mut steps = Vec::new(alloc);
-    for plan in plans {
-        steps.push(step_of(alloc, *plan)?)?;
-    }
-    Ok(steps)
-}
-
-/// A worked run over a disk that has no log.
-struct Worked {
-    plans: &'static [Plan],
-    /// What the answers tell.
-    told: &'static [Told],
-}
-
-/// The number of the first step that is answered otherwise, over a disk in memory that has no log.
-fn first_wrong(alloc: Global, worked: &Worked) -> Result<Option<usize>, Fail> {
-    let steps = steps_of(alloc, worked.plans)?;
-    let Ran { answers, .. } = drive(alloc, MemDisk::new(alloc), SETTINGS, &[], &steps)?;
-    Ok(first_other(&answers, worked.told))
 }
 
 fn told(answer: &Answer) -> Told {
@@ -254,18 +216,20 @@ fn told_of_fetch(fetched: &FetchAnswer) -> Told {
     match fetched {
         FetchAnswer::NoReader => ("no reader", 0),
         FetchAnswer::NoLease => ("no lease", 0),
-        FetchAnswer::Bytes(payload) if payload.as_slice() == HELLO.as_slice() => ("hello", 21),
-        FetchAnswer::Bytes(payload) => ("other bytes", payload.len() as u64),
+        FetchAnswer::Bytes(payload) => ("bytes", payload.len() as u64),
     }
 }
 
-/// The number of the first answer that doesn't tell what is expected, `None` where all do.
-fn first_other(answers: &[Answer], expected: &[Told]) -> Option<usize> {
-    if answers.len() != expected.len() {
-        return Some(expected.len());
-    }
-    answers
-        .iter()
-        .zip(expected)
-        .position(|(answer, expected)| told(answer) != *expected)
+/// Whether a step of the store was answered by `Disk`.
+fn is_disk_fault(answer: &Answer) -> bool {
+    matches!(
+        answer,
+        Answer::Write(Err(FlushFault::Disk))
+            | Answer::Publish(Err(FlushFault::Disk))
+            | Answer::Roll(Err(FlushFault::Disk))
+            | Answer::Remove(Err(CollectFault::Disk))
+            | Answer::Begin(Err(CompactFault::Disk))
+            | Answer::Copy(Err(CompactFault::Disk))
+            | Answer::EndCopy(Err(CompactFault::Disk))
+    )
 }

@@ -1,8 +1,7 @@
 //! Runs of calls on a store that a test opens: the steps of the store alone, and the store's own calls between them. The
 //! disk is in memory, and fails only where a test says so.
 
-use super::failing::is_disk_fault;
-use super::{SETTINGS, Told, told, told_of_add, zeros};
+use super::{SETTINGS, Told, is_disk_fault, told, told_of_add, zeros};
 use crate::{
     Answer, CollectFault, CompactFault, OpenFault, Settings, Store, TakeFault, Work, apply,
 };

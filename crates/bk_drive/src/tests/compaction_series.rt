@@ -9,9 +9,8 @@
 //!
 //! In a plain run no allocation is refused. `rt try --test --fail-alloc N` refuses the Nth one of each test.
 
-use super::failing::is_disk_fault;
 use super::series::found;
-use super::{SETTINGS, Told, told};
+use super::{SETTINGS, Told, is_disk_fault, told};
 use crate::{
     Added, Answer, BeginAnswer, Kind, Lease, OpenFault, Settings, Store, TakeFault, Work, apply,
 };

@@ -1,13 +1,12 @@
-//! One list of steps over logs that were found: each call of the device fails in turn, and each allocation is refused in
-//! turn. Each step is taken twice, so that the second try does what the first one could not; a refused opening is made
-//! anew on the same files. What the steps tell, and the bytes that are read, are those of the run without a fault.
+//! One list of steps over logs that were found: each allocation is refused in turn. Each step is taken twice, so that the
+//! second try does what the first one could not; a refused opening is made anew on the same files. What the steps tell, and
+//! the bytes that are read, are those of the run in which nothing is refused.
 //!
 //! In a plain run no allocation is refused. `rt try --test --fail-alloc N` refuses the Nth one of each test.
 
-use super::failing::is_disk_fault;
-use super::{PUBLISH, Plan, ROLL, SETTINGS, SWAP, Told, WRITE, step_of, told};
+use super::{PUBLISH, Plan, ROLL, SETTINGS, SWAP, Told, WRITE, is_disk_fault, step_of, told};
 use crate::{Answer, FetchAnswer, OpenFault, Ran, Settings, Step, drive};
-use bk_disk::{DiskFault, FaultDisk, LogDisk, MemDisk};
+use bk_disk::{DiskFault, LogDisk, MemDisk};
 use std::alloc::{AllocError, Global};
 
 /// Room for three logs that are found, two that are made, and one that a fault leaves.
@@ -83,10 +82,10 @@ const STEPS: [(Plan, Told); 29] = [
     (Plan::Take(1, 2, 0), ("leased", 0)),
     (Plan::Take(2, 2, 1), ("leased", 0)),
     (Plan::Take(3, 5, 0), ("leased", 0)),
-    (Plan::Fetch(0), ("other bytes", 17)),
-    (Plan::Fetch(1), ("other bytes", 17)),
-    (Plan::Fetch(2), ("other bytes", 20)),
-    (Plan::Fetch(3), ("other bytes", 18)),
+    (Plan::Fetch(0), ("bytes", 17)),
+    (Plan::Fetch(1), ("bytes", 17)),
+    (Plan::Fetch(2), ("bytes", 20)),
+    (Plan::Fetch(3), ("bytes", 18)),
     (Plan::Release(0), ("released", 0)),
     (Plan::Take(0, 3, 0), ("deleted", 0)),
     (Plan::Take(0, 3, 2), ("deleted", 0)),
@@ -185,43 +184,20 @@ fn twice(alloc: Global) -> Result<Vec<Step>, AllocError> {
 /// How a run went: the first step that told something else, whether the bytes were read, and the faults.
 type Outcome = (Option<usize>, bool, (u32, u32));
 
-/// What is left of a run whose disk fails at the call of this number, an append leaving so many bytes.
-fn outcome(alloc: Global, call: u64, kept: usize) -> Result<Outcome, OpenFault> {
+/// What is left of a run.
+fn outcome(alloc: Global) -> Result<Outcome, OpenFault> {
     let (Ok(steps), Ok(disk)) = (twice(alloc), found(alloc)) else {
         return Err(OpenFault::Memory);
     };
-    let disk = FaultDisk::new(disk, call, kept);
     let Ran { answers, .. } = drive(alloc, disk, ROOM, &DEAD, &steps)?;
     Ok((first_other(&answers), are_read(&answers), faults(&answers)))
 }
 
-/// The opening lists the logs, and of each asks the length, the header and the view.
-const OPENING: u64 = 10;
-
-/// A flush makes a log with its header, puts its records, two and then one, syncs it and views it; a roll puts the map and
-/// patches the header.
-const ALL: u64 = OPENING + 8 + 7;
-
-#[test]
-fn each_call_of_the_device_fails_in_turn(rt: HostRuntime) {
-    for kept in [0, 7, 2_000_000] {
-        for call in 1..=ALL + 1 {
-            let ran = outcome(rt.alloc(), call, kept);
-            let expected = if call <= OPENING {
-                Err(OpenFault::Disk)
-            } else {
-                Ok((None, true, (u32::from(call <= ALL), 0)))
-            };
-            assert_eq!(rt; ran, expected, "call {call}, {kept} bytes kept");
-        }
-    }
-}
-
 #[test]
 fn each_allocation_is_refused_in_turn(rt: HostRuntime) {
-    let mut ran = outcome(rt.alloc(), 0, 0);
+    let mut ran = outcome(rt.alloc());
     if ran == Err(OpenFault::Memory) {
-        ran = outcome(rt.alloc(), 0, 0);
+        ran = outcome(rt.alloc());
     }
     let told = [Ok((None, true, (0, 0))), Ok((None, true, (0, 1)))];
     assert!(rt; told.contains(&ran), "{ran:?}");

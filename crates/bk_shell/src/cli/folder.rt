@@ -4,7 +4,7 @@ ghost use Rattle.std.specs.Prelude.{◌≤◌, IfOk};
 
 mod help;
 
-use bk_dir::DirCommand;
+use bk_dir::{Digest, DigestChoice, DirCommand};
 use bk_record::{Key, LAST_ID, LAST_LOG};
 use bk_script::number;
 use clap::error::ErrorKind;
@@ -25,13 +25,21 @@ pub(crate) struct FolderCall<'a> {
     pub command: DirCommand,
 }
 
-/// A word behind a command is no number of its range.
+/// A word behind a command isn't what it is to be.
 #[derive(Debug, thiserror::Error, Drop)]
-#[error("invalid value '{text}' for '<{name}>': not a number from 0 to {most} in plain digits")]
-pub(crate) struct BadWord<'a> {
-    pub text: &'a str,
-    pub name: &'a str,
-    pub most: u64,
+pub(crate) enum BadWord<'a> {
+    /// It is no number of its range.
+    #[error("invalid value '{text}' for '<{name}>': not a number from 0 to {most} in plain digits")]
+    Number {
+        text: &'a str,
+        name: &'a str,
+        most: u64,
+    },
+    /// It is the name of no digest.
+    #[error("invalid value '{text}' for '--digest <KIND>': not crc32c, crc32 or auto")]
+    Digest {
+        text: &'a str,
+    },
 }
 
 /// Whether the words call a command that reads a folder, or ask for help on one.
@@ -77,7 +85,7 @@ fn read_call<'a>(name: &str, found: &ArgMatches<'a>) -> Result<FolderCall<'a>, B
         "map" => DirCommand::Map(read_log(found)?),
         "scan" => DirCommand::Scan(read_log(found)?),
         "find" => DirCommand::Find(read_key(found)?),
-        _ => DirCommand::Check,
+        _ => read_check(found)?,
     };
     Ok(FolderCall { path, command })
 }
@@ -94,7 +102,7 @@ fn read_number<'a>(found: &ArgMatches<'a>, name: &'a str, most: u64) -> Result<u
     let text = word_of(found, name);
     match number(text, most) {
         Some(n) => Ok(n),
-        None => Err(BadWord { text, name, most }),
+        None => Err(BadWord::Number { text, name, most }),
     }
 }
 
@@ -110,11 +118,24 @@ fn read_key<'a>(found: &ArgMatches<'a>) -> Result<Key, BadWord<'a>> {
     let entry = read_number(found, "ENTRY", LAST_ID)?;
     match Key::new(ledger, entry) {
         Some(key) => Ok(key),
-        None => Err(BadWord {
+        None => Err(BadWord::Number {
             text: word_of(found, "ENTRY"),
             name: "ENTRY",
             most: LAST_ID,
         }),
+    }
+}
+
+/// The check that is asked for: with a digest where the option names one.
+fn read_check<'a>(found: &ArgMatches<'a>) -> Result<DirCommand, BadWord<'a>> {
+    let Some(text) = found.get_str("digest") else {
+        return Ok(DirCommand::Check);
+    };
+    match text {
+        "crc32c" => Ok(DirCommand::CheckDigests(DigestChoice::One(Digest::Crc32c))),
+        "crc32" => Ok(DirCommand::CheckDigests(DigestChoice::One(Digest::Crc32))),
+        "auto" => Ok(DirCommand::CheckDigests(DigestChoice::Auto)),
+        _ => Err(BadWord::Digest { text }),
     }
 }
 
@@ -125,7 +146,7 @@ fn usage_of(name: &str) -> &'static str {
         "map" => "bk_shell map <DIR> <LOG>",
         "scan" => "bk_shell scan <DIR> <LOG>",
         "find" => "bk_shell find <DIR> <LEDGER> <ENTRY>",
-        "check" => "bk_shell check <DIR>",
+        "check" => "bk_shell check [OPTIONS] <DIR>",
         _ => "bk_shell logs <DIR>",
     }
 }
@@ -140,7 +161,7 @@ fn folder_commands<'a>(alloc: Global) -> Result<Command<'a>, AllocError> {
         .subcommand(on_log(alloc, "map", ABOUT_MAP, MAP_HELP)?)?
         .subcommand(on_log(alloc, "scan", ABOUT_SCAN, SCAN_HELP)?)?
         .subcommand(on_entry(alloc, "find", ABOUT_FIND, FIND_HELP)?)?
-        .subcommand(on_folder(alloc, "check", ABOUT_CHECK, CHECK_HELP)?)
+        .subcommand(check_command(alloc)?)
 }
 
 /// A command on a folder.
@@ -154,6 +175,16 @@ fn on_folder<'a>(
         .about(about)
         .after_help(help)
         .arg(word(alloc, "DIR", "The folder of the logs"))
+}
+
+/// The command `check`.
+fn check_command<'a>(alloc: Global) -> Result<Command<'a>, AllocError> {
+    on_folder(alloc, "check", ABOUT_CHECK, CHECK_HELP)?.arg(
+        Arg::new(alloc, "digest")
+            .long("digest")
+            .value_name("KIND")
+            .help("Tells each entry that doesn't fit its digest too: crc32c, crc32 or auto"),
+    )
 }
 
 /// A command on a log of a folder.

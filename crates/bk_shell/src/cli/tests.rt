@@ -1,5 +1,5 @@
 use super::{DEFAULTS, folder_call, is_folder_call, script_call, text_of};
-use bk_dir::DirCommand;
+use bk_dir::{Digest, DigestChoice, DirCommand};
 use bk_drive::Settings;
 use std::alloc::Global;
 use std::process::Abort;
@@ -83,7 +83,7 @@ fn told_of_folder(rt: &impl Abort, alloc: Global, words: &[&str]) -> String {
 }
 
 /// Wrong calls of the commands that read a folder, and a part of what is told of each.
-const WRONG_FOLDERS: [(&[&str], &str); 12] = [
+const WRONG_FOLDERS: [(&[&str], &str); 16] = [
     (&["bk_shell", "logs"], "<DIR>"),
     (&["bk_shell", "check"], "<DIR>"),
     (&["bk_shell", "header", "folder"], "<LOG>"),
@@ -114,6 +114,19 @@ const WRONG_FOLDERS: [(&[&str], &str); 12] = [
         &["bk_shell", "check", "--all", "folder"],
         "unexpected argument '--all' found",
     ),
+    (
+        &["bk_shell", "check", "--digest", "crc64", "folder"],
+        "invalid value 'crc64' for '--digest <KIND>': not crc32c, crc32 or auto\n\nUsage: bk_shell check [OPTIONS] <DIR>\n",
+    ),
+    (
+        &["bk_shell", "check", "--digest=", "folder"],
+        "'--digest <KIND>'",
+    ),
+    (&["bk_shell", "check", "--digest", "auto"], "<DIR>"),
+    (
+        &["bk_shell", "logs", "--digest", "auto", "folder"],
+        "unexpected argument '--digest' found",
+    ),
 ];
 
 #[test]
@@ -126,7 +139,7 @@ fn a_wrong_call_on_a_folder_is_told(rt: HostRuntime) {
 
 #[test]
 fn a_call_on_a_folder(rt: HostRuntime) {
-    let lines: [(&[&str], DirCommand); 5] = [
+    let lines: [(&[&str], DirCommand); 8] = [
         (&["bk_shell", "logs", "folder"], DirCommand::Logs),
         (
             &["bk_shell", "header", "folder", "0"],
@@ -138,6 +151,18 @@ fn a_call_on_a_folder(rt: HostRuntime) {
         ),
         (&["bk_shell", "scan", "folder", "31"], DirCommand::Scan(31)),
         (&["bk_shell", "check", "folder"], DirCommand::Check),
+        (
+            &["bk_shell", "check", "--digest", "crc32c", "folder"],
+            DirCommand::CheckDigests(DigestChoice::One(Digest::Crc32c)),
+        ),
+        (
+            &["bk_shell", "check", "folder", "--digest", "crc32"],
+            DirCommand::CheckDigests(DigestChoice::One(Digest::Crc32)),
+        ),
+        (
+            &["bk_shell", "check", "--digest=auto", "folder"],
+            DirCommand::CheckDigests(DigestChoice::Auto),
+        ),
     ];
     for (words, command) in lines {
         assert!(rt; is_folder_call(words), "{words:?}");

@@ -1,4 +1,4 @@
-use Rattle.std.proofs.Common.{rules, ℕ, List, map, codes, sym, ◌∙◌, subst}
+use Rattle.std.proofs.Common.{rules, List, map, codes, sym, ◌∙◌, subst}
 use Rattle.std.proofs.lemmas.Bool.{false≢true}
 use Rattle.clap.specs.Matches.{found_of}
 use Rattle.clap.specs.Simple.{app_of}

@@ -79,8 +79,23 @@ Prints for each log, by rising ids and as soon as it is read, `ID WORD`. A WORD 
 
 The status is 1 where a line says `fault` or `map differs`.
 
+A log has no checksum of its entries, so a changed byte in an entry's data is not seen so far. BookKeeper's clients put
+a digest into each payload, behind its first 32 bytes: with `--digest KIND` each entry is checked against it, and one
+that doesn't fit, or has no room for it, is told before its log's line as `digest AT LEDGER ENTRY`, with status 1. A
+KIND is
+  crc32c  CRC-32C, in four bytes
+  crc32   CRC-32, in eight bytes
+  auto    for each ledger the one that its first entry fits. Behind the last log `unknown N` tells of how many ledgers
+          the first entry fits neither: a ledger without digests, one with a password's, or one whose first entry is
+          broken. Their entries are not judged, and the status doesn't tell of them
+
 Example:
   $ bk_shell check /var/bookie/current
   0 ok
   3 unsealed
+  $ bk_shell check --digest auto /var/bookie/current
+  digest 1073 1 1
+  0 ok
+  3 unsealed
+  unknown 0
 ";

@@ -115,6 +115,16 @@ fn a_folder_with_other_files(rt: HostRuntime) -> Result<(), Fail> {
             "not found\n",
         ),
         done(&["bk_shell", "check", "bk_shell_files"], "0 ok\n3 ok\n"),
+        done(
+            &["bk_shell", "check", "--digest", "auto", "bk_shell_files"],
+            "0 ok\n3 ok\nunknown 1\n",
+        ),
+        Row {
+            words: &["bk_shell", "check", "--digest", "crc32c", "bk_shell_files"],
+            status: 1,
+            output: "digest 1028 1 0\n0 ok\ndigest 1028 1 0\n3 ok\n",
+            errors: "",
+        },
         told(
             &["bk_shell", "scan", "bk_shell_files", "2"],
             "fault no log\n",

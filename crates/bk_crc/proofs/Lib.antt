@@ -1,0 +1,5 @@
+pub mod Dividing
+pub mod Remainders
+pub mod Words
+pub mod Tables
+pub mod Values

@@ -1,0 +1,252 @@
+//! Taking a worked run, and looking for what it tells otherwise.
+
+ghost use Rattle.std.specs.Prelude.{◌<◌, ◌^◌};
+
+use crate::answers::line_of;
+use crate::noting::NotingDisk;
+use crate::worked::{Failing, Worked};
+use crate::{RunFault, first_other};
+use bk_disk::{FaultDisk, LogDisk, MemDisk};
+use bk_drive::{Answer, OpenFault, Ran, drive};
+use std::alloc::{AllocError, Global};
+use std::fmt;
+use std::fmt::{Display, Formatter};
+
+/// The most calls that fail in turn.
+const MOST: u64 = 10_000;
+
+/// Where a run tells something else than it is to.
+#[derive(Debug, Drop)]
+pub(crate) struct Difference {
+    /// What is compared: answers, or calls on the disk.
+    what: &'static str,
+    /// The failing call and the bytes that it leaves, where calls fail in turn.
+    failing: Option<(u64, usize)>,
+    /// The number of the line, counted from 1.
+    line: usize,
+    expected: String,
+    got: String,
+}
+
+impl Display for Difference {
+    fn fmt<W: fmt::Write>(&self, f: &mut Formatter<W>) -> fmt::Result {
+        if let Some((call, kept)) = self.failing {
+            write!(f, "call {call} fails and leaves {kept}: ")?;
+        }
+        write!(
+            f,
+            "{} {}: expected '{}', got '{}'",
+            self.what, self.line, self.expected, self.got
+        )
+    }
+}
+
+/// What a run told: its answers, or why the store isn't opened; its calls on the disk; and whether a call failed.
+#[derive(Drop)]
+struct Told {
+    answers: Vec<String>,
+    calls: Vec<String>,
+    has_failed: bool,
+}
+
+/// The first difference between what a run tells and what it is to tell. `None` where there is none.
+pub(crate) fn check(alloc: Global, worked: &Worked) -> Result<Option<Difference>, RunFault> {
+    match &worked.failing {
+        Failing::Nothing => check_once(
+            alloc,
+            worked,
+            FaultDisk::new(disk_of(alloc, worked)?, 0, 0),
+        ),
+        Failing::Call(call, kept) => {
+            check_once(
+                alloc,
+                worked,
+                FaultDisk::new(disk_of(alloc, worked)?, *call, *kept),
+            )
+        }
+        Failing::View(view) => {
+            check_once(
+                alloc,
+                worked,
+                FaultDisk::broken_view(disk_of(alloc, worked)?, *view),
+            )
+        }
+        Failing::Each(leaving) => {
+            for kept in leaving {
+                let found = check_each(alloc, worked, *kept)?;
+                if found.is_some() {
+                    return Ok(found);
+                }
+            }
+            Ok(None)
+        }
+    }
+}
+
+/// The first difference of a run over this disk.
+fn check_once(
+    alloc: Global,
+    worked: &Worked,
+    disk: FaultDisk<MemDisk>,
+) -> Result<Option<Difference>, RunFault> {
+    let told = told_by(alloc, worked, disk)?;
+    let found = differ(alloc, "answer", None, &worked.answers, &told.answers)?;
+    match &worked.calls {
+        Some(calls) if found.is_none() => Ok(differ(alloc, "call", None, calls, &told.calls)?),
+        _ => Ok(found),
+    }
+}
+
+/// The first difference of a run whose calls fail in turn, until one makes fewer calls.
+fn check_each(alloc: Global, worked: &Worked, kept: usize) -> Result<Option<Difference>, RunFault> {
+    for call in 1..MOST {
+        let disk = FaultDisk::new(disk_of(alloc, worked)?, call, kept);
+        let told = told_by(alloc, worked, disk)?;
+        let expected = expected_of(alloc, worked, call)?;
+        let found = differ(
+            alloc,
+            "answer",
+            Some((call, kept)),
+            &expected,
+            &told.answers,
+        )?;
+        if found.is_some() {
+            return Ok(found);
+        }
+        if !told.has_failed {
+            return Ok(past(alloc, worked, call, kept)?);
+        }
+    }
+    Err(RunFault::Calls)
+}
+
+/// An answer that is expected of a call that is never made.
+fn past(
+    alloc: Global,
+    worked: &Worked,
+    call: u64,
+    kept: usize,
+) -> Result<Option<Difference>, AllocError> {
+    match worked.others.iter().find(|other| other.call >= call) {
+        Some(other) => Ok(Some(Difference {
+            what: "answer",
+            failing: Some((other.call, kept)),
+            line: other.line as usize,
+            expected: other.text.clone()?,
+            got: format!(in alloc; "no such call")?,
+        })),
+        None => Ok(None),
+    }
+}
+
+/// What a run is to tell where the call of this number fails.
+fn expected_of(alloc: Global, worked: &Worked, call: u64) -> Result<Vec<String>, AllocError> {
+    let mut expected = Vec::new(alloc);
+    for (index, answer) in worked.answers.iter().enumerate() {
+        let other = worked.others.iter().find(|other| other.call == call
+            && other.line == index as u64 + 1);
+        match other {
+            Some(other) => expected.push(other.text.clone()?)?,
+            None => expected.push(answer.clone()?)?,
+        }
+    }
+    if let Some(other) = worked
+        .others
+        .iter()
+        .find(|other| other.call == call && other.line == 0)
+    {
+        expected.clear();
+        expected.push(other.text.clone()?)?;
+    }
+    Ok(expected)
+}
+
+/// The first line in which two texts differ.
+fn differ(
+    alloc: Global,
+    what: &'static str,
+    failing: Option<(u64, usize)>,
+    expected: &[String],
+    got: &[String],
+) -> Result<Option<Difference>, AllocError> {
+    let Some(index) = first_other(expected, got) else {
+        return Ok(None);
+    };
+    Ok(Some(Difference {
+        what,
+        failing,
+        line: index.saturating_add(1),
+        expected: line_at(alloc, expected, index)?,
+        got: line_at(alloc, got, index)?,
+    }))
+}
+
+fn line_at(alloc: Global, lines: &[String], index: usize) -> Result<String, AllocError> {
+    match lines.get(index) {
+        Some(line) => line.clone(),
+        None => format!(in alloc; "nothing"),
+    }
+}
+
+/// A disk with the logs that the run finds.
+fn disk_of(alloc: Global, worked: &Worked) -> Result<MemDisk, RunFault> {
+    let mut disk = MemDisk::new(alloc);
+    for (log, bytes) in &worked.files {
+        if *log >= 2_147_483_648 || disk.create(alloc, *log).is_err() {
+            return Err(RunFault::Files);
+        }
+        if disk.append(alloc, *log, bytes).is_err() {
+            return Err(RunFault::Memory);
+        }
+    }
+    Ok(disk)
+}
+
+/// Takes a run over this disk.
+fn told_by(alloc: Global, worked: &Worked, disk: FaultDisk<MemDisk>) -> Result<Told, RunFault> {
+    let disk = NotingDisk::new(alloc, disk);
+    match drive(alloc, disk, worked.settings, &worked.dead, &worked.steps) {
+        Ok(ran) => told_of(alloc, &ran),
+        Err(fault) => Ok(refused(alloc, fault)?),
+    }
+}
+
+/// What is told where the store isn't opened.
+fn refused(alloc: Global, fault: OpenFault) -> Result<Told, AllocError> {
+    let mut answers = Vec::new(alloc);
+    answers.push(format!(in alloc; "not opened: {fault}")?)?;
+    Ok(Told {
+        answers,
+        calls: Vec::new(alloc),
+        has_failed: fault == OpenFault::Disk,
+    })
+}
+
+/// What a run told.
+fn told_of(alloc: Global, ran: &Ran<NotingDisk<FaultDisk<MemDisk>>>) -> Result<Told, RunFault> {
+    let disk = ran.store.disk();
+    let Some(noted) = disk.noted() else {
+        return Err(RunFault::Memory);
+    };
+    Ok(Told {
+        answers: lines_of(alloc, &ran.answers)?,
+        calls: copies_of(alloc, noted)?,
+        has_failed: disk.inner().has_failed(),
+    })
+}
+
+fn lines_of(alloc: Global, answers: &[Answer]) -> Result<Vec<String>, AllocError> {
+    let mut lines = Vec::with_capacity(alloc, answers.len())?;
+    for answer in answers {
+        lines.push(line_of(alloc, answer)?)?;
+    }
+    Ok(lines)
+}
+
+fn copies_of(alloc: Global, lines: &[String]) -> Result<Vec<String>, AllocError> {
+    let mut copies = Vec::with_capacity(alloc, lines.len())?;
+    for line in lines {
+        copies.push(line.clone()?)?;
+    }
+    Ok(copies)
+}
