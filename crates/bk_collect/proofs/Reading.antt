@@ -82,7 +82,7 @@ pub record IsReading (s : State) (from : ℕ) (now : Places) : Type 0 where
   pub ascending : AreAscending ids
   pub below : (id : ℕ) → In id ids → id < from
   pub all : (id : ℕ) → IsSome (finite.get s.logs id) → id < from → In id ids
-  pub made : IsTrue s.honest → IsIndexOfList (walked (open_parts s.logs) ids) s.dead now
+  pub made : IsTrue s.honest → IsIndexOfList (walked (open_parts s.logs) ids) s.ledgers.dead now
 
 pub reading_starts : (s : State) (now : Places) → now ≡ finite.empty → IsReading s 0 now
 reading_starts s now is = record {
@@ -92,13 +92,13 @@ reading_starts s now is = record {
   ascending = tt;
   below = λ id never. absurd never;
   all = λ id held under. absurd (omega (arith, under));
-  made = λ _. subst (λ (m : Places). IsIndexOfList [] s.dead m) (sym is) (list_empty s.dead);
+  made = λ _. subst (λ (m : Places). IsIndexOfList [] s.ledgers.dead m) (sym is) (list_empty s.ledgers.dead);
 }
 
 module _ (s : State) (from : ℕ) (now : Places) (so_far : IsReading s from now) (log : ℕ) (next : IsNextHeld s.logs from (Some log)) where
   -- the log is the next one
   module _ (now' : Places) (sent : (key : EntryKey) (place : Place) → finite.get now' key ≡ Some place → HasOpenView s.logs place.log)
-      (made : IsTrue s.honest → IsIndexOfList (walked (open_parts s.logs) so_far.ids ++ listed_of log (records_of (open_parts s.logs log))) s.dead now') where
+      (made : IsTrue s.honest → IsIndexOfList (walked (open_parts s.logs) so_far.ids ++ listed_of log (records_of (open_parts s.logs log))) s.ledgers.dead now') where
     reading_push : IsReading s (log + 1) now'
     reading_push = record {
       sent = sent;
@@ -115,11 +115,11 @@ module _ (s : State) (from : ℕ) (now : Places) (so_far : IsReading s from now)
             let here : log ≡ id = omega (arith, least, under) in
             In-append_right id so_far.ids (log ∷ []) (inl here)
       ];
-      made = λ honest. subst (λ (l : Listed). IsIndexOfList l s.dead now') (sym (walked_push (open_parts s.logs) so_far.ids log)) (made honest);
+      made = λ honest. subst (λ (l : Listed). IsIndexOfList l s.ledgers.dead now') (sym (walked_push (open_parts s.logs) so_far.ids log)) (made honest);
     }
 
   -- its entries were taken in
-  pub reading_on : IsKept s → (view : View) → open_view s.logs log ≡ Some view → (now' : Places) → TakesIn s.dead log view now now' → IsReading s (log + 1) now'
+  pub reading_on : IsKept s → (view : View) → open_view s.logs log ≡ Some view → (now' : Places) → TakesIn s.ledgers.dead log view now now' → IsReading s (log + 1) now'
   reading_on kept view shown now' takes =
       let shows = shows_open s.logs log view shown in
       reading_push now'
@@ -129,19 +129,19 @@ module _ (s : State) (from : ℕ) (now : Places) (so_far : IsReading s from now)
             (record { log = shows.log; view = view; held = shows.held; opened = shows.opened; view_is = shows.view_is })
       ])
       (λ honest.
-      subst (λ (b : List ℕ). IsIndexOfList (walked (open_parts s.logs) so_far.ids ++ listed_of log (records_of b)) s.dead now')
+      subst (λ (b : List ℕ). IsIndexOfList (walked (open_parts s.logs) so_far.ids ++ listed_of log (records_of b)) s.ledgers.dead now')
       (sym (part_is s.logs log view shows))
-      (subst (λ (m : Places). IsIndexOfList (walked (open_parts s.logs) so_far.ids ++ listed_of log (records_of view.bytes)) s.dead m)
+      (subst (λ (m : Places). IsIndexOfList (walked (open_parts s.logs) so_far.ids ++ listed_of log (records_of view.bytes)) s.ledgers.dead m)
       (sym (takes.taken (view_honest s kept log view shown honest)))
-      (entries_indexed (walked (open_parts s.logs) so_far.ids) s.dead log view.bytes now (so_far.made honest))))
+      (entries_indexed (walked (open_parts s.logs) so_far.ids) s.ledgers.dead log view.bytes now (so_far.made honest))))
 
   -- it shows nothing, or no key may be sent to it
   pub reading_past : open_view s.logs log ≡ None → IsReading s (log + 1) now
   reading_past hidden = reading_push now so_far.sent (λ honest.
-      subst (λ (b : List ℕ). IsIndexOfList (walked (open_parts s.logs) so_far.ids ++ listed_of log (records_of b)) s.dead now) (sym (hides s.logs log hidden))
-      (subst (λ (r : List (ℕ × List ℕ)). IsIndexOfList (walked (open_parts s.logs) so_far.ids ++ listed_of log r) s.dead now)
+      subst (λ (b : List ℕ). IsIndexOfList (walked (open_parts s.logs) so_far.ids ++ listed_of log (records_of b)) s.ledgers.dead now) (sym (hides s.logs log hidden))
+      (subst (λ (r : List (ℕ × List ℕ)). IsIndexOfList (walked (open_parts s.logs) so_far.ids ++ listed_of log r) s.ledgers.dead now)
       (sym (records_of-short [] (omega arith)))
-      (subst (λ (l : Listed). IsIndexOfList l s.dead now) (sym (append-nil (walked (open_parts s.logs) so_far.ids))) (so_far.made honest))))
+      (subst (λ (l : Listed). IsIndexOfList l s.ledgers.dead now) (sym (append-nil (walked (open_parts s.logs) so_far.ids))) (so_far.made honest))))
     where
       hides : (logs : Logs) (id : ℕ) → open_view logs id ≡ None → open_parts logs id ≡ []
       hides logs id none = of (finite.get logs id) none

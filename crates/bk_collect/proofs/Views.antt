@@ -66,7 +66,7 @@ module _ (p : Parts) (promise : Promises p) (id : ℕ) (view : View) (shown : op
   shows = shows_open p.state.logs id view shown
 
   backed : IsBacked p.state.files id shows.log
-  backed = promise.backed id shows.log shows.held
+  backed = promise.logs.each id shows.log shows.held
 
   part_honest : IsTrue view.is_honest
   part_honest = backed.honest view shows.view_is

@@ -23,7 +23,7 @@ pub(crate) fn take_in<D: LogDisk>(
 ) -> Result<(), CollectFault>
     requires id { log < 2 ^ 31 }
     requires shown { open_view store.now.logs log ≡ Some (view_of D.View.bytes D.View.honest D.View.sound view.now) }
-    ensures ok { OnOk result (TakesIn store.now.dead log (view_of D.View.bytes D.View.honest D.View.sound view.now) index.old index.new) }
+    ensures ok { OnOk result (TakesIn store.now.ledgers.dead log (view_of D.View.bytes D.View.honest D.View.sound view.now) index.old index.new) }
     ensures fails { IfErr result (λ fault. RebuildFails store.now fault) }
     ensures sound { AreSound D.View.sound → ¬ (IsErrOf result CollectFault.Disk) }
 {
@@ -53,7 +53,7 @@ fn name<D: LogDisk>(
 ) -> Result<(), CollectFault>
     requires id { log < 2 ^ 31 }
     requires begins { 1028 ≤ found.now.at }
-    ensures ok { OnOk result (index.new ≡ with_key store.now.dead index.old found.now.key (record { log = log; at = found.now.at })) }
+    ensures ok { OnOk result (index.new ≡ with_key store.now.ledgers.dead index.old found.now.key (record { log = log; at = found.now.at })) }
     ensures fails { IfErr result (λ fault. EntryFails found.now fault) }
 {
     if store.is_dead(found.key.ledger()) {

@@ -381,7 +381,7 @@ module _ (s : State) (kept : IsKept s) (job : Job) (is : IsCopying s job) (found
     still_copied honest m there = elim (In-append_cases m job.moves (noted ∷ []) there) [
       | inl before ↦
           let old = (is.out.keeps.honest honest).copied m before in
-          let filed = subst (λ (p : Phase). HasEntry (copied_in s p) m.to m.key old.0) is.phase old.1 in
+          let filed = subst (λ (p : Phase). HasEntry (copied_in s.files s.logs p) m.to m.key old.0) is.phase old.1 in
           (old.0, gained s.files t.files job.copy (put_record w payload) (grows honest) m.to m.key old.0 filed)
       | inr new ↦ elim new [
         | inr never ↦ absurd never
@@ -443,7 +443,7 @@ module _ (s : State) (kept : IsKept s) (job : Job) (is : IsCopying s job) (found
                     read = subst (λ (b : List ℕ). IsReadTo b (behind found)) part (ahead.next honest).read;
                     copied = λ m there.
                         let entry' = still_copied honest m there in
-                        (entry'.0, subst (λ (p : Phase). HasEntry (copied_in t p) m.to m.key entry'.0) (sym is.phase) entry'.1);
+                        (entry'.0, subst (λ (p : Phase). HasEntry (copied_in t.files t.logs p) m.to m.key entry'.0) (sym is.phase) entry'.1);
                     examined = λ new key place named here.
                         still_examined honest new key place (ap (λ (i : Places). finite.get i key) (sym same_index) ∙ named) here;
                     ended = λ switch. absurd (not_both (sym is.phase ∙ switch));

@@ -162,7 +162,7 @@ module _ (s mid t : State) (job : Job) (is : IsCopying s job) (all : IsTrue s.ho
               read = subst (λ (b : List ℕ). IsReadTo b job.at) part was.read;
               copied = λ m there.
                   let entry = was.copied m there in
-                  let filed = subst (λ (p : Phase). HasEntry (copied_in s p) m.to m.key entry.0) is.phase entry.1 in
+                  let filed = subst (λ (p : Phase). HasEntry (copied_in s.files s.logs p) m.to m.key entry.0) is.phase entry.1 in
                   (entry.0, filed_shown honest m.to m.key entry.0 (old.moves m there).to_copy filed);
               examined = λ new key place named here.
                   was.examined new key place (ap (λ (i : Places). finite.get i key) (sym index_stays) ∙ named) here;
@@ -192,7 +192,7 @@ module _ (s t : State) (job rest : Job) (first : Move) (is : IsOut s job) (phase
         seen = subst (HasOpenView s.logs) (sym move.to_copy) (old.copy_shown phase);
         stands = λ honest.
             let entry = (old.honest honest).copied first first_move in
-            (entry.0, subst (λ (p : Phase). HasEntry (copied_in s p) first.to first.key entry.0) phase entry.1);
+            (entry.0, subst (λ (p : Phase). HasEntry (copied_in s.files s.logs p) first.to first.key entry.0) phase entry.1);
       }
 
   -- of the index and the moves that wait: what the job owes
@@ -224,9 +224,9 @@ module _ (s t : State) (job rest : Job) (first : Move) (is : IsOut s job) (phase
                 read = subst (λ (b : List ℕ). IsReadTo b job.at) part was.read;
                 copied = λ m there.
                     let entry = was.copied m (still m there) in
-                    let shown = subst (λ (p : Phase). HasEntry (copied_in s p) m.to m.key entry.0) phase entry.1 in (
+                    let shown = subst (λ (p : Phase). HasEntry (copied_in s.files s.logs p) m.to m.key entry.0) phase entry.1 in (
                       entry.0,
-                      subst (λ (p : Phase). HasEntry (copied_in t p) m.to m.key entry.0) (sym phase)
+                      subst (λ (p : Phase). HasEntry (copied_in t.files t.logs p) m.to m.key entry.0) (sym phase)
                           (subst (λ (l : Logs). HasEntry (open_parts l) m.to m.key entry.0) (sym same_logs) shown),
                     );
                 examined = λ new. examined honest new;

@@ -38,21 +38,21 @@ module _ (s : State) (kept : IsKept s) where
       kept.keeps.fits.sent
 
   pub kept_held : (id : ℕ) (log : Log) → finite.get s.logs id ≡ Some log → IsHeld s.next id log
-  kept_held = subst (λ (t : State). (id : ℕ) (log : Log) → finite.get t.logs id ≡ Some log → IsHeld t.next id log) kept.seen kept.keeps.fits.held
+  kept_held = subst (λ (t : State). (id : ℕ) (log : Log) → finite.get t.logs id ≡ Some log → IsHeld t.next id log) kept.seen kept.keeps.fits.logs.each
 
   pub kept_ids : s.next ≤ 2 ^ 31
-  kept_ids = subst (λ (t : State). t.next ≤ 2 ^ 31) kept.seen kept.keeps.fits.ids
+  kept_ids = subst (λ (t : State). t.next ≤ 2 ^ 31) kept.seen kept.keeps.fits.limits.ids
 
   pub kept_headed : (id : ℕ) (log : Log) → finite.get s.logs id ≡ Some log → header_length ≤ log.acknowledged
   kept_headed = subst (λ (t : State). (id : ℕ) (log : Log) → finite.get t.logs id ≡ Some log → header_length ≤ log.acknowledged) kept.seen
-      (λ id log held. let least = kept.keeps.fits.total id log held in omega (arith, least))
+      (λ id log held. let least = kept.keeps.fits.accounts.total id log held in omega (arith, least))
 
   pub kept_job : (job : Job) → s.job ≡ Some job → IsJob s job
   kept_job = subst (λ (t : State). (job : Job) → t.job ≡ Some job → IsJob t job) kept.seen kept.keeps.job
 
   pub kept_backed : IsTrue s.honest → (id : ℕ) (log : Log) → finite.get s.logs id ≡ Some log → IsBacked s.files id log
   kept_backed = subst (λ (t : State). IsTrue t.honest → (id : ℕ) (log : Log) → finite.get t.logs id ≡ Some log → IsBacked t.files id log) kept.seen
-      (λ honest. (kept.keeps.promises honest).backed)
+      (λ honest. (kept.keeps.promises honest).logs.each)
 
   pub kept_shows : IsTrue s.honest → Shows (file_of s.files) (open_parts s.logs) s.index
   kept_shows = subst (λ (t : State). IsTrue t.honest → Shows (file_of t.files) (open_parts t.logs) t.index) kept.seen

@@ -13,8 +13,6 @@ use Rattle.bk_collect.specs.declared.answer.RemoveAnswer.TheVariants as removes
 use Rattle.bk_collect.specs.declared.answer.CollectFault.{CollectFault}
 use Rattle.bk_drive.specs.Plain.{HasAt}
 use Rattle.bk_drive.specs.Machine.{Hold, WorkTurn, Closes, RemovesLog, LetsGo, IsUnread}
-use Rattle.bk_drive.specs.Machine.WorkTurn.{swapped, wrote, published, rolled, retired, rebuilt, closed, removed}
-use Rattle.bk_drive.specs.Machine.WorkTurn.{begun, copied, ended, switched, finished, given_up}
 use Rattle.bk_drive.specs.Leased.{AreOpenLeases, IsShut}
 use Rattle.bk_drive.specs.declared.step.Step.TheVariants as steps
 use Rattle.bk_drive.specs.declared.step.Work.{Work}
@@ -30,128 +28,104 @@ use Rattle.bk_drive.proofs.Working.{remove_beside, remove_slots, publish_slots, 
 use Rattle.bk_drive.proofs.Compacting.{begin_stays, copy_stays, end_stays, switch_stays, finish_stays, give_up_stays}
 
 -- a log that is gone stays so
-work_gone : {s t : State} {work : Work} {a : Answer} → WorkTurn s work a t → GoneStays s t
-work_gone {s = s} {t = t} (swapped turn) = let same = swap_logs s t _ turn in gone_same s t same.logs same.next
-work_gone {s = s} {t = t} (wrote turn) = (step_stays s t _ turn).gone
-work_gone {s = s} {t = t} (published turn) = publish_gone s t _ turn
-work_gone {s = s} {t = t} (rolled turn) = (roll_stays s t _ turn).gone
-work_gone {s = s} {t = t} (retired turn) = (retire_stays s t _ _ turn).gone
-work_gone {s = s} {t = t} (rebuilt turn) = (rebuild_stays s t _ turn).gone
-work_gone {s = s} {t = t} (closed turn) = (close_beside s t _ _ turn).gone
-work_gone {s = s} {t = t} (removed turn) = (remove_beside s t _ _ turn).gone
-work_gone {s = s} {t = t} (begun turn) = (begin_stays s t _ _ turn).gone
-work_gone {s = s} {t = t} (copied turn) = (copy_stays s t _ _ turn).gone
-work_gone {s = s} {t = t} (ended turn) = (end_stays s t _ turn).gone
-work_gone {s = s} {t = t} (switched turn) = (switch_stays s t _ _ turn).gone
-work_gone {s = s} {t = t} (finished turn) = (finish_stays s t _ turn).gone
-work_gone {s = s} {t = t} (given_up turn) = (give_up_stays s t _ turn).gone
+work_gone : (s t : State) (work : Work) (a : Answer) → WorkTurn s work a t → GoneStays s t
+work_gone s t works.Swap a turn = let same = swap_logs s t turn.0 turn.2 in gone_same s t same.logs same.next
+work_gone s t works.WriteOne a turn = (step_stays s t turn.0 turn.2).gone
+work_gone s t works.Publish a turn = publish_gone s t turn.0 turn.2
+work_gone s t works.Roll a turn = (roll_stays s t turn.0 turn.2).gone
+work_gone s t (works.Retire log) a turn = (retire_stays s t log turn.0 turn.2).gone
+work_gone s t works.Rebuild a turn = (rebuild_stays s t turn.0 turn.2).gone
+work_gone s t (works.Close log) a turn = (close_beside s t log turn.0 turn.2).gone
+work_gone s t (works.Remove log) a turn = (remove_beside s t log turn.0 turn.2).gone
+work_gone s t (works.Begin kind) a turn = (begin_stays s t kind turn.0 turn.2).gone
+work_gone s t (works.Copy n) a turn = (copy_stays s t n turn.0 turn.2).gone
+work_gone s t works.EndCopy a turn = (end_stays s t turn.0 turn.2).gone
+work_gone s t (works.Switch n) a turn = (switch_stays s t n turn.0 turn.2).gone
+work_gone s t works.Finish a turn = (finish_stays s t turn.0 turn.2).gone
+work_gone s t works.GiveUp a turn = (give_up_stays s t turn.0 turn.2).gone
 
--- the log was asked to be removed, and is: then it is this turn
-pub record IsRemoval (s t : State) (work : Work) (a : Answer) : Type 0 where
+-- a log was removed
+pub record IsRemoval (s t : State) : Type 0 where
   pub log : ℕ
-  pub asked : work ≡ works.Remove log
-  pub told : a ≡ answers.Remove (Ok removes.Removed)
   pub turn : RemoveTurn s log (Ok removes.Removed) t
 
-removal_or_not : {s t : State} (log : ℕ) (r : Result RemoveAnswer CollectFault) → RemoveTurn s log r t
-    → IsRemoval s t (works.Remove log) (answers.Remove r) ⊎ SlotsStay s.keeper t.keeper
-removal_or_not {s = s} {t = t} log (Ok removes.NoLog) turn = inr (remove_slots s t log (Ok removes.NoLog) turn (λ same. cc))
-removal_or_not {s = s} {t = t} log (Ok removes.NotClosed) turn = inr (remove_slots s t log (Ok removes.NotClosed) turn (λ same. cc))
-removal_or_not log (Ok removes.Removed) turn = inl (record { log = log; asked = refl; told = refl; turn = turn })
-removal_or_not {s = s} {t = t} log (Err fault) turn = inr (remove_slots s t log (Err fault) turn (λ same. cc))
+removal_or_not : (s t : State) (log : ℕ) (r : Result RemoveAnswer CollectFault) → RemoveTurn s log r t → IsRemoval s t ⊎ SlotsStay s.keeper t.keeper
+removal_or_not s t log (Ok removes.NoLog) turn = inr (remove_slots s t log (Ok removes.NoLog) turn (λ same. cc))
+removal_or_not s t log (Ok removes.NotClosed) turn = inr (remove_slots s t log (Ok removes.NotClosed) turn (λ same. cc))
+removal_or_not s t log (Ok removes.Removed) turn = inl (record { log = log; turn = turn })
+removal_or_not s t log (Err fault) turn = inr (remove_slots s t log (Err fault) turn (λ same. cc))
 
 -- a step of the store alone that did not close a log removed one, or all slots that were taken are as before
-work_slots : {s t : State} {work : Work} {a : Answer} → WorkTurn s work a t → ((log : ℕ) → ¬ (Closes (steps.Work work) a log))
-    → IsRemoval s t work a ⊎ SlotsStay s.keeper t.keeper
-work_slots {s = s} {t = t} (swapped turn) other = inr (slots_same _ _ (swap_logs s t _ turn).keeper)
-work_slots {s = s} {t = t} (wrote turn) other = inr (step_stays s t _ turn).slots
-work_slots {s = s} {t = t} (published turn) other = inr (publish_slots s t _ turn)
-work_slots {s = s} {t = t} (rolled turn) other = inr (roll_stays s t _ turn).slots
-work_slots {s = s} {t = t} (retired turn) other = inr (retire_stays s t _ _ turn).slots
-work_slots {s = s} {t = t} (rebuilt turn) other = inr (rebuild_stays s t _ turn).slots
-work_slots {s = s} {t = t} (closed {log = log} {r = r} turn) other = inr (close_stays s t log r turn (λ is. other log (refl, ap answers.Close is))).slots
-work_slots (removed {log = log} {r = r} turn) other = removal_or_not log r turn
-work_slots {s = s} {t = t} (begun turn) other = inr (begin_stays s t _ _ turn).slots
-work_slots {s = s} {t = t} (copied turn) other = inr (copy_stays s t _ _ turn).slots
-work_slots {s = s} {t = t} (ended turn) other = inr (end_stays s t _ turn).slots
-work_slots {s = s} {t = t} (switched turn) other = inr (switch_stays s t _ _ turn).slots
-work_slots {s = s} {t = t} (finished turn) other = inr (finish_stays s t _ turn).slots
-work_slots {s = s} {t = t} (given_up turn) other = inr (give_up_stays s t _ turn).slots
+work_slots : (s t : State) (work : Work) (a : Answer) → WorkTurn s work a t → ((log : ℕ) → ¬ (Closes (steps.Work work) a log))
+    → IsRemoval s t ⊎ SlotsStay s.keeper t.keeper
+work_slots s t works.Swap a turn other = inr (slots_same _ _ (swap_logs s t turn.0 turn.2).keeper)
+work_slots s t works.WriteOne a turn other = inr (step_stays s t turn.0 turn.2).slots
+work_slots s t works.Publish a turn other = inr (publish_slots s t turn.0 turn.2)
+work_slots s t works.Roll a turn other = inr (roll_stays s t turn.0 turn.2).slots
+work_slots s t (works.Retire log) a turn other = inr (retire_stays s t log turn.0 turn.2).slots
+work_slots s t works.Rebuild a turn other = inr (rebuild_stays s t turn.0 turn.2).slots
+work_slots s t (works.Close log) a turn other =
+    inr (close_stays s t log turn.0 turn.2 (λ is. other log (refl, turn.1 ∙ ap answers.Close is))).slots
+work_slots s t (works.Remove log) a turn other = removal_or_not s t log turn.0 turn.2
+work_slots s t (works.Begin kind) a turn other = inr (begin_stays s t kind turn.0 turn.2).slots
+work_slots s t (works.Copy n) a turn other = inr (copy_stays s t n turn.0 turn.2).slots
+work_slots s t works.EndCopy a turn other = inr (end_stays s t turn.0 turn.2).slots
+work_slots s t (works.Switch n) a turn other = inr (switch_stays s t n turn.0 turn.2).slots
+work_slots s t works.Finish a turn other = inr (finish_stays s t turn.0 turn.2).slots
+work_slots s t works.GiveUp a turn other = inr (give_up_stays s t turn.0 turn.2).slots
 
 -- a step that was answered Removed was a removal
-removal_of : {s t : State} {work : Work} {a : Answer} (log : ℕ) → WorkTurn s work a t → RemovesLog (steps.Work work) a log
+removal_of : (s t : State) (work : Work) (a : Answer) (log : ℕ) → WorkTurn s work a t → RemovesLog (steps.Work work) a log
     → RemoveTurn s log (Ok removes.Removed) t
-removal_of log (swapped turn) is = let e = is.1 in cc
-removal_of log (wrote turn) is = let e = is.1 in cc
-removal_of log (published turn) is = let e = is.1 in cc
-removal_of log (rolled turn) is = let e = is.1 in cc
-removal_of log (retired turn) is = let e = is.1 in cc
-removal_of log (rebuilt turn) is = let e = is.1 in cc
-removal_of log (closed turn) is = let e = is.1 in cc
-removal_of log (begun turn) is = let e = is.1 in cc
-removal_of log (copied turn) is = let e = is.1 in cc
-removal_of log (ended turn) is = let e = is.1 in cc
-removal_of log (switched turn) is = let e = is.1 in cc
-removal_of log (finished turn) is = let e = is.1 in cc
-removal_of log (given_up turn) is = let e = is.1 in cc
-removal_of {s = s} {t = t} log (removed {log = id} {r = r} turn) is =
+removal_of s t work a log turn is =
     let asked = is.0 in
+    let same : work ≡ works.Remove log = cc in
+    let removal : WorkTurn s (works.Remove log) a t = subst (λ (w : Work). WorkTurn s w a t) same turn in
     let told = is.1 in
-    let one : id ≡ log = cc in
-    let so : r ≡ Ok removes.Removed = cc in
-    subst (λ (n : ℕ). RemoveTurn s n (Ok removes.Removed) t) one (subst (λ (x : Result RemoveAnswer CollectFault). RemoveTurn s id x t) so turn)
+    let answered = removal.1 in
+    let so : removal.0 ≡ Ok removes.Removed = cc in
+    subst (λ (r : Result RemoveAnswer CollectFault). RemoveTurn s log r t) so removal.2
 
 -- a step that was answered Closed was a close
-close_of : {s t : State} {work : Work} {a : Answer} (log : ℕ) → WorkTurn s work a t → Closes (steps.Work work) a log → CloseTurn s log closes.Closed t
-close_of log (swapped turn) is = let e = is.1 in cc
-close_of log (wrote turn) is = let e = is.1 in cc
-close_of log (published turn) is = let e = is.1 in cc
-close_of log (rolled turn) is = let e = is.1 in cc
-close_of log (retired turn) is = let e = is.1 in cc
-close_of log (rebuilt turn) is = let e = is.1 in cc
-close_of log (removed turn) is = let e = is.1 in cc
-close_of log (begun turn) is = let e = is.1 in cc
-close_of log (copied turn) is = let e = is.1 in cc
-close_of log (ended turn) is = let e = is.1 in cc
-close_of log (switched turn) is = let e = is.1 in cc
-close_of log (finished turn) is = let e = is.1 in cc
-close_of log (given_up turn) is = let e = is.1 in cc
-close_of {s = s} {t = t} log (closed {log = id} {r = r} turn) is =
+close_of : (s t : State) (work : Work) (a : Answer) (log : ℕ) → WorkTurn s work a t → Closes (steps.Work work) a log → CloseTurn s log closes.Closed t
+close_of s t work a log turn is =
     let asked = is.0 in
+    let same : work ≡ works.Close log = cc in
+    let close : WorkTurn s (works.Close log) a t = subst (λ (w : Work). WorkTurn s w a t) same turn in
     let told = is.1 in
-    let one : id ≡ log = cc in
-    let so : r ≡ closes.Closed = cc in
-    subst (λ (n : ℕ). CloseTurn s n closes.Closed t) one (subst (λ (x : CloseAnswer). CloseTurn s id x t) so turn)
+    let answered = close.1 in
+    let so : close.0 ≡ closes.Closed = cc in
+    subst (λ (r : CloseAnswer). CloseTurn s log r t) so close.2
 
 -- ---- a step that did not close a log
 
 module _ (s t : State) (work : Work) (a : Answer) (kept : IsKept s) (turn : WorkTurn s work a t) (other : (log : ℕ) → ¬ (Closes (steps.Work work) a log))
     (readers : List (Option Hold)) (leases : AreOpenLeases s.keeper readers) where
   pub open_leases : AreOpenLeases t.keeper readers
-  open_leases = elim (work_slots turn other) [
+  open_leases = elim (work_slots s t work a turn other) [
     | inl removal ↦ removed_leases s t removal.log kept removal.turn readers leases
     | inr slots ↦ leases_stay s.keeper t.keeper slots readers leases
   ]
 
   pub open_shut : (log : ℕ) → IsShut s log → IsShut t log
   open_shut log shut = elim shut [
-    | inl stands ↦ elim (work_slots turn other) [
+    | inl stands ↦ elim (work_slots s t work a turn other) [
       | inl removal ↦ removed_shut s t removal.log kept removal.turn log stands
       | inr slots ↦ inl (closed_stays s.keeper t.keeper slots log stands)
     ]
-    | inr gone ↦ inr ((work_gone turn).gone log gone)
+    | inr gone ↦ inr ((work_gone s t work a turn).gone log gone)
   ]
 
   pub open_unread : (log : ℕ) → LetsGo (steps.Work work) a log → IsUnread readers log
   open_unread log is = elim is [
     | inl closes ↦ absurd (other log closes)
-    | inr removes ↦ removed_unread s t log kept (removal_of log turn removes) readers leases
+    | inr removes ↦ removed_unread s t log kept (removal_of s t work a log turn removes) readers leases
   ]
 
   pub open_lets_go : (log : ℕ) → LetsGo (steps.Work work) a log → IsShut t log
   open_lets_go log is = elim is [
     | inl closes ↦ absurd (other log closes)
-    | inr removes ↦ inr (removed_gone s t log kept (removal_of log turn removes))
+    | inr removes ↦ inr (removed_gone s t log kept (removal_of s t work a log turn removes))
   ]
 
 -- ---- a step that closed a log
@@ -166,7 +140,7 @@ one_closed work a log other is too = elim too [
 module _ (s t : State) (work : Work) (a : Answer) (log : ℕ) (kept : IsKept s) (turn : WorkTurn s work a t) (is : Closes (steps.Work work) a log)
     (readers : List (Option Hold)) (leases : AreOpenLeases s.keeper readers) where
   closing : CloseTurn s log closes.Closed t
-  closing = close_of log turn is
+  closing = close_of s t work a log turn is
 
   pub met_table : (reader : ℕ) (hold : Hold) → HasAt readers reader hold → hold.ticket.table ≡ t.keeper.table
   met_table reader hold has = (leases reader hold has).table ∙ sym (closing_table s t log (seats_kept s kept) closing)
@@ -181,7 +155,7 @@ module _ (s t : State) (work : Work) (a : Answer) (log : ℕ) (kept : IsKept s) 
   pub left_shut : (other : ℕ) → IsShut s other → IsShut t other
   left_shut other shut = elim shut [
     | inl stands ↦ inl (closing_stays s t log (seats_kept s kept) closing other stands)
-    | inr gone ↦ inr ((work_gone turn).gone other gone)
+    | inr gone ↦ inr ((work_gone s t work a turn).gone other gone)
   ]
 
   pub left_lets_go : (other : ℕ) → LetsGo (steps.Work work) a other → IsShut t other

@@ -37,24 +37,24 @@ use Rattle.bk_drive.proofs.Working.{Stays, stays_as, stays_same, then, make_stay
 
 job_stays : (s t : State) (job : Option Job) → t ≡ with_job s job → Stays s t
 job_stays s t job is =
-    stays_as (record { settings = refl; dead = refl; active = refl; flush = refl; slots = slots_same _ _ refl; gone = gone_same _ _ refl refl }) t is
+    stays_as (record { settings = refl; ledgers = refl; active = refl; flush = refl; slots = slots_same _ _ refl; gone = gone_same _ _ refl refl }) t is
 
 show_stays : (s t : State) (id : ℕ) (r : Result (Unit {0}) LogFault) → ShowTurn s id r t → Stays s t
 show_stays s t id (Ok _) turn =
     stays_as (record {
       settings = refl;
-      dead = refl;
+      ledgers = refl;
       active = refl;
       flush = refl;
       slots = slots_same _ _ refl;
       gone = gone_changed _ _ id turn.0 _ turn.1 refl refl;
     }) t turn.2.3
 show_stays s t id (Err log_faults.Disk) turn =
-    stays_as (record { settings = refl; dead = refl; active = refl; flush = refl; slots = slots_same _ _ refl; gone = gone_same _ _ refl refl }) t turn.1
+    stays_as (record { settings = refl; ledgers = refl; active = refl; flush = refl; slots = slots_same _ _ refl; gone = gone_same _ _ refl refl }) t turn.1
 show_stays s t id (Err log_faults.Memory) turn =
-    stays_as (record { settings = refl; dead = refl; active = refl; flush = refl; slots = slots_same _ _ refl; gone = gone_same _ _ refl refl }) t turn.1
+    stays_as (record { settings = refl; ledgers = refl; active = refl; flush = refl; slots = slots_same _ _ refl; gone = gone_same _ _ refl refl }) t turn.1
 show_stays s t id (Err log_faults.Odd) turn =
-    stays_as (record { settings = refl; dead = refl; active = refl; flush = refl; slots = slots_same _ _ refl; gone = gone_same _ _ refl refl }) t turn.1
+    stays_as (record { settings = refl; ledgers = refl; active = refl; flush = refl; slots = slots_same _ _ refl; gone = gone_same _ _ refl refl }) t turn.1
 show_stays s t id (Err log_faults.Failed) turn = absurd turn
 
 -- ---- the begin
@@ -87,7 +87,7 @@ steps_stays s t job after most copied steps =
 
 goes_stays : (mid t : State) (after : Job) → GoesOnCopying mid after t → Stays mid t
 goes_stays mid t after goes =
-    stays_as (record { settings = refl; dead = refl; active = refl; flush = refl; slots = slots_same _ _ refl; gone = gone_same _ _ refl refl }) t goes.left
+    stays_as (record { settings = refl; ledgers = refl; active = refl; flush = refl; slots = slots_same _ _ refl; gone = gone_same _ _ refl refl }) t goes.left
 
 stops_stays : (s t : State) (job : Job) (n : ℕ) (fault : CompactFault) → StopsCopying s job n fault t → Stays s t
 stops_stays s t job n (faults.Memory done) turn =
@@ -138,7 +138,7 @@ end_stays s t (Err fault) turn = elim turn.2 [
 
 rename_stays : (s t : State) (key : EntryKey) (from_place to_place : Place) (is_moved : Bool) → RenameTurn s key from_place to_place is_moved t → Stays s t
 rename_stays s t key from_place to_place true turn =
-    stays_as (record { settings = refl; dead = refl; active = refl; flush = refl; slots = slots_same _ _ refl; gone = gone_same _ _ refl refl }) t turn.1
+    stays_as (record { settings = refl; ledgers = refl; active = refl; flush = refl; slots = slots_same _ _ refl; gone = gone_same _ _ refl refl }) t turn.1
 rename_stays s t key from_place to_place false turn = stays_same s t turn.1
 
 moves_stays : (s t : State) (moves : List Move) (moved : ℕ) → TakesMoves s moves moved t → Stays s t

@@ -38,7 +38,7 @@ use Rattle.bk_drive.proofs.Gone.{GoneStays, gone_same}
 
 -- the logs of a store are seated in its table
 pub seats_kept : (s : State) → IsKept s → AreSeated s.keeper s.logs
-seats_kept s kept = subst (λ (x : State). AreSeated x.keeper x.logs) kept.seen kept.keeps.fits.seated.seats
+seats_kept s kept = subst (λ (x : State). AreSeated x.keeper x.logs) kept.seen kept.keeps.fits.logs.seated.seats
 
 -- ---- slots that are taken stay as they are
 
@@ -300,7 +300,7 @@ module _ (s t : State) (id : ℕ) (kept : IsKept s) (turn : RemoveTurn s id (Ok 
   removed_gone =
       let is = kept.seen in
       let held : finite.get kept.parts.state.logs id ≡ Some turn.1.0 = ap (λ (x : State). finite.get x.logs id) is ∙ turn.1.1 in
-      let below = (kept.keeps.fits.held id turn.1.0 held).below in (
+      let below = (kept.keeps.fits.logs.each id turn.1.0 held).below in (
         ap (λ (x : State). finite.get x.logs id) turn.1.3 ∙ get-remove_here nat_cmp_total nat_cmp-IsAntisymmetric s.logs id,
         subst (λ n. id < n) (ap (λ (x : State). x.next) is ∙ sym (ap (λ (x : State). x.next) turn.1.3)) below,
       )

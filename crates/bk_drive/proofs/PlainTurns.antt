@@ -14,12 +14,7 @@ use Rattle.bk_store.specs.declared.answer.DeleteFault.{DeleteFault}
 use Rattle.bk_drive.specs.Plain.{PlainDesk, after_work}
 use Rattle.bk_drive.specs.Machine.{Hold, WorkTurn, LetsGo, IsUnread, Turn, ReaderTake, ReaderFetch, ReaderRelease, PlainTurn}
 use Rattle.bk_drive.specs.Machine.Turn.{worked}
-use Rattle.bk_drive.specs.Machine.WorkTurn.{swapped as work_swapped, wrote as work_wrote, published as work_published, rolled as work_rolled}
-use Rattle.bk_drive.specs.Machine.WorkTurn.{retired as work_retired, rebuilt as work_rebuilt, closed as work_closed, removed as work_removed}
-use Rattle.bk_drive.specs.Machine.WorkTurn.{begun as work_begun, copied as work_copied, ended as work_ended, switched as work_switched}
-use Rattle.bk_drive.specs.Machine.WorkTurn.{finished as work_finished, given_up as work_given_up}
-use Rattle.bk_drive.specs.Machine.PlainTurn.{swapped, wrote, published, rolled, retired, rebuilt, closed, removed, begun, copied, ended}
-use Rattle.bk_drive.specs.Machine.PlainTurn.{switched, finished, given_up, added, deleted, taken, fetched, released}
+use Rattle.bk_drive.specs.Machine.PlainTurn.{worked as plain_worked, added, deleted, taken, fetched, released}
 use Rattle.bk_drive.specs.Leased.{AreOpenLeases}
 use Rattle.bk_drive.specs.Headline.{AreOwed, Agrees}
 use Rattle.bk_drive.specs.declared.step.Step.{Step}
@@ -38,23 +33,6 @@ abbrev pub GoesOn : State → List (Option Hold) → Step → Answer → State �
 GoesOn store readers x a store' readers' = (p : PlainDesk) → Agrees (record { store = store; readers = readers }) p
     → (q : PlainDesk) × PlainTurn store.settings.cache_limit p x a q × Agrees (record { store = store'; readers = readers' }) q
 
-work_beside : (limit : ℕ) (p : PlainDesk) {s t : State} {work : Work} {a : Answer} → WorkTurn s work a t
-    → PlainTurn limit p (steps.Work work) a (record p { store = after_work a p.store })
-work_beside limit p (work_swapped turn) = swapped
-work_beside limit p (work_wrote turn) = wrote
-work_beside limit p (work_published turn) = published
-work_beside limit p (work_rolled turn) = rolled
-work_beside limit p (work_retired turn) = retired
-work_beside limit p (work_rebuilt turn) = rebuilt
-work_beside limit p (work_closed turn) = closed
-work_beside limit p (work_removed turn) = removed
-work_beside limit p (work_begun turn) = begun
-work_beside limit p (work_copied turn) = copied
-work_beside limit p (work_ended turn) = ended
-work_beside limit p (work_switched turn) = switched
-work_beside limit p (work_finished turn) = finished
-work_beside limit p (work_given_up turn) = given_up
-
 module _ (s t : State) (readers readers' : List (Option Hold)) (work : Work) (a : Answer) (same : readers' ≡ readers) (turn : WorkTurn s work a t) where
   pub turn_worked : ((log : ℕ) → LetsGo (steps.Work work) a log → IsUnread readers log)
       → Turn (record { store = s; readers = readers }) (steps.Work work) a (record { store = t; readers = readers' })
@@ -66,7 +44,7 @@ module _ (s t : State) (readers readers' : List (Option Hold)) (work : Work) (a 
       → GoesOn s readers (steps.Work work) a t readers'
   goes_worked agreeing leases = λ p agrees. (
     record p { store = after_work a p.store },
-    work_beside s.settings.cache_limit p turn,
+    plain_worked,
     record {
       store = agreeing p.store agrees.store;
       readers = subst (λ (rs : List (Option Hold)). AreOwed rs p.readers) (sym same) agrees.readers;

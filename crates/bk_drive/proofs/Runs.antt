@@ -44,7 +44,7 @@ module _ (s t : State) (p : Plain) (kept : IsKept s) (honest : IsTrue s.honest) 
 
   -- the limit of the active cache is that of the settings
   limit_is : kept.parts.state.caches.limit ≡ s.settings.cache_limit
-  limit_is = kept.keeps.fits.limit ∙ ap (λ (x : State). x.settings.cache_limit) kept.seen
+  limit_is = kept.keeps.fits.limits.limit ∙ ap (λ (x : State). x.settings.cache_limit) kept.seen
 
   pub added_plain : (payload : List ℕ) (r : Result Added AddFault) → AddTurn s payload r t
       → (q : Plain) × PlainAdd s.settings.cache_limit p payload r q × plain.MatchesPlain t q
@@ -131,7 +131,7 @@ first_agrees settings files dead s opened =
       store = record {
         meaning = λ key. get-live (scan_of files) (valid_ledgers dead) key
             ∙ sym (λ i. cond (set.contains (valid_ledgers dead) key.ledger) None (option_or (nothing_told key i) (finite.get (scan_of (same i)) key)));
-        dead = opened.dead_are;
+        ledgers = opened.ledgers_are;
         active = (λ i. (opened.caches_are i).active);
         flush = (λ i. (opened.caches_are i).flush);
       };

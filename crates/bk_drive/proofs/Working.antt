@@ -50,19 +50,19 @@ use Rattle.bk_drive.proofs.Gone.{GoneStays, gone_then, gone_same, gone_unmade, g
 -- ---- agreement
 
 -- the meaning of a key, told by what the plain map knows to be cached and dead
-meaning_told : (s : State) (p : Plain) → s.dead ≡ p.dead → s.caches.active ≡ p.active → s.caches.flush ≡ p.flush → (key : EntryKey)
-    → meaning_at s key ≡ cond (set.contains p.dead key.ledger) None (option_or (told_at p key) (finite.get (scan_of s.files) key))
-meaning_told s p dead active flush key i =
-    cond (set.contains (dead i) key.ledger) None
+meaning_told : (s : State) (p : Plain) → s.ledgers ≡ p.ledgers → s.caches.active ≡ p.active → s.caches.flush ≡ p.flush → (key : EntryKey)
+    → meaning_at s key ≡ cond (set.contains p.ledgers.dead key.ledger) None (option_or (told_at p key) (finite.get (scan_of s.files) key))
+meaning_told s p ledgers active flush key i =
+    cond (set.contains (ledgers i).dead key.ledger) None
     (option_or (option_or (finite.get (active i) key) (finite.get (unwrap_or (flush i) finite.empty) key)) (finite.get (scan_of s.files) key))
 
 -- a state that means the same agrees with the same map, once its caches and its dead ledgers are told
-agrees_after : (s t : State) (p q : Plain) → MatchesPlain s p → MeansTheSame s t → q.map ≡ p.map → t.dead ≡ q.dead → t.caches.active ≡ q.active
+agrees_after : (s t : State) (p q : Plain) → MatchesPlain s p → MeansTheSame s t → q.map ≡ p.map → t.ledgers ≡ q.ledgers → t.caches.active ≡ q.active
     → t.caches.flush ≡ q.flush → MatchesPlain t q
-agrees_after s t p q agrees means map dead active flush = record {
-  meaning = λ key. (λ i. finite.get (map i) key) ∙ agrees.meaning key ∙ sym (meaning_told s p agrees.dead agrees.active agrees.flush key)
-      ∙ sym (means key) ∙ meaning_told t q dead active flush key;
-  dead = dead;
+agrees_after s t p q agrees means map ledgers active flush = record {
+  meaning = λ key. (λ i. finite.get (map i) key) ∙ agrees.meaning key ∙ sym (meaning_told s p agrees.ledgers agrees.active agrees.flush key)
+      ∙ sym (means key) ∙ meaning_told t q ledgers active flush key;
+  ledgers = ledgers;
   active = active;
   flush = flush;
 }
@@ -73,14 +73,14 @@ agrees_after s t p q agrees means map dead active flush = record {
 -- stays so
 pub record Stays (s t : State) : Type 0 where
   pub settings : t.settings ≡ s.settings
-  pub dead : t.dead ≡ s.dead
+  pub ledgers : t.ledgers ≡ s.ledgers
   pub active : t.caches.active ≡ s.caches.active
   pub flush : t.caches.flush ≡ s.caches.flush
   pub slots : SlotsStay s.keeper t.keeper
   pub gone : GoneStays s t
 
 stays_all : (s : State) → Stays s s
-stays_all s = record { settings = refl; dead = refl; active = refl; flush = refl; slots = slots_same s.keeper s.keeper refl; gone = gone_same s s refl refl }
+stays_all s = record { settings = refl; ledgers = refl; active = refl; flush = refl; slots = slots_same s.keeper s.keeper refl; gone = gone_same s s refl refl }
 
 pub stays_as : {s u : State} → Stays s u → (t : State) → t ≡ u → Stays s t
 stays_as {s = s} stays t is = subst (λ (x : State). Stays s x) (sym is) stays
@@ -91,7 +91,7 @@ stays_same s t is = stays_as (stays_all s) t is
 pub then : {s t u : State} → Stays s t → Stays t u → Stays s u
 then first second = record {
   settings = second.settings ∙ first.settings;
-  dead = second.dead ∙ first.dead;
+  ledgers = second.ledgers ∙ first.ledgers;
   active = second.active ∙ first.active;
   flush = second.flush ∙ first.flush;
   slots = slots_then first.slots second.slots;
@@ -102,7 +102,7 @@ pub seals_stays : {s t : State} {id : ℕ} {state : LogState} {r : Result (Unit 
 seals_stays {s = s} {t = t} {id = id} seals =
     stays_as (record {
       settings = refl;
-      dead = refl;
+      ledgers = refl;
       active = refl;
       flush = refl;
       slots = slots_same _ _ refl;
@@ -113,7 +113,7 @@ restarts_stays : {s t : State} → Restarts s t → Stays s t
 restarts_stays {s = s} {t = t} restarts =
     stays_as (record {
       settings = refl;
-      dead = refl;
+      ledgers = refl;
       active = refl;
       flush = refl;
       slots = slots_same _ _ refl;
@@ -143,7 +143,7 @@ unmade_stays : (s t : State) {fault : LogFault} {failures : ℕ} → IsUnmade s 
 unmade_stays s t {failures = failures} unmade =
     stays_as (record {
       settings = refl;
-      dead = refl;
+      ledgers = refl;
       active = refl;
       flush = refl;
       slots = left_slots s unmade.made unmade.slot unmade.free;
@@ -154,7 +154,7 @@ made_stays : (s t : State) {state : LogState} → IsMade s state t → Stays s t
 made_stays s t made =
     stays_as (record {
       settings = refl;
-      dead = refl;
+      ledgers = refl;
       active = refl;
       flush = refl;
       slots = slots_opened s.keeper made.slot _ made.free.1;
@@ -201,18 +201,18 @@ pub put_stays : (s t : State) (id : ℕ) (payload : List ℕ) (r : Result Place 
 put_stays s t id payload (Ok place) turn =
     stays_as (record {
       settings = refl;
-      dead = refl;
+      ledgers = refl;
       active = refl;
       flush = refl;
       slots = slots_same _ _ refl;
       gone = gone_changed _ _ id turn.0 _ turn.1.1.held refl refl;
     }) t turn.1.4
 put_stays s t id payload (Err log_faults.Memory) turn =
-    stays_as (record { settings = refl; dead = refl; active = refl; flush = refl; slots = slots_same _ _ refl; gone = gone_same _ _ refl refl }) t turn.1
+    stays_as (record { settings = refl; ledgers = refl; active = refl; flush = refl; slots = slots_same _ _ refl; gone = gone_same _ _ refl refl }) t turn.1
 put_stays s t id payload (Err log_faults.Disk) turn =
     stays_as (record {
       settings = refl;
-      dead = refl;
+      ledgers = refl;
       active = refl;
       flush = refl;
       slots = slots_same _ _ refl;
@@ -221,7 +221,7 @@ put_stays s t id payload (Err log_faults.Disk) turn =
 put_stays s t id payload (Err log_faults.Odd) turn =
     stays_as (record {
       settings = refl;
-      dead = refl;
+      ledgers = refl;
       active = refl;
       flush = refl;
       slots = slots_same _ _ refl;
@@ -230,7 +230,7 @@ put_stays s t id payload (Err log_faults.Odd) turn =
 put_stays s t id payload (Err log_faults.Failed) turn = absurd turn
 
 noted_stays : (s : State) (key : EntryKey) (place : Place) → Stays s (noted s key place)
-noted_stays s key place = record { settings = refl; dead = refl; active = refl; flush = refl; slots = slots_same _ _ refl; gone = gone_same _ _ refl refl }
+noted_stays s key place = record { settings = refl; ledgers = refl; active = refl; flush = refl; slots = slots_same _ _ refl; gone = gone_same _ _ refl refl }
 
 write_stays : (s t : State) (id : ℕ) (key : EntryKey) (payload : List ℕ) (r : Result Place LogFault) → WriteTurn s id key payload r t → Stays s t
 write_stays s t id key payload (Ok place) turn = then (noted_stays s key place) (put_stays (noted s key place) t id payload (Ok place) turn)
@@ -262,7 +262,7 @@ pub set_stays : (s t : State) (id : ℕ) (state : LogState) → SetTurn s id sta
 set_stays s t id state turn =
     stays_as (record {
       settings = refl;
-      dead = refl;
+      ledgers = refl;
       active = refl;
       flush = refl;
       slots = slots_same _ _ refl;
@@ -280,7 +280,7 @@ retire_stays s t id (retires.Retired log) turn = elim turn.1 [
 
 pub rebuild_stays : (s t : State) (r : Result ℕ CollectFault) → RebuildTurn s r t → Stays s t
 rebuild_stays s t (Ok n) turn =
-    stays_as (record { settings = refl; dead = refl; active = refl; flush = refl; slots = slots_same _ _ refl; gone = gone_same _ _ refl refl }) t turn.3
+    stays_as (record { settings = refl; ledgers = refl; active = refl; flush = refl; slots = slots_same _ _ refl; gone = gone_same _ _ refl refl }) t turn.3
 rebuild_stays s t (Err fault) turn = stays_same s t turn.1
 
 -- a close of which the answer is another than Closed
@@ -293,12 +293,12 @@ close_stays s t id (closes.Leased n) turn other = stays_same s t turn.2
 -- what a close and a removal leave, whatever they answer
 pub record Beside (s t : State) : Type 0 where
   pub settings : t.settings ≡ s.settings
-  pub dead : t.dead ≡ s.dead
+  pub ledgers : t.ledgers ≡ s.ledgers
   pub caches : t.caches ≡ s.caches
   pub gone : GoneStays s t
 
 beside_all : (s : State) → Beside s s
-beside_all s = record { settings = refl; dead = refl; caches = refl; gone = gone_same s s refl refl }
+beside_all s = record { settings = refl; ledgers = refl; caches = refl; gone = gone_same s s refl refl }
 
 beside_as : {s u : State} → Beside s u → (t : State) → t ≡ u → Beside s t
 beside_as {s = s} beside t is = subst (λ (x : State). Beside s x) (sym is) beside
@@ -312,7 +312,7 @@ close_beside s t id closes.NotRetired turn = beside_same s t turn.1
 close_beside s t id closes.Closed turn = elim turn [
   | inl was ↦ beside_same s t was.1
   | inr now ↦
-      beside_as (record { settings = refl; dead = refl; caches = refl; gone = gone_changed _ _ id now.1.1.0 _ now.1.1.1 refl refl }) t now.1.1.2
+      beside_as (record { settings = refl; ledgers = refl; caches = refl; gone = gone_changed _ _ id now.1.1.0 _ now.1.1.1 refl refl }) t now.1.1.2
 ]
 close_beside s t id (closes.Leased n) turn = beside_same s t turn.2
 
@@ -320,14 +320,14 @@ pub remove_beside : (s t : State) (id : ℕ) (r : Result RemoveAnswer CollectFau
 remove_beside s t id (Ok removes.NoLog) turn = beside_same s t turn.1
 remove_beside s t id (Ok removes.NotClosed) turn = beside_same s t turn.1
 remove_beside s t id (Ok removes.Removed) turn =
-    beside_as (record { settings = refl; dead = refl; caches = refl; gone = gone_removed _ _ id refl refl }) t turn.1.3
+    beside_as (record { settings = refl; ledgers = refl; caches = refl; gone = gone_removed _ _ id refl refl }) t turn.1.3
 remove_beside s t id (Err collect_faults.Disk) turn =
-    beside_as (record { settings = refl; dead = refl; caches = refl; gone = gone_same _ _ refl refl }) t turn.1.1
+    beside_as (record { settings = refl; ledgers = refl; caches = refl; gone = gone_same _ _ refl refl }) t turn.1.1
 remove_beside s t id (Err collect_faults.Memory) turn =
-    beside_as (record { settings = refl; dead = refl; caches = refl; gone = gone_same _ _ refl refl }) t turn.1.1
+    beside_as (record { settings = refl; ledgers = refl; caches = refl; gone = gone_same _ _ refl refl }) t turn.1.1
 remove_beside s t id (Err (collect_faults.Log log cause)) turn = absurd turn
 remove_beside s t id (Err collect_faults.Odd) turn =
-    beside_as (record { settings = refl; dead = refl; caches = refl; gone = gone_same _ _ refl refl }) t turn.1.1
+    beside_as (record { settings = refl; ledgers = refl; caches = refl; gone = gone_same _ _ refl refl }) t turn.1.1
 
 -- a removal of which the answer is another than Removed
 pub remove_slots : (s t : State) (id : ℕ) (r : Result RemoveAnswer CollectFault) → RemoveTurn s id r t → ¬ (r ≡ Ok removes.Removed)
@@ -394,7 +394,7 @@ shown_stays Those s t shows =
     } in
     record {
       settings = ap (λ (x : State). x.settings) shows.left;
-      dead = ap (λ (x : State). x.dead) shows.left;
+      ledgers = ap (λ (x : State). x.ledgers) shows.left;
       active = ap (λ (x : State). x.caches.active) shows.left;
       flush = ap (λ (x : State). x.caches.flush) shows.left;
       slots = slots_same _ _ (ap (λ (x : State). x.keeper) shows.left);
@@ -407,7 +407,7 @@ stops_stays {s = s} {t = t} stops = shown_stays _ s t stops.before
 publishes_stays : {s t : State} {done : ℕ} → Publishes s done t → Stays s t
 publishes_stays {s = s} {t = t} done =
     then (shown_stays _ s done.mid done.shown.all)
-    (stays_as (record { settings = refl; dead = refl; active = refl; flush = refl; slots = slots_same _ _ refl; gone = gone_same _ _ refl refl }) t
+    (stays_as (record { settings = refl; ledgers = refl; active = refl; flush = refl; slots = slots_same _ _ refl; gone = gone_same _ _ refl refl }) t
     done.named.left)
 
 pub publish_slots : (s t : State) (r : Result PublishAnswer FlushFault) → PublishTurn s r t → SlotsStay s.keeper t.keeper
@@ -458,10 +458,10 @@ publish_settings s t (Err flush_faults.NoMoreIds) turn = absurd turn
 
 module _ (s t : State) (p : Plain) (agrees : MatchesPlain s p) (means : MeansTheSame s t) where
   pub agrees_still : Stays s t → MatchesPlain t p
-  agrees_still stays = agrees_after s t p p agrees means refl (stays.dead ∙ agrees.dead) (stays.active ∙ agrees.active) (stays.flush ∙ agrees.flush)
+  agrees_still stays = agrees_after s t p p agrees means refl (stays.ledgers ∙ agrees.ledgers) (stays.active ∙ agrees.active) (stays.flush ∙ agrees.flush)
 
   pub beside_agrees : Beside s t → MatchesPlain t p
-  beside_agrees beside = agrees_after s t p p agrees means refl (beside.dead ∙ agrees.dead) (ap (λ (c : CacheState). c.active) beside.caches ∙ agrees.active)
+  beside_agrees beside = agrees_after s t p p agrees means refl (beside.ledgers ∙ agrees.ledgers) (ap (λ (c : CacheState). c.active) beside.caches ∙ agrees.active)
       (ap (λ (c : CacheState). c.flush) beside.caches ∙ agrees.flush)
 
   pub publish_agrees : (r : Result PublishAnswer FlushFault) → PublishTurn s r t → MatchesPlain t (after_publish r p)
@@ -469,7 +469,7 @@ module _ (s t : State) (p : Plain) (agrees : MatchesPlain s p) (means : MeansThe
   publish_agrees (Ok publishes.NotAllWritten) turn = agrees_still (stays_same s t turn.1.2)
   publish_agrees (Ok (publishes.Published n)) turn =
       let stays = publishes_stays turn.2.1 in
-      agrees_after s t p (record p { flush = None }) agrees means refl (ap (λ (x : State). x.dead) turn.2.2.left ∙ stays.dead ∙ agrees.dead)
+      agrees_after s t p (record p { flush = None }) agrees means refl (ap (λ (x : State). x.ledgers) turn.2.2.left ∙ stays.ledgers ∙ agrees.ledgers)
       (ap (λ (x : State). x.caches.active) turn.2.2.left ∙ stays.active ∙ agrees.active) (ap (λ (x : State). x.caches.flush) turn.2.2.left)
   publish_agrees (Err flush_faults.Disk) turn = agrees_still (stops_stays turn.1)
   publish_agrees (Err (flush_faults.Memory done)) turn = elim turn.1 [

@@ -5,7 +5,7 @@ use Rattle.std.specs.FinMap as finite
 use Rattle.bk_record.specs.Files.{Files}
 use Rattle.bk_record.specs.Scan.{Ledgers, scan_of, live}
 use Rattle.bk_store.specs.Entries.{HasEntry}
-use Rattle.bk_store.specs.State.{State}
+use Rattle.bk_store.specs.State.{State, opened_ledgers}
 use Rattle.bk_store.specs.Turns.{valid_ledgers}
 use Rattle.bk_store.specs.Opening.{IsOpened}
 use Rattle.bk_store.specs.Plain as plain
@@ -59,7 +59,7 @@ first_desk store = record { store = store; readers = replicate reader_count None
 -- where the plain one begins: with the last entries of the files, of ledgers that live
 abbrev pub first_plain : Files → Ledgers → PlainDesk
 first_plain files dead = record {
-  store = record { map = live (scan_of files) dead; dead = dead; active = finite.empty; flush = None };
+  store = record { map = live (scan_of files) dead; ledgers = opened_ledgers dead; active = finite.empty; flush = None };
   readers = replicate reader_count None;
 }
 

@@ -14,7 +14,7 @@ use Rattle.bk_store.specs.State.{State}
 use Rattle.bk_store.specs.Meaning.{cached_at}
 use Rattle.bk_store.specs.Turns.{is_dead, IsInLog, AddTurn, DeleteTurn, SwapTurn}
 use Rattle.bk_store.specs.Leasing.{IsLeaseOf, IsMet}
-use Rattle.bk_store.specs.Plain.{Plain, PlainAdd, PlainDelete, after_swap}
+use Rattle.bk_store.specs.Plain.{Plain, PlainAdd, PlainDelete}
 use Rattle.bk_store.specs.declared.answer.Added.{Added}
 use Rattle.bk_store.specs.declared.answer.AddFault.{AddFault}
 use Rattle.bk_store.specs.declared.answer.TakeFault.{TakeFault}
@@ -42,7 +42,7 @@ use Rattle.bk_compact.specs.declared.answer.SwitchAnswer.{SwitchAnswer}
 use Rattle.bk_compact.specs.declared.answer.FinishAnswer.{FinishAnswer}
 use Rattle.bk_compact.specs.declared.answer.GiveUpAnswer.{GiveUpAnswer}
 use Rattle.bk_compact.specs.declared.answer.CompactFault.{CompactFault}
-use Rattle.bk_drive.specs.Plain.{Owed, PlainDesk, HoldsNothing, HasAt, IsBusy, OwedTake, OwedFetch, OwedRelease, after_publish}
+use Rattle.bk_drive.specs.Plain.{Owed, PlainDesk, HoldsNothing, HasAt, IsBusy, OwedTake, OwedFetch, OwedRelease, after_work}
 use Rattle.bk_drive.specs.declared.step.TakeAnswer.{TakeAnswer}
 use Rattle.bk_drive.specs.declared.step.TakeAnswer.TheVariants as takes
 use Rattle.bk_drive.specs.declared.step.FetchAnswer.{FetchAnswer}
@@ -130,21 +130,21 @@ ReaderRelease readers reader releases.Released readers' = IsBusy readers reader 
 -- ---- the machine
 
 -- One step of the store alone, with its answer.
-pub data WorkTurn : State → Work → Answer → State → Type 0 where
-  swapped : {s t : State} {r : SwapAnswer} → SwapTurn s r t → WorkTurn s works.Swap (answers.Swap r) t
-  wrote : {s t : State} {r : Result WriteAnswer FlushFault} → StepTurn s r t → WorkTurn s works.WriteOne (answers.Write r) t
-  published : {s t : State} {r : Result PublishAnswer FlushFault} → PublishTurn s r t → WorkTurn s works.Publish (answers.Publish r) t
-  rolled : {s t : State} {r : Result RollAnswer FlushFault} → RollTurn s r t → WorkTurn s works.Roll (answers.Roll r) t
-  retired : {s t : State} {log : ℕ} {r : RetireAnswer} → RetireTurn s log r t → WorkTurn s (works.Retire log) (answers.Retire r) t
-  rebuilt : {s t : State} {r : Result ℕ CollectFault} → RebuildTurn s r t → WorkTurn s works.Rebuild (answers.Rebuild r) t
-  closed : {s t : State} {log : ℕ} {r : CloseAnswer} → CloseTurn s log r t → WorkTurn s (works.Close log) (answers.Close r) t
-  removed : {s t : State} {log : ℕ} {r : Result RemoveAnswer CollectFault} → RemoveTurn s log r t → WorkTurn s (works.Remove log) (answers.Remove r) t
-  begun : {s t : State} {kind : Kind} {r : Result BeginAnswer CompactFault} → BeginTurn s kind r t → WorkTurn s (works.Begin kind) (answers.Begin r) t
-  copied : {s t : State} {n : ℕ} {r : Result CopyAnswer CompactFault} → CopyTurn s n r t → WorkTurn s (works.Copy n) (answers.Copy r) t
-  ended : {s t : State} {r : Result EndAnswer CompactFault} → EndTurn s r t → WorkTurn s works.EndCopy (answers.EndCopy r) t
-  switched : {s t : State} {n : ℕ} {r : SwitchAnswer} → SwitchTurn s n r t → WorkTurn s (works.Switch n) (answers.Switch r) t
-  finished : {s t : State} {r : FinishAnswer} → FinishTurn s r t → WorkTurn s works.Finish (answers.Finish r) t
-  given_up : {s t : State} {r : GiveUpAnswer} → GiveUpTurn s r t → WorkTurn s works.GiveUp (answers.GiveUp r) t
+abbrev pub WorkTurn : State → Work → Answer → State → Type 0
+WorkTurn s works.Swap a t = (r : SwapAnswer) × (a ≡ answers.Swap r) × SwapTurn s r t
+WorkTurn s works.WriteOne a t = (r : Result WriteAnswer FlushFault) × (a ≡ answers.Write r) × StepTurn s r t
+WorkTurn s works.Publish a t = (r : Result PublishAnswer FlushFault) × (a ≡ answers.Publish r) × PublishTurn s r t
+WorkTurn s works.Roll a t = (r : Result RollAnswer FlushFault) × (a ≡ answers.Roll r) × RollTurn s r t
+WorkTurn s (works.Retire log) a t = (r : RetireAnswer) × (a ≡ answers.Retire r) × RetireTurn s log r t
+WorkTurn s works.Rebuild a t = (r : Result ℕ CollectFault) × (a ≡ answers.Rebuild r) × RebuildTurn s r t
+WorkTurn s (works.Close log) a t = (r : CloseAnswer) × (a ≡ answers.Close r) × CloseTurn s log r t
+WorkTurn s (works.Remove log) a t = (r : Result RemoveAnswer CollectFault) × (a ≡ answers.Remove r) × RemoveTurn s log r t
+WorkTurn s (works.Begin kind) a t = (r : Result BeginAnswer CompactFault) × (a ≡ answers.Begin r) × BeginTurn s kind r t
+WorkTurn s (works.Copy n) a t = (r : Result CopyAnswer CompactFault) × (a ≡ answers.Copy r) × CopyTurn s n r t
+WorkTurn s works.EndCopy a t = (r : Result EndAnswer CompactFault) × (a ≡ answers.EndCopy r) × EndTurn s r t
+WorkTurn s (works.Switch n) a t = (r : SwitchAnswer) × (a ≡ answers.Switch r) × SwitchTurn s n r t
+WorkTurn s works.Finish a t = (r : FinishAnswer) × (a ≡ answers.Finish r) × FinishTurn s r t
+WorkTurn s works.GiveUp a t = (r : GiveUpAnswer) × (a ≡ answers.GiveUp r) × GiveUpTurn s r t
 
 -- the step asks to close the log, and is answered Closed
 abbrev pub Closes : Step → Answer → ℕ → Type 0
@@ -180,26 +180,10 @@ pub data Turn : Desk → Step → Answer → Desk → Type 0 where
 -- ---- the plain machine
 
 -- One step of the plain machine, with its answer; so many payload bytes may be in the active pairs. A step of the store alone
--- changes nothing but which pairs are only cached.
+-- changes nothing but which pairs are only cached, as its answer tells. Which answers it may have the machine's turn says.
 pub data PlainTurn : ℕ → PlainDesk → Step → Answer → PlainDesk → Type 0 where
-  swapped : {limit : ℕ} {p : PlainDesk} {r : SwapAnswer}
-      → PlainTurn limit p (steps.Work works.Swap) (answers.Swap r) (record p { store = after_swap r p.store })
-  wrote : {limit : ℕ} {p : PlainDesk} {r : Result WriteAnswer FlushFault} → PlainTurn limit p (steps.Work works.WriteOne) (answers.Write r) p
-  published : {limit : ℕ} {p : PlainDesk} {r : Result PublishAnswer FlushFault}
-      → PlainTurn limit p (steps.Work works.Publish) (answers.Publish r) (record p { store = after_publish r p.store })
-  rolled : {limit : ℕ} {p : PlainDesk} {r : Result RollAnswer FlushFault} → PlainTurn limit p (steps.Work works.Roll) (answers.Roll r) p
-  retired : {limit : ℕ} {p : PlainDesk} {log : ℕ} {r : RetireAnswer} → PlainTurn limit p (steps.Work (works.Retire log)) (answers.Retire r) p
-  rebuilt : {limit : ℕ} {p : PlainDesk} {r : Result ℕ CollectFault} → PlainTurn limit p (steps.Work works.Rebuild) (answers.Rebuild r) p
-  closed : {limit : ℕ} {p : PlainDesk} {log : ℕ} {r : CloseAnswer} → PlainTurn limit p (steps.Work (works.Close log)) (answers.Close r) p
-  removed : {limit : ℕ} {p : PlainDesk} {log : ℕ} {r : Result RemoveAnswer CollectFault}
-      → PlainTurn limit p (steps.Work (works.Remove log)) (answers.Remove r) p
-  begun : {limit : ℕ} {p : PlainDesk} {kind : Kind} {r : Result BeginAnswer CompactFault}
-      → PlainTurn limit p (steps.Work (works.Begin kind)) (answers.Begin r) p
-  copied : {limit : ℕ} {p : PlainDesk} {n : ℕ} {r : Result CopyAnswer CompactFault} → PlainTurn limit p (steps.Work (works.Copy n)) (answers.Copy r) p
-  ended : {limit : ℕ} {p : PlainDesk} {r : Result EndAnswer CompactFault} → PlainTurn limit p (steps.Work works.EndCopy) (answers.EndCopy r) p
-  switched : {limit : ℕ} {p : PlainDesk} {n : ℕ} {r : SwitchAnswer} → PlainTurn limit p (steps.Work (works.Switch n)) (answers.Switch r) p
-  finished : {limit : ℕ} {p : PlainDesk} {r : FinishAnswer} → PlainTurn limit p (steps.Work works.Finish) (answers.Finish r) p
-  given_up : {limit : ℕ} {p : PlainDesk} {r : GiveUpAnswer} → PlainTurn limit p (steps.Work works.GiveUp) (answers.GiveUp r) p
+  worked : {limit : ℕ} {p : PlainDesk} {work : Work} {a : Answer}
+      → PlainTurn limit p (steps.Work work) a (record p { store = after_work a p.store })
   added : {limit : ℕ} {p : PlainDesk} {q : Plain} {payload : Vec ℕ Global} {r : Result Added AddFault} → PlainAdd limit p.store payload.items r q
       → PlainTurn limit p (steps.Add payload) (answers.Add r) (record p { store = q })
   deleted : {limit : ℕ} {p : PlainDesk} {q : Plain} {ledger : ℕ} {r : Result ℕ DeleteFault} → PlainDelete p.store ledger r q

@@ -1,11 +1,10 @@
 -- The plain machine: the plain map of a store, and readers that are owed what their leases were taken for.
 use Rattle.std.specs.Prelude.{◌≡◌, ℕ, ◌≤◌, true, false, List, length, slice_get, slice_set, Option, Some, None, IsSome, Result, Ok, Err}
 use Rattle.std.specs.FinMap as finite
-use Rattle.std.specs.FinSet as set
 use Rattle.bk_record.specs.Key.{EntryKey}
 use Rattle.bk_log.specs.declared.fault.FetchFault.{FetchFault}
 use Rattle.bk_log.specs.declared.fault.FetchFault.TheVariants as fetch_faults
-use Rattle.bk_store.specs.Plain.{Plain, after_swap}
+use Rattle.bk_store.specs.Plain.{Plain, IsDeleted, IsAlive, after_swap}
 use Rattle.bk_store.specs.declared.answer.TakeFault.{TakeFault}
 use Rattle.bk_store.specs.declared.answer.TakeFault.TheVariants as take_faults
 use Rattle.bk_flush.specs.declared.answer.PublishAnswer.{PublishAnswer}
@@ -42,29 +41,22 @@ HasAt readers reader held = slice_get readers reader ≡ Some (Some held)
 abbrev pub IsBusy : {X : Type 0} → List (Option X) → ℕ → Type 0
 IsBusy {X} readers reader = (held : X) × HasAt readers reader held
 
--- whether the key's ledger is dead
-abbrev pub IsDeleted : Plain → EntryKey → Type 0
-IsDeleted p key = set.contains p.dead key.ledger ≡ true
-
-abbrev pub IsAlive : Plain → EntryKey → Type 0
-IsAlive p key = set.contains p.dead key.ledger ≡ false
-
 -- A take by a reader, unless there is no such reader or it holds a lease, says that the ledger is dead, or gives the payload
 -- that the map has, as bytes or as a lease on it, or says that there is none. Want of memory, or too many leases, may come in place
 -- of a payload.
 abbrev pub OwedTake : PlainDesk → ℕ → EntryKey → Result TakeAnswer TakeFault → PlainDesk → Type 0
 OwedTake p reader key (Ok takes.NoReader) q = (length p.readers ≤ reader) × (q ≡ p)
 OwedTake p reader key (Ok takes.ReaderBusy) q = IsBusy p.readers reader × (q ≡ p)
-OwedTake p reader key (Ok takes.Deleted) q = HoldsNothing p.readers reader × IsDeleted p.store key × (q ≡ p)
-OwedTake p reader key (Ok takes.NotHeld) q = HoldsNothing p.readers reader × IsAlive p.store key × (finite.get p.store.map key ≡ None) × (q ≡ p)
-OwedTake p reader key (Ok (takes.Cached payload)) q = HoldsNothing p.readers reader × IsAlive p.store key
+OwedTake p reader key (Ok takes.Deleted) q = HoldsNothing p.readers reader × IsDeleted p.store key.ledger × (q ≡ p)
+OwedTake p reader key (Ok takes.NotHeld) q = HoldsNothing p.readers reader × IsAlive p.store key.ledger × (finite.get p.store.map key ≡ None) × (q ≡ p)
+OwedTake p reader key (Ok (takes.Cached payload)) q = HoldsNothing p.readers reader × IsAlive p.store key.ledger
     × (finite.get p.store.map key ≡ Some payload.value.items) × (q ≡ p)
-OwedTake p reader key (Ok (takes.Leased place)) q = HoldsNothing p.readers reader × IsAlive p.store key
+OwedTake p reader key (Ok (takes.Leased place)) q = HoldsNothing p.readers reader × IsAlive p.store key.ledger
     × ((payload : List ℕ) × (finite.get p.store.map key ≡ Some payload)
     × (q ≡ record p { readers = slice_set p.readers reader (Some (record { log = place.log; payload = payload })) }))
-OwedTake p reader key (Err take_faults.NoSeat) q = HoldsNothing p.readers reader × IsAlive p.store key × IsSome (finite.get p.store.map key) × (q ≡ p)
-OwedTake p reader key (Err take_faults.TooMany) q = HoldsNothing p.readers reader × IsAlive p.store key × IsSome (finite.get p.store.map key) × (q ≡ p)
-OwedTake p reader key (Err take_faults.Memory) q = HoldsNothing p.readers reader × IsAlive p.store key × IsSome (finite.get p.store.map key) × (q ≡ p)
+OwedTake p reader key (Err take_faults.NoSeat) q = HoldsNothing p.readers reader × IsAlive p.store key.ledger × IsSome (finite.get p.store.map key) × (q ≡ p)
+OwedTake p reader key (Err take_faults.TooMany) q = HoldsNothing p.readers reader × IsAlive p.store key.ledger × IsSome (finite.get p.store.map key) × (q ≡ p)
+OwedTake p reader key (Err take_faults.Memory) q = HoldsNothing p.readers reader × IsAlive p.store key.ledger × IsSome (finite.get p.store.map key) × (q ≡ p)
 
 -- A fetch gives the reader what it is owed: the payload that its entry held when the lease was taken.
 abbrev pub OwedFetch : List (Option Owed) → ℕ → Result FetchAnswer FetchFault → Type 0

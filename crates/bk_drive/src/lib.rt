@@ -4,6 +4,7 @@
 mod readers;
 mod run;
 mod step;
+mod sweeping;
 mod taking;
 #[cfg(test)]
 mod tests;
@@ -21,3 +22,4 @@ pub use bk_store::{
 pub use readers::{Readers, Reading};
 pub use run::{Ran, apply, drive};
 pub use step::{Answer, FetchAnswer, ReleaseAnswer, Step, TakeAnswer, Work};
+pub use sweeping::{compact_one, remove_unnamed};

@@ -18,7 +18,7 @@ use Rattle.bk_flush.specs.Flushing.{WritesInto, is_filled}
 pub has_writer : (s : State) → IsKept s → (id : ℕ) → IsIn s id Writing → (w : writers.Writing) × (writer_of s.logs id ≡ Some w)
 has_writer s kept id is =
     let held : finite.get kept.parts.state.logs id ≡ Some is.log = ap (λ (x : State). finite.get x.logs id) kept.seen ∙ is.held in
-    let own = some_value is.log.writer ((kept.keeps.fits.held id is.log held).written (ap is_written is.state_is)) in
+    let own = some_value is.log.writer ((kept.keeps.fits.logs.each id is.log held).written (ap is_written is.state_is)) in
     (own.0, ap (option_and_then (λ (log : Log). log.writer)) is.held ∙ own.1)
 
 module _ (s : State) (id : ℕ) (w : writers.Writing) (is : IsIn s id Writing) (own : Some w ≡ writer_of s.logs id) (payload : List ℕ) where

@@ -1,19 +1,16 @@
 -- All logs that are held change by a rule that goes by their states: what each keeps.
-use Rattle.std.proofs.Common.{◌≡◌, ◌≢◌, ◌⊎◌, inl, inr, ℕ, ◌+◌, Bool, true, false, cond, ◌&&◌, T, List, [], ◌∷◌, map, length, take}
-use Rattle.std.proofs.Common.{Option, Some, None, IsSome, is_some, option_map, refl, sym, ap, subst, ◌∙◌}
+use Rattle.std.proofs.Common.{◌≡◌, ◌⊎◌, inl, inr, ℕ, true, false, cond, ◌&&◌, T, List, [], ◌∷◌, map, length}
+use Rattle.std.proofs.Common.{Some, None, option_map, refl, sym, ap, subst, ◌∙◌}
 use Rattle.std.specs.Prelude.{suc}
-use Rattle.std.specs.Option.{option_map_or}
 use Rattle.std.specs.Ordering.{nat_cmp, eq_by_cmp, is_lt}
 use Rattle.std.specs.FinMap as finite
 use Rattle.std.specs.FinMap.{find, is_sorted, nat_cmp-IsAntisymmetric}
 use Rattle.std.specs.FinMap.Entries.{below_all}
 use Rattle.std.proofs.lemmas.Cmp.{nat_cmp_total}
-use Rattle.bk_record.specs.Files.{Files, file_of}
-use Rattle.bk_record.specs.Scan.{entries_of}
 use Rattle.bk_log.specs.Writing as writers
-use Rattle.bk_store.specs.Logs.{Log, Logs, HasOpenView, AllChanged, is_open, is_written, settled_as, unfilled_as, open_parts, published_part, acknowledged_part}
+use Rattle.bk_store.specs.Logs.{Log, is_open, is_written, settled_as, unfilled_as}
 use Rattle.bk_store.specs.Seated.{slot_state}
-use Rattle.bk_store.specs.Kept.{IsHeld, IsWrittenBy, acknowledged_entries}
+use Rattle.bk_store.specs.Kept.{IsHeld}
 use Rattle.bk_store.specs.declared.log.LogState.{LogState}
 use Rattle.bk_store.specs.declared.log.LogState.TheVariants.{Writing, Filled, Copying, Readable, Retired, Closed}
 

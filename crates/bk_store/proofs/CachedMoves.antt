@@ -7,7 +7,6 @@ use Rattle.bk_record.specs.Scan.{Payloads, Ledgers}
 use Rattle.bk_record.specs.Keyed.{Places}
 use Rattle.bk_store.specs.Entries.{Bytes}
 use Rattle.bk_store.specs.Carried.{Cached, Carries}
-use Rattle.bk_store.proofs.Cases.{some_or_none}
 use Rattle.bk_store.proofs.KeyMaps.{get-insert_other, same_key, inserted_cases, inserted_here}
 use Rattle.bk_store.proofs.Meaning.{unheld_unmapped, unmapped_has_none}
 

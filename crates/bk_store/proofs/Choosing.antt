@@ -1,23 +1,23 @@
 -- The choice of a log by the accounts is that by what the logs hold.
-use Rattle.std.proofs.Common.{◌≡◌, ℕ, IsTrue, List, Option, Some, None, IsSome, is_some, option_map, unwrap_or, MatchOption, refl, sym, ap, subst, ◌∙◌}
+use Rattle.std.proofs.Common.{◌≡◌, ℕ, IsTrue, List, Option, Some, None, IsSome, is_some, option_map, unwrap_or, MatchOption, refl, ap, subst, ◌∙◌}
 use Rattle.std.specs.List.{All}
 use Rattle.std.specs.Option.{option_map_or}
 use Rattle.std.specs.FinMap as finite
 use Rattle.std.specs.FinSet as set
 use Rattle.bk_record.specs.Keyed.{log_count}
 use Rattle.bk_accounts.specs.Account.{Account}
-use Rattle.bk_accounts.specs.Book.{HasAccount, named_in, total_at, remaining_at}
+use Rattle.bk_accounts.specs.Book.{HasAccount, total_at, remaining_at}
 use Rattle.bk_accounts.specs.Choice.{IsChoice, NoneBelow}
 use Rattle.bk_accounts.specs.Sums.{all_bytes, live_bytes}
 use Rattle.bk_store.specs.Logs.{Log}
-use Rattle.bk_store.specs.State.{State, Parts}
+use Rattle.bk_store.specs.State.{Parts}
 use Rattle.bk_store.specs.Kept.{Keeps, Promises, entry_measure, acknowledged_entries}
 use Rattle.bk_store.specs.Copying.{IsLeastUsed, log_bytes, live_log_bytes}
 
 -- each log that is held has an account
 account_open : (p : Parts) → Keeps p → (id : ℕ) → IsSome (finite.get p.state.logs id) → HasAccount p.accounts id
 account_open p keeps id held =
-    opened (finite.get p.accounts id) (ap is_some (keeps.fits.named id) ∙ counted (finite.get p.state.logs id) held)
+    opened (finite.get p.accounts id) (ap is_some (keeps.fits.accounts.named id) ∙ counted (finite.get p.state.logs id) held)
   where
     counted : (o : Option Log) → IsSome o → is_some (option_map (λ _. log_count p.state.index id) o) ≡ is_some o
     counted None wrong = refl
@@ -42,7 +42,7 @@ total_same p promise i id =
 pub remaining_same : (p : Parts) → Promises p → remaining_at p.accounts ≡ live_log_bytes p.state
 remaining_same p promise i id =
     (ap (λ (o : Option ℕ). unwrap_or o 0) (promise.counted.remaining id)
-    ∙ summed (live_bytes entry_measure (set.contains p.state.dead)) (acknowledged_entries p.state.files p.state.logs id)) i
+    ∙ summed (live_bytes entry_measure (set.contains p.state.ledgers.dead)) (acknowledged_entries p.state.files p.state.logs id)) i
 
 pub least_used : (p : Parts) → Keeps p → (threshold : ℕ) (allowed : List ℕ) (result : Option ℕ)
     → MatchOption result (NoneBelow (total_at p.accounts) (remaining_at p.accounts) threshold allowed)

@@ -5,7 +5,7 @@ use Rattle.std.proofs.lemmas.List.{take_all}
 use Rattle.std.specs.FinMap as finite
 use Rattle.std.specs.List.{filter}
 use Rattle.std.specs.Option.{option_eq}
-use Rattle.std.proofs.lemmas.Bool.{eq-eqb}
+use Rattle.std.proofs.lemmas.Bool.{eqb-true, eq-eqb}
 use Rattle.bk_record.specs.Files.{In}
 use Rattle.bk_record.proofs.Growth.{In-push_cases}
 use Rattle.bk_store.specs.Logs.{Log, Logs, AllChanged, IsFlushLog, settled_as, unfilled_as}
@@ -138,6 +138,18 @@ still_in p x (y ∷ ys) there passes = elim (p y) as (λ b. p y ≡ b → In x (
     | inr later ↦ still_in p x ys later passes
   ]
 ] refl
+
+-- what is left of a list passes
+pub passes_in : (p : ℕ → Bool) (x : ℕ) (xs : List ℕ) → In x (filter p xs) → p x ≡ true
+passes_in p x [] there = absurd there
+passes_in p x (y ∷ ys) there = elim (p y) as (λ b. p y ≡ b → In x (cond b (y ∷ filter p ys) (filter p ys)) → p x ≡ true) [
+  | true ↦ λ passes now. elim now [ inl here ↦ ap p (sym here) ∙ passes | inr later ↦ passes_in p x ys later ]
+  | false ↦ λ fails now. passes_in p x ys now
+] refl there
+
+pub some_equal : (o : Option ℕ) (id : ℕ) → option_eq nat_eq (Some id) o ≡ true → o ≡ Some id
+some_equal None id is = cc
+some_equal (Some n) id is = ap (λ x. Some x) (sym (eqb-true id n is))
 
 pub equal_some : (o : Option ℕ) (id : ℕ) → o ≡ Some id → option_eq nat_eq (Some id) o ≡ true
 equal_some o id is = ap (option_eq nat_eq (Some id)) is ∙ eq-eqb id id refl

@@ -1,5 +1,5 @@
 -- The bytes of logs grow, or go, and carry the same map.
-use Rattle.std.proofs.Common.{◌≡◌, ◌≢◌, ◌⊎◌, inl, inr, ℕ, List, [], ◌∷◌, ◌++◌, Some, false, sym, ap, ◌∙◌, subst, arith}
+use Rattle.std.proofs.Common.{◌≡◌, ◌≢◌, ◌⊎◌, inl, inr, ℕ, List, [], ◌++◌, Some, false, sym, ap, ◌∙◌, subst, arith}
 use Rattle.std.specs.FinMap as finite
 use Rattle.std.specs.FinSet as set
 use Rattle.bk_record.specs.Key.{EntryKey}
@@ -7,8 +7,6 @@ use Rattle.bk_record.specs.Location.{Place}
 use Rattle.bk_record.specs.Record.{key_of}
 use Rattle.bk_record.specs.Files.{records_of, In}
 use Rattle.bk_record.specs.Scan.{Payloads, Ledgers}
-use Rattle.std.proofs.lemmas.List.{append-nil}
-use Rattle.std.proofs.lemmas.Option.{same_Some}
 use Rattle.bk_record.proofs.Growth.{In-append_left, In-append_cases, records_of-short}
 use Rattle.bk_record.specs.Keyed.{Places}
 use Rattle.bk_store.specs.Entries.{Bytes, HasEntry}

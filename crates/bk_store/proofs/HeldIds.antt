@@ -10,7 +10,7 @@ use Rattle.std.proofs.lemmas.Map.Keys.{le_from_not_gt}
 use Rattle.std.proofs.lemmas.Bool.Decides.{nat_tests}
 use Rattle.std.specs.FinMap as finite
 use Rattle.bk_accounts.proofs.Maps.{get-entries}
-use Rattle.bk_store.specs.Logs.{Logs, IsNextHeld}
+use Rattle.bk_store.specs.Logs.{IsNextHeld}
 use Rattle.bk_store.specs.State.{Parts}
 use Rattle.bk_store.specs.Kept.{Fits}
 use Rattle.bk_store.proofs.Cases.{some_value}
@@ -45,13 +45,13 @@ pub held_from : (p : Parts) → Fits p → (from : ℕ) (o : Option ℕ) → IsN
 held_from p fits from None is = tt
 held_from p fits from (Some id) is =
     let log = some_value (finite.get p.state.logs id) is.0 in
-    let below = (fits.held id log.0 log.1).below in
-    let ids = fits.ids in
+    let below = (fits.logs.each id log.0 log.1).below in
+    let ids = fits.limits.ids in
     omega (arith, below, ids)
 
 pub held_id : (p : Parts) → Fits p → (id : ℕ) → IsSome (finite.get p.state.logs id) → id < 2147483648
 held_id p fits id there =
     let log = some_value (finite.get p.state.logs id) there in
-    let below = (fits.held id log.0 log.1).below in
-    let ids = fits.ids in
+    let below = (fits.logs.each id log.0 log.1).below in
+    let ids = fits.limits.ids in
     omega (arith, below, ids)

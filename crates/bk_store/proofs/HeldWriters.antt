@@ -18,4 +18,4 @@ log_of (Some log) w is = (log, refl, is)
 pub empty_writer : (p : Parts) → Fits p → (id : ℕ) (w : writers.Writing) → writer_of p.state.logs id ≡ Some w → w.count ≡ 0 → w.end ≡ header_length
 empty_writer p fits id w is =
     let held = log_of (finite.get p.state.logs id) w is in
-    ((fits.held id held.0 held.1).by w held.2).empty
+    ((fits.logs.each id held.0 held.1).by w held.2).empty

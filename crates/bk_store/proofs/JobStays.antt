@@ -1,21 +1,21 @@
 -- What the job of a compaction keeps stays where its logs stay.
-use Rattle.std.proofs.Common.{◌≡◌, ◌≢◌, ◌⊎◌, inl, inr, ℕ, true, false, cond, IsTrue, List, [], Option, Some, unwrap_or, refl, sym, ap, subst, ◌∙◌}
+use Rattle.std.proofs.Common.{◌≡◌, ◌≢◌, ◌⊎◌, inl, inr, ℕ, Bool, cond, IsTrue, List, [], Option, Some, unwrap_or, sym, ap, subst, ◌∙◌}
 use Rattle.std.specs.Option.{option_map_or, option_and_then}
 use Rattle.std.specs.FinMap as finite
 use Rattle.bk_record.specs.Key.{EntryKey}
 use Rattle.bk_record.specs.Location.{Place}
-use Rattle.bk_record.specs.Files.{file_of, In}
+use Rattle.bk_record.specs.Files.{Files, file_of}
 use Rattle.bk_record.specs.Keyed.{Places}
 use Rattle.bk_store.specs.Entries.{HasEntry}
 use Rattle.bk_store.specs.Jobs.{Job, with_rebuild}
-use Rattle.bk_store.specs.JobKept.{IsJob, IsCopied, IsReadTo, entries_from, copied_in, copy_state}
+use Rattle.bk_store.specs.JobKept.{IsJob, KeepsJob, IsCopied, IsReadTo, entries_from, copied_in, copy_state}
 use Rattle.bk_store.specs.Logs.{Log, Logs, HasOpenView, is_open, published_part, open_parts}
 use Rattle.bk_store.specs.State.{State}
 use Rattle.bk_store.specs.Doors.{IsIn}
 use Rattle.bk_store.specs.declared.job.Phase.{Phase}
 use Rattle.bk_store.specs.declared.job.Phase.TheVariants.{Copy, Switch}
 use Rattle.bk_store.specs.declared.log.LogState.{LogState}
-use Rattle.bk_store.specs.declared.log.LogState.TheVariants.{Writing, Filled, Copying, Readable, Retired, Closed}
+use Rattle.bk_store.specs.declared.log.LogState.TheVariants.{Writing, Filled, Copying, Readable}
 use Rattle.bk_store.proofs.Growing.{entry_same}
 use Rattle.bk_store.proofs.LogMaps.{log-insert_else}
 
@@ -46,13 +46,13 @@ in_same s t id state same was = record { log = was.log; held = same ∙ was.held
 
 module _ (s t : State) (job : Job) (stays : Stays s t job) where
   copied_stays : IsTrue s.honest → (phase : Phase) (place : Place) (key : EntryKey) (payload : List ℕ) → place.log ≡ job.copy
-      → HasEntry (copied_in s phase) place key payload → HasEntry (copied_in t phase) place key payload
+      → HasEntry (copied_in s.files s.logs phase) place key payload → HasEntry (copied_in t.files t.logs phase) place key payload
   copied_stays honest Copy place key payload own entry = stays.stands honest place key payload own entry
   copied_stays honest Switch place key payload own entry =
       entry_same place key payload
       (ap (open_parts s.logs) own ∙ sym (part_same s.logs t.logs job.copy stays.copy) ∙ ap (open_parts t.logs) (sym own)) entry
 
-  still_copied : IsTrue s.honest → IsJob s job → IsCopied s job → IsCopied t job
+  still_copied : IsTrue s.honest → IsJob s job → IsCopied s.files s.index s.logs job → IsCopied t.files t.index t.logs job
   still_copied honest is was =
       let part : open_parts s.logs job.source ≡ open_parts t.logs job.source = sym (part_same s.logs t.logs job.source stays.source) in
       record {
@@ -132,30 +132,18 @@ stays_else s t job id new apart honest logs index files = record {
 -- ---- the index is made anew
 
 -- the job knows it, so nothing is owed of what the index names
-pub job_rebuilt : (s t : State) (job : Job) → t.honest ≡ s.honest → t.logs ≡ s.logs → t.files ≡ s.files → IsJob s job → IsJob t (with_rebuild job)
-job_rebuilt s t job honest logs files is =
-    let middle : State = record s { logs = t.logs; files = t.files } in
-    let was = job_stays s middle job (stays_same s middle job refl logs refl (λ _. files)) is in
-    record {
-      source = record { log = was.source.log; held = was.source.held; state_is = was.source.state_is };
-      shown = was.shown;
-      copy = record { log = was.copy.log; held = was.copy.held; state_is = was.copy.state_is };
-      copy_shown = was.copy_shown;
-      later = was.later;
-      begun = was.begun;
-      room = was.room;
-      moves = λ m there. let old = was.moves m there in record { from_source = old.from_source; to_copy = old.to_copy };
-      honest = λ truth.
-          let old = was.honest (sym honest ∙ truth) in
-          record {
-            read = old.read;
-            copied = λ m there. let entry = old.copied m there in (entry.0, rebuilt_copied job.phase m.to m.key entry.0 entry.1);
-            examined = λ wrong. absurd (cc);
-            ended = old.ended;
-          };
-    }
-  where
-    rebuilt_copied : (phase : Phase) (place : Place) (key : EntryKey) (payload : List ℕ)
-        → HasEntry (copied_in (record s { logs = t.logs; files = t.files }) phase) place key payload → HasEntry (copied_in t phase) place key payload
-    rebuilt_copied Copy place key payload entry = entry
-    rebuilt_copied Switch place key payload entry = entry
+pub job_rebuilt : {honest : Bool} {files : Files} {index index' : Places} {held : Logs} (job : Job) → KeepsJob honest files index held job
+    → KeepsJob honest files index' held (with_rebuild job)
+job_rebuilt job was = record {
+  source = was.source;
+  shown = was.shown;
+  copy = was.copy;
+  copy_shown = was.copy_shown;
+  later = was.later;
+  begun = was.begun;
+  room = was.room;
+  moves = λ m there. let old = was.moves m there in record { from_source = old.from_source; to_copy = old.to_copy };
+  honest = λ truth.
+      let old = was.honest truth in
+      record { read = old.read; copied = old.copied; examined = λ wrong. absurd (cc); ended = old.ended };
+}

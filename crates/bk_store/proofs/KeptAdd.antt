@@ -22,7 +22,6 @@ use Rattle.bk_store.proofs.KeyMaps.{get-insert_other, inserted_here}
 use Rattle.bk_store.proofs.Meaning.{unheld_unmapped}
 use Rattle.bk_store.proofs.CachedMoves.{carries_added}
 use Rattle.bk_store.proofs.KeptParts.{with_state, keeps_same}
-use Rattle.bk_store.proofs.JobStays.{job_stays, stays_same}
 
 not_held : (s : State) (key : EntryKey) → holds s key ≡ false → (written_at s key ≡ None) × (finite.get s.index key ≡ None)
 not_held s key is =
@@ -35,7 +34,7 @@ not_held s key is =
     ] is
 
 module _ (p : Parts) (payload : List ℕ) (key : EntryKey) (reads : read_added payload ≡ Ok key) (keeps : Keeps p)
-    (alive : set.contains p.state.dead key.ledger ≡ false) (unheld : holds p.state key ≡ false) where
+    (alive : set.contains p.state.ledgers.dead key.ledger ≡ false) (unheld : holds p.state key ≡ false) where
   abbrev added : Parts
   added = with_state p (record p.state { caches = caches.with_added p.state.caches payload })
 
@@ -52,8 +51,8 @@ module _ (p : Parts) (payload : List ℕ) (key : EntryKey) (reads : read_added p
       ap (λ o. option_or o (finite.get (caches.flush_of p.state.caches) other))
       (get-insert_other p.state.caches.active (caches.added_key payload) payload other (λ same. apart (same ∙ is_key)))
 
-  pub carries_accepted : {map : Payloads} → Carries (file_of p.state.files) p.state.index (written_at p.state) p.state.dead map
-      → Carries (file_of p.state.files) p.state.index (written_at added.state) p.state.dead (finite.insert map key payload)
+  pub carries_accepted : {map : Payloads} → Carries (file_of p.state.files) p.state.index (written_at p.state) p.state.ledgers.dead map
+      → Carries (file_of p.state.files) p.state.index (written_at added.state) p.state.ledgers.dead (finite.insert map key payload)
   carries_accepted carries =
       let none = not_held p.state key unheld in
       carries_added carries (written_at added.state) key payload alive none.0 none.1 cached_here cached_else
@@ -62,40 +61,23 @@ module _ (p : Parts) (payload : List ℕ) (key : EntryKey) (reads : read_added p
   promised promise =
       let none = not_held p.state key unheld in
       record {
-        carried = finite.insert promise.carried key payload;
-        carries = carries_accepted promise.carries;
+        map = record {
+          carried = finite.insert promise.map.carried key payload;
+          carries = carries_accepted promise.map.carries;
+          recent = λ k b is.
+              let old = promise.map.recent k b is in
+              let missing = unheld_unmapped promise.map.carries key none.0 none.1 in
+              get-insert_other promise.map.carried key payload k
+              (λ same. let wrong : ◌≡◌ {A = Option (List ℕ)} (Some b) None = sym old ∙ ap (finite.get promise.map.carried) same ∙ missing in cc) ∙ old;
+        };
         shows = promise.shows;
-        recent = λ k b is.
-            let old = promise.recent k b is in
-            let missing = unheld_unmapped promise.carries key none.0 none.1 in
-            get-insert_other promise.carried key payload k
-            (λ same. let wrong : ◌≡◌ {A = Option (List ℕ)} (Some b) None = sym old ∙ ap (finite.get promise.carried) same ∙ missing in cc) ∙ old;
         counted = promise.counted;
-        backed = promise.backed;
-        fresh = promise.fresh;
+        logs = promise.logs;
         placed = promise.placed;
       }
 
   added_kept : Keeps added
-  added_kept =
-      let fits = keeps.fits in
-      record {
-        fits = record {
-          allowed = fits.allowed;
-          limit = fits.limit;
-          ids = fits.ids;
-          seated = fits.seated;
-          held = fits.held;
-          sent = fits.sent;
-          placed = fits.placed;
-          writing = fits.writing;
-          filled = fits.filled;
-          named = fits.named;
-          total = fits.total;
-        };
-        job = λ job is. job_stays p.state added.state job (stays_same p.state added.state job refl refl refl (λ _. refl)) (keeps.job job is);
-        promises = λ honest. promised (keeps.promises honest);
-      }
+  added_kept = record { fits = keeps.fits; job = keeps.job; promises = λ honest. promised (keeps.promises honest) }
 
 pub keeps_add : (p q : Parts) (payload : List ℕ) (result : Result Added AddFault) → Keeps p → AddTurn p.state payload result q.state
     → q ≡ with_state p q.state → Keeps q

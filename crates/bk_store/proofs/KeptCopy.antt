@@ -1,6 +1,6 @@
 -- An entry that is put in a copy keeps what a store keeps.
-use Rattle.std.proofs.Common.{◌≡◌, ◌≢◌, ◌⊎◌, inl, inr, ℕ, ◌+◌, Bool, true, false, cond, eqb, IsTrue, List, [], length, take}
-use Rattle.std.proofs.Common.{Option, Some, None, Result, Ok, Err, refl, sym, ap, subst, ◌∙◌, arith}
+use Rattle.std.proofs.Common.{◌≡◌, inl, inr, ℕ, ◌+◌, true, false, cond, eqb, IsTrue, List, [], length, take}
+use Rattle.std.proofs.Common.{Option, Some, None, Result, Ok, Err, refl, sym, ap, subst, ◌∙◌}
 use Rattle.std.specs.FinMap as finite
 use Rattle.std.proofs.lemmas.Bool.{eqb-true}
 use Rattle.bk_record.specs.Key.{EntryKey}
@@ -14,8 +14,6 @@ use Rattle.bk_log.specs.declared.fault.LogFault.{LogFault}
 use Rattle.bk_log.specs.declared.fault.LogFault.TheVariants as log_faults
 use Rattle.bk_log.proofs.Gains.{put_gains}
 use Rattle.bk_accounts.specs.Book.{Book, after_ready, after_count}
-use Rattle.bk_store.specs.Jobs.{Job}
-use Rattle.bk_store.specs.JobKept.{IsJob}
 use Rattle.bk_store.specs.Logs.{Log, is_open, closed_log, halted_as, halted_log}
 use Rattle.bk_store.specs.State.{State, Parts}
 use Rattle.bk_store.specs.Kept.{Keeps, Promises}
@@ -32,9 +30,9 @@ use Rattle.bk_store.proofs.KeptWrite.{keeps_ready, put_fits, put_gained, put_pro
 
 -- what the index names has what the map has
 pub named_mapped : (p : Parts) (promise : Promises p) (id : ℕ) (key : EntryKey) (place : Place) (payload : List ℕ) → MayCopy p.state id key place payload
-    → IsTrue p.state.honest → finite.get promise.carried key ≡ Some payload
+    → IsTrue p.state.honest → finite.get promise.map.carried key ≡ Some payload
 named_mapped p promise id key place payload may honest =
-    let named = promise.carries.indexed key place may.sent in
+    let named = promise.map.carries.indexed key place may.sent in
     let same = one_payload named.stands (may.stands honest) in
     named.mapped ∙ ap (λ (b : List ℕ). Some b) same
 
@@ -48,7 +46,7 @@ unwritten_copy p keeps id log held was = of p.writing refl
     of (Some q) is = elim (eqb q id) as (λ b. eqb q id ≡ b → cond b None (Some q) ≡ Some q) [
       | false ↦ λ _. refl
       | true ↦ λ tied.
-          let found = (keeps.fits.writing q).0 is in
+          let found = (keeps.fits.logs.writing q).0 is in
           let there : Some found.0 ≡ Some log = sym found.1 ∙ ap (finite.get p.state.logs) (eqb-true q id tied) ∙ held in
           absurd (let same : found.0 ≡ log = cc in let both : Writing ≡ Copying = sym found.2 ∙ ap (λ (l : Log). l.state) same ∙ was in cc)
     ] refl
@@ -86,11 +84,11 @@ module _ (p : Parts) (id : ℕ) (key : EntryKey) (place : Place) (payload : List
         ap (λ (l : Log). l.writer) (sym one) ∙ takes.writer.writer
 
     own : takes.w.log ≡ id
-    own = ((keeps.fits.held id log held).by takes.w writer).own
+    own = ((keeps.fits.logs.each id log held).by takes.w writer).own
 
     gained : IsTrue p.state.honest → PutGains p.state.files takes.w payload (Err log_faults.Disk) files
     gained honest =
-        let writes = ((keeps.promises honest).backed id log held).writes takes.w writer in
+        let writes = ((keeps.promises honest).logs.each id log held).writes takes.w writer in
         let grew = part honest in
         put_gains p.state.files files takes.w payload (Err log_faults.Disk) writes may.sized
         (grew.0, grew.1 ∙ ap (λ n. grown p.state.files n (take grew.0 (record_of payload))) (sym own))
@@ -115,7 +113,7 @@ module _ (p : Parts) (id : ℕ) (key : EntryKey) (place : Place) (payload : List
               elim (gained honest) [
                 | inl all ↦ closed_promise p keeps id Readable log held takes.w writer refl refl opened files failures promise (put_record takes.w payload)
                     (own_gains (put_record takes.w payload) all)
-                    (λ at b k there is_key _. put_mapped promise.carried takes.w key payload may.keyed mapped at b k there is_key)
+                    (λ at b k there is_key _. put_mapped promise.map.carried takes.w key payload may.keyed mapped at b k there is_key)
                 | inr none ↦ closed_promise p keeps id Readable log held takes.w writer refl refl opened files failures promise []
                     (own_gains [] none) (λ at b k never. absurd never)
               ];

@@ -161,17 +161,18 @@ module _ (p : Parts) (ledger : ℕ) (keeps : Keeps p) (book : Book) (left : AreL
 
   promised : Promises p → Promises gone
   promised promise = record {
-    carried = without_ledger promise.carried ledger;
-    carries = carries_without_ledger promise.carries (written_at gone.state) ledger (written_gone p.state ledger) (written_same p.state ledger);
+    map = record {
+      carried = without_ledger promise.map.carried ledger;
+      carries = carries_without_ledger promise.map.carries (written_at gone.state) ledger (written_gone p.state ledger) (written_same p.state ledger);
+      recent = λ key payload is.
+          let old = recent_left p.state ledger key payload is in
+          left_same promise.map.carried ledger key old.0 ∙ promise.map.recent key payload old.1;
+    };
     shows = shows_without_ledger promise.shows ledger;
-    recent = λ key payload is.
-        let old = recent_left p.state ledger key payload is in
-        left_same promise.carried ledger key old.0 ∙ promise.recent key payload old.1;
-    counted = sums_left entry_measure promise.counted (set.contains (set.insert p.state.dead ledger)) ledger
+    counted = sums_left entry_measure promise.counted (set.contains (set.insert p.state.ledgers.dead ledger)) ledger
         (log_count (without_ledger p.state.index ledger)) book
-        (contains-insert_dead p.state.dead ledger) left;
-    backed = promise.backed;
-    fresh = promise.fresh;
+        (contains-insert_dead p.state.ledgers.dead ledger) left;
+    logs = promise.logs;
     placed = λ key place is. written_still p.state ledger key place is promise.placed;
   }
 
@@ -180,19 +181,16 @@ module _ (p : Parts) (ledger : ℕ) (keeps : Keeps p) (book : Book) (left : AreL
       let fits = keeps.fits in
       record {
         fits = record {
-          allowed = fits.allowed;
-          limit = fits.limit;
-          ids = fits.ids;
-          seated = fits.seated;
-          held = fits.held;
+          limits = fits.limits;
+          logs = fits.logs;
           sent = λ key place is. fits.sent key place (left_cases p.state.index ledger key place is).1;
           placed = placed_left p.state ledger fits.placed;
-          writing = fits.writing;
-          filled = fits.filled;
-          named = λ id. named_left (without_ledger p.state.index ledger) ledger p.accounts book id (log_count p.state.index id)
-              (finite.get p.state.logs id) left (fits.named id);
-          total = λ id log is. subst (λ n. n + header_length ≤ log.acknowledged)
-              (sym (total_left (without_ledger p.state.index ledger) ledger p.accounts book id left)) (fits.total id log is);
+          accounts = record {
+            named = λ id. named_left (without_ledger p.state.index ledger) ledger p.accounts book id (log_count p.state.index id)
+                (finite.get p.state.logs id) left (fits.accounts.named id);
+            total = λ id log is. subst (λ n. n + header_length ≤ log.acknowledged)
+                (sym (total_left (without_ledger p.state.index ledger) ledger p.accounts book id left)) (fits.accounts.total id log is);
+          };
         };
         job = λ job is. job_stays p.state gone.state job (record {
           honest = refl;

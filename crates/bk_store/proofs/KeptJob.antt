@@ -1,5 +1,5 @@
 -- A job that is taken out of a store, or given back, keeps what a store keeps.
-use Rattle.std.proofs.Common.{◌≡◌, Option, Some, None, ℕ, refl, sym, ap, subst, ◌∙◌}
+use Rattle.std.proofs.Common.{◌≡◌, Option, Some, None, ℕ, sym, ap, subst, ◌∙◌}
 use Rattle.bk_store.specs.Jobs.{Job}
 use Rattle.bk_store.specs.JobKept.{IsJob}
 use Rattle.bk_store.specs.State.{State, Parts}
@@ -8,45 +8,14 @@ use Rattle.bk_store.specs.Logs.{IsFlushLog}
 use Rattle.bk_store.specs.Doors.{IsIdle}
 use Rattle.bk_store.specs.Plain.{IsKept}
 use Rattle.bk_store.proofs.KeptParts.{with_state}
-use Rattle.bk_store.proofs.JobStays.{job_stays, stays_same, job_unflushed}
+use Rattle.bk_store.proofs.JobStays.{job_unflushed}
 
 -- the parts with another job
 abbrev pub with_job : Parts → Option Job → Parts
 with_job p job = with_state p (record p.state { job = job })
 
 keeps_job : (p : Parts) (now : Option Job) → Keeps p → ((job : Job) → now ≡ Some job → IsJob p.state job) → Keeps (with_job p now)
-keeps_job p now keeps each =
-    let fits = keeps.fits in
-    record {
-      fits = record {
-        allowed = fits.allowed;
-        limit = fits.limit;
-        ids = fits.ids;
-        seated = fits.seated;
-        held = fits.held;
-        sent = fits.sent;
-        placed = fits.placed;
-        writing = fits.writing;
-        filled = fits.filled;
-        named = fits.named;
-        total = fits.total;
-      };
-      job = λ job is.
-          let t = (with_job p now).state in
-          job_stays p.state t job (stays_same p.state t job refl refl refl (λ _. refl)) (each job is);
-      promises = λ honest.
-          let promise = keeps.promises honest in
-          record {
-            carried = promise.carried;
-            carries = promise.carries;
-            shows = promise.shows;
-            recent = promise.recent;
-            counted = promise.counted;
-            backed = promise.backed;
-            fresh = promise.fresh;
-            placed = promise.placed;
-          };
-    }
+keeps_job p now keeps each = record { fits = keeps.fits; job = each; promises = keeps.promises }
 
 pub keeps_without_job : (p : Parts) (now : Option Job) → now ≡ None → Keeps p → Keeps (with_job p now)
 keeps_without_job p now none keeps = keeps_job p now keeps (λ job wrong. absurd (let both : None ≡ Some job = sym none ∙ wrong in cc))

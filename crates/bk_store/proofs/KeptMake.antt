@@ -1,6 +1,6 @@
 -- A log that is made keeps what a store keeps, and so does one whose making is refused.
 use Rattle.std.proofs.Common.{◌≡◌, ◌≢◌, ◌⊎◌, inl, inr, ℕ, ◌+◌, ◌≤◌, ◌<◌, ◌^◌, ◌↔◌, true, false, cond, eqb, IsTrue, List}
-use Rattle.std.proofs.Common.{[], length, take, Option, Some, None, IsSome, is_some, option_map, unwrap_or, not}
+use Rattle.std.proofs.Common.{[], length, take, Option, Some, None, IsSome, is_some, option_map, unwrap_or}
 use Rattle.std.proofs.Common.{Result, Ok, Err, refl, sym, ap, subst, ◌∙◌, arith, length-take}
 use Rattle.std.specs.Option.{option_map_or}
 use Rattle.std.specs.FinMap as finite
@@ -65,11 +65,11 @@ module _ (p : Parts) (keeps : Keeps p) where
   pub unheld : finite.get p.state.logs next ≡ None
   unheld = elim (some_or_none (finite.get p.state.logs next)) [
     | inl none ↦ none
-    | inr there ↦ absurd (let below = (keeps.fits.held next there.0 there.1).below in omega (arith, below))
+    | inr there ↦ absurd (let below = (keeps.fits.logs.each next there.0 there.1).below in omega (arith, below))
   ]
 
   apart : (id : ℕ) (log : Log) → finite.get p.state.logs id ≡ Some log → id ≢ next
-  apart id log held same = let below = (keeps.fits.held id log held).below in omega (arith, below, same)
+  apart id log held same = let below = (keeps.fits.logs.each id log held).below in omega (arith, below, same)
 
   unnamed : log_count p.state.index next ≡ 0
   unnamed = log_count-none p.state.index next (λ key place is. let seen = keeps.fits.sent key place is in apart place.log seen.log seen.held)
@@ -85,31 +85,19 @@ module _ (p : Parts) (keeps : Keeps p) where
       let fits = keeps.fits in
       record {
         fits = record {
-          allowed = fits.allowed;
-          limit = fits.limit;
-          ids = fits.ids;
-          seated = fits.seated;
-          held = fits.held;
+          limits = fits.limits;
+          logs = record {
+            seated = fits.logs.seated;
+            each = fits.logs.each;
+            writing = fits.logs.writing;
+            filled = λ id log is flushed. goes id (fits.logs.filled id log is flushed);
+          };
           sent = fits.sent;
           placed = fits.placed;
-          writing = fits.writing;
-          filled = λ id log is flushed. goes id (fits.filled id log is flushed);
-          named = fits.named;
-          total = fits.total;
+          accounts = fits.accounts;
         };
         job = keeps.job;
-        promises = λ honest.
-            let promise = keeps.promises honest in
-            record {
-              carried = promise.carried;
-              carries = promise.carries;
-              shows = promise.shows;
-              recent = promise.recent;
-              counted = promise.counted;
-              backed = promise.backed;
-              fresh = promise.fresh;
-              placed = promise.placed;
-            };
+        promises = keeps.promises;
       }
 
   pub keeps_used : (files : Files) (failures : ℕ) (filled : List ℕ) → AllStay p.filled filled → next < 2 ^ 31 → (IsTrue p.state.honest → files ≡ p.state.files)
@@ -118,17 +106,16 @@ module _ (p : Parts) (keeps : Keeps p) where
       let fits = keeps.fits in
       record {
         fits = record {
-          allowed = fits.allowed;
-          limit = fits.limit;
-          ids = omega (arith, room);
-          seated = fits.seated;
-          held = λ id log is. held_later id log (fits.held id log is);
+          limits = record { allowed = fits.limits.allowed; limit = fits.limits.limit; ids = omega (arith, room) };
+          logs = record {
+            seated = fits.logs.seated;
+            each = λ id log is. held_later id log (fits.logs.each id log is);
+            writing = fits.logs.writing;
+            filled = λ id log is flushed. goes id (fits.logs.filled id log is flushed);
+          };
           sent = fits.sent;
           placed = fits.placed;
-          writing = fits.writing;
-          filled = λ id log is flushed. goes id (fits.filled id log is flushed);
-          named = fits.named;
-          total = fits.total;
+          accounts = fits.accounts;
         };
         job = λ job is.
             let used = with_next p.state files failures p.state.logs p.state.keeper in
@@ -136,13 +123,10 @@ module _ (p : Parts) (keeps : Keeps p) where
         promises = λ honest.
             let promise = keeps.promises honest in
             subst (λ f. Promises (record p { state = with_next p.state f failures p.state.logs p.state.keeper; filled = filled })) (sym (same honest)) (record {
-              carried = promise.carried;
-              carries = promise.carries;
+              map = promise.map;
               shows = promise.shows;
-              recent = promise.recent;
               counted = promise.counted;
-              backed = promise.backed;
-              fresh = λ id above. promise.fresh id (omega (arith, above));
+              logs = record { each = promise.logs.each; fresh = λ id above. promise.logs.fresh id (omega (arith, above)) };
               placed = promise.placed;
             });
       }
@@ -180,7 +164,7 @@ module _ (p : Parts) (keeps : Keeps p) where
               ap (λ n. Some n) (sym unnamed ∙ ap (log_count p.state.index) (sym here))
               ∙ sym (ap (option_map (λ _. log_count p.state.index id)) (log-inserted p.state.logs next new id here))
           | false ↦ λ other.
-              keeps.fits.named id
+              keeps.fits.accounts.named id
               ∙ ap (option_map (λ _. log_count p.state.index id))
               (sym (log-insert_else p.state.logs next new id (λ same. let tied = eq-eqb id next same in cc)))
         ] refl
@@ -195,11 +179,14 @@ module _ (p : Parts) (keeps : Keeps p) where
     new_fits may held writes goes listed =
         let fits = keeps.fits in
         record {
-          allowed = fits.allowed;
-          limit = fits.limit;
-          ids = let room = may.id in omega (arith, room);
-          seated = seated_new p.state.settings p.state.keeper p.state.logs fits.seated slot next new free unheld stands seat;
-          held = each_new (λ id l. IsHeld (next + 1) id l) held (λ id l is. held_later id l (fits.held id l is));
+          limits = record { allowed = fits.limits.allowed; limit = fits.limits.limit; ids = let room = may.id in omega (arith, room) };
+          logs = record {
+            seated = seated_new p.state.settings p.state.keeper p.state.logs fits.logs.seated slot next new free unheld stands seat;
+            each = each_new (λ id l. IsHeld (next + 1) id l) held (λ id l is. held_later id l (fits.logs.each id l is));
+            writing = writes;
+            filled = each_new (λ id l. (l.state ≡ Writing) ⊎ (l.state ≡ Filled) → In id filled) listed
+                (λ id l is flushed. goes id (fits.logs.filled id l is flushed));
+          };
           sent = λ key place is.
               let seen = fits.sent key place is in
               record { log = seen.log; view = seen.view; held = still_there place.log seen.log seen.held; opened = seen.opened; view_is = seen.view_is };
@@ -214,25 +201,25 @@ module _ (p : Parts) (keeps : Keeps p) where
             newest = each_new (λ id l. l.state ≡ Writing → (key : EntryKey) (place : Place) → finite.get p.state.places key ≡ Some place → place.log ≤ id)
                 (λ _ key place is.
                 let of = fits.placed.logs key place is in
-                let below = (fits.held place.log of.log of.held).below in
+                let below = (fits.logs.each place.log of.log of.held).below in
                 omega (arith, below))
                 fits.placed.newest;
           };
-          writing = writes;
-          filled = each_new (λ id l. (l.state ≡ Writing) ⊎ (l.state ≡ Filled) → In id filled) listed (λ id l is flushed. goes id (fits.filled id l is flushed));
-          named = named_now;
-          total = each_new (λ id l. total_at (after_open p.accounts next) id + header_length ≤ l.acknowledged)
-              (let zero : total_at (after_open p.accounts next) next ≡ 0 =
-              total_now next ∙ ap (λ b. cond b 0 (total_at p.accounts next)) (eq-eqb next next refl) in
-              omega (arith, zero, short))
-              (λ id l is.
-              let old = fits.total id l is in
-              let same : total_at (after_open p.accounts next) id ≡ total_at p.accounts id =
-              total_now id ∙ elim (eqb id next) as (λ b. eqb id next ≡ b → cond b 0 (total_at p.accounts id) ≡ total_at p.accounts id) [
-                | true ↦ λ tied. absurd (apart id l is (eqb-true id next tied))
-                | false ↦ λ _. refl
-              ] refl in
-              omega (arith, old, same));
+          accounts = record {
+            named = named_now;
+            total = each_new (λ id l. total_at (after_open p.accounts next) id + header_length ≤ l.acknowledged)
+                (let zero : total_at (after_open p.accounts next) next ≡ 0 =
+                total_now next ∙ ap (λ b. cond b 0 (total_at p.accounts next)) (eq-eqb next next refl) in
+                omega (arith, zero, short))
+                (λ id l is.
+                let old = fits.accounts.total id l is in
+                let same : total_at (after_open p.accounts next) id ≡ total_at p.accounts id =
+                total_now id ∙ elim (eqb id next) as (λ b. eqb id next ≡ b → cond b 0 (total_at p.accounts id) ≡ total_at p.accounts id) [
+                  | true ↦ λ tied. absurd (apart id l is (eqb-true id next tied))
+                  | false ↦ λ _. refl
+                ] refl in
+                omega (arith, old, same));
+          };
         }
 
     parts_now : (id : ℕ) → open_parts (finite.insert p.state.logs next new) id ≡ open_parts p.state.logs id
@@ -268,28 +255,32 @@ module _ (p : Parts) (keeps : Keeps p) where
     new_promises : (promise : Promises p) → Gains p.state.files next [] files → length (file_of files next) ≤ header_length → IsBacked files next new
         → Promises with_new
     new_promises promise gains empty backed =
-        let grows : Grows p.state.dead promise.carried (file_of p.state.files) (file_of files) =
-        grows_behind p.state.dead promise.carried next (λ id other. ap (λ (o : Option (List ℕ)). unwrap_or o []) (gains.only id other)) [] gains.records
+        let grows : Grows p.state.ledgers.dead promise.map.carried (file_of p.state.files) (file_of files) =
+        grows_behind p.state.ledgers.dead promise.map.carried next (λ id other. ap (λ (o : Option (List ℕ)). unwrap_or o []) (gains.only id other)) [] gains.records
         (λ at payload key never. absurd never) in
         record {
-          carried = promise.carried;
-          carries = carries_grown grows promise.carries;
+          map = record {
+            carried = promise.map.carried;
+            carries = carries_grown grows promise.map.carries;
+            recent = promise.map.recent;
+          };
           shows = subst (λ ps. Shows (file_of files) ps p.state.index) (λ i id. sym (parts_now id) i) (shows_grown promise.shows (file_of files) grows.stood);
-          recent = promise.recent;
           counted = sums_open entry_measure promise.counted next (acknowledged_entries files (finite.insert p.state.logs next new)) unnamed
               (later empty gains.only);
-          backed = each_new (λ id l. IsBacked files id l) backed (λ id l is.
-              let old = promise.backed id l is in
-              let same = gains.only id (apart id l is) in
-              record {
-                stands = ap is_some same ∙ old.stands;
-                writes = λ w writer. writes_same w (ap (finite.get files) ((keeps.fits.held id l is).by w writer).own ∙ same
-                    ∙ ap (finite.get p.state.files) (sym ((keeps.fits.held id l is).by w writer).own)) (old.writes w writer);
-                honest = old.honest;
-                spelled = subst HasNoBadLength (sym (ap (λ (o : Option (List ℕ)). unwrap_or o []) same)) old.spelled;
-                shown = old.shown;
-              });
-          fresh = λ id above. gains.only id (λ here. omega (arith, above, here)) ∙ promise.fresh id (omega (arith, above));
+          logs = record {
+            each = each_new (λ id l. IsBacked files id l) backed (λ id l is.
+                let old = promise.logs.each id l is in
+                let same = gains.only id (apart id l is) in
+                record {
+                  stands = ap is_some same ∙ old.stands;
+                  writes = λ w writer. writes_same w (ap (finite.get files) ((keeps.fits.logs.each id l is).by w writer).own ∙ same
+                      ∙ ap (finite.get p.state.files) (sym ((keeps.fits.logs.each id l is).by w writer).own)) (old.writes w writer);
+                  honest = old.honest;
+                  spelled = subst HasNoBadLength (sym (ap (λ (o : Option (List ℕ)). unwrap_or o []) same)) old.spelled;
+                  shown = old.shown;
+                });
+            fresh = λ id above. gains.only id (λ here. omega (arith, above, here)) ∙ promise.logs.fresh id (omega (arith, above));
+          };
           placed = λ key place is.
               let old = promise.placed key place is in
               record { payload = old.payload; flushing = old.flushing; stands = grows.stood place key old.payload old.stands };
@@ -323,10 +314,10 @@ module _ (p : Parts) (keeps : Keeps p) (new : Log) where
   writing_as_before : ¬ (new.state ≡ Writing) → (id : ℕ)
       → (p.writing ≡ Some id) ↔ ((log : Log) × (finite.get (finite.insert p.state.logs p.state.next new) id ≡ Some log) × (log.state ≡ Writing))
   writing_as_before other id = (
-    (λ is. let old = (keeps.fits.writing id).0 is in (old.0, log-insert_else p.state.logs p.state.next new id (apart p keeps id old.0 old.1) ∙ old.1, old.2)),
+    (λ is. let old = (keeps.fits.logs.writing id).0 is in (old.0, log-insert_else p.state.logs p.state.next new id (apart p keeps id old.0 old.1) ∙ old.1, old.2)),
     (λ now. elim (log-insert_cases p.state.logs p.state.next new id now.0 now.1) [
       | inl here ↦ absurd (other (ap (λ (l : Log). l.state) here.1 ∙ now.2))
-      | inr old ↦ (keeps.fits.writing id).1 (now.0, old.1, now.2)
+      | inr old ↦ (keeps.fits.logs.writing id).1 (now.0, old.1, now.2)
     ]),
   )
 
@@ -419,7 +410,7 @@ module _ (p q : Parts) (keeps : Keeps p) (state : LogState) (fault : MakeFault) 
   refused same =
       subst Keeps (sym (beside.parts ∙ ap (beside_of p q keeps state (Err fault) beside) same))
       (subst (λ a. Keeps (record p { accounts = a; filled = q.filled })) (sym (unopened p q keeps state (Err fault) beside))
-      (keeps_listed p keeps q.filled beside.still))
+      (keeps_listed p keeps q.filled beside.list.still))
 
   -- a making that was refused when the device was asked
   unmade : (told : LogFault) (failures : ℕ) → p.state.next < 2 ^ 31 → MayMake p.state → IsUnmade p.state told failures q.state → Keeps q
@@ -430,7 +421,7 @@ module _ (p q : Parts) (keeps : Keeps p) (state : LogState) (fault : MakeFault) 
             subst (λ b. CreateFails p.state.files p.state.next b told q.state.files) made (is.files honest) in
             opened_now p q keeps state (Err fault) beside q.state.files failures (unmade_log is.slot) (with_seat p.state is.slot)
             (kept_new p keeps (unmade_log is.slot) refl refl is.slot is.free refl refl q.state.files failures p.writing q.filled may
-            (held_unmade p.state.next is.slot) (writing_as_before p keeps (unmade_log is.slot) (λ wrong. cc)) beside.still
+            (held_unmade p.state.next is.slot) (writing_as_before p keeps (unmade_log is.slot) (λ wrong. cc)) beside.list.still
             (λ wrong. elim wrong [ inl w ↦ cc | inr w ↦ cc ])
             (λ honest.
             let left = left_made p.state.files q.state.files p.state.next told (fails honest) in (
@@ -457,7 +448,7 @@ module _ (p q : Parts) (keeps : Keeps p) (state : LogState) (fault : MakeFault) 
               filled = q.filled;
             }))
             (sym (unopened p q keeps state (Err fault) beside))
-            (keeps_used p keeps q.state.files failures q.filled beside.still room
+            (keeps_used p keeps q.state.files failures q.filled beside.list.still room
             (λ honest. left_unmade p.state.files q.state.files p.state.next told (fails honest))))
       ] refl
 
@@ -471,7 +462,7 @@ made p q state id keeps written none turn beside writes unfilled =
     opened_now p q keeps state (Ok id) beside q.state.files p.state.failures (made_log state p.state.next is.slot) (with_seat p.state is.slot)
     (kept_new p keeps (made_log state p.state.next is.slot) refl refl is.slot is.free refl (slot_state-written p.state.next state written)
     q.state.files p.state.failures (made_writing p.writing state (Ok id)) q.filled turn.0
-    (held_made state p.state.next is.slot written) writes beside.still
+    (held_made state p.state.next is.slot written) writes beside.list.still
     (λ flushed. elim flushed [ inl w ↦ beside.listed w refl | inr wrong ↦ absurd (unfilled wrong) ])
     (λ honest.
     let create = is.files honest in

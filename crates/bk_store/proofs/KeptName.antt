@@ -120,22 +120,19 @@ module _ (p : Parts) (keeps : Keeps p) (key : EntryKey) (place : Place) (may : M
       let fits = keeps.fits in
       let shown = may.shown in
       record {
-        allowed = fits.allowed;
-        limit = fits.limit;
-        ids = fits.ids;
-        seated = fits.seated;
-        held = fits.held;
+        limits = fits.limits;
+        logs = fits.logs;
         sent = λ k pl is. elim (inserted_cases p.state.index key place k pl is) [
           | inl here ↦ subst (λ (x : Place). HasOpenView p.state.logs x.log) here.1
               (record { log = shown.log; view = shown.view; held = shown.held; opened = shown.opened; view_is = shown.view_is })
           | inr old ↦ fits.sent k pl old.1
         ];
         placed = fits.placed;
-        writing = fits.writing;
-        filled = fits.filled;
-        named = names_move p.state.index key place p.accounts (finite.get p.state.logs) fits.named (finite.get p.state.index key) refl;
-        total = λ id log is. subst (λ n. n + header_length ≤ log.acknowledged)
-            (sym (ap (λ o. unwrap_or o 0) (total_renamed p.accounts (finite.get p.state.index key) place id))) (fits.total id log is);
+        accounts = record {
+          named = names_move p.state.index key place p.accounts (finite.get p.state.logs) fits.accounts.named (finite.get p.state.index key) refl;
+          total = λ id log is. subst (λ n. n + header_length ≤ log.acknowledged)
+              (sym (ap (λ o. unwrap_or o 0) (total_renamed p.accounts (finite.get p.state.index key) place id))) (fits.accounts.total id log is);
+        };
       }
 
   -- the log's published part is its file
@@ -149,27 +146,28 @@ module _ (p : Parts) (keeps : Keeps p) (key : EntryKey) (place : Place) (may : M
   named_promises : IsTrue p.state.honest → Promises p → Promises named
   named_promises honest promise =
       let written = flush_written p.state key payload sound.apart flushing in
-      let mapped = promise.carries.cached_is key payload written in
+      let mapped = promise.map.carries.cached_is key payload written in
       let was = promise.placed key place may.placed in
       let both : Some was.payload ≡ Some payload = sym was.flushing ∙ flushing in
       let same : was.payload ≡ payload = cc in
       let stands = subst (λ b. HasEntry (file_of p.state.files) place key b) same was.stands in
       record {
-        carried = promise.carried;
-        carries = carries_sent promise.carries key place (record { payload = payload; stands = stands; mapped = mapped })
-            (λ old none _. absurd (let wrong : None ≡ Some payload = sym none ∙ written in cc));
+        map = record {
+          carried = promise.map.carried;
+          carries = carries_sent promise.map.carries key place (record { payload = payload; stands = stands; mapped = mapped })
+              (λ old none _. absurd (let wrong : None ≡ Some payload = sym none ∙ written in cc));
+          recent = λ k b is. elim after [
+            | inl kept ↦ promise.map.recent k b (ap (λ r. recent_of r k) (sym kept) ∙ is)
+            | inr new ↦ elim (recent_of-remembered p.state.caches.recent key payload k b (ap (λ r. recent_of r k) (sym new) ∙ is)) [
+              | inl old ↦ promise.map.recent k b old
+              | inr here ↦ ap (finite.get promise.map.carried) here.0 ∙ mapped ∙ ap (λ (x : List ℕ). Some x) (sym here.1)
+            ]
+          ];
+        };
         shows = shows_sent promise.shows key place (payload, entry_same place key payload (part_is honest) stands);
-        recent = λ k b is. elim after [
-          | inl kept ↦ promise.recent k b (ap (λ r. recent_of r k) (sym kept) ∙ is)
-          | inr new ↦ elim (recent_of-remembered p.state.caches.recent key payload k b (ap (λ r. recent_of r k) (sym new) ∙ is)) [
-            | inl old ↦ promise.recent k b old
-            | inr here ↦ ap (finite.get promise.carried) here.0 ∙ mapped ∙ ap (λ (x : List ℕ). Some x) (sym here.1)
-          ]
-        ];
-        counted = sums_move p.state.index key place p.accounts (set.contains p.state.dead) (acknowledged_entries p.state.files p.state.logs) promise.counted
+        counted = sums_move p.state.index key place p.accounts (set.contains p.state.ledgers.dead) (acknowledged_entries p.state.files p.state.logs) promise.counted
             (finite.get p.state.index key) refl;
-        backed = promise.backed;
-        fresh = promise.fresh;
+        logs = promise.logs;
         placed = promise.placed;
       }
 

@@ -55,11 +55,13 @@ module _ (p : Parts) (id : ℕ) (log new : Log) (held : finite.get p.state.logs 
       → ((q : ℕ) → q ≢ id → total_at accounts q ≡ total_at p.accounts q)
       → Fits (with_one_in keeper p id new files failures accounts writing)
   fits_in keeper seated fits new_held sent flushed writes listed written named total others = record {
-    allowed = fits.allowed;
-    limit = fits.limit;
-    ids = fits.ids;
-    seated = seated;
-    held = each_log p.state.logs id log new held (λ q l. IsHeld p.state.next q l) new_held (λ q l _ is. fits.held q l is);
+    limits = fits.limits;
+    logs = record {
+      seated = seated;
+      each = each_log p.state.logs id log new held (λ q l. IsHeld p.state.next q l) new_held (λ q l _ is. fits.logs.each q l is);
+      writing = writes;
+      filled = each_log p.state.logs id log new held (λ q l. IsFlushed l → In q p.filled) listed (λ q l _ is. fits.logs.filled q l is);
+    };
     sent = sent;
     placed = record {
       idle = fits.placed.idle;
@@ -71,11 +73,11 @@ module _ (p : Parts) (id : ℕ) (log new : Log) (held : finite.get p.state.logs 
           (λ q l. l.state ≡ Writing → (key : EntryKey) (place : Place) → finite.get p.state.places key ≡ Some place → place.log ≤ q)
           (λ now. fits.placed.newest id log held (written now)) (λ q l _ is. fits.placed.newest q l is);
     };
-    writing = writes;
-    filled = each_log p.state.logs id log new held (λ q l. IsFlushed l → In q p.filled) listed (λ q l _ is. fits.filled q l is);
-    named = λ q. named q ∙ fits.named q ∙ names_stay p.state.logs id log new held (log_count p.state.index) q;
-    total = each_log p.state.logs id log new held (λ q l. total_at accounts q + header_length ≤ l.acknowledged) total
-        (λ q l apart is. subst (λ n. n + header_length ≤ l.acknowledged) (sym (others q apart)) (fits.total q l is));
+    accounts = record {
+      named = λ q. named q ∙ fits.accounts.named q ∙ names_stay p.state.logs id log new held (log_count p.state.index) q;
+      total = each_log p.state.logs id log new held (λ q l. total_at accounts q + header_length ≤ l.acknowledged) total
+          (λ q l apart is. subst (λ n. n + header_length ≤ l.acknowledged) (sym (others q apart)) (fits.accounts.total q l is));
+    };
   }
 
   -- the log stands as it did
@@ -89,7 +91,7 @@ module _ (p : Parts) (id : ℕ) (log new : Log) (held : finite.get p.state.logs 
       → ((q : ℕ) → q ≢ id → total_at accounts q ≡ total_at p.accounts q)
       → Fits (with_one p id new files failures accounts writing)
   fits_one fits slot state =
-      fits_in p.state.keeper (seated_one p.state.settings p.state.keeper p.state.logs fits.seated id log new held slot state) fits
+      fits_in p.state.keeper (seated_one p.state.settings p.state.keeper p.state.logs fits.logs.seated id log new held slot state) fits
 
   file_else : ((q : ℕ) → q ≢ id → finite.get files q ≡ finite.get p.state.files q) → OnlyIn id (file_of p.state.files) (file_of files)
   file_else only q apart = ap (λ (o : Option (List ℕ)). unwrap_or o []) (only q apart)
@@ -109,45 +111,49 @@ module _ (p : Parts) (id : ℕ) (log new : Log) (held : finite.get p.state.logs 
   }
 
   pub promises_in : (keeper : SlotTable) → Fits p → (promise : Promises p) → (others : List (ℕ × List ℕ)) → Gains p.state.files id others files
-      → ((at : ℕ) (payload : List ℕ) (key : EntryKey) → In (at, payload) others → key_of payload ≡ Some key → set.contains p.state.dead key.ledger ≡ false
-      → finite.get promise.carried key ≡ Some payload)
+      → ((at : ℕ) (payload : List ℕ) (key : EntryKey) → In (at, payload) others → key_of payload ≡ Some key → set.contains p.state.ledgers.dead key.ledger ≡ false
+      → finite.get promise.map.carried key ≡ Some payload)
       → (EntriesStay (file_of p.state.files) (file_of files) → Shows (file_of files) (open_parts (finite.insert p.state.logs id new)) p.state.index)
       → IsBacked files id new
-      → AreSums entry_measure (set.contains p.state.dead) (acknowledged_entries files (finite.insert p.state.logs id new)) (log_count p.state.index) accounts
+      → AreSums entry_measure (set.contains p.state.ledgers.dead) (acknowledged_entries files (finite.insert p.state.logs id new)) (log_count p.state.index) accounts
       → Promises (with_one_in keeper p id new files failures accounts writing)
   promises_in keeper fits promise others gains each shows backed counted =
-      let grows : Grows p.state.dead promise.carried (file_of p.state.files) (file_of files) =
-      grows_behind p.state.dead promise.carried id (file_else gains.only) others gains.records each in
+      let grows : Grows p.state.ledgers.dead promise.map.carried (file_of p.state.files) (file_of files) =
+      grows_behind p.state.ledgers.dead promise.map.carried id (file_else gains.only) others gains.records each in
       record {
-        carried = promise.carried;
-        carries = carries_grown grows promise.carries;
+        map = record {
+          carried = promise.map.carried;
+          carries = carries_grown grows promise.map.carries;
+          recent = promise.map.recent;
+        };
         shows = shows grows.stood;
-        recent = promise.recent;
         counted = counted;
-        backed = each_log p.state.logs id log new held (λ q l. IsBacked files q l) backed (λ q l apart is.
-            let old = promise.backed q l is in
-            record {
-              stands = ap is_some (gains.only q apart) ∙ old.stands;
-              writes = λ w writer. writes_else q w ((fits.held q l is).by w writer).own (gains.only q apart) (old.writes w writer);
-              honest = old.honest;
-              spelled = subst HasNoBadLength (sym (file_else gains.only q apart)) old.spelled;
-              shown = old.shown;
-            });
-        fresh = λ q above. elim (same_or_apart q id) [
-          | inr apart ↦ gains.only q apart ∙ promise.fresh q above
-          | inl here ↦ absurd (let below = (fits.held id log held).below in omega arith)
-        ];
+        logs = record {
+          each = each_log p.state.logs id log new held (λ q l. IsBacked files q l) backed (λ q l apart is.
+              let old = promise.logs.each q l is in
+              record {
+                stands = ap is_some (gains.only q apart) ∙ old.stands;
+                writes = λ w writer. writes_else q w ((fits.logs.each q l is).by w writer).own (gains.only q apart) (old.writes w writer);
+                honest = old.honest;
+                spelled = subst HasNoBadLength (sym (file_else gains.only q apart)) old.spelled;
+                shown = old.shown;
+              });
+          fresh = λ q above. elim (same_or_apart q id) [
+            | inr apart ↦ gains.only q apart ∙ promise.logs.fresh q above
+            | inl here ↦ absurd (let below = (fits.logs.each id log held).below in omega arith)
+          ];
+        };
         placed = λ key place is.
             let old = promise.placed key place is in
             record { payload = old.payload; flushing = old.flushing; stands = grows.stood place key old.payload old.stands };
       }
 
   pub promises_one : Fits p → (promise : Promises p) → (others : List (ℕ × List ℕ)) → Gains p.state.files id others files
-      → ((at : ℕ) (payload : List ℕ) (key : EntryKey) → In (at, payload) others → key_of payload ≡ Some key → set.contains p.state.dead key.ledger ≡ false
-      → finite.get promise.carried key ≡ Some payload)
+      → ((at : ℕ) (payload : List ℕ) (key : EntryKey) → In (at, payload) others → key_of payload ≡ Some key → set.contains p.state.ledgers.dead key.ledger ≡ false
+      → finite.get promise.map.carried key ≡ Some payload)
       → (EntriesStay (file_of p.state.files) (file_of files) → Shows (file_of files) (open_parts (finite.insert p.state.logs id new)) p.state.index)
       → IsBacked files id new
-      → AreSums entry_measure (set.contains p.state.dead) (acknowledged_entries files (finite.insert p.state.logs id new)) (log_count p.state.index) accounts
+      → AreSums entry_measure (set.contains p.state.ledgers.dead) (acknowledged_entries files (finite.insert p.state.logs id new)) (log_count p.state.index) accounts
       → Promises (with_one p id new files failures accounts writing)
   promises_one = promises_in p.state.keeper
 
@@ -166,35 +172,11 @@ job_in keeper p id new files failures accounts writing keeps idle only job is =
 
 pub keeps_failures : (p : Parts) (files : Files) (failures : ℕ) → Keeps p → (IsTrue p.state.honest → files ≡ p.state.files)
     → Keeps (record p { state = record p.state { files = files; failures = failures } })
-keeps_failures p files failures keeps same =
-    let fits = keeps.fits in
-    record {
-      fits = record {
-        allowed = fits.allowed;
-        limit = fits.limit;
-        ids = fits.ids;
-        seated = fits.seated;
-        held = fits.held;
-        sent = fits.sent;
-        placed = fits.placed;
-        writing = fits.writing;
-        filled = fits.filled;
-        named = fits.named;
-        total = fits.total;
-      };
-      job = λ job is.
-          let now = record p.state { files = files; failures = failures } in
-          job_stays p.state now job (stays_same p.state now job refl refl refl same) (keeps.job job is);
-      promises = λ honest.
-          let promise = keeps.promises honest in
-          subst (λ f. Promises (record p { state = record p.state { files = f; failures = failures } })) (sym (same honest)) (record {
-            carried = promise.carried;
-            carries = promise.carries;
-            shows = promise.shows;
-            recent = promise.recent;
-            counted = promise.counted;
-            backed = promise.backed;
-            fresh = promise.fresh;
-            placed = promise.placed;
-          });
-    }
+keeps_failures p files failures keeps same = record {
+  fits = keeps.fits;
+  job = λ job is.
+      let now = record p.state { files = files; failures = failures } in
+      job_stays p.state now job (stays_same p.state now job refl refl refl same) (keeps.job job is);
+  promises = λ honest.
+      subst (λ f. Promises (record p { state = record p.state { files = f; failures = failures } })) (sym (same honest)) (keeps.promises honest);
+}

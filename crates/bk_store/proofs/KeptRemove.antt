@@ -1,11 +1,9 @@
 -- A closed log that is removed leaves what a store keeps.
-use Rattle.std.proofs.Common.{◌≡◌, ◌≢◌, ◌⊎◌, inl, inr, ℕ, ◌+◌, ◌≤◌, Bool, true, false, cond, eqb, ◌==◌, if◌then◌else◌, IsTrue, List, [], take, Option}
-use Rattle.std.proofs.Common.{Some, None, IsSome, is_some, option_map, unwrap_or, Result, Ok, Err, refl, sym, ap, subst, ◌∙◌, arith}
+use Rattle.std.proofs.Common.{◌≡◌, ◌≢◌, inl, inr, ℕ, ◌+◌, ◌≤◌, true, false, ◌==◌, if◌then◌else◌, IsTrue, List, [], take, Option}
+use Rattle.std.proofs.Common.{Some, None, is_some, option_map, unwrap_or, Result, Ok, Err, refl, sym, ap, subst, ◌∙◌, arith}
 use Rattle.std.specs.Option.{option_map_or}
 use Rattle.std.specs.FinMap as finite
 use Rattle.std.proofs.lemmas.Bool.{eqb-true, eq-eqb}
-use Rattle.bk_record.specs.Key.{EntryKey}
-use Rattle.bk_record.specs.Location.{Place}
 use Rattle.bk_record.specs.Files.{Files, file_of, header_length}
 use Rattle.bk_record.specs.Scan.{entries_of}
 use Rattle.bk_record.specs.Keyed.{log_count}
@@ -18,7 +16,7 @@ use Rattle.bk_accounts.proofs.CallerLaws.{sums_drop}
 use Rattle.bk_store.specs.Entries.{Bytes}
 use Rattle.bk_store.specs.Carried.{Carries}
 use Rattle.bk_store.specs.Meaning.{written_at}
-use Rattle.bk_store.specs.Logs.{Log, Logs, HasOpenView, IsFlushLog, is_open, open_parts, published_part}
+use Rattle.bk_store.specs.Logs.{Log, HasOpenView, IsFlushLog, is_open, open_parts, published_part}
 use Rattle.bk_store.specs.State.{State, Parts}
 use Rattle.bk_store.specs.Shown.{Shows}
 use Rattle.bk_store.specs.Kept.{Keeps, Fits, Promises, IsBacked, entry_measure, acknowledged_entries}
@@ -32,7 +30,7 @@ use Rattle.bk_store.proofs.Growing.{OnlyIn, carries_removed, entry_same, none_st
 use Rattle.bk_store.proofs.Seats.{seated_removed}
 use Rattle.bk_store.proofs.KeptSet.{one_log}
 use Rattle.bk_store.proofs.KeptOne.{keeps_failures}
-use Rattle.bk_store.proofs.JobStays.{Stays, job_stays, job_apart}
+use Rattle.bk_store.proofs.JobStays.{job_stays, job_apart}
 
 module _ (p : Parts) (keeps : Keeps p) (id : ℕ) (log : Log) (held : finite.get p.state.logs id ≡ Some log) (closed : log.state ≡ Closed) (files : Files) where
   abbrev removed : Parts
@@ -75,7 +73,7 @@ module _ (p : Parts) (keeps : Keeps p) (id : ℕ) (log : Log) (held : finite.get
       ≡ option_map (λ _. log_count p.state.index q) (finite.get (finite.remove p.state.logs id) q)) [
         | true ↦ λ tied. sym (ap (option_map (λ (_ : Log). log_count p.state.index q))
             (ap (finite.get (finite.remove p.state.logs id)) (eqb-true q id tied) ∙ log-removed p.state.logs id))
-        | false ↦ λ other. keeps.fits.named q ∙ sym (ap (option_map (λ (_ : Log). log_count p.state.index q))
+        | false ↦ λ other. keeps.fits.accounts.named q ∙ sym (ap (option_map (λ (_ : Log). log_count p.state.index q))
             (log-remove_else p.state.logs id q (λ same. let tied = eq-eqb q id same in cc)))
       ] refl
 
@@ -83,11 +81,18 @@ module _ (p : Parts) (keeps : Keeps p) (id : ℕ) (log : Log) (held : finite.get
   removed_fits =
       let fits = keeps.fits in
       record {
-        allowed = fits.allowed;
-        limit = fits.limit;
-        ids = fits.ids;
-        seated = seated_removed p.state.settings p.state.keeper p.state.logs fits.seated id log held;
-        held = λ q l is. fits.held q l (log-remove_cases p.state.logs id q l is).1;
+        limits = fits.limits;
+        logs = record {
+          seated = seated_removed p.state.settings p.state.keeper p.state.logs fits.logs.seated id log held;
+          each = λ q l is. fits.logs.each q l (log-remove_cases p.state.logs id q l is).1;
+          writing = λ q. (
+            (λ is.
+                let now = (fits.logs.writing q).0 is in
+                (now.0, log-remove_else p.state.logs id q (writing_apart q now.0 now.1 now.2) ∙ now.1, now.2)),
+            (λ now. (fits.logs.writing q).1 (now.0, (log-remove_cases p.state.logs id q now.0 now.1).1, now.2)),
+          );
+          filled = λ q l is now. fits.logs.filled q l (log-remove_cases p.state.logs id q l is).1 now;
+        };
         sent = λ key place is. view_stays place.log (fits.sent key place is);
         placed = record {
           idle = fits.placed.idle;
@@ -97,22 +102,17 @@ module _ (p : Parts) (keeps : Keeps p) (id : ℕ) (log : Log) (held : finite.get
           rising = fits.placed.rising;
           newest = λ q l is now. fits.placed.newest q l (log-remove_cases p.state.logs id q l is).1 now;
         };
-        writing = λ q. (
-          (λ is.
-              let now = (fits.writing q).0 is in
-              (now.0, log-remove_else p.state.logs id q (writing_apart q now.0 now.1 now.2) ∙ now.1, now.2)),
-          (λ now. (fits.writing q).1 (now.0, (log-remove_cases p.state.logs id q now.0 now.1).1, now.2)),
-        );
-        filled = λ q l is now. fits.filled q l (log-remove_cases p.state.logs id q l is).1 now;
-        named = names_left;
-        total = λ q l is.
-            let other = log-remove_cases p.state.logs id q l is in
-            let same : total_in (after_drop p.accounts id) q ≡ total_in p.accounts q =
-            total_in-after_drop p.accounts id q ∙ elim (q == id) as (λ b. (q == id) ≡ b → (if b then None else total_in p.accounts q) ≡ total_in p.accounts q) [
-              | true ↦ λ tied. absurd (other.0 (eqb-true q id tied))
-              | false ↦ λ _. refl
-            ] refl in
-            subst (λ o. unwrap_or o 0 + header_length ≤ l.acknowledged) (sym same) (fits.total q l other.1);
+        accounts = record {
+          named = names_left;
+          total = λ q l is.
+              let other = log-remove_cases p.state.logs id q l is in
+              let same : total_in (after_drop p.accounts id) q ≡ total_in p.accounts q =
+              total_in-after_drop p.accounts id q ∙ elim (q == id) as (λ b. (q == id) ≡ b → (if b then None else total_in p.accounts q) ≡ total_in p.accounts q) [
+                | true ↦ λ tied. absurd (other.0 (eqb-true q id tied))
+                | false ↦ λ _. refl
+              ] refl in
+              subst (λ o. unwrap_or o 0 + header_length ≤ l.acknowledged) (sym same) (fits.accounts.total q l other.1);
+        };
       }
 
   module _ (gone : files ≡ finite.remove p.state.files id) where
@@ -153,13 +153,13 @@ module _ (p : Parts) (keeps : Keeps p) (id : ℕ) (log : Log) (held : finite.get
     backed_left : (promise : Promises p) (q : ℕ) (l : Log) → finite.get (finite.remove p.state.logs id) q ≡ Some l → IsBacked files q l
     backed_left promise q l is =
         let other = log-remove_cases p.state.logs id q l is in
-        let old = promise.backed q l other.1 in
+        let old = promise.logs.each q l other.1 in
         let same = file_same q other.0 in
         record {
           stands = ap is_some same ∙ old.stands;
           writes = λ w writer.
               let was = old.writes w writer in
-              let own = ((keeps.fits.held q l other.1).by w writer).own in
+              let own = ((keeps.fits.logs.each q l other.1).by w writer).own in
               record {
                 file = was.file;
                 records = was.records;
@@ -175,13 +175,12 @@ module _ (p : Parts) (keeps : Keeps p) (id : ℕ) (log : Log) (held : finite.get
           shown = old.shown;
         }
 
-    pub removed_carries : (promise : Promises p) → Carries (file_of files) p.state.index (written_at p.state) p.state.dead promise.carried
-    removed_carries promise = carries_removed id only none_left (λ key place named. view_apart place.log (keeps.fits.sent key place named)) promise.carries
+    pub removed_carries : (promise : Promises p) → Carries (file_of files) p.state.index (written_at p.state) p.state.ledgers.dead promise.map.carried
+    removed_carries promise = carries_removed id only none_left (λ key place named. view_apart place.log (keeps.fits.sent key place named)) promise.map.carries
 
     removed_promises : (promise : Promises p) → Promises removed
     removed_promises promise = record {
-      carried = promise.carried;
-      carries = removed_carries promise;
+      map = record { carried = promise.map.carried; carries = removed_carries promise; recent = promise.map.recent };
       shows = subst (λ (ps : Bytes). Shows (file_of files) ps p.state.index) (λ i q. sym (parts_left q) i) (record {
         stands = λ place key payload entry. elim (same_or_apart place.log id) [
           | inl here ↦ absurd (none_stands place key payload (ap (open_parts p.state.logs) here ∙ hidden) entry)
@@ -189,13 +188,14 @@ module _ (p : Parts) (keeps : Keeps p) (id : ℕ) (log : Log) (held : finite.get
         ];
         shown = promise.shows.shown;
       });
-      recent = promise.recent;
       counted = sums_drop entry_measure promise.counted id (acknowledged_entries files (finite.remove p.state.logs id)) entries_left;
-      backed = backed_left promise;
-      fresh = λ q above. elim (same_or_apart q id) [
-        | inl here ↦ absurd (let below = (keeps.fits.held id log held).below in omega (arith, below, above, here))
-        | inr apart ↦ file_same q apart ∙ promise.fresh q above
-      ];
+      logs = record {
+        each = backed_left promise;
+        fresh = λ q above. elim (same_or_apart q id) [
+          | inl here ↦ absurd (let below = (keeps.fits.logs.each id log held).below in omega (arith, below, above, here))
+          | inr apart ↦ file_same q apart ∙ promise.logs.fresh q above
+        ];
+      };
       placed = λ key place is.
           let old = promise.placed key place is in
           let apart = flush_apart place.log (keeps.fits.placed.logs key place is) in

@@ -24,31 +24,28 @@ module _ (p : Parts) (keeps : Keeps p) (key : EntryKey) (from_place to_place : P
   sent_fits =
       let fits = keeps.fits in
       record {
-        allowed = fits.allowed;
-        limit = fits.limit;
-        ids = fits.ids;
-        seated = fits.seated;
-        held = fits.held;
+        limits = fits.limits;
+        logs = fits.logs;
         sent = λ k pl is. elim (inserted_cases p.state.index key to_place k pl is) [
           | inl here ↦ subst (λ (x : Place). HasOpenView p.state.logs x.log) here.1 may.seen
           | inr old ↦ fits.sent k pl old.1
         ];
         placed = fits.placed;
-        writing = fits.writing;
-        filled = fits.filled;
-        named = names_move p.state.index key to_place p.accounts (finite.get p.state.logs) fits.named (finite.get p.state.index key) refl;
-        total = λ id log is. subst (λ n. n + header_length ≤ log.acknowledged)
-            (sym (ap (λ o. unwrap_or o 0) (total_renamed p.accounts (finite.get p.state.index key) to_place id))) (fits.total id log is);
+        accounts = record {
+          named = names_move p.state.index key to_place p.accounts (finite.get p.state.logs) fits.accounts.named (finite.get p.state.index key) refl;
+          total = λ id log is. subst (λ n. n + header_length ≤ log.acknowledged)
+              (sym (ap (λ o. unwrap_or o 0) (total_renamed p.accounts (finite.get p.state.index key) to_place id))) (fits.accounts.total id log is);
+        };
       }
 
   -- the entry at the new place has what the map has, since the index named an older one
-  arrives : IsTrue p.state.honest → (promise : Promises p) → IsIndexed (file_of p.state.files) promise.carried key to_place
+  arrives : IsTrue p.state.honest → (promise : Promises p) → IsIndexed (file_of p.state.files) promise.map.carried key to_place
   arrives honest promise =
       let shown = may.stands honest in
       let stands = promise.shows.stands to_place key shown.0 shown.1 in
-      let old = promise.carries.indexed key from_place there in
-      let alive = promise.carries.lives key old.payload old.mapped in
-      elim (promise.carries.recorded to_place key shown.0 stands alive) [
+      let old = promise.map.carries.indexed key from_place there in
+      let alive = promise.map.carries.lives key old.payload old.mapped in
+      elim (promise.map.carries.recorded to_place key shown.0 stands alive) [
         | inl mapped ↦ record { payload = shown.0; stands = stands; mapped = mapped }
         | inr stale ↦ absurd (
             let same : stale.behind ≡ from_place = same_Some stale.behind from_place (sym stale.sent ∙ there) in
@@ -62,17 +59,18 @@ module _ (p : Parts) (keeps : Keeps p) (key : EntryKey) (from_place to_place : P
 
   sent_promises : IsTrue p.state.honest → Promises p → Promises (sent p key to_place)
   sent_promises honest promise = record {
-    carried = promise.carried;
-    carries = carries_sent promise.carries key to_place (arrives honest promise)
-        (λ was _ is.
-        let same : was ≡ from_place = same_Some was from_place (sym is ∙ there) in
-        inr (inl (subst (λ (x : Place). x.log < to_place.log) (sym same) may.later)));
+    map = record {
+      carried = promise.map.carried;
+      carries = carries_sent promise.map.carries key to_place (arrives honest promise)
+          (λ was _ is.
+          let same : was ≡ from_place = same_Some was from_place (sym is ∙ there) in
+          inr (inl (subst (λ (x : Place). x.log < to_place.log) (sym same) may.later)));
+      recent = promise.map.recent;
+    };
     shows = shows_sent promise.shows key to_place (may.stands honest);
-    recent = promise.recent;
-    counted = sums_move p.state.index key to_place p.accounts (set.contains p.state.dead) (acknowledged_entries p.state.files p.state.logs) promise.counted
+    counted = sums_move p.state.index key to_place p.accounts (set.contains p.state.ledgers.dead) (acknowledged_entries p.state.files p.state.logs) promise.counted
         (finite.get p.state.index key) refl;
-    backed = promise.backed;
-    fresh = promise.fresh;
+    logs = promise.logs;
     placed = promise.placed;
   }
 

@@ -121,36 +121,34 @@ module _ (p : Parts) (keeps : Keeps p) (index : Places) (may : MayReplace p.stat
   replaced_fits =
       let fits = keeps.fits in
       record {
-        allowed = fits.allowed;
-        limit = fits.limit;
-        ids = fits.ids;
-        seated = fits.seated;
-        held = fits.held;
+        limits = fits.limits;
+        logs = fits.logs;
         sent = may.sent;
         placed = fits.placed;
-        writing = fits.writing;
-        filled = fits.filled;
-        named = λ id. names_now id (log_count p.state.index id) (finite.get p.state.logs id) (fits.named id);
-        total = λ id log is. subst (λ n. n + header_length ≤ log.acknowledged)
-            (sym (ap (λ o. unwrap_or o 0) (still (λ account. account.total) (λ n account. refl) id))) (fits.total id log is);
+        accounts = record {
+          named = λ id. names_now id (log_count p.state.index id) (finite.get p.state.logs id) (fits.accounts.named id);
+          total = λ id log is. subst (λ n. n + header_length ≤ log.acknowledged)
+              (sym (ap (λ o. unwrap_or o 0) (still (λ account. account.total) (λ n account. refl) id))) (fits.accounts.total id log is);
+        };
       }
 
   replaced_promises : IsTrue p.state.honest → Promises p → Promises new
   replaced_promises honest promise =
       let sums = promise.counted in
       record {
-        carried = promise.carried;
-        carries = carries_rebuilt promise.carries promise.shows (may.made honest);
-        shows = shows_rebuilt promise.carries promise.shows (may.made honest);
-        recent = promise.recent;
+        map = record {
+          carried = promise.map.carried;
+          carries = carries_rebuilt promise.map.carries promise.shows (may.made honest);
+          recent = promise.map.recent;
+        };
+        shows = shows_rebuilt promise.map.carries promise.shows (may.made honest);
         counted = record {
           total = λ log. still (λ account. account.total) (λ n account. refl) log ∙ sums.total log;
           remaining = λ log. still remaining_size (λ n account. refl) log ∙ sums.remaining log;
           by_ledger = λ log ledger. still (λ account. ledger_size account ledger) (λ n account. refl) log ∙ sums.by_ledger log ledger;
           named = λ log. names_now log (log_count p.state.index log) (acknowledged_entries p.state.files p.state.logs log) (sums.named log);
         };
-        backed = promise.backed;
-        fresh = promise.fresh;
+        logs = promise.logs;
         placed = promise.placed;
       }
 
@@ -166,7 +164,7 @@ module _ (p : Parts) (keeps : Keeps p) (index : Places) (may : MayReplace p.stat
       rebuilt_job None kept job is = cc
       rebuilt_job (Some old) kept job is =
           let one : with_rebuild old ≡ job = cc in
-          subst (λ x. IsJob new.state x) one (job_rebuilt p.state new.state old refl refl refl (kept old refl))
+          subst (λ x. IsJob new.state x) one (job_rebuilt old (kept old refl))
 
 pub keeps_replace : (p q : Parts) (index : Places) → Keeps p → MayReplace p.state index → Replaces p.state index q.state → ReplacesBeside p q → Keeps q
 keeps_replace p q index keeps may turn beside =

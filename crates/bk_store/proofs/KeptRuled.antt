@@ -1,5 +1,5 @@
 -- A flush that starts again, or ends, keeps what a store keeps.
-use Rattle.std.proofs.Common.{◌≡◌, ◌≢◌, ◌⊎◌, inl, inr, ℕ, ◌+◌, ◌≤◌, ◌↔◌, Bool, true, false, cond, IsTrue, List, [], Option}
+use Rattle.std.proofs.Common.{◌≡◌, ◌⊎◌, inl, inr, ℕ, ◌+◌, ◌≤◌, ◌↔◌, cond, List, [], Option}
 use Rattle.std.proofs.Common.{Some, None, IsSome, is_some, option_map, take, refl, sym, ap, subst, ◌∙◌}
 use Rattle.std.specs.Option.{option_map_or, option_or}
 use Rattle.std.specs.FinMap as finite
@@ -9,7 +9,6 @@ use Rattle.bk_record.specs.Location.{Place}
 use Rattle.bk_record.specs.Files.{Files, file_of, header_length, In}
 use Rattle.bk_record.specs.Scan.{entries_of}
 use Rattle.bk_record.specs.Keyed.{log_count}
-use Rattle.bk_log.specs.Writing as writers
 use Rattle.bk_cache.specs.Caches as caches
 use Rattle.bk_cache.specs.Caches.{CacheState}
 use Rattle.bk_cache.specs.Recents.{recent_of}
@@ -30,7 +29,7 @@ use Rattle.bk_store.specs.declared.log.LogState.TheVariants.{Writing, Filled, Co
 use Rattle.bk_store.specs.declared.job.Phase.{Phase}
 use Rattle.bk_store.specs.declared.job.Phase.TheVariants.{Copy, Switch}
 use Rattle.bk_store.proofs.Cases.{some_or_none}
-use Rattle.bk_store.proofs.KeptParts.{none_placed}
+use Rattle.bk_store.proofs.KeptParts.{none_placed, all_unplaced}
 use Rattle.bk_store.proofs.CachedMoves.{carries_let_go}
 use Rattle.bk_store.proofs.Seats.{seated_ruled}
 use Rattle.bk_store.proofs.AllChanged.{IsMild, changed_len, settled_mild, settled_unflushed, unfilled_mild}
@@ -104,48 +103,48 @@ module _ (p : Parts) (keeps : Keeps p) (rule : LogState → Log → Log) (mild :
   ruled_fits limit writes listed =
       let fits = keeps.fits in
       record {
-        allowed = fits.allowed;
-        limit = limit;
-        ids = fits.ids;
-        seated = seated_ruled p.state.settings p.state.keeper p.state.logs fits.seated rule logs
-            (changed_len (λ (l : Log). rule l.state l) p.state.logs logs changed) (was rule mild p.state.logs logs changed) mild.slot mild.seat;
-        held = each_ruled rule mild p.state.logs logs changed (λ id l. IsHeld p.state.next id l) (λ id l is. mild.held p.state.next id l (fits.held id l is));
-        sent = λ key place is. views_ruled rule mild p.state.logs logs changed place.log (fits.sent key place is);
-        placed = record {
-          idle = λ _. refl;
-          flushing = λ key place is. absurd (no_place key place is);
-          logs = λ key place is. absurd (no_place key place is);
-          front = λ key earlier place is. absurd (no_place key place is);
-          rising = λ key later place other is. absurd (no_place key place is);
-          newest = λ id log held now key place is. absurd (no_place key place is);
+        limits = record { allowed = fits.limits.allowed; limit = limit; ids = fits.limits.ids };
+        logs = record {
+          seated = seated_ruled p.state.settings p.state.keeper p.state.logs fits.logs.seated rule logs
+              (changed_len (λ (l : Log). rule l.state l) p.state.logs logs changed) (was rule mild p.state.logs logs changed) mild.slot mild.seat;
+          each = each_ruled rule mild p.state.logs logs changed (λ id l. IsHeld p.state.next id l)
+              (λ id l is. mild.held p.state.next id l (fits.logs.each id l is));
+          writing = writes;
+          filled = listed;
         };
-        writing = writes;
-        filled = listed;
-        named = λ id. fits.named id ∙ names_ruled rule mild p.state.logs logs changed (log_count p.state.index) id;
-        total = each_ruled rule mild p.state.logs logs changed (λ id l. total_at p.accounts id + header_length ≤ l.acknowledged)
-            (λ id l is. subst (λ n. total_at p.accounts id + header_length ≤ n) (sym (mild.acknowledged l)) (fits.total id l is));
+        sent = λ key place is. views_ruled rule mild p.state.logs logs changed place.log (fits.sent key place is);
+        placed = all_unplaced held.flush finite.empty logs refl;
+        accounts = record {
+          named = λ id. fits.accounts.named id ∙ names_ruled rule mild p.state.logs logs changed (log_count p.state.index) id;
+          total = each_ruled rule mild p.state.logs logs changed (λ id l. total_at p.accounts id + header_length ≤ l.acknowledged)
+              (λ id l is. subst (λ n. total_at p.accounts id + header_length ≤ n) (sym (mild.acknowledged l)) (fits.accounts.total id l is));
+        };
       }
 
   ruled_promises : (promise : Promises p)
-      → Carries (file_of p.state.files) p.state.index (written_at (record p.state { caches = held })) p.state.dead promise.carried
+      → Carries (file_of p.state.files) p.state.index (written_at (record p.state { caches = held })) p.state.ledgers.dead promise.map.carried
       → held.recent ≡ p.state.caches.recent → Promises (ruled p logs held writing filled)
   ruled_promises promise carries recent = record {
-    carried = promise.carried;
-    carries = carries;
+    map = record {
+      carried = promise.map.carried;
+      carries = carries;
+      recent = λ key payload is. promise.map.recent key payload (ap (λ r. recent_of r key) (sym recent) ∙ is);
+    };
     shows = subst (λ ps. Shows (file_of p.state.files) ps p.state.index) (λ i id. sym (parts_ruled rule mild p.state.logs logs changed id) i) promise.shows;
-    recent = λ key payload is. promise.recent key payload (ap (λ r. recent_of r key) (sym recent) ∙ is);
-    counted = subst (λ f. AreSums entry_measure (set.contains p.state.dead) f (log_count p.state.index) p.accounts)
+    counted = subst (λ f. AreSums entry_measure (set.contains p.state.ledgers.dead) f (log_count p.state.index) p.accounts)
         (λ i id. sym (entries_ruled rule mild p.state.logs logs changed p.state.files id) i) promise.counted;
-    backed = each_ruled rule mild p.state.logs logs changed (λ id l. IsBacked p.state.files id l) (λ id l is.
-        let old = promise.backed id l is in
-        record {
-          stands = old.stands;
-          writes = λ w writer. old.writes w (mild.writer l w writer);
-          honest = λ view seen. old.honest view (sym (mild.view l) ∙ seen);
-          spelled = old.spelled;
-          shown = λ view seen. old.shown view (sym (mild.view l) ∙ seen);
-        });
-    fresh = promise.fresh;
+    logs = record {
+      each = each_ruled rule mild p.state.logs logs changed (λ id l. IsBacked p.state.files id l) (λ id l is.
+          let old = promise.logs.each id l is in
+          record {
+            stands = old.stands;
+            writes = λ w writer. old.writes w (mild.writer l w writer);
+            honest = λ view seen. old.honest view (sym (mild.view l) ∙ seen);
+            spelled = old.spelled;
+            shown = λ view seen. old.shown view (sym (mild.view l) ∙ seen);
+          });
+      fresh = promise.logs.fresh;
+    };
     placed = λ key place is. absurd (no_place key place is);
   }
 
@@ -200,13 +199,13 @@ keeps_restart p q keeps turn beside =
     let w = was settled_as settled_mild p.state.logs q.state.logs turn.logs id log is in
     settled_unflushed w.0.state w.0 refl (subst (λ (l : Log). (l.state ≡ Writing) ⊎ (l.state ≡ Filled)) (sym w.2) flushed) in
     subst Keeps (sym (beside ∙ ap (λ (s : State). record p { state = s; writing = None; filled = [] }) turn.left)) (record {
-      fits = ruled_fits p keeps settled_as settled_mild q.state.logs turn.logs p.state.caches None [] keeps.fits.limit
+      fits = ruled_fits p keeps settled_as settled_mild q.state.logs turn.logs p.state.caches None [] keeps.fits.limits.limit
           (λ id. ((λ wrong. absurd (cc)), (λ now. absurd (none id now.0 now.1 (inl now.2)))))
           (λ id log is flushed. absurd (none id log is flushed));
       job = job_ruled p keeps settled_as settled_rests q.state.logs turn.logs p.state.caches None [];
       promises = λ honest.
           let promise = keeps.promises honest in
-          ruled_promises p keeps settled_as settled_mild q.state.logs turn.logs p.state.caches None [] promise promise.carries refl;
+          ruled_promises p keeps settled_as settled_mild q.state.logs turn.logs p.state.caches None [] promise promise.map.carries refl;
     })
 
 -- what is cached, without the flush: what is let go of is indexed
@@ -240,20 +239,20 @@ keeps_end p q keeps named turn beside =
     let fits = keeps.fits in
     let held : CacheState = record p.state.caches { flush = None } in
     subst Keeps (sym (beside.parts ∙ ap (λ (s : State). record p { state = s; filled = q.filled }) turn.left)) (record {
-      fits = ruled_fits p keeps unfilled_as unfilled_mild q.state.logs turn.logs held p.writing q.filled fits.limit
+      fits = ruled_fits p keeps unfilled_as unfilled_mild q.state.logs turn.logs held p.writing q.filled fits.limits.limit
           (λ id. (
             (λ is.
-                let old = (fits.writing id).0 is in (
+                let old = (fits.logs.writing id).0 is in (
                   unfilled_as old.0.state old.0,
                   now_is unfilled_as unfilled_mild p.state.logs q.state.logs turn.logs id old.0 old.1,
                   ap (λ s. (unfilled_as s old.0).state) old.2 ∙ old.2,
                 )),
-            (λ now. (fits.writing id).1 (still_writing p q turn.logs id now.0 now.1 now.2)),
+            (λ now. (fits.logs.writing id).1 (still_writing p q turn.logs id now.0 now.1 now.2)),
           ))
           (λ id log is flushed. elim flushed [
             | inl writing ↦
                 let old = still_writing p q turn.logs id log is writing in
-                beside.still id (fits.filled id old.0 old.1 (inl old.2)) ((fits.writing id).1 old)
+                beside.still id (fits.logs.filled id old.0 old.1 (inl old.2)) ((fits.logs.writing id).1 old)
             | inr wrong ↦
                 let w = was unfilled_as unfilled_mild p.state.logs q.state.logs turn.logs id log is in
                 absurd (unfilled_mild.filled w.0 (ap (λ (l : Log). l.state) w.2 ∙ wrong))
@@ -262,5 +261,5 @@ keeps_end p q keeps named turn beside =
       promises = λ honest.
           let promise = keeps.promises honest in
           ruled_promises p keeps unfilled_as unfilled_mild q.state.logs turn.logs held p.writing q.filled promise
-          (carries_let_go promise.carries (written_at (record p.state { caches = held })) (let_go p.state named)) refl;
+          (carries_let_go promise.map.carries (written_at (record p.state { caches = held })) (let_go p.state named)) refl;
     })

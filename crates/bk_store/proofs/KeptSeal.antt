@@ -50,12 +50,12 @@ module _ (p : Parts) (keeps : Keeps p) (id : ℕ) (state : LogState) (log : Log)
 
   -- the log is closed, and the file has gained foreign records, or those of the map
   pub closed_promise : (promise : Promises p) → (others : List (ℕ × List ℕ)) → Gains p.state.files id others files
-      → ((at : ℕ) (payload : List ℕ) (key : EntryKey) → In (at, payload) others → key_of payload ≡ Some key → set.contains p.state.dead key.ledger ≡ false
-      → finite.get promise.carried key ≡ Some payload)
+      → ((at : ℕ) (payload : List ℕ) (key : EntryKey) → In (at, payload) others → key_of payload ≡ Some key → set.contains p.state.ledgers.dead key.ledger ≡ false
+      → finite.get promise.map.carried key ≡ Some payload)
       → Promises (with_one p id new files failures p.accounts (unless_log p.writing id))
   closed_promise promise others gains each =
-      let old = promise.backed id log held in
-      let by = (keeps.fits.held id log held).by w writer in
+      let old = promise.logs.each id log held in
+      let by = (keeps.fits.logs.each id log held).by w writer in
       let same = entries_stay p.state.logs id log new held p.state.files files gains.only
       (acknowledged_stay p.state.files files id w log.acknowledged (old.writes w writer) by.own by.long gains.longer) in
       promises_one p id log new held files failures p.accounts (unless_log p.writing id) keeps.fits promise others gains each
@@ -69,17 +69,17 @@ module _ (p : Parts) (keeps : Keeps p) (id : ℕ) (state : LogState) (log : Log)
         spelled = gains.spelled old.spelled;
         shown = old.shown;
       })
-      (subst (λ f. AreSums entry_measure (set.contains p.state.dead) f (log_count p.state.index) p.accounts) (λ i q. sym (same q) i) promise.counted)
+      (subst (λ f. AreSums entry_measure (set.contains p.state.ledgers.dead) f (log_count p.state.index) p.accounts) (λ i q. sym (same q) i) promise.counted)
 
   pub closed_fits : ((key : EntryKey) (place : Place) → finite.get p.state.places key ≡ Some place → IsFlushLog (finite.insert p.state.logs id new) place.log)
       → (IsFlushed new → In id p.filled) → Fits (with_one p id new files failures p.accounts (unless_log p.writing id))
   closed_fits flushed listed =
       let fits = keeps.fits in
       fits_one p id log new held files failures p.accounts (unless_log p.writing id) fits refl (slot_state-same id state log.state opened was_open)
-      (held_closed p.state.next id state log closed (fits.held id log held))
+      (held_closed p.state.next id state log closed (fits.logs.each id log held))
       (λ key place is. views_stay p.state.logs id log new held (λ v _ view_is. (opened, (v, view_is))) place.log (fits.sent key place is))
-      flushed (writing_closed p.state.logs id new p.writing unwritten fits.writing) listed (λ now. absurd (unwritten now)) (λ q. refl)
-      (fits.total id log held) (λ q _. refl)
+      flushed (writing_closed p.state.logs id new p.writing unwritten fits.logs.writing) listed (λ now. absurd (unwritten now)) (λ q. refl)
+      (fits.accounts.total id log held) (λ q _. refl)
 
 module _ (p : Parts) (keeps : Keeps p) (id : ℕ) (log : Log) (held : finite.get p.state.logs id ≡ Some log) where
   -- the flush's log is Filled, and its places stay in it
@@ -105,7 +105,7 @@ module _ (p q : Parts) (id : ℕ) (state : LogState) (result : Result (Unit {0})
       → Fits (with_one p id (closed_log state turn.log) q.state.files (p.state.failures + failed_in result) p.accounts (unless_log p.writing id)) → Keeps q
   sealed_kept idle fits =
       let log = turn.log in
-      let by = (keeps.fits.held id log turn.writer.held).by turn.w turn.writer.writer in
+      let by = (keeps.fits.logs.each id log turn.writer.held).by turn.w turn.writer.writer in
       let gained = λ (honest : IsTrue p.state.honest).
       subst (λ n. Gains p.state.files n (turn.sealed honest).gains.others q.state.files) by.own (turn.sealed honest).gains.gains in
       subst Keeps (sym (beside ∙ ap (λ (s : State). record p { state = s; writing = unless_log p.writing id }) turn.left)) (record {
@@ -129,7 +129,7 @@ keeps_seal p q id Filled result keeps may turn beside =
     sealed_kept p q id Filled result keeps turn refl refl opened beside
     (λ job is. job_unflushed p.state job (keeps.job job is) id log turn.writer.held (inl was))
     (closed_fits p keeps id Filled log turn.writer.held turn.w turn.writer.writer refl refl opened q.state.files (p.state.failures + failed_in result)
-    (filled_flush p keeps id log turn.writer.held was) (λ _. keeps.fits.filled id log turn.writer.held (inl was)))
+    (filled_flush p keeps id log turn.writer.held was) (λ _. keeps.fits.logs.filled id log turn.writer.held (inl was)))
 keeps_seal p q id Readable result keeps (inl copy) turn beside =
     let log = turn.log in
     let was = one_log p id log Copying turn.writer.held copy.0 in

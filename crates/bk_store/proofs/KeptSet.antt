@@ -52,19 +52,19 @@ module _ (p : Parts) (keeps : Keeps p) (id : ℕ) (state : LogState) (log : Log)
       let new = closed_log state log in
       record {
         fits = fits_in p id log new held files p.state.failures p.accounts p.writing keeper seated fits
-            (held_closed p.state.next id state log closed (fits.held id log held)) sent
+            (held_closed p.state.next id state log closed (fits.logs.each id log held)) sent
             (λ key place is. flush_logs_stay p.state.logs id log new held (λ f. absurd (other f)) place.log (fits.placed.logs key place is))
-            (writing_same p.state.logs id log new held (λ wrong. absurd (other (inl wrong))) (λ wrong. absurd (unflushed (inl wrong))) p.writing fits.writing)
-            (λ wrong. absurd (unflushed wrong)) (λ wrong. absurd (unflushed (inl wrong))) (λ q. refl) (fits.total id log held) (λ q _. refl);
+            (writing_same p.state.logs id log new held (λ wrong. absurd (other (inl wrong))) (λ wrong. absurd (unflushed (inl wrong))) p.writing fits.logs.writing)
+            (λ wrong. absurd (unflushed wrong)) (λ wrong. absurd (unflushed (inl wrong))) (λ q. refl) (fits.accounts.total id log held) (λ q _. refl);
         job = job_in keeper p id new files p.state.failures p.accounts p.writing keeps idle (λ _ q apart. refl);
         promises = λ honest.
             let promise = keeps.promises honest in
-            let old = promise.backed id log held in
+            let old = promise.logs.each id log held in
             let same = entries_stay p.state.logs id log new held files files (λ _ _. refl) refl in
             promises_in p id log new held files p.state.failures p.accounts p.writing keeper fits promise [] (gains_same files files id refl)
             (λ at payload key never. absurd never) (λ _. shows promise.shows)
             (record { stands = old.stands; writes = λ w wrong. absurd (cc); honest = old.honest; spelled = old.spelled; shown = old.shown })
-            (subst (λ f. AreSums entry_measure (set.contains p.state.dead) f (log_count p.state.index) p.accounts) (λ i q. sym (same q) i) promise.counted);
+            (subst (λ f. AreSums entry_measure (set.contains p.state.ledgers.dead) f (log_count p.state.index) p.accounts) (λ i q. sym (same q) i) promise.counted);
       }
 
 pub one_log : (p : Parts) (id : ℕ) (log : Log) (state : LogState) → finite.get p.state.logs id ≡ Some log → IsIn p.state id state → log.state ≡ state
@@ -76,7 +76,7 @@ one_log p id log state held known =
 module _ (p : Parts) (keeps : Keeps p) (id : ℕ) (log : Log) (held : finite.get p.state.logs id ≡ Some log) where
   still_seated : (state : LogState) → slot_state id state ≡ slot_state id log.state
       → IsSeated p.state.settings p.state.keeper (finite.insert p.state.logs id (closed_log state log))
-  still_seated state same = seated_one p.state.settings p.state.keeper p.state.logs keeps.fits.seated id log (closed_log state log) held refl same
+  still_seated state same = seated_one p.state.settings p.state.keeper p.state.logs keeps.fits.logs.seated id log (closed_log state log) held refl same
 
   readable_kept : log.state ≡ Copying → IsIdle p.state id → Keeps (with_one p id (closed_log Readable log) p.state.files p.state.failures p.accounts p.writing)
   readable_kept was idle =
@@ -107,7 +107,7 @@ module _ (p : Parts) (keeps : Keeps p) (id : ℕ) (log : Log) (held : finite.get
       let hidden : is_open new.state ≡ is_open log.state = sym (ap is_open was) in
       let idle : IsIdle p.state id = λ job is. job_apart p.state job (keeps.job job is) id log held (λ wrong. cc) (λ wrong. cc) in
       keeps_closed p keeps id Closed log held idle (not_flushed log (inr (inr was))) refl (λ wrong. elim wrong [ inl w ↦ cc | inr w ↦ cc ])
-      (with_slot p.state.keeper log.slot (slots.Closed id)) (seated_closed p.state.settings p.state.keeper p.state.logs keeps.fits.seated id log held)
+      (with_slot p.state.keeper log.slot (slots.Closed id)) (seated_closed p.state.settings p.state.keeper p.state.logs keeps.fits.logs.seated id log held)
       (λ key place is. views_stay p.state.logs id log new held (λ v wrong _. absurd (let both : true ≡ false = sym wrong ∙ ap is_open was in cc))
       place.log (keeps.fits.sent key place is))
       (λ shows. subst (λ ps. Shows (file_of p.state.files) ps p.state.index) (λ i q. sym (parts_same p.state.logs id log new held hidden refl q) i) shows)

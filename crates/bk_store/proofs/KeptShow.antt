@@ -31,7 +31,7 @@ module _ (p : Parts) (keeps : Keeps p) (id : ℕ) (log : Log) (held : finite.get
       let all : open_parts (finite.insert p.state.logs id shown) id ≡ file_of files id =
       parts_here p.state.logs id log shown held ∙ ap (λ b. cond b view.bytes []) opened ∙ sym file in
       let same = entries_stay p.state.logs id log shown held files files (λ _ _. refl) refl in
-      let old = promise.backed id log held in
+      let old = promise.logs.each id log held in
       promises_one p id log shown held files p.state.failures p.accounts p.writing keeps.fits promise [] (gains_same files files id refl)
       (λ at payload key never. absurd never)
       (λ _. shows_all_of_one promise.shows (open_parts (finite.insert p.state.logs id shown)) id (parts_else p.state.logs id log shown held) all)
@@ -42,13 +42,13 @@ module _ (p : Parts) (keeps : Keeps p) (id : ℕ) (log : Log) (held : finite.get
         spelled = old.spelled;
         shown = λ v is. let one : view ≡ v = cc in subst (λ (x : View). HasNoBadLength x.bytes) one (subst HasNoBadLength file old.spelled);
       })
-      (subst (λ f. AreSums entry_measure (set.contains p.state.dead) f (log_count p.state.index) p.accounts) (λ i q. sym (same q) i) promise.counted)
+      (subst (λ f. AreSums entry_measure (set.contains p.state.ledgers.dead) f (log_count p.state.index) p.accounts) (λ i q. sym (same q) i) promise.counted)
 
   pub keeps_shown : IsIdle p.state id → (IsTrue p.state.honest → IsTrue view.is_honest × (finite.get p.state.files id ≡ Some view.bytes))
       → Keeps (with_one p id shown p.state.files p.state.failures p.accounts p.writing)
   keeps_shown idle seen =
       let fits = keeps.fits in
-      let was = fits.held id log held in
+      let was = fits.logs.each id log held in
       record {
         fits = fits_one p id log shown held p.state.files p.state.failures p.accounts p.writing fits refl refl
             (record {
@@ -58,8 +58,8 @@ module _ (p : Parts) (keeps : Keeps p) (id : ℕ) (log : Log) (held : finite.get
             })
             (λ key place is. views_stay p.state.logs id log shown held (λ v open_log _. (open_log, (view, refl))) place.log (fits.sent key place is))
             (λ key place is. flush_logs_stay p.state.logs id log shown held (λ f. f) place.log (fits.placed.logs key place is))
-            (writing_same p.state.logs id log shown held (λ w. w) (λ w. w) p.writing fits.writing)
-            (fits.filled id log held) (λ w. w) (λ q. refl) (fits.total id log held) (λ q _. refl);
+            (writing_same p.state.logs id log shown held (λ w. w) (λ w. w) p.writing fits.logs.writing)
+            (fits.logs.filled id log held) (λ w. w) (λ q. refl) (fits.accounts.total id log held) (λ q _. refl);
         job = job_in p.state.keeper p id shown p.state.files p.state.failures p.accounts p.writing keeps idle (λ _ q apart. refl);
         promises = λ honest. let s = seen honest in promised (keeps.promises honest) s.0 s.1;
       }

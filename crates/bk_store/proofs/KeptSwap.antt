@@ -11,8 +11,7 @@ use Rattle.bk_store.specs.Kept.{Keeps, Promises}
 use Rattle.bk_store.specs.declared.answer.SwapAnswer.{SwapAnswer}
 use Rattle.bk_store.specs.declared.answer.SwapAnswer.TheVariants.{Running, Nothing, Swapped}
 use Rattle.bk_store.proofs.CachedMoves.{carries_same_cached}
-use Rattle.bk_store.proofs.KeptParts.{with_state, keeps_same, none_placed}
-use Rattle.bk_store.proofs.JobStays.{job_stays, stays_same}
+use Rattle.bk_store.proofs.KeptParts.{with_state, keeps_same, none_placed, all_unplaced}
 
 module _ (p : Parts) (keeps : Keeps p) (idle : p.state.caches.flush ≡ None) where
   abbrev swapped : Parts
@@ -35,13 +34,14 @@ module _ (p : Parts) (keeps : Keeps p) (idle : p.state.caches.flush ≡ None) wh
 
   promised : Promises p → Promises swapped
   promised promise = record {
-    carried = promise.carried;
-    carries = carries_same_cached promise.carries (written_at swapped.state) same_cached;
+    map = record {
+      carried = promise.map.carried;
+      carries = carries_same_cached promise.map.carries (written_at swapped.state) same_cached;
+      recent = promise.map.recent;
+    };
     shows = promise.shows;
-    recent = promise.recent;
     counted = promise.counted;
-    backed = promise.backed;
-    fresh = promise.fresh;
+    logs = promise.logs;
     placed = λ key place is. absurd (none_placed p.state.places key place no_places is);
   }
 
@@ -50,26 +50,13 @@ module _ (p : Parts) (keeps : Keeps p) (idle : p.state.caches.flush ≡ None) wh
       let fits = keeps.fits in
       record {
         fits = record {
-          allowed = fits.allowed;
-          limit = fits.limit;
-          ids = fits.ids;
-          seated = fits.seated;
-          held = fits.held;
+          limits = fits.limits;
+          logs = fits.logs;
           sent = fits.sent;
-          placed = record {
-            idle = λ _. no_places;
-            flushing = λ key place is. absurd (none_placed p.state.places key place no_places is);
-            logs = λ key place is. absurd (none_placed p.state.places key place no_places is);
-            front = λ key earlier place is. absurd (none_placed p.state.places key place no_places is);
-            rising = λ key later place other is. absurd (none_placed p.state.places key place no_places is);
-            newest = λ id log held now key place is. absurd (none_placed p.state.places key place no_places is);
-          };
-          writing = fits.writing;
-          filled = fits.filled;
-          named = fits.named;
-          total = fits.total;
+          placed = all_unplaced (Some p.state.caches.active) p.state.places p.state.logs no_places;
+          accounts = fits.accounts;
         };
-        job = λ job is. job_stays p.state swapped.state job (stays_same p.state swapped.state job refl refl refl (λ _. refl)) (keeps.job job is);
+        job = keeps.job;
         promises = λ honest. promised (keeps.promises honest);
       }
 

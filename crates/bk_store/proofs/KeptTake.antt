@@ -1,5 +1,5 @@
 -- A take keeps what a store keeps: a lease that is given is one more that was given out.
-use Rattle.std.proofs.Common.{◌≡◌, ℕ, List, Bool, Result, Ok, Err, refl, sym, ap, subst, ◌∙◌}
+use Rattle.std.proofs.Common.{◌≡◌, ℕ, List, Bool, Result, Ok, Err, sym, ap, subst, ◌∙◌}
 use Rattle.bk_record.specs.Key.{EntryKey}
 use Rattle.bk_lease.specs.Values.{with_given}
 use Rattle.bk_store.specs.State.{Parts}
@@ -10,46 +10,31 @@ use Rattle.bk_store.specs.declared.answer.Taken.TheVariants.{Deleted, Cached, No
 use Rattle.bk_store.specs.declared.answer.TakeFault.{TakeFault}
 use Rattle.bk_store.specs.declared.answer.TakeFault.TheVariants as take_faults
 use Rattle.bk_store.proofs.KeptParts.{with_state, keeps_same}
-use Rattle.bk_store.proofs.JobStays.{job_stays, stays_same}
 
 -- one lease more was given out
 keeps_given : (p : Parts) → Keeps p → Keeps (with_state p (record p.state { keeper = with_given p.state.keeper }))
 keeps_given p keeps =
     let fits = keeps.fits in
-    let seated = fits.seated in
+    let seated = fits.logs.seated in
     record {
       fits = record {
-        allowed = fits.allowed;
-        limit = fits.limit;
-        ids = fits.ids;
-        seated = record {
-          slots = seated.slots;
-          most = seated.most;
-          seats = record { taken = seated.seats.taken; stands = seated.seats.stands };
+        limits = fits.limits;
+        logs = record {
+          seated = record {
+            slots = seated.slots;
+            most = seated.most;
+            seats = record { taken = seated.seats.taken; stands = seated.seats.stands };
+          };
+          each = fits.logs.each;
+          writing = fits.logs.writing;
+          filled = fits.logs.filled;
         };
-        held = fits.held;
         sent = fits.sent;
         placed = fits.placed;
-        writing = fits.writing;
-        filled = fits.filled;
-        named = fits.named;
-        total = fits.total;
+        accounts = fits.accounts;
       };
-      job = λ job is.
-          let given = record p.state { keeper = with_given p.state.keeper } in
-          job_stays p.state given job (stays_same p.state given job refl refl refl (λ _. refl)) (keeps.job job is);
-      promises = λ honest.
-          let promise = keeps.promises honest in
-          record {
-            carried = promise.carried;
-            carries = promise.carries;
-            shows = promise.shows;
-            recent = promise.recent;
-            counted = promise.counted;
-            backed = promise.backed;
-            fresh = promise.fresh;
-            placed = promise.placed;
-          };
+      job = keeps.job;
+      promises = keeps.promises;
     }
 
 module _ {V : Type 0} (bytes : V → List ℕ) (honest sound : V → Bool) (p q : Parts) (key : EntryKey) where

@@ -50,7 +50,7 @@ use Rattle.bk_store.proofs.Closing.{parts_same}
 use Rattle.bk_store.proofs.KeptSet.{one_log}
 use Rattle.bk_store.proofs.KeptSeal.{closed_promise, closed_fits, filled_flush}
 use Rattle.bk_store.proofs.KeptOne.{with_one, fits_one, promises_one, job_in, keeps_failures}
-use Rattle.bk_store.proofs.JobStays.{job_stays, stays_same, job_unflushed}
+use Rattle.bk_store.proofs.JobStays.{job_unflushed}
 
 -- a key of the flush has there what the write caches have of it
 pub flush_held : (held : caches.CacheState) (key : EntryKey) (payload : List ℕ) → caches.AreApart held → finite.get (caches.flush_of held) key ≡ Some payload
@@ -85,29 +85,23 @@ keeps_ready p log ledger keeps =
     let fits = keeps.fits in
     record {
       fits = record {
-        allowed = fits.allowed;
-        limit = fits.limit;
-        ids = fits.ids;
-        seated = fits.seated;
-        held = fits.held;
+        limits = fits.limits;
+        logs = fits.logs;
         sent = fits.sent;
         placed = fits.placed;
-        writing = fits.writing;
-        filled = fits.filled;
-        named = λ q. named_in-after_ready p.accounts log ledger q ∙ fits.named q;
-        total = λ q l is. subst (λ n. n + header_length ≤ l.acknowledged) (sym (total_readied p.accounts log ledger q)) (fits.total q l is);
+        accounts = record {
+          named = λ q. named_in-after_ready p.accounts log ledger q ∙ fits.accounts.named q;
+          total = λ q l is. subst (λ n. n + header_length ≤ l.acknowledged) (sym (total_readied p.accounts log ledger q)) (fits.accounts.total q l is);
+        };
       };
       job = keeps.job;
       promises = λ honest.
           let promise = keeps.promises honest in
           record {
-            carried = promise.carried;
-            carries = promise.carries;
+            map = promise.map;
             shows = promise.shows;
-            recent = promise.recent;
             counted = sums_ready entry_measure promise.counted log ledger;
-            backed = promise.backed;
-            fresh = promise.fresh;
+            logs = promise.logs;
             placed = promise.placed;
           };
     }
@@ -134,11 +128,8 @@ keeps_noted p key payload place keeps flushing in_log unplaced first stands =
     ] in
     record {
       fits = record {
-        allowed = fits.allowed;
-        limit = fits.limit;
-        ids = fits.ids;
-        seated = fits.seated;
-        held = fits.held;
+        limits = fits.limits;
+        logs = fits.logs;
         sent = fits.sent;
         placed = record {
           idle = λ none.
@@ -168,27 +159,20 @@ keeps_noted p key payload place keeps flushing in_log unplaced first stands =
             ]
           ];
           newest = λ id log held now k pl is.
-              let one : Some id ≡ Some place.log = sym ((fits.writing id).1 (log, held, now))
-              ∙ (fits.writing place.log).1 (in_log.log, in_log.held, in_log.state_is) in
+              let one : Some id ≡ Some place.log = sym ((fits.logs.writing id).1 (log, held, now))
+              ∙ (fits.logs.writing place.log).1 (in_log.log, in_log.held, in_log.state_is) in
               subst (λ n. pl.log ≤ n) (sym (same_Some id place.log one)) (not_above k pl is);
         };
-        writing = fits.writing;
-        filled = fits.filled;
-        named = fits.named;
-        total = fits.total;
+        accounts = fits.accounts;
       };
-      job = λ job is.
-          job_stays p.state (noted p.state key place) job (stays_same p.state (noted p.state key place) job refl refl refl (λ _. refl)) (keeps.job job is);
+      job = keeps.job;
       promises = λ honest.
           let promise = keeps.promises honest in
           record {
-            carried = promise.carried;
-            carries = promise.carries;
+            map = promise.map;
             shows = promise.shows;
-            recent = promise.recent;
             counted = promise.counted;
-            backed = promise.backed;
-            fresh = promise.fresh;
+            logs = promise.logs;
             placed = λ k pl is. elim (inserted_cases p.state.places key place k pl is) [
               | inl here ↦ record {
                 payload = payload;
@@ -230,11 +214,11 @@ module _ (p : Parts) (keeps : Keeps p) (id : ℕ) (log : Log) (held : finite.get
   counted_book = after_count (after_ready p.accounts id key.ledger) id key.ledger (4 + length payload)
 
   by : IsWrittenBy id log w
-  by = (keeps.fits.held id log held).by w writer
+  by = (keeps.fits.logs.each id log held).by w writer
 
   new_held : IsHeld p.state.next id new
   new_held = record {
-    below = (keeps.fits.held id log held).below;
+    below = (keeps.fits.logs.each id log held).below;
     written = λ _. refl;
     by = λ v is.
         let same : with_put w payload ≡ v = cc in
@@ -250,21 +234,21 @@ module _ (p : Parts) (keeps : Keeps p) (id : ℕ) (log : Log) (held : finite.get
       fits_one p id log new held files p.state.failures counted_book p.writing fits refl refl new_held
       (λ k place is. views_stay p.state.logs id log new held (λ v o view_is. (o, (v, view_is))) place.log (fits.sent k place is))
       (λ k place is. flush_logs_stay p.state.logs id log new held (λ f. f) place.log (fits.placed.logs k place is))
-      (writing_same p.state.logs id log new held (λ s. s) (λ s. s) p.writing fits.writing) (fits.filled id log held) (λ s. s)
+      (writing_same p.state.logs id log new held (λ s. s) (λ s. s) p.writing fits.logs.writing) (fits.logs.filled id log held) (λ s. s)
       (λ q. named_in-after_count ready id key.ledger size q ∙ named_in-after_ready p.accounts id key.ledger q)
       (let most = counted_total size (eqb id id) (total_in ready id) in
       let now = ap (λ o. unwrap_or o 0) (total_in-after_count ready id key.ledger size id) in
       let was = total_readied p.accounts id key.ledger id in
-      let old = fits.total id log held in
+      let old = fits.accounts.total id log held in
       let long = by.long in
       omega (arith, most, now, was, old, long))
       (λ q apart. ap (λ o. unwrap_or o 0) (total_in-after_count ready id key.ledger size q)
       ∙ ap (λ b. unwrap_or (option_map (λ total. cond b (total + size) total) (total_in ready q)) 0) (eqb_apart q id apart)
       ∙ uncounted_total size (total_in ready q) ∙ total_readied p.accounts id key.ledger q)
 
-  module _ (promise : Promises p) (mapped : finite.get promise.carried key ≡ Some payload) (grew : files ≡ grown p.state.files id (record_of payload)) where
+  module _ (promise : Promises p) (mapped : finite.get promise.map.carried key ≡ Some payload) (grew : files ≡ grown p.state.files id (record_of payload)) where
     writes : writers.Writes p.state.files w
-    writes = (promise.backed id log held).writes w writer
+    writes = (promise.logs.each id log held).writes w writer
 
     grew_own : files ≡ grown p.state.files w.log (record_of payload)
     grew_own = grew ∙ ap (λ n. grown p.state.files n (record_of payload)) (sym by.own)
@@ -298,22 +282,22 @@ module _ (p : Parts) (keeps : Keeps p) (id : ℕ) (log : Log) (held : finite.get
           | false ↦ λ other. entries_else p.state.logs id log new held p.state.files files put_gained.only q (λ same. let tied = eq-eqb q id same in cc)
         ] refl
 
-    put_sums : AreSums entry_measure (set.contains p.state.dead) (acknowledged_entries files (finite.insert p.state.logs id new))
+    put_sums : AreSums entry_measure (set.contains p.state.ledgers.dead) (acknowledged_entries files (finite.insert p.state.logs id new))
         (log_count p.state.index) counted_book
     put_sums =
         let ledger = key_of-ledger payload key keyed in
-        let alive = promise.carries.lives key payload mapped in
-        subst (λ l. AreSums entry_measure (set.contains p.state.dead) (acknowledged_entries files (finite.insert p.state.logs id new)) (log_count p.state.index)
+        let alive = promise.map.carries.lives key payload mapped in
+        subst (λ l. AreSums entry_measure (set.contains p.state.ledgers.dead) (acknowledged_entries files (finite.insert p.state.logs id new)) (log_count p.state.index)
         (after_count (after_ready p.accounts id key.ledger) id l (4 + length payload))) (sym ledger)
         (sums_count entry_measure (sums_ready entry_measure promise.counted id key.ledger) id (entries_of (take log.acknowledged (file_of p.state.files id)))
         (w.end + 4, payload) (acknowledged_entries files (finite.insert p.state.logs id new)) (entries_were p.state.logs id log new held p.state.files)
-        (ap (set.contains p.state.dead) (sym ledger) ∙ alive) later)
+        (ap (set.contains p.state.ledgers.dead) (sym ledger) ∙ alive) later)
 
     pub put_promises : Promises (with_one p id new files p.state.failures counted_book p.writing)
     put_promises =
-        let old = promise.backed id log held in
+        let old = promise.logs.each id log held in
         promises_one p id log new held files p.state.failures counted_book p.writing keeps.fits promise (put_record w payload) put_gained
-        (λ at b k there is_key _. put_mapped promise.carried w key payload keyed mapped at b k there is_key)
+        (λ at b k there is_key _. put_mapped promise.map.carried w key payload keyed mapped at b k there is_key)
         (λ stood. subst (λ ps. Shows (file_of files) ps p.state.index) (λ i q. sym (parts_same p.state.logs id log new held refl refl q) i)
         (shows_grown promise.shows (file_of files) stood))
         (record {
@@ -350,8 +334,8 @@ written_kept p id key payload keeps may flushing sound log w held writer files g
     let legal = addable_payload payload key read in
     let keyed = (addable payload key read).keyed in
     let was = one_log p id log Writing held (record { log = may.takes.log; held = may.takes.writer.held; state_is = may.takes.state_is }) in
-    let own = ((keeps.fits.held id log held).by w writer).own in
-    let mapped = λ (promise : Promises p). promise.carries.cached_is key payload (flush_written p.state key payload sound.apart flushing) in
+    let own = ((keeps.fits.logs.each id log held).by w writer).own in
+    let mapped = λ (promise : Promises p). promise.map.carries.cached_is key payload (flush_written p.state key payload sound.apart flushing) in
     let mid : Keeps (with_one p id (grown_log log w payload) files p.state.failures
     (after_count (after_ready p.accounts id key.ledger) id key.ledger (4 + length payload)) p.writing) = record {
       fits = put_fits p keeps id log held w writer key payload legal keyed files;
@@ -387,15 +371,15 @@ failed_kept p id key payload keeps may flushing sound log held files failures pa
     let w = takes.w in
     let writer : log.writer ≡ Some w = ap (λ (l : Log). l.writer) (sym one) ∙ takes.writer.writer in
     let opened : is_open log.state ≡ true = ap is_open was in
-    let own = ((keeps.fits.held id log held).by w writer).own in
+    let own = ((keeps.fits.logs.each id log held).by w writer).own in
     let read = sound.flush_keyed key payload flushing in
     let legal = addable_payload payload key read in
     let keyed = (addable payload key read).keyed in
     let closes : unless_log p.writing id ≡ None =
-    ap (λ o. unless_log o id) ((keeps.fits.writing id).1 (log, held, was)) ∙ ap (λ b. cond b None (Some id)) (eq-eqb id id refl) in
+    ap (λ o. unless_log o id) ((keeps.fits.logs.writing id).1 (log, held, was)) ∙ ap (λ b. cond b None (Some id)) (eq-eqb id id refl) in
     let gained = λ (honest : IsTrue p.state.honest).
     let grew = part honest in
-    put_gains p.state.files files w payload (Err log_faults.Disk) (((keeps.promises honest).backed id log held).writes w writer) legal
+    put_gains p.state.files files w payload (Err log_faults.Disk) (((keeps.promises honest).logs.each id log held).writes w writer) legal
     (grew.0, grew.1 ∙ ap (λ n. grown p.state.files n (take grew.0 (record_of payload))) (sym own)) in
     let own_gains : (others : List (ℕ × List ℕ)) → Gains p.state.files w.log others files → Gains p.state.files id others files =
     λ others gains. subst (λ n. Gains p.state.files n others files) own gains in
@@ -403,17 +387,17 @@ failed_kept p id key payload keeps may flushing sound log held files failures pa
     subst (λ l. Keeps (with_one p id l files failures p.accounts None)) state
     (subst (λ o. Keeps (with_one p id (closed_log Filled log) files failures p.accounts o)) closes (record {
       fits = closed_fits p keeps id Filled log held w writer refl refl opened files failures (filled_flush p keeps id log held was)
-          (λ _. keeps.fits.filled id log held (inl was));
+          (λ _. keeps.fits.logs.filled id log held (inl was));
       job = job_in p.state.keeper p id (closed_log Filled log) files failures p.accounts (unless_log p.writing id) keeps
           (λ job is. job_unflushed p.state job (keeps.job job is) id log held (inl was))
           (λ honest. elim (gained honest) [ inl all ↦ (own_gains (put_record w payload) all).only | inr none ↦ (own_gains [] none).only ]);
       promises = λ honest.
           let promise = keeps.promises honest in
-          let mapped = promise.carries.cached_is key payload (flush_written p.state key payload sound.apart flushing) in
+          let mapped = promise.map.carries.cached_is key payload (flush_written p.state key payload sound.apart flushing) in
           elim (gained honest) [
             | inl all ↦ closed_promise p keeps id Filled log held w writer refl refl opened files failures promise (put_record w payload)
                 (own_gains (put_record w payload) all)
-                (λ at b k there is_key _. put_mapped promise.carried w key payload keyed mapped at b k there is_key)
+                (λ at b k there is_key _. put_mapped promise.map.carried w key payload keyed mapped at b k there is_key)
             | inr none ↦ closed_promise p keeps id Filled log held w writer refl refl opened files failures promise []
                 (own_gains [] none) (λ at b k never. absurd never)
           ];

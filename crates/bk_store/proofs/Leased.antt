@@ -6,7 +6,7 @@ use Rattle.bk_lease.specs.Leases.{IsOpen, state_at}
 use Rattle.bk_lease.specs.Values.{SlotTable, Ticket, MayMeet, held_ticket, new_ticket, with_closed, with_given, with_state}
 use Rattle.bk_store.specs.Logs.{View, Log, Logs, HasOpenView, closed_log, is_open}
 use Rattle.bk_store.specs.Seated.{slot_state}
-use Rattle.bk_store.specs.State.{State, Parts}
+use Rattle.bk_store.specs.State.{Parts}
 use Rattle.bk_store.specs.Kept.{Keeps}
 use Rattle.bk_store.specs.Doors.{IsIn}
 use Rattle.bk_store.specs.Leasing.{IsLeaseOf, IsMet, with_closed_log}
@@ -27,7 +27,7 @@ module _ (p now : Parts) (here : p ≡ now) (keeps : Keeps now) (id : ℕ) (log 
 
   lent_open : ¬ (log.state ≡ Closed) → IsOpen p.state.keeper.slots log.slot
   lent_open lent = subst (λ (q : Parts). IsOpen q.state.keeper.slots log.slot) (sym here)
-      (is_open_at now.state.keeper now.state.logs keeps.fits.seated.seats id log held_now lent)
+      (is_open_at now.state.keeper now.state.logs keeps.fits.logs.seated.seats id log held_now lent)
 
   log_stands : (l : Log) → finite.get now.state.logs id ≡ Some l → log ≡ l
   log_stands l is = let both : Some log ≡ Some l = sym held_now ∙ is in cc
@@ -57,7 +57,7 @@ module _ (p now : Parts) (here : p ≡ now) (keeps : Keeps now) (id : ℕ) (log 
         view_is = view_is;
         ticket_is = is ∙ ap (λ (q : Parts). new_ticket q.state.keeper log.slot ticket.seat) here
             ∙ ap (held_ticket now.state.keeper.table ticket.seat log.slot)
-            (stands_log now.state.keeper now.state.logs keeps.fits.seated.seats id log held_now);
+            (stands_log now.state.keeper now.state.logs keeps.fits.logs.seated.seats id log held_now);
         room = (room.0, subst (λ (q : Parts). room.0 < q.state.keeper.most) here room.1, met_now room.0 room.2);
       },
       ap (λ (k : SlotTable). record p.state { keeper = k }) given
@@ -87,7 +87,7 @@ module _ (p now : Parts) (here : p ≡ now) (keeps : Keeps now) (id : ℕ) (log 
             ∙ ap (λ n. record now.state {
               logs = finite.insert now.state.logs id (closed_log Closed log);
               keeper = with_state now.state.keeper log.slot (slots.Closed n);
-            }) (stands_log now.state.keeper now.state.logs keeps.fits.seated.seats id log held_now),
+            }) (stands_log now.state.keeper now.state.logs keeps.fits.logs.seated.seats id log held_now),
       ),
     )
 
@@ -96,5 +96,5 @@ module _ (p now : Parts) (here : p ≡ now) (keeps : Keeps now) (id : ℕ) (log 
   pub remove_closed : IsIn now.state id Closed → state_at p.state.keeper.slots log.slot ≡ slots.Closed id
   remove_closed known =
       let same = log_stands known.log known.held in
-      ap (λ (q : Parts). state_at q.state.keeper.slots log.slot) here ∙ keeps.fits.seated.seats.stands id log held_now
+      ap (λ (q : Parts). state_at q.state.keeper.slots log.slot) here ∙ keeps.fits.logs.seated.seats.stands id log held_now
       ∙ ap (slot_state id) (ap (λ (l : Log). l.state) same ∙ known.state_is)

@@ -23,7 +23,7 @@ use Rattle.bk_lease.specs.declared.slot.Slot.TheVariants.{Open}
 use Rattle.bk_lease.specs.Slots.{IsFree, taken_count}
 use Rattle.bk_lease.specs.Values.{SlotTable, with_state}
 use Rattle.bk_store.specs.Doors.{MakeTurn, MayMake, IsUnmade, with_next, with_seat, logs_left, keeper_left}
-use Rattle.bk_store.specs.Beside.{MakesBeside, HasSlot, HasNoSlot, AllStay, make_told, opened_for, writing_in, made_writing}
+use Rattle.bk_store.specs.Beside.{MakesBeside, HasSlot, HasNoSlot, ListGoesOn, make_told, opened_for, writing_in, made_writing}
 use Rattle.bk_store.specs.declared.log.LogState.{LogState}
 use Rattle.bk_store.specs.declared.log.LogState.TheVariants.{Writing}
 use Rattle.bk_store.specs.declared.answer.MakeFault.{MakeFault}
@@ -54,7 +54,7 @@ none_there (Some account) wrong = absurd (cc)
 -- the next log has no account
 no_account : (p : Parts) → Keeps p → finite.get p.accounts p.state.next ≡ None
 no_account p keeps = none_there (finite.get p.accounts p.state.next)
-    (keeps.fits.named p.state.next ∙ ap (option_map (λ (l : Log). log_count p.state.index p.state.next)) (unheld p keeps))
+    (keeps.fits.accounts.named p.state.next ∙ ap (option_map (λ (l : Log). log_count p.state.index p.state.next)) (unheld p keeps))
 
 pub not_open : (p : Parts) → Keeps p → IsNotOpen p.accounts p.state.next
 not_open p keeps = subst IsNone (sym (no_account p keeps)) refl
@@ -62,32 +62,32 @@ not_open p keeps = subst IsNone (sym (no_account p keeps)) refl
 -- where there is room for a log, a slot is free
 pub slot_there : (p : Parts) → Keeps p → finite.len p.state.logs < p.state.settings.slots → taken_count p.state.keeper.slots ≡ length p.state.keeper.slots → ⊥
 slot_there p keeps room full =
-    let taken = keeps.fits.seated.seats.taken in let many = keeps.fits.seated.slots in omega (arith, room, full, taken, many)
+    let taken = keeps.fits.logs.seated.seats.taken in let many = keeps.fits.logs.seated.slots in omega (arith, room, full, taken, many)
 
 -- an account that is opened and dropped
 pub reopened : (p : Parts) → Keeps p → (book left : Book) → book ≡ after_open p.accounts p.state.next → left ≡ after_drop book p.state.next → left ≡ p.accounts
 reopened p keeps book left opened dropped =
     dropped ∙ ap (λ b. after_drop b p.state.next) opened ∙ remove-insert p.accounts p.state.next fresh (no_account p keeps)
 
-module _ (p now : Parts) (here : p ≡ now) (filled : List ℕ) (book : Book) (logs : Logs) (still : AllStay p.filled filled) where
-  pub slot_taken : (state : LogState) (number : ℕ) → book ≡ after_open p.accounts p.state.next
+module _ (p now : Parts) (here : p ≡ now) (filled : List ℕ) (book : Book) (logs : Logs) (state : LogState) (list : ListGoesOn state p.filled filled) where
+  pub slot_taken : (number : ℕ) → book ≡ after_open p.accounts p.state.next
       → logs ≡ finite.insert p.state.logs p.state.next (unmade_log number)
       → (state ≡ Writing → In p.state.next filled) → IsFree p.state.keeper.slots number
       → HasSlot now state number (record p { state = record p.state { logs = logs }; accounts = book; filled = filled })
-  slot_taken state number opened held listed free =
+  slot_taken number opened held listed free =
       subst (λ (n : Parts). HasSlot n state number (record p { state = record p.state { logs = logs }; accounts = book; filled = filled })) here (record {
         free = free;
         parts = λ i. record p { state = record p.state { logs = held i }; accounts = opened i; filled = filled };
-        still = still;
+        list = list;
         listed = listed;
       })
 
   pub no_slot : book ≡ p.accounts → logs ≡ p.state.logs
-      → HasNoSlot now (record p { state = record p.state { logs = logs }; accounts = book; filled = filled })
+      → HasNoSlot now state (record p { state = record p.state { logs = logs }; accounts = book; filled = filled })
   no_slot same held =
-      subst (λ (n : Parts). HasNoSlot n (record p { state = record p.state { logs = logs }; accounts = book; filled = filled })) here (record {
+      subst (λ (n : Parts). HasNoSlot n state (record p { state = record p.state { logs = logs }; accounts = book; filled = filled })) here (record {
         parts = λ i. record p { state = record p.state { logs = held i }; accounts = same i; filled = filled };
-        still = still;
+        list = list;
       })
 
 -- ---- the turn
@@ -109,7 +109,7 @@ module _ (p s : Parts) (state : LogState) (number : ℕ) (slot : HasSlot p state
       → w ≡ made_writing p.writing state result → MakesBeside p state result (record s { state = t; accounts = book; writing = w })
   beside_slot t book w result opened writes = record {
     parts = λ i. record { state = t; accounts = opened i; writing = writes i; filled = s.filled };
-    still = slot.still;
+    list = slot.list;
     listed = λ is _. slot.listed is;
   }
 
@@ -223,7 +223,7 @@ module _ (p s : Parts) (state : LogState) (number : ℕ) (slot : HasSlot p state
       never_odd : IsTrue p.state.honest → CreateFails p.state.files p.state.next made log_faults.Odd files → ⊥
       never_odd h = elim made as (λ b. CreateFails p.state.files p.state.next b log_faults.Odd files → ⊥) [
         | true ↦ λ wrong. wrong
-        | false ↦ λ fails. let none = (keeps.promises h).fresh p.state.next (omega arith) in let there = fails.0 in let some = sym there ∙ ap is_some none in cc
+        | false ↦ λ fails. let none = (keeps.promises h).logs.fresh p.state.next (omega arith) in let there = fails.0 in let some = sym there ∙ ap is_some none in cc
       ]
 
       never_failed : CreateFails p.state.files p.state.next made log_faults.Failed files → ⊥

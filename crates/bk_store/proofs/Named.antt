@@ -27,7 +27,7 @@ use Rattle.bk_store.proofs.KeptName.{names_move}
 -- a log that a key names has a name to lose
 pub unname_fits : (p : Parts) → Keeps p → (key : EntryKey) (old : Place) → finite.get p.state.index key ≡ Some old
     → IfSome (named_in p.accounts old.log) (λ n. 0 < n)
-unname_fits p keeps key old there = subst (λ o. IfSome o (λ n. 0 < n)) (sym (keeps.fits.named old.log)) (inside (finite.get p.state.logs old.log))
+unname_fits p keeps key old there = subst (λ o. IfSome o (λ n. 0 < n)) (sym (keeps.fits.accounts.named old.log)) (inside (finite.get p.state.logs old.log))
   where
     inside : (o : Option Log) → IfSome (option_map (λ _. log_count p.state.index old.log) o) (λ n. 0 < n)
     inside None = tt
@@ -58,9 +58,9 @@ name_fits p keeps key place was is few =
         → option_map (λ n. cond (eqb place.log place.log) (n + 1) n) (named_in (unnamed p.accounts was) place.log)
         ≡ option_map (λ _. log_count (finite.insert p.state.index key place) place.log) (finite.get p.state.logs place.log)
     moved None is = sym (named_in-after_name p.accounts place.log place.log)
-        ∙ names_move p.state.index key place p.accounts (finite.get p.state.logs) keeps.fits.named None is place.log
+        ∙ names_move p.state.index key place p.accounts (finite.get p.state.logs) keeps.fits.accounts.named None is place.log
     moved (Some old) is = sym (named_in-after_name (after_unname p.accounts old.log) place.log place.log)
-        ∙ names_move p.state.index key place p.accounts (finite.get p.state.logs) keeps.fits.named (Some old) is place.log
+        ∙ names_move p.state.index key place p.accounts (finite.get p.state.logs) keeps.fits.accounts.named (Some old) is place.log
 
 -- ---- what is remembered
 

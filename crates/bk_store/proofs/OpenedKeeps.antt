@@ -28,7 +28,7 @@ use Rattle.bk_cache.specs.Caches.{CacheState}
 use Rattle.bk_store.specs.Entries.{IsIndexOf}
 use Rattle.bk_store.specs.Carried.{Cached, Carries}
 use Rattle.bk_store.specs.Logs.{View, Log, Logs, found_log, open_parts, is_open, published_part}
-use Rattle.bk_store.specs.State.{Parts}
+use Rattle.bk_store.specs.State.{Parts, opened_ledgers}
 use Rattle.bk_store.specs.Meaning.{written_at}
 use Rattle.bk_store.specs.Turns.{valid_ledgers}
 use Rattle.bk_lease.specs.Values.{SlotTable}
@@ -43,7 +43,7 @@ use Rattle.bk_store.specs.declared.answer.OpenFault.TheVariants as open_faults
 use Rattle.bk_store.specs.declared.open.tally.Tally.{Tally}
 use Rattle.bk_store.proofs.Cases.{some_or_none, some_value}
 use Rattle.bk_store.proofs.Growing.{none_stands, entry_same}
-use Rattle.bk_store.proofs.KeptParts.{none_placed}
+use Rattle.bk_store.proofs.KeptParts.{none_placed, all_unplaced}
 use Rattle.bk_store.proofs.EntryLists.{IsIndexOfList, list_empty, list_index}
 use Rattle.bk_store.proofs.Walks.{walked, keyed_at}
 use Rattle.bk_store.proofs.HeldWalks.{files_walked}
@@ -72,7 +72,7 @@ opened_parts settings files honest failures t logs keeper next = record {
     logs = logs;
     keeper = keeper;
     next = next;
-    dead = t.dead;
+    ledgers = opened_ledgers t.dead;
     job = None;
   };
   accounts = named_by (finite.entries t.index) t.accounts;
@@ -188,26 +188,19 @@ module _ (settings : Settings) (honest : Bool) (files : Files) (failures : ℕ) 
 
   pub opened_fits : IsAllowed settings → IsSeated settings keeper logs → Fits p
   opened_fits allowed seated = record {
-    allowed = allowed;
-    limit = refl;
-    ids = ids_fit;
-    seated = seated;
-    held = kept_log;
+    limits = record { allowed = allowed; limit = refl; ids = ids_fit };
+    logs = record {
+      seated = seated;
+      each = kept_log;
+      writing = λ id. (λ wrong. cc, λ w. let r = read_of id w.0 w.1 in let readable = ap (λ (l : Log). l.state) r.1.1 in let writes = w.2 in cc);
+      filled = λ id log is fills.
+          let r = read_of id log is in let readable = ap (λ (l : Log). l.state) r.1.1 in elim fills [ inl wrong ↦ cc | inr wrong ↦ cc ];
+    };
     sent = λ key place named.
         let r = sent_read key place named in
         record { log = found_log r.0.view r.0.slot r.0.end; view = r.0.view; held = r.1.held; opened = refl; view_is = refl };
-    placed = record {
-      idle = λ _. refl;
-      flushing = λ key place is. absurd (none_placed finite.empty key place refl is);
-      logs = λ key place is. absurd (none_placed finite.empty key place refl is);
-      front = λ key earlier place is. absurd (none_placed finite.empty key place refl is);
-      rising = λ key later place other is. absurd (none_placed finite.empty key place refl is);
-      newest = λ id log held now key place is. absurd (none_placed finite.empty key place refl is);
-    };
-    writing = λ id. (λ wrong. cc, λ w. let r = read_of id w.0 w.1 in let readable = ap (λ (l : Log). l.state) r.1.1 in let writes = w.2 in cc);
-    filled = λ id log is fills. let r = read_of id log is in let readable = ap (λ (l : Log). l.state) r.1.1 in elim fills [ inl wrong ↦ cc | inr wrong ↦ cc ];
-    named = named_here;
-    total = total_here;
+    placed = all_unplaced p.state.caches.flush finite.empty logs refl;
+    accounts = record { named = named_here; total = total_here };
   }
 
   -- ---- beside an honest disk
@@ -282,9 +275,12 @@ module _ (settings : Settings) (honest : Bool) (files : Files) (failures : ℕ) 
 
     pub opened_promises : Promises p
     opened_promises = record {
-      carried = live (scan_of files) t.dead;
-      carries = subst (λ (c : Cached). Carries (file_of files) t.index c t.dead (live (scan_of files) t.dead)) (λ i key. none_written key i)
-          (carries_opened files whole_index);
+      map = record {
+        carried = live (scan_of files) t.dead;
+        carries = subst (λ (c : Cached). Carries (file_of files) t.index c t.dead (live (scan_of files) t.dead)) (λ i key. none_written key i)
+            (carries_opened files whole_index);
+        recent = λ key payload wrong. cc;
+      };
       shows = record {
         stands = λ place key payload entry. elim (each_held place.log) [
           | inl apart ↦ absurd (none_stands place key payload (ap (λ (o : Option Log). option_map_or shown_part o []) (not_held place.log apart)) entry)
@@ -295,7 +291,6 @@ module _ (settings : Settings) (honest : Bool) (files : Files) (failures : ℕ) 
             let last = whole_index.sent key place named in
             (last.0, entry_same place key last.0 (sym (part_is place.log held.0 held.1)) last.1.here);
       };
-      recent = λ key payload wrong. cc;
       counted = record {
         total = λ id. sums.total id ∙ same_sums (all_bytes found_measure) (all_bytes entry_measure)
             (λ r there. same_total (entries_of r.view.bytes) r.founds (whole_read r there).found) id;
@@ -306,19 +301,21 @@ module _ (settings : Settings) (honest : Bool) (files : Files) (failures : ℕ) 
             (λ r there. same_part (entries_of r.view.bytes) r.founds (whole_read r there).found (set.contains t.dead) ledger) id;
         named = λ id. sums.named id ∙ same_sums (λ _. log_count t.index id) (λ _. log_count t.index id) (λ r there. refl) id;
       };
-      backed = λ id log there.
-          let r = read_of id log there in
-          subst (IsBacked files id) (sym r.1.1) (record {
-            stands = ap is_some (read_file id r.0 r.1.0);
-            writes = λ w wrong. cc;
-            honest = λ view shows. subst (λ (v : View). IsTrue v.is_honest) (same_Some r.0.view view shows) (whole_read r.0 r.1.0.there).honest;
-            spelled = subst HasNoBadLength (sym (file_is id r.0 r.1.0)) (whole_read r.0 r.1.0.there).opens.whole;
-            shown = λ view shows. subst (λ (v : View). HasNoBadLength v.bytes) (same_Some r.0.view view shows) (whole_read r.0 r.1.0.there).opens.whole;
-          });
-      fresh = λ id past. elim (some_or_none (finite.get files id)) [
-        | inl none ↦ none
-        | inr there ↦ absurd (omega (arith, past, id_below 0 next ids id taken.rising (file_in id there.0 there.1)))
-      ];
+      logs = record {
+        each = λ id log there.
+            let r = read_of id log there in
+            subst (IsBacked files id) (sym r.1.1) (record {
+              stands = ap is_some (read_file id r.0 r.1.0);
+              writes = λ w wrong. cc;
+              honest = λ view shows. subst (λ (v : View). IsTrue v.is_honest) (same_Some r.0.view view shows) (whole_read r.0 r.1.0.there).honest;
+              spelled = subst HasNoBadLength (sym (file_is id r.0 r.1.0)) (whole_read r.0 r.1.0.there).opens.whole;
+              shown = λ view shows. subst (λ (v : View). HasNoBadLength v.bytes) (same_Some r.0.view view shows) (whole_read r.0 r.1.0.there).opens.whole;
+            });
+        fresh = λ id past. elim (some_or_none (finite.get files id)) [
+          | inl none ↦ none
+          | inr there ↦ absurd (omega (arith, past, id_below 0 next ids id taken.rising (file_in id there.0 there.1)))
+        ];
+      };
       placed = λ key place wrong. absurd (none_placed finite.empty key place refl wrong);
     }
 
@@ -414,7 +411,7 @@ made_parts settings files honest failures kept places t logs keeper next filled 
     logs = logs;
     keeper = keeper;
     next = next;
-    dead = t.dead;
+    ledgers = opened_ledgers t.dead;
     job = None;
   };
   accounts = t.accounts;
@@ -451,7 +448,7 @@ module _ (settings : Settings) (honest honest' : Bool) (files files' : Files) (f
     settings_are = refl;
     caches_are = refl;
     places_are = refl;
-    dead_are = ap (λ (x : Tally). x.dead) taken.taken ∙ dead-reads (started dead) taken.reads ∙ dead_are;
+    ledgers_are = ap opened_ledgers (ap (λ (x : Tally). x.dead) taken.taken ∙ dead-reads (started dead) taken.reads ∙ dead_are);
     idle = refl;
     holds = λ is.
         let is' : IsTrue honest' = stays ∙ is in

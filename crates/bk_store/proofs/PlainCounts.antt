@@ -1,6 +1,6 @@
 -- A ledger has as many keys in the plain map as a store counts: those of the write caches, and those of the index alone.
 use Rattle.std.proofs.Common.{◌≡◌, ℕ, zero, suc, ◌+◌, ◌-◌, ◌==◌, ◌&&◌, ◌||◌, Bool, true, false, cond, not, eqb, List, [], ◌∷◌, length}
-use Rattle.std.proofs.Common.{inl, inr, Option, Some, None, IsSome, is_some, refl, sym, ap, subst, ◌∙◌, arith}
+use Rattle.std.proofs.Common.{inl, Some, None, is_some, refl, sym, ap, subst, ◌∙◌, arith}
 use Rattle.std.specs.Option.{option_or}
 use Rattle.std.specs.List.{filter, count_by}
 use Rattle.std.specs.FinMap as finite
@@ -82,7 +82,7 @@ count_filtered p q (e ∷ es) =
     and_false true = refl
     and_false false = refl
 
-module _ (s : State) (map : Payloads) (carries : Carries (file_of s.files) s.index (written_at s) s.dead map) (ledger : ℕ)
+module _ (s : State) (map : Payloads) (carries : Carries (file_of s.files) s.index (written_at s) s.ledgers.dead map) (ledger : ℕ)
     (apart : caches.AreApart s.caches) where
   abbrev written : EntryKey → Bool
   written key = is_some (written_at s key)

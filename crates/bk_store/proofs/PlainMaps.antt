@@ -16,7 +16,7 @@ use Rattle.bk_lease.specs.Values.{Ticket}
 use Rattle.bk_store.specs.Entries.{HasEntry}
 use Rattle.bk_store.specs.Carried.{Carries}
 use Rattle.bk_store.specs.Logs.{View, HasOpenView, view_of, is_open, open_parts, published_part}
-use Rattle.bk_store.specs.State.{State, Parts}
+use Rattle.bk_store.specs.State.{State, Parts, KnownLedgers}
 use Rattle.bk_store.specs.Meaning.{written_at, cached_at, holds}
 use Rattle.bk_store.specs.Kept.{Keeps, Promises}
 use Rattle.bk_store.specs.Turns.{AddTurn, TakeTurn, SwapTurn, DeleteTurn, deleted}
@@ -49,24 +49,24 @@ module _ (s : State) (p : Plain) (agrees : MatchesPlain s p) where
   told_is : (key : EntryKey) → told_at p key ≡ written_at s key
   told_is key = sym ((λ i. option_or (finite.get (agrees.active i) key) (finite.get (unwrap_or (agrees.flush i) finite.empty) key)))
 
-  pub same_map : (promise : Payloads) → Carries (file_of s.files) s.index (written_at s) s.dead promise → p.map ≡ promise
+  pub same_map : (promise : Payloads) → Carries (file_of s.files) s.index (written_at s) s.ledgers.dead promise → p.map ≡ promise
   same_map carried carries = finite.same_map key_cmp_total key_cmp_antisymmetric p.map carried (λ key.
       agrees.meaning key
-      ∙ (λ i. cond (set.contains (sym agrees.dead i) key.ledger) None (option_or (told_is key i) (finite.get (scan_of s.files) key)))
+      ∙ (λ i. cond (set.contains (sym agrees.ledgers i).dead key.ledger) None (option_or (told_is key i) (finite.get (scan_of s.files) key)))
       ∙ sym (carries_meaning s.files carries key))
 
-  pub plain_carries : (carried : Payloads) → Carries (file_of s.files) s.index (written_at s) s.dead carried
-      → Carries (file_of s.files) s.index (written_at s) s.dead p.map
-  plain_carries carried carries = subst (Carries (file_of s.files) s.index (written_at s) s.dead) (sym (same_map carried carries)) carries
+  pub plain_carries : (carried : Payloads) → Carries (file_of s.files) s.index (written_at s) s.ledgers.dead carried
+      → Carries (file_of s.files) s.index (written_at s) s.ledgers.dead p.map
+  plain_carries carried carries = subst (Carries (file_of s.files) s.index (written_at s) s.ledgers.dead) (sym (same_map carried carries)) carries
 
 -- a store that carries the plain map agrees with it
-pub agrees_of : (s : State) (p : Plain) → Carries (file_of s.files) s.index (written_at s) s.dead p.map
-    → s.dead ≡ p.dead → s.caches.active ≡ p.active → s.caches.flush ≡ p.flush → MatchesPlain s p
-agrees_of s p carries dead active flush = record {
+pub agrees_of : (s : State) (p : Plain) → Carries (file_of s.files) s.index (written_at s) s.ledgers.dead p.map
+    → s.ledgers ≡ p.ledgers → s.caches.active ≡ p.active → s.caches.flush ≡ p.flush → MatchesPlain s p
+agrees_of s p carries ledgers active flush = record {
   meaning = λ key. carries_meaning s.files carries key
-      ∙ (λ i. cond (set.contains (dead i) key.ledger) None
+      ∙ (λ i. cond (set.contains (ledgers i).dead key.ledger) None
       (option_or (option_or (finite.get (active i) key) (finite.get (unwrap_or (flush i) finite.empty) key)) (finite.get (scan_of s.files) key)));
-  dead = dead;
+  ledgers = ledgers;
   active = active;
   flush = flush;
 }
@@ -80,11 +80,11 @@ module _ (parts : Parts) (keeps : Keeps parts) (promise : Promises parts) (p : P
   abbrev s : State
   s = parts.state
 
-  carries : Carries (file_of s.files) s.index (written_at s) s.dead p.map
-  carries = plain_carries s p agrees promise.carried promise.carries
+  carries : Carries (file_of s.files) s.index (written_at s) s.ledgers.dead p.map
+  carries = plain_carries s p agrees promise.map.carried promise.map.carries
 
-  is_carried : p.map ≡ promise.carried
-  is_carried = same_map s p agrees promise.carried promise.carries
+  is_carried : p.map ≡ promise.map.carried
+  is_carried = same_map s p agrees promise.map.carried promise.map.carries
 
   mapped_is : (key : EntryKey) → is_some (finite.get p.map key) ≡ holds s key
   mapped_is key = held_exactly carries key
@@ -95,11 +95,11 @@ module _ (parts : Parts) (keeps : Keeps parts) (promise : Promises parts) (p : P
     | inr there ↦ absurd (let wrong : true ≡ false = sym (ap is_some there.1) ∙ mapped_is key ∙ not in cc)
   ]
 
-  lives_in : (key : EntryKey) (b : Bool) → set.contains s.dead key.ledger ≡ b → set.contains p.dead key.ledger ≡ b
-  lives_in key b is = ap (λ d. set.contains d key.ledger) (sym agrees.dead) ∙ is
+  lives_in : (key : EntryKey) (b : Bool) → set.contains s.ledgers.dead key.ledger ≡ b → set.contains p.ledgers.dead key.ledger ≡ b
+  lives_in key b is = ap (λ (l : KnownLedgers). set.contains l.dead key.ledger) (sym agrees.ledgers) ∙ is
 
-  dead_is : (ledger : ℕ) (b : Bool) → set.contains s.dead ledger ≡ b → set.contains p.dead ledger ≡ b
-  dead_is ledger b is = ap (λ d. set.contains d ledger) (sym agrees.dead) ∙ is
+  dead_is : (ledger : ℕ) (b : Bool) → set.contains s.ledgers.dead ledger ≡ b → set.contains p.ledgers.dead ledger ≡ b
+  dead_is ledger b is = ap (λ (l : KnownLedgers). set.contains l.dead ledger) (sym agrees.ledgers) ∙ is
 
   pub plain_add : (t : State) (payload : List ℕ) (r : Result Added AddFault) → AddTurn s payload r t
       → (q : Plain) × PlainAdd s.caches.limit p payload r q × MatchesPlain t q
@@ -139,7 +139,7 @@ module _ (parts : Parts) (keeps : Keeps parts) (promise : Promises parts) (p : P
       let after = added.carries_accepted parts payload asks.key asks.reads keeps asks.lives asks.held carries in (
         q,
         (asks.key, new, subst (λ a. ¬ (s.caches.limit < caches.used_of a + length payload)) agrees.active turn.1, refl),
-        agrees_same (agrees_of (record s { caches = caches.with_added s.caches payload }) q after agrees.dead
+        agrees_same (agrees_of (record s { caches = caches.with_added s.caches payload }) q after agrees.ledgers
             ((λ i. finite.insert (agrees.active i) (added.is_key parts payload asks.key asks.reads keeps asks.lives asks.held i) payload)) agrees.flush) turn.2,
       )
 
@@ -149,7 +149,7 @@ module _ (parts : Parts) (keeps : Keeps parts) (promise : Promises parts) (p : P
       elim (written_at s key) as (λ o. written_at s key ≡ o → option_or o (recent_of s.caches.recent key) ≡ Some payload
       → finite.get p.map key ≡ Some payload) [
         | Some b ↦ λ written same. carries.cached_is key b written ∙ same
-        | None ↦ λ _ recent. ap (λ m. finite.get m key) is_carried ∙ promise.recent key payload recent
+        | None ↦ λ _ recent. ap (λ m. finite.get m key) is_carried ∙ promise.map.recent key payload recent
       ] refl is
 
   uncached : (key : EntryKey) → cached_at s key ≡ None → written_at s key ≡ None
@@ -176,7 +176,7 @@ module _ (parts : Parts) (keeps : Keeps parts) (promise : Promises parts) (p : P
       ∙ (λ i. cond (opened.opened i) (published_part opened.log) []) ∙ ap (λ o. option_map_or (λ v. v.bytes) o []) view_is in (
         shown.0,
         entry.mapped ∙ ap Some (sym same),
-        (promise.backed place.log opened.log opened.held).honest view view_is,
+        (promise.logs.each place.log opened.log opened.held).honest view view_is,
         record { stands = subst (λ b. In (place.at, shown.0) (records_of b)) part shown.1.stands; keyed = shown.1.keyed },
       )
 
@@ -205,7 +205,7 @@ module _ (parts : Parts) (keeps : Keeps parts) (promise : Promises parts) (p : P
             },
           ),
         ),
-        agrees_same (record { meaning = agrees.meaning; dead = agrees.dead; active = agrees.active; flush = agrees.flush }) turn.2,
+        agrees_same (record { meaning = agrees.meaning; ledgers = agrees.ledgers; active = agrees.active; flush = agrees.flush }) turn.2,
       )
   plain_take bytes honest sound key (Err take_faults.NoSeat) t turn =
       ((lives_in key false turn.1.lives, indexed_mapped key turn.0 turn.1.sent), agrees_same agrees turn.2)
@@ -228,7 +228,7 @@ module _ (parts : Parts) (keeps : Keeps parts) (promise : Promises parts) (p : P
   plain_swap t (Swapped n) turn =
       let after : State = record s { caches = record s.caches { active = finite.empty; flush = Some s.caches.active } } in
       agrees_same (agrees_of after (after_swap (Swapped n) p) (carries_same_cached carries (written_at after) (swapped.same_cached parts keeps turn.0))
-      agrees.dead refl (ap Some agrees.active)) turn.3
+      agrees.ledgers refl (ap Some agrees.active)) turn.3
 
   pub plain_delete : caches.AreApart s.caches → (t : State) (ledger : ℕ) (r : Result ℕ DeleteFault) → DeleteTurn s ledger r t
       → (q : Plain) × PlainDelete p ledger r q × MatchesPlain t q
@@ -239,6 +239,6 @@ module _ (parts : Parts) (keeps : Keeps parts) (promise : Promises parts) (p : P
     (dead_is ledger false turn.0, turn.1 ∙ held_is_mapped s p.map carries ledger apart, refl),
     agrees_same (agrees_of (deleted s ledger) (after_delete p ledger)
         (carries_without_ledger carries (written_at (deleted s ledger)) ledger (removed.written_gone s ledger) (removed.written_same s ledger))
-        (ap (λ d. set.insert d ledger) agrees.dead) (ap (λ m. without_ledger m ledger) agrees.active)
+        (ap (λ (l : KnownLedgers). record l { dead = set.insert l.dead ledger }) agrees.ledgers) (ap (λ m. without_ledger m ledger) agrees.active)
         (ap (option_map (λ m. without_ledger m ledger)) agrees.flush)) turn.2,
   )

@@ -4,7 +4,7 @@ use Rattle.std.specs.FinMap as finite
 use Rattle.std.specs.FinSet as set
 use Rattle.bk_record.specs.Key.{EntryKey}
 use Rattle.bk_record.specs.Location.{Place}
-use Rattle.bk_record.specs.Record.{IsPayload, key_of, record_of}
+use Rattle.bk_record.specs.Record.{IsPayload, key_of, read_added, record_of}
 use Rattle.bk_record.specs.Files.{Files, file_of, In}
 use Rattle.bk_record.specs.Scan.{Payloads}
 use Rattle.bk_record.proofs.ReadKeys.{addable, addable_payload}
@@ -17,6 +17,7 @@ use Rattle.bk_log.proofs.Gains.{create_gains, put_gains}
 use Rattle.bk_cache.specs.Caches as caches
 use Rattle.bk_cache.specs.Kept.{IsSound}
 use Rattle.bk_store.specs.Carried.{Carries}
+use Rattle.bk_store.specs.Logs.{Log}
 use Rattle.bk_store.specs.State.{State, Parts}
 use Rattle.bk_store.specs.Meaning.{KeepsMeaning, MeansTheSame, meaning_at, written_at}
 use Rattle.bk_store.specs.Kept.{Keeps, Promises}
@@ -36,8 +37,8 @@ use Rattle.bk_store.proofs.KeptWrite.{flush_written, put_mapped}
 use Rattle.bk_store.proofs.KeptRuled.{let_go}
 
 -- two states of which the same map is carried mean the same
-pub same_map : (s t : State) (map : Payloads) → Carries (file_of s.files) s.index (written_at s) s.dead map
-    → Carries (file_of t.files) t.index (written_at t) t.dead map → MeansTheSame s t
+pub same_map : (s t : State) (map : Payloads) → Carries (file_of s.files) s.index (written_at s) s.ledgers.dead map
+    → Carries (file_of t.files) t.index (written_at t) t.ledgers.dead map → MeansTheSame s t
 same_map s t map was now key = sym (carries_meaning t.files now key) ∙ carries_meaning s.files was key
 
 -- a state with the same files, caches and dead ledgers
@@ -49,13 +50,13 @@ same_files s files same key = ap (λ f. meaning_at (record s { files = f }) key)
 
 -- in one log others stand behind the old records, and those that have keys of live ledgers have what the map has
 pub gained : (p : Parts) (promise : Promises p) (id : ℕ) (files : Files) (others : List (ℕ × List ℕ)) → Gains p.state.files id others files
-    → ((at : ℕ) (payload : List ℕ) (key : EntryKey) → In (at, payload) others → key_of payload ≡ Some key → set.contains p.state.dead key.ledger ≡ false
-    → finite.get promise.carried key ≡ Some payload)
+    → ((at : ℕ) (payload : List ℕ) (key : EntryKey) → In (at, payload) others → key_of payload ≡ Some key → set.contains p.state.ledgers.dead key.ledger ≡ false
+    → finite.get promise.map.carried key ≡ Some payload)
     → MeansTheSame p.state (record p.state { files = files })
 gained p promise id files others gains each =
-    same_map p.state (record p.state { files = files }) promise.carried promise.carries
-    (carries_grown (grows_behind p.state.dead promise.carried id (λ q apart. ap (λ o. unwrap_or o []) (gains.only q apart)) others gains.records each)
-    promise.carries)
+    same_map p.state (record p.state { files = files }) promise.map.carried promise.map.carries
+    (carries_grown (grows_behind p.state.ledgers.dead promise.map.carried id (λ q apart. ap (λ o. unwrap_or o []) (gains.only q apart)) others gains.records each)
+    promise.map.carries)
 
 -- ---- making a log
 
@@ -82,52 +83,62 @@ make_means p q state (Ok id) keeps turn honest =
 
 -- ---- writing and sealing
 
-module _ (p : Parts) (keeps : Keeps p) (id : ℕ) (key : EntryKey) (payload : List ℕ) (may : MayWrite p.state id key)
-    (flushing : finite.get (caches.flush_of p.state.caches) key ≡ Some payload) (sound : IsSound p.state.caches) (honest : IsTrue p.state.honest)
-    (files : Files) where
-  abbrev w : writers.Writing
-  w = may.takes.w
-
+-- a record is put in a log that is written, of an entry that the map has
+module _ (p : Parts) (keeps : Keeps p) (id : ℕ) (log : Log) (held : finite.get p.state.logs id ≡ Some log) (w : writers.Writing)
+    (writer : log.writer ≡ Some w) (key : EntryKey) (payload : List ℕ) (legal : IsPayload payload) (keyed : key_of payload ≡ Some key)
+    (honest : IsTrue p.state.honest) (mapped : finite.get (keeps.promises honest).map.carried key ≡ Some payload) (files : Files) where
   own : w.log ≡ id
-  own = ((keeps.fits.held id may.takes.log may.takes.writer.held).by may.takes.w may.takes.writer.writer).own
+  own = ((keeps.fits.logs.each id log held).by w writer).own
 
   writes : writers.Writes p.state.files w
-  writes = ((keeps.promises honest).backed id may.takes.log may.takes.writer.held).writes may.takes.w may.takes.writer.writer
-
-  legal : IsPayload payload
-  legal = addable_payload payload key (sound.flush_keyed key payload flushing)
+  writes = ((keeps.promises honest).logs.each id log held).writes w writer
 
   own_grown : (bytes : List ℕ) → files ≡ grown p.state.files id bytes → files ≡ grown p.state.files w.log bytes
   own_grown bytes grew = grew ∙ ap (λ n. grown p.state.files n bytes) (sym own)
 
-  each : (at : ℕ) (b : List ℕ) (k : EntryKey) → In (at, b) (put_record w payload) → key_of b ≡ Some k → set.contains p.state.dead k.ledger ≡ false
-      → finite.get (keeps.promises honest).carried k ≡ Some b
-  each at b k there is_key _ =
-      let promise = keeps.promises honest in
-      put_mapped promise.carried w key payload (addable payload key (sound.flush_keyed key payload flushing)).keyed
-      (promise.carries.cached_is key payload (flush_written p.state key payload sound.apart flushing)) at b k there is_key
+  each : (at : ℕ) (b : List ℕ) (k : EntryKey) → In (at, b) (put_record w payload) → key_of b ≡ Some k → set.contains p.state.ledgers.dead k.ledger ≡ false
+      → finite.get (keeps.promises honest).map.carried k ≡ Some b
+  each at b k there is_key _ = put_mapped (keeps.promises honest).map.carried w key payload keyed mapped at b k there is_key
 
-  put_means : files ≡ grown p.state.files id (record_of payload) → MeansTheSame p.state (record p.state { files = files })
+  pub put_means : files ≡ grown p.state.files id (record_of payload) → MeansTheSame p.state (record p.state { files = files })
   put_means grew =
       gained p (keeps.promises honest) w.log files (put_record w payload)
       (put_gains p.state.files files w payload (Ok (next_place w)) writes legal (own_grown (record_of payload) grew)) each
 
-  part_means : (n : ℕ) × (files ≡ grown p.state.files id (take n (record_of payload))) → MeansTheSame p.state (record p.state { files = files })
+  pub part_means : (n : ℕ) × (files ≡ grown p.state.files id (take n (record_of payload))) → MeansTheSame p.state (record p.state { files = files })
   part_means grew = elim (put_gains p.state.files files w payload (Err log_faults.Disk) writes legal
       (grew.0, own_grown (take grew.0 (record_of payload)) grew.1)) [
         | inl all ↦ gained p (keeps.promises honest) w.log files (put_record w payload) all each
         | inr none ↦ gained p (keeps.promises honest) w.log files [] none (λ at b k never. absurd never)
       ]
 
+-- the flush's next entry is one
+module _ (p : Parts) (keeps : Keeps p) (id : ℕ) (key : EntryKey) (payload : List ℕ) (may : MayWrite p.state id key)
+    (flushing : finite.get (caches.flush_of p.state.caches) key ≡ Some payload) (sound : IsSound p.state.caches) (honest : IsTrue p.state.honest)
+    (files : Files) where
+  read : read_added payload ≡ Ok key
+  read = sound.flush_keyed key payload flushing
+
+  mapped_flush : finite.get (keeps.promises honest).map.carried key ≡ Some payload
+  mapped_flush = (keeps.promises honest).map.carries.cached_is key payload (flush_written p.state key payload sound.apart flushing)
+
+  written_means : files ≡ grown p.state.files id (record_of payload) → MeansTheSame p.state (record p.state { files = files })
+  written_means = put_means p keeps id may.takes.log may.takes.writer.held may.takes.w may.takes.writer.writer key payload
+      (addable_payload payload key read) (addable payload key read).keyed honest mapped_flush files
+
+  unwritten_means : (n : ℕ) × (files ≡ grown p.state.files id (take n (record_of payload))) → MeansTheSame p.state (record p.state { files = files })
+  unwritten_means = part_means p keeps id may.takes.log may.takes.writer.held may.takes.w may.takes.writer.writer key payload
+      (addable_payload payload key read) (addable payload key read).keyed honest mapped_flush files
+
 pub write_means : (p q : Parts) (id : ℕ) (key : EntryKey) (payload : List ℕ) (result : Result Place LogFault) → Keeps p → MayWrite p.state id key
     → finite.get (caches.flush_of p.state.caches) key ≡ Some payload → WriteTurn p.state id key payload result q.state
     → WritesBeside p id key payload result q → IsTrue p.state.honest → MeansTheSame p.state q.state
 write_means p q id key payload (Ok place) keeps may flushing turn beside honest =
-    subst (MeansTheSame p.state) (sym turn.1.4) (put_means p keeps id key payload may flushing beside.0 honest q.state.files (turn.1.3 honest))
+    subst (MeansTheSame p.state) (sym turn.1.4) (written_means p keeps id key payload may flushing beside.0 honest q.state.files (turn.1.3 honest))
 write_means p q id key payload (Err log_faults.Memory) keeps may flushing turn beside honest =
     subst (MeansTheSame p.state) (sym turn.1) (same_files p.state q.state.files (turn.0 honest))
 write_means p q id key payload (Err log_faults.Disk) keeps may flushing turn beside honest =
-    subst (MeansTheSame p.state) (sym turn.3) (part_means p keeps id key payload may flushing beside.0 honest q.state.files (turn.2 honest))
+    subst (MeansTheSame p.state) (sym turn.3) (unwritten_means p keeps id key payload may flushing beside.0 honest q.state.files (turn.2 honest))
 write_means p q id key payload (Err log_faults.Odd) keeps may flushing turn beside honest = absurd (let wrong = turn.0 in cc)
 write_means p q id key payload (Err log_faults.Failed) keeps may flushing never beside honest = absurd never
 
@@ -145,7 +156,7 @@ end_means p q keeps named turn honest =
     let promise = keeps.promises honest in
     let ended : State = record p.state { caches = record p.state.caches { flush = None } } in
     subst (MeansTheSame p.state) (sym turn.left)
-    (same_map p.state ended promise.carried promise.carries (carries_let_go promise.carries (written_at ended) (let_go p.state named)))
+    (same_map p.state ended promise.map.carried promise.map.carries (carries_let_go promise.map.carries (written_at ended) (let_go p.state named)))
 
 -- ---- a log is closed
 

@@ -27,14 +27,14 @@ pub record IsWrittenLog (p : Parts) (id : ℕ) : Type 0 where
 
 pub written_log : (p : Parts) → Keeps p → (id : ℕ) (log : Log) → finite.get p.state.logs id ≡ Some log → is_written log.state ≡ true → IsWrittenLog p id
 written_log p keeps id log held is =
-    let old = keeps.fits.held id log held in
+    let old = keeps.fits.logs.each id log held in
     let found = some_value log.writer (old.written is) in
     record {
       log = log;
       w = found.0;
       writer = record { held = held; writer = found.1 };
       going = (old.by found.0 found.1).going;
-      writes = λ honest. ((keeps.promises honest).backed id log held).writes found.0 found.1;
+      writes = λ honest. ((keeps.promises honest).logs.each id log held).writes found.0 found.1;
     }
 
 pub sealable : (p : Parts) → Keeps p → (id : ℕ) (state : LogState) → MaySeal p.state id state → IsWrittenLog p id

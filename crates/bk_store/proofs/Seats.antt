@@ -1,21 +1,19 @@
 -- What a change of the logs, or of a slot, does to the seats of the logs.
-use Rattle.std.proofs.Common.{◌≡◌, ◌≢◌, ◌⊎◌, inl, inr, ℕ, ◌+◌, ◌-◌, ◌<◌, ◌≤◌, true, false, cond, Option, Some, None}
-use Rattle.std.proofs.Common.{is_some, option_map, length, set, refl, sym, ap, subst, ◌∙◌, arith}
+use Rattle.std.proofs.Common.{◌≡◌, ◌≢◌, inl, inr, ℕ, ◌+◌, ◌-◌, ◌<◌, true, cond, Option, Some, None}
+use Rattle.std.proofs.Common.{is_some, length, set, refl, sym, ap, subst, ◌∙◌, arith}
 use Rattle.std.specs.FinMap as finite
 use Rattle.std.proofs.lemmas.Cmp.{nat_cmp_total}
 use Rattle.std.proofs.lemmas.List.{length-set}
-use Rattle.bk_lease.specs.declared.slot.Slot.{Slot}
 use Rattle.bk_lease.specs.declared.slot.Slot.TheVariants as slots
 use Rattle.bk_lease.specs.Leases.{state_at, log_of, log_at, IsOpen}
-use Rattle.bk_lease.specs.Slots.{IsFree, taken_of, taken_count}
+use Rattle.bk_lease.specs.Slots.{IsFree, taken_of}
 use Rattle.bk_lease.specs.Values.{SlotTable, with_state}
-use Rattle.bk_lease.proofs.Slots.{inside_slots, taken_count-le, taken_count-set, taken_count-free, state_at-set_here, state_at-set_else, other_slot}
+use Rattle.bk_lease.proofs.Slots.{inside_slots, taken_count-set, state_at-set_here, state_at-set_else, other_slot}
 use Rattle.bk_store.specs.Logs.{Log, Logs, closed_log, is_open, is_written}
 use Rattle.bk_store.specs.Seated.{AreSeated, IsSeated, slot_state}
 use Rattle.bk_store.specs.declared.log.LogState.{LogState}
 use Rattle.bk_store.specs.declared.log.LogState.TheVariants.{Writing, Filled, Copying, Readable, Retired, Closed}
 use Rattle.bk_store.specs.declared.settings.Settings.{Settings}
-use Rattle.bk_store.proofs.Cases.{same_or_apart}
 use Rattle.bk_store.proofs.LogMaps.{log-insert_cases, log-remove_cases}
 use Rattle.bk_store.proofs.OneLog.{same_len, each_log}
 

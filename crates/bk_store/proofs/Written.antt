@@ -50,9 +50,9 @@ pub record IsRoomy (p : Parts) (id : ℕ) (payload : List ℕ) : Type 0 where
 
 pub roomy : (p : Parts) → Keeps p → (id : ℕ) (state : LogState) (payload : List ℕ) → CanTake p.state id state payload → IsRoomy p id payload
 roomy p keeps id state payload takes =
-    let old = keeps.fits.held id takes.log takes.writer.held in
+    let old = keeps.fits.logs.each id takes.log takes.writer.held in
     let by = old.by takes.w takes.writer.writer in
-    let total = keeps.fits.total id takes.log takes.writer.held in
+    let total = keeps.fits.accounts.total id takes.log takes.writer.held in
     record {
       log = takes.log;
       w = takes.w;
@@ -63,9 +63,9 @@ roomy p keeps id state payload takes =
       end_is = by.long;
       headed = let long = by.long in omega (arith, total, long);
       room = takes.room;
-      id_fits = let below = old.below in let ids = keeps.fits.ids in omega (arith, below, ids);
+      id_fits = let below = old.below in let ids = keeps.fits.limits.ids in omega (arith, below, ids);
       total = let long = by.long in omega (arith, total, long);
-      writes = λ honest. ((keeps.promises honest).backed id takes.log takes.writer.held).writes takes.w takes.writer.writer;
+      writes = λ honest. ((keeps.promises honest).logs.each id takes.log takes.writer.held).writes takes.w takes.writer.writer;
     }
 
 pub roomy_same : {p : Parts} {id : ℕ} {a b : List ℕ} → IsRoomy p id a → a ≡ b → IsRoomy p id b

@@ -11,7 +11,7 @@ use Rattle.bk_cache.specs.Kept.{IsSound}
 use Rattle.bk_lease.specs.Slots.{IsFree}
 use Rattle.bk_accounts.specs.Book.{Book, after_open, after_ready, after_count, after_name, after_unname, after_drop}
 use Rattle.bk_store.specs.Logs.{Logs, unmade_log}
-use Rattle.bk_store.specs.State.{State, Parts}
+use Rattle.bk_store.specs.State.{Parts}
 use Rattle.bk_store.specs.Deletion.{AreNamedBy}
 use Rattle.bk_store.specs.declared.log.LogState.{LogState}
 use Rattle.bk_store.specs.declared.log.LogState.TheVariants.{Writing, Filled, Copying, Readable, Retired, Closed}
@@ -31,6 +31,12 @@ make_told log_faults.Odd = makes.Odd
 abbrev pub AllStay : List ℕ → List ℕ → Type 0
 AllStay old new = (id : ℕ) → In id old → In id new
 
+-- The list of the logs that are Writing or Filled, before and after a log is made in this state: it goes on, and only for a log
+-- that is to be Writing.
+pub record ListGoesOn (state : LogState) (old new : List ℕ) : Type 0 where
+  pub still : AllStay old new
+  pub alone : ¬ (state ≡ Writing) → new ≡ old
+
 -- the next log has a slot, which is free yet, and an account, and is in the list where it is to be Writing
 pub record HasSlot (p : Parts) (state : LogState) (slot : ℕ) (q : Parts) : Type 0 where
   pub free : IsFree p.state.keeper.slots slot
@@ -39,13 +45,13 @@ pub record HasSlot (p : Parts) (state : LogState) (slot : ℕ) (q : Parts) : Typ
     accounts = after_open p.accounts p.state.next;
     filled = q.filled;
   }
-  pub still : AllStay p.filled q.filled
+  pub list : ListGoesOn state p.filled q.filled
   pub listed : state ≡ Writing → In p.state.next q.filled
 
 -- no slot was taken
-pub record HasNoSlot (p q : Parts) : Type 0 where
+pub record HasNoSlot (p : Parts) (state : LogState) (q : Parts) : Type 0 where
   pub parts : q ≡ record p { filled = q.filled }
-  pub still : AllStay p.filled q.filled
+  pub list : ListGoesOn state p.filled q.filled
 
 -- the account of a log that is held from then on
 abbrev pub opened_for : Logs → Book → ℕ → Book
@@ -71,7 +77,7 @@ pub record MakesBeside (p : Parts) (state : LogState) (result : Result ℕ MakeF
     writing = made_writing p.writing state result;
     filled = q.filled;
   }
-  pub still : AllStay p.filled q.filled
+  pub list : ListGoesOn state p.filled q.filled
   pub listed : state ≡ Writing → IsOk result → In p.state.next q.filled
 
 -- ---- writing and sealing a log
@@ -150,10 +156,11 @@ RenamesBeside p key place false q = q ≡ p
 abbrev pub RestartsBeside : Parts → Parts → Type 0
 RestartsBeside p q = q ≡ record p { state = q.state; writing = None; filled = [] }
 
--- the list is new, but for the log that is Writing
+-- of the logs that were in the list the one that is Writing is left, and no other
 pub record EndsBeside (p q : Parts) : Type 0 where
   pub parts : q ≡ record p { state = q.state; filled = q.filled }
   pub still : (id : ℕ) → In id p.filled → p.writing ≡ Some id → In id q.filled
+  pub alone : (id : ℕ) → In id q.filled → p.writing ≡ Some id
 
 -- ---- another index
 

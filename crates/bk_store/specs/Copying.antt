@@ -68,7 +68,7 @@ abbrev pub log_bytes : State → ℕ → ℕ
 log_bytes s id = option_map_or (all_bytes entry_measure) (acknowledged_entries s.files s.logs id) 0
 
 abbrev pub live_log_bytes : State → ℕ → ℕ
-live_log_bytes s id = option_map_or (live_bytes entry_measure (set.contains s.dead)) (acknowledged_entries s.files s.logs id) 0
+live_log_bytes s id = option_map_or (live_bytes entry_measure (set.contains s.ledgers.dead)) (acknowledged_entries s.files s.logs id) 0
 
 -- the log of these that is used least, of those that are used below the threshold
 abbrev pub IsLeastUsed : State → ℕ → List ℕ → Option ℕ → Type 0

@@ -24,7 +24,7 @@ use Rattle.bk_lease.specs.Slots.{IsFree}
 use Rattle.bk_lease.specs.Values.{SlotTable, with_state}
 use Rattle.bk_store.specs.Entries.{IsIndexOf}
 use Rattle.bk_store.specs.Logs.{View, Log, Logs, made_log, unmade_log, closed_log, halted_log, with_view, settled_as}
-use Rattle.bk_store.specs.Logs.{unfilled_as, AllChanged, is_open, open_parts, HasOpenView}
+use Rattle.bk_store.specs.Logs.{unfilled_as, AllChanged, is_open, open_parts, HasOpenView, IsHeldIn}
 use Rattle.bk_store.specs.Jobs.{Job, with_rebuild}
 use Rattle.bk_store.specs.Putting.{next_place, grown_log}
 use Rattle.bk_store.specs.State.{State}
@@ -80,10 +80,8 @@ MayMakeTurn s (Err makes.Odd) = ⊥
 MayMakeTurn s (Ok _) = MayMake s
 
 -- a log is held in this state
-pub record IsIn (s : State) (id : ℕ) (state : LogState) : Type 0 where
-  pub log : Log
-  pub held : finite.get s.logs id ≡ Some log
-  pub state_is : log.state ≡ state
+abbrev pub IsIn : State → ℕ → LogState → Type 0
+IsIn s id state = IsHeldIn s.logs id state
 
 -- no log is the one that flushes write
 abbrev pub HasNoWriting : State → Type 0
@@ -295,7 +293,7 @@ SetTurn s id state t = (log : Log) × (finite.get s.logs id ≡ Some log)
 
 -- an index made anew: of all entries that the logs show, and it sends keys to logs with a view alone
 pub record MayReplace (s : State) (index : Places) : Type 0 where
-  pub made : IsTrue s.honest → IsIndexOf (open_parts s.logs) s.dead index
+  pub made : IsTrue s.honest → IsIndexOf (open_parts s.logs) s.ledgers.dead index
   pub sent : (key : EntryKey) (place : Place) → finite.get index key ≡ Some place → HasOpenView s.logs place.log
 
 -- The index is this one from then on, and a job that runs knows it.

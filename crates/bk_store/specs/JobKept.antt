@@ -1,17 +1,18 @@
 -- What the job of a compaction keeps.
-use Rattle.std.specs.Prelude.{◌≡◌, ◌≢◌, ◌⊎◌, ℕ, ◌<◌, ◌≤◌, false, IsTrue, List, [], Some}
+use Rattle.std.specs.Prelude.{◌≡◌, ◌⊎◌, ℕ, ◌<◌, ◌≤◌, Bool, false, IsTrue, List, [], Some}
 use Rattle.std.specs.FinMap as finite
 use Rattle.bk_record.specs.Key.{EntryKey}
 use Rattle.bk_record.specs.Location.{Place}
-use Rattle.bk_record.specs.Files.{file_of, header_length, In}
+use Rattle.bk_record.specs.Files.{Files, file_of, header_length, In}
+use Rattle.bk_record.specs.Keyed.{Places}
 use Rattle.bk_disk.specs.Disk.{view_end}
 use Rattle.bk_log.specs.Ranges.{IsPassed, entries_in, part}
 use Rattle.bk_log.specs.Writing as writers
 use Rattle.bk_store.specs.Entries.{Bytes, HasEntry}
 use Rattle.bk_store.specs.Jobs.{Job, Waits}
-use Rattle.bk_store.specs.Logs.{HasOpenView, open_parts}
+use Rattle.bk_store.specs.Logs.{Logs, HasOpenView, IsHeldIn, open_parts}
 use Rattle.bk_store.specs.State.{State}
-use Rattle.bk_store.specs.Doors.{IsIn, writer_of}
+use Rattle.bk_store.specs.Doors.{writer_of}
 use Rattle.bk_store.specs.declared.job.Phase.{Phase}
 use Rattle.bk_store.specs.declared.job.Phase.TheVariants.{Copy, Switch}
 use Rattle.bk_store.specs.declared.job.Move.{Move}
@@ -35,9 +36,9 @@ copy_state Copy = Copying
 copy_state Switch = Readable
 
 -- where the copies stand: in the files, and when they are shown, in what the logs show
-abbrev pub copied_in : State → Phase → Bytes
-copied_in s Copy = file_of s.files
-copied_in s Switch = open_parts s.logs
+abbrev pub copied_in : Files → Logs → Phase → Bytes
+copied_in files held Copy = file_of files
+copied_in files held Switch = open_parts held
 
 -- a move leads from the job's source to its copy
 pub record IsMoveOf (job : Job) (copied : Move) : Type 0 where
@@ -47,22 +48,26 @@ pub record IsMoveOf (job : Job) (copied : Move) : Type 0 where
 -- Beside an honest disk: the job stands between two records of what its source shows; each move's entry stands in the copy; if
 -- the index was not made anew, it names nothing in the source but entries that are not examined yet, and those whose moves
 -- wait; and when the index is switched, every entry of the source was examined.
-pub record IsCopied (s : State) (job : Job) : Type 0 where
-  pub read : IsReadTo (open_parts s.logs job.source) job.at
-  pub copied : (m : Move) → In m job.moves → (payload : List ℕ) × HasEntry (copied_in s job.phase) m.to m.key payload
-  pub examined : job.rebuilt ≡ false → (key : EntryKey) (place : Place) → finite.get s.index key ≡ Some place → place.log ≡ job.source
+pub record IsCopied (files : Files) (index : Places) (held : Logs) (job : Job) : Type 0 where
+  pub read : IsReadTo (open_parts held job.source) job.at
+  pub copied : (m : Move) → In m job.moves → (payload : List ℕ) × HasEntry (copied_in files held job.phase) m.to m.key payload
+  pub examined : job.rebuilt ≡ false → (key : EntryKey) (place : Place) → finite.get index key ≡ Some place → place.log ≡ job.source
       → (job.at < place.at) ⊎ Waits job.moves key place
-  pub ended : job.phase ≡ Switch → entries_from (open_parts s.logs job.source) job.at ≡ []
+  pub ended : job.phase ≡ Switch → entries_from (open_parts held job.source) job.at ≡ []
 
--- What a job keeps: its source is Readable and has a view; its copy was made later, is written until it is sealed, and
--- then has a view; the copy is no longer than what was examined of the source; and its moves lead from the one to the other.
-pub record IsJob (s : State) (job : Job) : Type 0 where
-  pub source : IsIn s job.source Readable
-  pub shown : HasOpenView s.logs job.source
-  pub copy : IsIn s job.copy (copy_state job.phase)
-  pub copy_shown : job.phase ≡ Switch → HasOpenView s.logs job.copy
+-- What a job keeps, over what it needs: its source is Readable and has a view; its copy was made later, is written until it
+-- is sealed, and then has a view; the copy is no longer than what was examined of the source; and its moves lead from the one
+-- to the other.
+pub record KeepsJob (is_honest : Bool) (files : Files) (index : Places) (held : Logs) (job : Job) : Type 0 where
+  pub source : IsHeldIn held job.source Readable
+  pub shown : HasOpenView held job.source
+  pub copy : IsHeldIn held job.copy (copy_state job.phase)
+  pub copy_shown : job.phase ≡ Switch → HasOpenView held job.copy
   pub later : job.source < job.copy
   pub begun : header_length ≤ job.at
-  pub room : (w : writers.Writing) → writer_of s.logs job.copy ≡ Some w → w.end ≤ job.at
+  pub room : (w : writers.Writing) → writer_of held job.copy ≡ Some w → w.end ≤ job.at
   pub moves : (m : Move) → In m job.moves → IsMoveOf job m
-  pub honest : IsTrue s.honest → IsCopied s job
+  pub honest : IsTrue is_honest → IsCopied files index held job
+
+abbrev pub IsJob : State → Job → Type 0
+IsJob s job = KeepsJob s.honest s.files s.index s.logs job

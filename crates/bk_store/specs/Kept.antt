@@ -7,13 +7,13 @@ use Rattle.bk_record.specs.Key.{EntryKey, key_cmp}
 use Rattle.bk_record.specs.Location.{Place}
 use Rattle.bk_record.specs.Record.{ledger_field}
 use Rattle.bk_record.specs.Files.{Files, file_of, header_length, In}
-use Rattle.bk_record.specs.Scan.{Payloads, entries_of}
+use Rattle.bk_record.specs.Scan.{Payloads, Ledgers, entries_of}
 use Rattle.bk_log.specs.Writing as writers
 use Rattle.bk_log.specs.Growing.{HasNoBadLength}
 use Rattle.bk_record.specs.Keyed.{log_count, Places}
 use Rattle.bk_cache.specs.Caches as caches
 use Rattle.bk_cache.specs.Recents.{recent_of}
-use Rattle.bk_accounts.specs.Book.{named_in, total_at}
+use Rattle.bk_accounts.specs.Book.{Book, named_in, total_at}
 use Rattle.bk_accounts.specs.Sums.{Measure, AreSums}
 use Rattle.bk_store.specs.Entries.{HasEntry}
 use Rattle.bk_store.specs.Carried.{Carries}
@@ -22,9 +22,10 @@ use Rattle.bk_store.specs.Jobs.{Job}
 use Rattle.bk_store.specs.JobKept.{IsJob}
 use Rattle.bk_store.specs.Logs.{View, Log, Logs, HasOpenView, IsFlushLog, is_written, open_parts, acknowledged_part}
 use Rattle.bk_store.specs.State.{Parts}
-use Rattle.bk_store.specs.Meaning.{written_at}
 use Rattle.bk_store.specs.Limits.{IsAllowed}
+use Rattle.bk_lease.specs.Values.{SlotTable}
 use Rattle.bk_store.specs.Seated.{IsSeated}
+use Rattle.bk_store.specs.declared.settings.Settings.{Settings}
 use Rattle.bk_store.specs.declared.log.LogState.TheVariants.{Writing, Filled}
 
 -- the log is written by this writer, which has not failed and is as long as what is acknowledged
@@ -54,20 +55,41 @@ pub record IsPlaced (flush : Option Payloads) (places : Places) (held : Logs) : 
   pub newest : (id : ℕ) (log : Log) → finite.get held id ≡ Some log → log.state ≡ Writing
       → (key : EntryKey) (place : Place) → finite.get places key ≡ Some place → place.log ≤ id
 
--- What is kept beside any disk.
-pub record Fits (p : Parts) : Type 0 where
-  pub allowed : IsAllowed p.state.settings
-  pub limit : p.state.caches.limit ≡ p.state.settings.cache_limit
-  pub ids : p.state.next ≤ 2 ^ 31
-  pub seated : IsSeated p.state.settings p.state.keeper p.state.logs
-  pub held : (id : ℕ) (log : Log) → finite.get p.state.logs id ≡ Some log → IsHeld p.state.next id log
-  pub sent : (key : EntryKey) (place : Place) → finite.get p.state.index key ≡ Some place → HasOpenView p.state.logs place.log
-  pub placed : IsPlaced p.state.caches.flush p.state.places p.state.logs
-  -- what is kept so that no call has to look for it
-  pub writing : (id : ℕ) → (p.writing ≡ Some id) ↔ ((log : Log) × (finite.get p.state.logs id ≡ Some log) × (log.state ≡ Writing))
-  pub filled : (id : ℕ) (log : Log) → finite.get p.state.logs id ≡ Some log → (log.state ≡ Writing) ⊎ (log.state ≡ Filled) → In id p.filled
-  pub named : (id : ℕ) → named_in p.accounts id ≡ option_map (λ _. log_count p.state.index id) (finite.get p.state.logs id)
-  pub total : (id : ℕ) (log : Log) → finite.get p.state.logs id ≡ Some log → total_at p.accounts id + header_length ≤ log.acknowledged
+-- the settings are allowed, the caches go by them, and there is an id for each log that may be made
+pub record IsLimited (settings : Settings) (cache_limit next : ℕ) : Type 0 where
+  pub allowed : IsAllowed settings
+  pub limit : cache_limit ≡ settings.cache_limit
+  pub ids : next ≤ 2 ^ 31
+
+-- Each log that is held has its slot and its writer. The log that flushes write, and those that are Writing or Filled, are
+-- kept so that no call has to look for them.
+pub record AreHeld (settings : Settings) (next : ℕ) (keeper : SlotTable) (held : Logs) (written : Option ℕ) (listed : List ℕ) : Type 0 where
+  pub seated : IsSeated settings keeper held
+  pub each : (id : ℕ) (log : Log) → finite.get held id ≡ Some log → IsHeld next id log
+  pub writing : (id : ℕ) → (written ≡ Some id) ↔ ((log : Log) × (finite.get held id ≡ Some log) × (log.state ≡ Writing))
+  pub filled : (id : ℕ) (log : Log) → finite.get held id ≡ Some log → (log.state ≡ Writing) ⊎ (log.state ≡ Filled) → In id listed
+
+-- keys are sent to logs that are open and have a view
+abbrev pub AreSent : Places → Logs → Type 0
+AreSent index held = (key : EntryKey) (place : Place) → finite.get index key ≡ Some place → HasOpenView held place.log
+
+-- each log that is held, and no other, has an account: it counts the names of the log, and no more bytes than the log has
+pub record AreAccounted (book : Book) (index : Places) (held : Logs) : Type 0 where
+  pub named : (id : ℕ) → named_in book id ≡ option_map (λ _. log_count index id) (finite.get held id)
+  pub total : (id : ℕ) (log : Log) → finite.get held id ≡ Some log → total_at book id + header_length ≤ log.acknowledged
+
+-- What is kept beside any disk, each fact over what it needs: a step that leaves all of this hands the fact on as it is.
+pub record Fitting (settings : Settings) (cache_limit next : ℕ) (keeper : SlotTable) (held : Logs) (written : Option ℕ) (listed : List ℕ)
+    (index : Places) (flush : Option Payloads) (places : Places) (book : Book) : Type 0 where
+  pub limits : IsLimited settings cache_limit next
+  pub logs : AreHeld settings next keeper held written listed
+  pub sent : AreSent index held
+  pub placed : IsPlaced flush places held
+  pub accounts : AreAccounted book index held
+
+abbrev pub Fits : Parts → Type 0
+Fits p = Fitting p.state.settings p.state.caches.limit p.state.next p.state.keeper p.state.logs p.writing p.filled p.state.index
+    p.state.caches.flush p.state.places p.accounts
 
 -- how an entry is measured: by its ledger and the size of its record
 abbrev pub entry_measure : Measure (ℕ × List ℕ)
@@ -92,17 +114,33 @@ pub record IsWrittenAt (flush : Option Payloads) (files : Files) (key : EntryKey
   pub flushing : finite.get (caches.entries_of_flush flush) key ≡ Some payload
   pub stands : HasEntry (file_of files) place key payload
 
--- What is kept beside an honest disk: the files, the index and the caches carry a map, the logs show what the index names,
--- each recent entry is a pair of the map, and the accounts are those of the acknowledged parts.
-pub record Promises (p : Parts) : Type 0 where
+-- the files, the index and the caches carry a map, and each recent entry is a pair of it
+pub record CarriesMap (files : Files) (index : Places) (held : caches.CacheState) (dead : Ledgers) : Type 0 where
   pub carried : Payloads
-  pub carries : Carries (file_of p.state.files) p.state.index (written_at p.state) p.state.dead carried
-  pub shows : Shows (file_of p.state.files) (open_parts p.state.logs) p.state.index
-  pub recent : (key : EntryKey) (payload : List ℕ) → recent_of p.state.caches.recent key ≡ Some payload → finite.get carried key ≡ Some payload
-  pub counted : AreSums entry_measure (set.contains p.state.dead) (acknowledged_entries p.state.files p.state.logs) (log_count p.state.index) p.accounts
-  pub backed : (id : ℕ) (log : Log) → finite.get p.state.logs id ≡ Some log → IsBacked p.state.files id log
-  pub fresh : (id : ℕ) → p.state.next ≤ id → finite.get p.state.files id ≡ None
-  pub placed : (key : EntryKey) (place : Place) → finite.get p.state.places key ≡ Some place → IsWrittenAt p.state.caches.flush p.state.files key place
+  pub carries : Carries (file_of files) index (caches.held held) dead carried
+  pub recent : (key : EntryKey) (payload : List ℕ) → recent_of held.recent key ≡ Some payload → finite.get carried key ≡ Some payload
+
+-- each log that is held has its file, and there is no file of a later id
+pub record AreBacked (files : Files) (next : ℕ) (held : Logs) : Type 0 where
+  pub each : (id : ℕ) (log : Log) → finite.get held id ≡ Some log → IsBacked files id log
+  pub fresh : (id : ℕ) → next ≤ id → finite.get files id ≡ None
+
+-- the entries of the flush that have a place stand there
+abbrev pub AreWritten : Option Payloads → Files → Places → Type 0
+AreWritten flush files places = (key : EntryKey) (place : Place) → finite.get places key ≡ Some place → IsWrittenAt flush files key place
+
+-- What is kept beside an honest disk: the files, the index and the caches carry a map, the logs show what the index names,
+-- and the accounts are those of the acknowledged parts. Each fact is over what it needs.
+pub record Promising (files : Files) (next : ℕ) (held : Logs) (index : Places) (cached : caches.CacheState) (places : Places) (dead : Ledgers)
+    (book : Book) : Type 0 where
+  pub map : CarriesMap files index cached dead
+  pub shows : Shows (file_of files) (open_parts held) index
+  pub counted : AreSums entry_measure (set.contains dead) (acknowledged_entries files held) (log_count index) book
+  pub logs : AreBacked files next held
+  pub placed : AreWritten cached.flush files places
+
+abbrev pub Promises : Parts → Type 0
+Promises p = Promising p.state.files p.state.next p.state.logs p.state.index p.state.caches p.state.places p.state.ledgers.dead p.accounts
 
 -- a store's parts keep both, and so does the job of a compaction that runs
 pub record Keeps (p : Parts) : Type 0 where

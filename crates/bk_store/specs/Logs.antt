@@ -157,3 +157,9 @@ unfilled_as Closed log = log
 -- each log is changed by a rule that goes by its state
 abbrev pub AllChanged : (LogState → Log → Log) → Logs → Logs → Type 0
 AllChanged rule old new = (id : ℕ) → finite.get new id ≡ option_map (λ log. rule log.state log) (finite.get old id)
+
+-- a log is held in this state
+pub record IsHeldIn (logs : Logs) (id : ℕ) (state : LogState) : Type 0 where
+  pub log : Log
+  pub held : finite.get logs id ≡ Some log
+  pub state_is : log.state ≡ state

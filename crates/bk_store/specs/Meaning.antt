@@ -22,7 +22,7 @@ holds s key = is_some (written_at s key) || is_some (finite.get s.index key)
 
 -- The payload that a key has: that of the write caches, or that of the scan of the files; none in a dead ledger.
 abbrev pub meaning_at : State → EntryKey → Option (List ℕ)
-meaning_at s key = if set.contains s.dead key.ledger then None else option_or (written_at s key) (finite.get (scan_of s.files) key)
+meaning_at s key = if set.contains s.ledgers.dead key.ledger then None else option_or (written_at s key) (finite.get (scan_of s.files) key)
 
 -- The map is what the files and the cached pairs give, at every key.
 abbrev pub IsMeaning : Payloads → State → Type 0

@@ -1,5 +1,5 @@
 -- What a store is that was just opened on files, and why an opening is refused.
-use Rattle.std.specs.Prelude.{◌≡◌, ◌⊎◌, ℕ, ◌+◌, ◌<◌, ◌≤◌, ◌^◌, ℤ, Bool, IsTrue, List, length, take, drop, Some, None, IsSome}
+use Rattle.std.specs.Prelude.{◌≡◌, ◌⊎◌, ℕ, ◌+◌, ◌<◌, ◌≤◌, ◌^◌, Bool, IsTrue, List, length, take, drop, Some, None, IsSome}
 use Rattle.std.specs.FinMap as finite
 use Rattle.bk_record.specs.Files.{Files, file_of, header_length}
 use Rattle.bk_record.specs.Body.{IsBadAt}
@@ -10,7 +10,7 @@ use Rattle.bk_cache.specs.Caches as caches
 use Rattle.bk_store.specs.Entries.{IsIndexOf}
 use Rattle.bk_store.specs.Limits.{IsAllowed}
 use Rattle.bk_store.specs.Logs.{View, Logs, found_log}
-use Rattle.bk_store.specs.State.{State}
+use Rattle.bk_store.specs.State.{State, opened_ledgers}
 use Rattle.bk_store.specs.Turns.{valid_ledgers}
 use Rattle.bk_store.specs.declared.settings.Settings.{Settings}
 use Rattle.bk_store.specs.declared.answer.LogCause.{LogCause}
@@ -90,7 +90,7 @@ pub record IsNextId (files : Files) (next : ℕ) : Type 0 where
 pub record HoldsFiles (files : Files) (s : State) : Type 0 where
   pub same : s.files ≡ files
   pub opens : (id : ℕ) (file : List ℕ) → IsFile files id file → Opens file
-  pub index : IsIndexOf (file_of files) s.dead s.index
+  pub index : IsIndexOf (file_of files) s.ledgers.dead s.index
   pub logs : (id : ℕ) (file : List ℕ) → IsFile files id file → IsHeldWhole s.logs id file
   pub none : (id : ℕ) → finite.get files id ≡ None → finite.get s.logs id ≡ None
   pub next : IsNextId files s.next
@@ -100,6 +100,6 @@ pub record IsOpened (honest : Bool) (files : Files) (settings : Settings) (dead 
   pub settings_are : s.settings ≡ settings
   pub caches_are : s.caches ≡ caches.new_caches settings.cache_limit settings.recent
   pub places_are : s.places ≡ finite.empty
-  pub dead_are : s.dead ≡ valid_ledgers dead
+  pub ledgers_are : s.ledgers ≡ opened_ledgers (valid_ledgers dead)
   pub idle : s.job ≡ None
   pub holds : IsTrue honest → HoldsFiles files s

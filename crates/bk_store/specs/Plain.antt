@@ -8,12 +8,12 @@ use Rattle.bk_record.specs.Key.{EntryKey}
 use Rattle.bk_record.specs.Location.{Place}
 use Rattle.bk_record.specs.Record.{read_added}
 use Rattle.bk_record.specs.Files.{Files}
-use Rattle.bk_record.specs.Scan.{Payloads, Ledgers, scan_of}
+use Rattle.bk_record.specs.Scan.{Payloads, scan_of}
 use Rattle.bk_record.specs.Keyed.{ledger_count, without_ledger}
 use Rattle.bk_cache.specs.Caches.{used_of, AreApart}
 use Rattle.bk_lease.specs.Values.{LeasedView}
 use Rattle.bk_store.specs.Entries.{HasEntry}
-use Rattle.bk_store.specs.State.{State, Parts}
+use Rattle.bk_store.specs.State.{State, Parts, KnownLedgers}
 use Rattle.bk_store.specs.Kept.{Keeps}
 use Rattle.bk_store.specs.declared.answer.Added.{Added}
 use Rattle.bk_store.specs.declared.answer.Added.TheVariants.{Accepted, Held}
@@ -28,18 +28,26 @@ use Rattle.bk_store.specs.declared.answer.DeleteFault.TheVariants as delete_faul
 use Rattle.bk_store.specs.declared.answer.SwapAnswer.{SwapAnswer}
 use Rattle.bk_store.specs.declared.answer.SwapAnswer.TheVariants.{Running, Nothing, Swapped}
 
--- The plain state: the accepted entries of live ledgers, the dead ledgers, and which of the entries are only cached yet, as
+-- The plain state: the accepted entries of live ledgers, what is known of ledgers, and which of the entries are only cached yet, as
 -- the answers tell it.
 pub record Plain : Type 0 where
   pub map : Payloads
-  pub dead : Ledgers
+  pub ledgers : KnownLedgers
   pub active : Payloads
   pub flush : Option Payloads
+
+-- the ledger is dead
+abbrev pub IsDeleted : Plain → ℕ → Type 0
+IsDeleted p ledger = set.contains p.ledgers.dead ledger ≡ true
+
+-- the ledger lives
+abbrev pub IsAlive : Plain → ℕ → Type 0
+IsAlive p ledger = set.contains p.ledgers.dead ledger ≡ false
 
 -- a payload that may be added, of this key, whose ledger lives
 pub record IsLive (p : Plain) (payload : List ℕ) (key : EntryKey) : Type 0 where
   pub reads : read_added payload ≡ Ok key
-  pub lives : set.contains p.dead key.ledger ≡ false
+  pub lives : IsAlive p key.ledger
 
 -- the same of a key that the map does not have
 pub record IsNew (p : Plain) (payload : List ℕ) (key : EntryKey) : Type 0 where
@@ -54,7 +62,7 @@ IsOver limit p payload = limit < used_of p.active + length payload
 -- where there is no room, else accepted, and then the map has it. Want of memory may come in place of an acceptance.
 abbrev pub PlainAdd : ℕ → Plain → List ℕ → Result Added AddFault → Plain → Type 0
 PlainAdd limit p payload (Err (add_faults.Bad fault)) q = (read_added payload ≡ Err fault) × (q ≡ p)
-PlainAdd limit p payload (Err add_faults.Deleted) q = (key : EntryKey) × (read_added payload ≡ Ok key) × (set.contains p.dead key.ledger ≡ true) × (q ≡ p)
+PlainAdd limit p payload (Err add_faults.Deleted) q = (key : EntryKey) × (read_added payload ≡ Ok key) × IsDeleted p key.ledger × (q ≡ p)
 PlainAdd limit p payload (Ok Held) q = (key : EntryKey) × IsLive p payload key × IsSome (finite.get p.map key) × (q ≡ p)
 PlainAdd limit p payload (Err (add_faults.Full used most)) q = (key : EntryKey) × IsNew p payload key × IsOver limit p payload
     × (used ≡ used_of p.active) × (most ≡ limit) × (q ≡ p)
@@ -73,14 +81,14 @@ pub record IsLeaseOn {V : Type 0} (bytes : V → List ℕ) (honest : V → Bool)
 -- A take says that the ledger is dead, or gives the payload that the map has, as bytes or as a lease on it, or says that
 -- there is none. Want of memory may come in place of a payload, and too many leases in place of one.
 abbrev pub PlainTake : {V : Type 0} → (V → List ℕ) → (V → Bool) → Plain → EntryKey → Result (Taken V) TakeFault → Type 0
-PlainTake bytes honest p key (Ok Deleted) = set.contains p.dead key.ledger ≡ true
-PlainTake bytes honest p key (Ok (Cached payload)) = (set.contains p.dead key.ledger ≡ false) × (finite.get p.map key ≡ Some payload.value.items)
-PlainTake bytes honest p key (Ok NotHeld) = (set.contains p.dead key.ledger ≡ false) × (finite.get p.map key ≡ None)
-PlainTake bytes honest p key (Ok (Leased lease place)) = (set.contains p.dead key.ledger ≡ false)
+PlainTake bytes honest p key (Ok Deleted) = IsDeleted p key.ledger
+PlainTake bytes honest p key (Ok (Cached payload)) = IsAlive p key.ledger × (finite.get p.map key ≡ Some payload.value.items)
+PlainTake bytes honest p key (Ok NotHeld) = IsAlive p key.ledger × (finite.get p.map key ≡ None)
+PlainTake bytes honest p key (Ok (Leased lease place)) = IsAlive p key.ledger
     × ((payload : List ℕ) × (finite.get p.map key ≡ Some payload) × IsLeaseOn bytes honest lease place key payload)
-PlainTake bytes honest p key (Err take_faults.NoSeat) = (set.contains p.dead key.ledger ≡ false) × IsSome (finite.get p.map key)
-PlainTake bytes honest p key (Err take_faults.TooMany) = (set.contains p.dead key.ledger ≡ false) × IsSome (finite.get p.map key)
-PlainTake bytes honest p key (Err take_faults.Memory) = (set.contains p.dead key.ledger ≡ false) × IsSome (finite.get p.map key)
+PlainTake bytes honest p key (Err take_faults.NoSeat) = IsAlive p key.ledger × IsSome (finite.get p.map key)
+PlainTake bytes honest p key (Err take_faults.TooMany) = IsAlive p key.ledger × IsSome (finite.get p.map key)
+PlainTake bytes honest p key (Err take_faults.Memory) = IsAlive p key.ledger × IsSome (finite.get p.map key)
 
 -- A swap that is answered so makes the active pairs the flushing ones.
 abbrev pub after_swap : SwapAnswer → Plain → Plain
@@ -92,16 +100,16 @@ after_swap (Swapped n) p = record p { active = finite.empty; flush = Some p.acti
 abbrev pub after_delete : Plain → ℕ → Plain
 after_delete p ledger = record {
   map = without_ledger p.map ledger;
-  dead = set.insert p.dead ledger;
+  ledgers = record p.ledgers { dead = set.insert p.ledgers.dead ledger };
   active = without_ledger p.active ledger;
   flush = option_map (λ m. without_ledger m ledger) p.flush;
 }
 
 -- A deletion takes the pairs of a ledger out, and tells how many the map had.
 abbrev pub PlainDelete : Plain → ℕ → Result ℕ DeleteFault → Plain → Type 0
-PlainDelete p ledger (Err delete_faults.AlreadyDeleted) q = (set.contains p.dead ledger ≡ true) × (q ≡ p)
-PlainDelete p ledger (Err delete_faults.Memory) q = (set.contains p.dead ledger ≡ false) × (q ≡ p)
-PlainDelete p ledger (Ok n) q = (set.contains p.dead ledger ≡ false) × (n ≡ ledger_count p.map ledger) × (q ≡ after_delete p ledger)
+PlainDelete p ledger (Err delete_faults.AlreadyDeleted) q = IsDeleted p ledger × (q ≡ p)
+PlainDelete p ledger (Err delete_faults.Memory) q = IsAlive p ledger × (q ≡ p)
+PlainDelete p ledger (Ok n) q = IsAlive p ledger × (n ≡ ledger_count p.map ledger) × (q ≡ after_delete p ledger)
 
 -- ---- a store, beside the plain map
 
@@ -113,12 +121,12 @@ told_at p key = option_or (finite.get p.active key) (finite.get (unwrap_or p.flu
 -- key, else the payload of its last record in the files; in a dead ledger nothing.
 abbrev pub Means : Files → Plain → Type 0
 Means files p = (key : EntryKey)
-    → finite.get p.map key ≡ (if set.contains p.dead key.ledger then None else option_or (told_at p key) (finite.get (scan_of files) key))
+    → finite.get p.map key ≡ (if set.contains p.ledgers.dead key.ledger then None else option_or (told_at p key) (finite.get (scan_of files) key))
 
 -- what holds of a store and the plain map between two calls
 pub record MatchesPlain (s : State) (p : Plain) : Type 0 where
   pub meaning : Means s.files p
-  pub dead : s.dead ≡ p.dead
+  pub ledgers : s.ledgers ≡ p.ledgers
   pub active : s.caches.active ≡ p.active
   pub flush : s.caches.flush ≡ p.flush
 

@@ -18,9 +18,17 @@ use Rattle.bk_store.specs.declared.log.LogState.{LogState}
 use Rattle.bk_store.specs.declared.log.LogState.TheVariants.{Writing, Filled, Copying, Readable, Retired, Closed}
 use Rattle.bk_store.specs.declared.settings.Settings.{Settings}
 
+-- what a store knows of ledgers: those that are dead
+pub record KnownLedgers : Type 0 where
+  pub dead : Ledgers
+
+-- what it knows when it was just opened
+abbrev pub opened_ledgers : Ledgers → KnownLedgers
+opened_ledgers dead = record { dead = dead }
+
 -- What is to be seen of a store: its limits; the disk's files, whether it is honest, and how often it has failed; the
 -- caches; the places of the running flush's entries, by key; the index; the logs that it holds; the table of the slots in
--- which they stand; the id of the next log; the ledgers that are dead; the compaction that runs.
+-- which they stand; the id of the next log; what is known of ledgers; the compaction that runs.
 pub record State : Type 0 where
   pub settings : Settings
   pub files : Files
@@ -32,7 +40,7 @@ pub record State : Type 0 where
   pub logs : Logs
   pub keeper : SlotTable
   pub next : ℕ
-  pub dead : Ledgers
+  pub ledgers : KnownLedgers
   pub job : Option Job
 
 -- A store's parts: the visible state, and what is kept beside it so that no call has to look for it. These are the accounts
@@ -103,13 +111,16 @@ settings_code = code_by (ℕ × (ℕ × (ℕ × (ℕ × (ℕ × (ℕ × ℕ)))))
 abbrev pub files_code : Coded Files
 files_code = finite.code coded_ℕ (coded_list coded_ℕ)
 
+abbrev pub known_ledgers_code : Coded KnownLedgers
+known_ledgers_code = code_by Ledgers (set.code coded_ℕ) (λ l. l.dead) (λ dead. record { dead = dead }) (λ _. refl)
+
 -- a state is stored as the tuple of its fields
 abbrev pub state_code : Coded State
 state_code = code_by
-    (Settings × (Files × (Bool × (ℕ × (CacheState × (Places × (Places × (Logs × (SlotTable × (ℕ × (Ledgers × Option Job)))))))))))
+    (Settings × (Files × (Bool × (ℕ × (CacheState × (Places × (Places × (Logs × (SlotTable × (ℕ × (KnownLedgers × Option Job)))))))))))
     (coded× settings_code (coded× files_code (coded× coded_bool (coded× coded_ℕ (coded× cache_code (coded× places_code
-    (coded× places_code (coded× logs_code (coded× slot_table_code (coded× coded_ℕ (coded× (set.code coded_ℕ) (coded_option job_code))))))))))))
-    (λ s. (s.settings, (s.files, (s.honest, (s.failures, (s.caches, (s.places, (s.index, (s.logs, (s.keeper, (s.next, (s.dead, s.job))))))))))))
+    (coded× places_code (coded× logs_code (coded× slot_table_code (coded× coded_ℕ (coded× known_ledgers_code (coded_option job_code))))))))))))
+    (λ s. (s.settings, (s.files, (s.honest, (s.failures, (s.caches, (s.places, (s.index, (s.logs, (s.keeper, (s.next, (s.ledgers, s.job))))))))))))
     (λ p. record {
       settings = p.0;
       files = p.1.0;
@@ -121,7 +132,7 @@ state_code = code_by
       logs = p.1.1.1.1.1.1.1.0;
       keeper = p.1.1.1.1.1.1.1.1.0;
       next = p.1.1.1.1.1.1.1.1.1.0;
-      dead = p.1.1.1.1.1.1.1.1.1.1.0;
+      ledgers = p.1.1.1.1.1.1.1.1.1.1.0;
       job = p.1.1.1.1.1.1.1.1.1.1.1;
     })
     (λ _. refl)

@@ -29,7 +29,7 @@ use Rattle.bk_store.specs.declared.answer.SwapAnswer.TheVariants.{Running, Nothi
 
 -- the ledger was deleted
 abbrev pub is_dead : State → ℕ → Bool
-is_dead s ledger = set.contains s.dead ledger
+is_dead s ledger = set.contains s.ledgers.dead ledger
 
 -- a payload that may be added, of a key whose ledger lives and which the store has, or has not
 pub record AsksToAdd (s : State) (payload : List ℕ) (has : Bool) : Type 0 where
@@ -87,7 +87,7 @@ deleted s ledger = record s {
   caches = caches.without s.caches ledger;
   places = without_ledger s.places ledger;
   index = without_ledger s.index ledger;
-  dead = set.insert s.dead ledger;
+  ledgers = record s.ledgers { dead = set.insert s.ledgers.dead ledger };
 }
 
 -- A deletion takes the entries of a ledger out, and tells how many there were.

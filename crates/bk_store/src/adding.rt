@@ -19,7 +19,7 @@ impl<D: LogDisk> Fields<D> {
             Ok(key) => key,
             Err(fault) => return Err(AddFault::Bad(fault)),
         };
-        if self.dead.contains(key.ledger()) {
+        if self.ledgers.is_dead(key.ledger()) {
             return Err(AddFault::Deleted);
         }
         if self.index.get(&key).is_some() {

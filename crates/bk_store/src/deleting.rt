@@ -23,10 +23,10 @@ impl<D: LogDisk> Fields<D> {
         ensures turn { DeleteTurn self.old.state ledger result self.new.state }
         ensures beside { DeletesBeside self.old ledger result self.new }
     {
-        if self.dead.contains(ledger) {
+        if self.ledgers.is_dead(ledger) {
             return Err(DeleteFault::AlreadyDeleted);
         }
-        let Ok(()) = self.dead.insert(ledger) else {
+        let Ok(()) = self.ledgers.delete(ledger) else {
             return Err(DeleteFault::Memory);
         };
         let indexed = unname_ledger(&self.index, &self.caches, &mut self.accounts, ledger);

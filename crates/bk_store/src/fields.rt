@@ -4,7 +4,7 @@
 
 ghost use Rattle.std.specs.Prelude.{◌≡◌};
 
-use crate::dead::DeadLedgers;
+use crate::known_ledgers::KnownLedgers;
 use crate::logs::LogTable;
 use crate::places::FlushPlaces;
 use crate::{Job, Settings};
@@ -33,7 +33,7 @@ pub(crate) struct Fields<D: LogDisk> {
     pub writing: Option<u32>,
     pub filled: Vec<u32>,
     pub next: u32,
-    pub dead: DeadLedgers,
+    pub ledgers: KnownLedgers,
     pub job: Option<Job>,
 }
 
@@ -56,7 +56,7 @@ impl<D: LogDisk> Model for Fields<D> {
         logs = f.logs;
         keeper = f.keeper;
         next = f.next;
-        dead = f.dead;
+        ledgers = f.ledgers;
         job = f.job;
       };
       accounts = f.accounts;

@@ -38,7 +38,8 @@ impl<D: LogDisk> Fields<D> {
 
 /// Takes all logs out of the list but the one that flushes write.
 fn keep_written(filled: &mut Vec<u32>, writing: Option<u32>)
-    ensures { (id : ℕ) → In id filled.old.items → writing ≡ Some id → In id filled.new.items }
+    ensures still { (id : ℕ) → In id filled.old.items → writing ≡ Some id → In id filled.new.items }
+    ensures alone { (id : ℕ) → In id filled.new.items → writing ≡ Some id }
 {
     filled.retain(|id| Some(*id) == writing);
 }

@@ -108,6 +108,6 @@ pub fn delete_is_plain()
 /// A store that is opened on the files of another one, with the same dead ledgers, means at every key what that one means,
 /// where no write cache of that one has an entry.
 pub fn reopened_means_the_same()
-    ensures { (s t : State) (settings : Settings) (dead : List ℕ) → s.dead ≡ valid_ledgers dead → ((key : EntryKey) → written_at s key ≡ None)
+    ensures { (s t : State) (settings : Settings) (dead : List ℕ) → s.ledgers.dead ≡ valid_ledgers dead → ((key : EntryKey) → written_at s key ≡ None)
         → IsOpened true s.files settings dead t → MeansTheSame s t }
 {}

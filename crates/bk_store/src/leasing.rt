@@ -32,7 +32,7 @@ impl<D: LogDisk> Fields<D> {
         ensures turn { TakeTurn D.View.bytes D.View.honest D.View.sound self.old.state key result self.new.state }
         ensures beside { self.new ≡ record self.old { state = self.new.state } }
     {
-        if self.dead.contains(key.ledger()) {
+        if self.ledgers.is_dead(key.ledger()) {
             return Ok(Taken::Deleted);
         }
         if let Some(payload) = self.caches.get(&key) {

@@ -10,6 +10,7 @@ mod doors;
 mod fields;
 mod flushing;
 mod job;
+mod known_ledgers;
 mod laws;
 mod leasing;
 mod log;

@@ -8,7 +8,7 @@ ghost use Rattle.bk_store.specs.Kept.{Keeps};
 ghost use Rattle.bk_store.specs.Doors.{MayMakeTurn, MakeTurn};
 ghost use Rattle.bk_record.specs.Files.{In};
 ghost use Rattle.bk_store.specs.declared.log.LogState.TheVariants.{Writing};
-ghost use Rattle.bk_store.specs.Beside.{AllStay, MakesBeside, HasSlot, HasNoSlot, make_told, writing_in};
+ghost use Rattle.bk_store.specs.Beside.{ListGoesOn, MakesBeside, HasSlot, HasNoSlot, make_told, writing_in};
 
 use crate::fields::Fields;
 use crate::log::HeldLog;
@@ -72,7 +72,7 @@ impl<D: LogDisk> Fields<D> {
         requires keeps { Keeps self.old }
         requires room { map.len self.old.state.logs < self.old.state.settings.slots }
         ensures ok { IfOk result (λ slot. HasSlot self.old state slot self.new) }
-        ensures err { OnErr result (HasNoSlot self.old self.new) }
+        ensures err { OnErr result (HasNoSlot self.old state self.new) }
         ensures memory { IsOkUnless result MakeFault.Memory }
     {
         let log = self.next;
@@ -95,11 +95,16 @@ impl<D: LogDisk> Fields<D> {
 
 /// Puts a log that is to be Writing in the list of the flush's logs. The only error is want of memory.
 fn list_written(filled: &mut Vec<u32>, log: u32, state: LogState) -> Result<(), AllocError>
-    ensures still { AllStay filled.old.items filled.new.items }
+    ensures list { ListGoesOn state filled.old.items filled.new.items }
     ensures listed { OnOk result (state ≡ Writing → In log filled.new.items) }
 {
-    if state == LogState::Writing {
-        filled.push(log)?;
+    match state {
+        LogState::Writing => filled.push(log)?,
+        LogState::Filled
+        | LogState::Copying
+        | LogState::Readable
+        | LogState::Retired
+        | LogState::Closed => {}
     }
     Ok(())
 }

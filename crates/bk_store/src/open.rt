@@ -14,6 +14,7 @@ mod tally;
 
 use crate::dead::DeadLedgers;
 use crate::fields::Fields;
+use crate::known_ledgers::KnownLedgers;
 use crate::logs::LogTable;
 use crate::places::FlushPlaces;
 use crate::{OpenFault, Settings};
@@ -85,7 +86,7 @@ impl<D: LogDisk> Fields<D> {
             writing: None,
             filled: Vec::new(alloc),
             next,
-            dead,
+            ledgers: KnownLedgers { dead },
             job: None,
         })
     }

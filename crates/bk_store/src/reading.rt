@@ -37,7 +37,7 @@ impl<D: LogDisk> Store<D> {
     pub fn is_dead(&self, ledger: u64) -> bool
         ensures { result ≡ is_dead self.now ledger }
     {
-        self.fields.dead.contains(ledger)
+        self.fields.ledgers.is_dead(ledger)
     }
 
     /// The least id from this one on of a log that is held, `None` where there is none: a walk over all logs by rising ids.

@@ -1,5 +1,3 @@
-use Rattle.bk_drive.specs.Machine.WorkTurn.{swapped, wrote, published, rolled, retired, rebuilt, closed, removed}
-use Rattle.bk_drive.specs.Machine.WorkTurn.{begun, copied, ended, switched, finished, given_up}
 use Rattle.bk_drive.proofs.Working.{step_stays, roll_stays, retire_stays, rebuild_stays, retire_failures, rebuild_failures, close_failures}
 use Rattle.bk_drive.proofs.Working.{close_beside, remove_beside, untold, told_of, publish_settings, agrees_still, beside_agrees, publish_agrees}
 use Rattle.bk_drive.proofs.Compacting.{begin_stays, copy_stays, end_stays, switch_stays, finish_stays, give_up_stays}
@@ -8,46 +6,46 @@ use Rattle.bk_drive.proofs.Runs.{swapped_plain, swap_settings, swap_failures}
 use Rattle.bk_drive.proofs.run.apply.Goals as goal
 
 pub returns-in-Swap-clause-turn : goal.returns-in-Swap-clause-turn
-returns-in-Swap-clause-turn g c = rw c.in-Swap.is (swapped c.swap.ensures)
+returns-in-Swap-clause-turn g c = rw c.in-Swap.is (c.swap.result, refl, c.swap.ensures)
 
 pub returns-in-WriteOne-clause-turn : goal.returns-in-WriteOne-clause-turn
-returns-in-WriteOne-clause-turn g c = rw c.in-WriteOne.is (wrote c.write_one.ensures.turn)
+returns-in-WriteOne-clause-turn g c = rw c.in-WriteOne.is (c.write_one.result, refl, c.write_one.ensures.turn)
 
 pub returns-in-Publish-clause-turn : goal.returns-in-Publish-clause-turn
-returns-in-Publish-clause-turn g c = rw c.in-Publish.is (published c.publish.ensures.turn)
+returns-in-Publish-clause-turn g c = rw c.in-Publish.is (c.publish.result, refl, c.publish.ensures.turn)
 
 pub returns-in-Roll-clause-turn : goal.returns-in-Roll-clause-turn
-returns-in-Roll-clause-turn g c = rw c.in-Roll.is (rolled c.roll.ensures.turn)
+returns-in-Roll-clause-turn g c = rw c.in-Roll.is (c.roll.result, refl, c.roll.ensures.turn)
 
 pub returns-in-Retire-clause-turn : goal.returns-in-Retire-clause-turn
-returns-in-Retire-clause-turn g c = rw c.in-Retire.is (retired c.retire.ensures.turn)
+returns-in-Retire-clause-turn g c = rw c.in-Retire.is (c.retire.result, refl, c.retire.ensures.turn)
 
 pub returns-in-Rebuild-clause-turn : goal.returns-in-Rebuild-clause-turn
-returns-in-Rebuild-clause-turn g c = rw c.in-Rebuild.is (rebuilt c.rebuild.ensures.turn)
+returns-in-Rebuild-clause-turn g c = rw c.in-Rebuild.is (c.rebuild.result, refl, c.rebuild.ensures.turn)
 
 pub returns-in-Close-clause-turn : goal.returns-in-Close-clause-turn
-returns-in-Close-clause-turn g c = rw c.in-Close.is (closed c.close.ensures.turn)
+returns-in-Close-clause-turn g c = rw c.in-Close.is (c.close.result, refl, c.close.ensures.turn)
 
 pub returns-in-Remove-clause-turn : goal.returns-in-Remove-clause-turn
-returns-in-Remove-clause-turn g c = rw c.in-Remove.is (removed c.remove.ensures.turn)
+returns-in-Remove-clause-turn g c = rw c.in-Remove.is (c.remove.result, refl, c.remove.ensures.turn)
 
 pub returns-in-Begin-clause-turn : goal.returns-in-Begin-clause-turn
-returns-in-Begin-clause-turn g c = rw c.in-Begin.is (begun c.begin.ensures.turn)
+returns-in-Begin-clause-turn g c = rw c.in-Begin.is (c.begin.result, refl, c.begin.ensures.turn)
 
 pub returns-in-Copy-clause-turn : goal.returns-in-Copy-clause-turn
-returns-in-Copy-clause-turn g c = rw c.in-Copy.is (copied c.copy.ensures.turn)
+returns-in-Copy-clause-turn g c = rw c.in-Copy.is (c.copy.result, refl, c.copy.ensures.turn)
 
 pub returns-in-EndCopy-clause-turn : goal.returns-in-EndCopy-clause-turn
-returns-in-EndCopy-clause-turn g c = rw c.in-EndCopy.is (ended c.end_copy.ensures.turn)
+returns-in-EndCopy-clause-turn g c = rw c.in-EndCopy.is (c.end_copy.result, refl, c.end_copy.ensures.turn)
 
 pub returns-in-Switch-clause-turn : goal.returns-in-Switch-clause-turn
-returns-in-Switch-clause-turn g c = rw c.in-Switch.is (switched c.switch.ensures.turn)
+returns-in-Switch-clause-turn g c = rw c.in-Switch.is (c.switch.result, refl, c.switch.ensures.turn)
 
 pub returns-in-Finish-clause-turn : goal.returns-in-Finish-clause-turn
-returns-in-Finish-clause-turn g c = rw c.in-Finish.is (finished c.finish.ensures.turn)
+returns-in-Finish-clause-turn g c = rw c.in-Finish.is (c.finish.result, refl, c.finish.ensures.turn)
 
 pub returns-in-GiveUp-clause-turn : goal.returns-in-GiveUp-clause-turn
-returns-in-GiveUp-clause-turn g c = rw c.in-GiveUp.is (given_up c.give_up.ensures.turn)
+returns-in-GiveUp-clause-turn g c = rw c.in-GiveUp.is (c.give_up.result, refl, c.give_up.ensures.turn)
 
 pub returns-in-Swap-clause-settings : goal.returns-in-Swap-clause-settings
 returns-in-Swap-clause-settings g c = swap_settings _ _ _ c.swap.ensures

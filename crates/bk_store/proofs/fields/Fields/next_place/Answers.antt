@@ -1,7 +1,6 @@
-use Rattle.std.proofs.Common.{◌≡◌, ◌+◌, Some, IsSome, is_some, option_map, sym, ap, subst, ◌∙◌, arith}
+use Rattle.std.proofs.Common.{◌≡◌, ◌+◌, Some, is_some, option_map, sym, ap, ◌∙◌, arith}
 use Rattle.std.specs.Option.{option_and_then}
 use Rattle.std.specs.FinMap as finite
-use Rattle.bk_record.specs.Location.{Place}
 use Rattle.bk_store.specs.Logs.{Log}
 use Rattle.bk_store.specs.State.{Parts}
 use Rattle.bk_store.specs.declared.log.LogState.TheVariants.{Writing}

@@ -1,4 +1,4 @@
-use Rattle.std.proofs.Common.{◌≡◌, ◌+◌, ◌<◌, ◌^◌, Some, IfSome, length, refl, sym, ap, subst, ◌∙◌}
+use Rattle.std.proofs.Common.{◌+◌, ◌<◌, ◌^◌, IfSome, length, refl, sym, subst}
 use Rattle.bk_accounts.specs.Book.{total_in}
 use Rattle.bk_store.proofs.Written.{total_fits, may_put}
 use Rattle.bk_store.proofs.CopyTurns.{copy_roomy, copied_turn, uncopied_turn}

@@ -7,25 +7,25 @@ use Rattle.bk_store.proofs.fields.Fields.take_slot.Goals as goal
 
 pub returns-in_default-list_written-clause-err : goal.returns-in_default-list_written-clause-err
 returns-in_default-list_written-clause-err g c =
-    no_slot _ c.args.self.now c.self.view_is c.list_written.new.filled.items _ _ c.list_written.ensures.still refl refl
+    no_slot _ c.args.self.now c.self.view_is c.list_written.new.filled.items _ _ c.args.state c.list_written.ensures.list refl refl
 
 pub open-requires : goal.open-requires
 open-requires g c = not_open _ (subst Keeps (sym c.self.view_is) c.requires.keeps)
 
 pub returns-in_default-open-clause-err : goal.returns-in_default-open-clause-err
 returns-in_default-open-clause-err g c =
-    no_slot _ c.args.self.now c.self.view_is c.list_written.new.filled.items c.open.new.self _ c.list_written.ensures.still c.in_default-open.ensures.err refl
+    no_slot _ c.args.self.now c.self.view_is c.list_written.new.filled.items c.open.new.self _ c.args.state c.list_written.ensures.list c.in_default-open.ensures.err refl
 
 pub returns-in_default-hold-clause-err : goal.returns-in_default-hold-clause-err
 returns-in_default-hold-clause-err g c =
-    no_slot _ c.args.self.now c.self.view_is c.list_written.new.filled.items c.drop_log.new.self c.hold.new.self c.list_written.ensures.still
+    no_slot _ c.args.self.now c.self.view_is c.list_written.new.filled.items c.drop_log.new.self c.hold.new.self c.args.state c.list_written.ensures.list
     (reopened _ (subst Keeps (sym c.self.view_is) c.requires.keeps) c.open.new.self c.drop_log.new.self c.in-Ok-open.ensures.ok c.drop_log.ensures)
     c.in_default-hold.ensures.err
 
 pub returns-clause-ok : goal.returns-clause-ok
 returns-clause-ok g c =
-    slot_taken _ c.args.self.now c.self.view_is c.list_written.new.filled.items c.open.new.self c.hold.new.self c.list_written.ensures.still c.args.state
-    c.in-Some.slot
+    slot_taken _ c.args.self.now c.self.view_is c.list_written.new.filled.items c.open.new.self c.hold.new.self c.args.state
+    c.list_written.ensures.list c.in-Some.slot
     c.in-Ok-open.ensures.ok (c.in-Ok-hold.ensures.ok ∙ ap (finite.insert c.self.inside.logs c.self.inside.next) c.unmade.ensures)
     c.in-Ok.ensures.listed c.in-Some.ensures.free
 

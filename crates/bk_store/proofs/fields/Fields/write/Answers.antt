@@ -1,6 +1,5 @@
-use Rattle.std.proofs.Common.{◌≡◌, ◌+◌, ℕ, List, length, Some, IsSome, IfSome, is_some, ◌<◌, ◌^◌, option_map, Ok, Err, sym, ap, subst, ◌∙◌, refl}
+use Rattle.std.proofs.Common.{◌≡◌, ◌+◌, length, Some, IfSome, is_some, ◌<◌, ◌^◌, option_map, Err, sym, ap, subst, ◌∙◌}
 use Rattle.std.specs.FinMap as finite
-use Rattle.bk_record.specs.Key.{EntryKey}
 use Rattle.bk_record.specs.Record.{IsPayload, key_of, record_of}
 use Rattle.bk_disk.specs.Disk.{grown}
 use Rattle.bk_log.specs.Writing.{PutTurn}

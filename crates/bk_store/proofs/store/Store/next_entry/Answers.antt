@@ -1,6 +1,5 @@
-use Rattle.std.proofs.Common.{◌≡◌, ◌≤◌, Option, length, option_map, sym, ap, subst, ◌∙◌}
+use Rattle.std.proofs.Common.{Option, option_map, sym, ap, subst, ◌∙◌}
 use Rattle.bk_record.proofs.ReadKeys.{addable}
-use Rattle.bk_record.specs.Record.{max_added}
 use Rattle.bk_cache.specs.Caches.{flush_of, first_after}
 use Rattle.bk_cache.specs.Recents.{Entry}
 use Rattle.bk_store.specs.Doors.{IsNextEntry}

@@ -1,7 +1,4 @@
-use Rattle.std.proofs.Common.{◌≡◌, Some, IsTrue, sym, ap, subst, ◌∙◌}
-use Rattle.std.specs.FinMap as finite
-use Rattle.bk_cache.specs.Caches.{flush_of}
-use Rattle.bk_store.specs.State.{State}
+use Rattle.std.proofs.Common.{IsTrue, sym, subst}
 use Rattle.bk_store.specs.Meaning.{MeansTheSame}
 use Rattle.bk_store.specs.Doors.{MayWrite}
 use Rattle.bk_store.proofs.KeptWrite.{keeps_write}

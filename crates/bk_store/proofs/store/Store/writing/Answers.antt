@@ -5,11 +5,11 @@ use Rattle.bk_store.specs.Doors.{IsWritingLog}
 use Rattle.bk_store.proofs.store.Store.writing.Goals as goal
 
 writing_is : (p : Parts) → Keeps p → (w : Option ℕ) → p.writing ≡ w → IsWritingLog p.state w
-writing_is p keeps None none = λ id is. let there : p.writing ≡ Some id = (keeps.fits.writing id).1 (is.log, is.held, is.state_is) in cc
+writing_is p keeps None none = λ id is. let there : p.writing ≡ Some id = (keeps.fits.logs.writing id).1 (is.log, is.held, is.state_is) in cc
 writing_is p keeps (Some id) there =
-    let now = (keeps.fits.writing id).0 there in (
+    let now = (keeps.fits.logs.writing id).0 there in (
       record { log = now.0; held = now.1; state_is = now.2 },
-      (λ other is. let same : p.writing ≡ Some other = (keeps.fits.writing other).1 (is.log, is.held, is.state_is) in cc),
+      (λ other is. let same : p.writing ≡ Some other = (keeps.fits.logs.writing other).1 (is.log, is.held, is.state_is) in cc),
     )
 
 pub returns : goal.returns
