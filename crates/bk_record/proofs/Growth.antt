@@ -7,20 +7,15 @@ use Rattle.std.proofs.lemmas.Option.{same_Some}
 use Rattle.bk_record.specs.Record.{record_of, IsPayload}
 use Rattle.bk_record.specs.Body.{Body}
 use Rattle.bk_record.specs.Body.Body.{done, torn}
-use Rattle.bk_record.specs.Files.{header_length, records_of, rest_of, IsWhole, In}
+use Rattle.bk_record.specs.Files.{header_length, records_of, IsWhole, In}
 use Rattle.bk_record.proofs.Records.{length-record_of}
-use Rattle.bk_record.proofs.Bodies.{pieces-body, leftover-body, body_append, body_record, prefix_is_torn}
+use Rattle.bk_record.proofs.Bodies.{pieces-body, body_append, body_record, prefix_is_torn}
 
 -- the records of a file are those that its body spells
 pub records_of-body : (file : List ℕ) {rest : List ℕ} {records : List (ℕ × List ℕ)} → Body header_length (drop header_length file) records rest
     → records_of file ≡ records
 unfolding records_of
 records_of-body file body = pieces-body (length file) body (omega (arith, length-drop header_length file))
-
-pub rest_of-body : (file : List ℕ) {rest : List ℕ} {records : List (ℕ × List ℕ)} → Body header_length (drop header_length file) records rest
-    → rest_of file ≡ rest
-unfolding rest_of
-rest_of-body file body = leftover-body (length file) body (omega (arith, length-drop header_length file))
 
 pub records_of-short : (file : List ℕ) → length file ≤ header_length → records_of file ≡ []
 records_of-short file short =

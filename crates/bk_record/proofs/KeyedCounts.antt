@@ -12,7 +12,7 @@ use Rattle.bk_record.proofs.Weights.{weight_at, weight-insert, weight-remove, we
 
 -- ---- the keys that a log has
 
-abbrev one_if : Bool → ℕ
+abbrev pub one_if : Bool → ℕ
 one_if b = cond b 1 0
 
 abbrev in_log : ℕ → EntryKey × Place → ℕ

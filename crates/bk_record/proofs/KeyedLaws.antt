@@ -5,7 +5,7 @@ use Rattle.std.specs.FinMap as finite
 use Rattle.std.proofs.lemmas.List.Sums.{length-filter}
 use Rattle.std.proofs.lemmas.List.Filters.{length-filter_both}
 use Rattle.bk_record.specs.Key.{EntryKey}
-use Rattle.bk_record.specs.Keyed.{Keyed, without_ledger, of_ledger, ledger_count}
+use Rattle.bk_record.specs.Keyed.{Keyed, without_ledger, ledger_count}
 use Rattle.bk_record.proofs.Keys.{key_cmp_total, key_cmp_antisymmetric}
 use Rattle.bk_record.proofs.SortedMaps.{entries-retain_keys}
 
@@ -15,9 +15,6 @@ module _ {X : Type 0} where
   get-without_ledger m ledger q =
       finite.get-retain_keys m _ q (λ x tied. ap (λ (k : EntryKey). not (eqb k.ledger ledger)) (sym (key_cmp_antisymmetric q x tied)))
       ∙ elim (eqb q.ledger ledger) as (λ b. cond (not b) (finite.get m q) None ≡ cond b None (finite.get m q)) [ true ↦ refl | false ↦ refl ]
-
-  pub get-of_ledger : (m : Keyed X) (ledger : ℕ) (q : EntryKey) → finite.get (of_ledger m ledger) q ≡ cond (eqb q.ledger ledger) (finite.get m q) None
-  get-of_ledger m ledger q = finite.get-retain_keys m _ q (λ x tied. ap (λ (k : EntryKey). eqb k.ledger ledger) (sym (key_cmp_antisymmetric q x tied)))
 
   -- the entries of a ledger and the others are all entries
   pub entries-without_ledger : (m : Keyed X) (ledger : ℕ) → finite.entries (without_ledger m ledger)

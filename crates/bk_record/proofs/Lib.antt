@@ -18,7 +18,6 @@ pub mod Weights
 pub mod KeyedCounts
 pub mod Places
 pub mod Longer
-pub mod StandingRecords
 pub mod StandingEntries
 pub mod LastEntries
 pub mod EntryLists

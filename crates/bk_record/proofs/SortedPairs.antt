@@ -1,5 +1,5 @@
 -- Pairs in the order of their keys: what stands at a place is what a look-up finds, and an edit there is one of the map.
-use Rattle.std.proofs.Common.{◌≡◌, ℕ, zero, suc, ◌<◌, ◌≤◌, Bool, true, false, T, cond, List, [], ◌∷◌, length, drop, set, Some, None, slice_get, unwrap_or}
+use Rattle.std.proofs.Common.{◌≡◌, ℕ, zero, suc, ◌<◌, ◌≤◌, Bool, true, false, T, cond, List, [], ◌∷◌, ◌++◌, length, drop, set, Some, None, slice_get, unwrap_or}
 use Rattle.std.proofs.Common.{refl, sym, ap, subst, ◌∙◌, arith}
 use Rattle.std.specs.declared.cmp.Ordering.{Ordering}
 use Rattle.std.specs.declared.cmp.Ordering.TheVariants.{Less, Equal, Greater}
@@ -14,6 +14,7 @@ use Rattle.std.specs.FinMap.Entries.{below_all, is_sorted-put}
 use Rattle.std.proofs.lemmas.Map.Entries.{lookup_from_place, lookup_at_gap}
 use Rattle.std.proofs.lemmas.Map.Keys.{IsDistinct-from_sorted}
 use Rattle.std.proofs.lemmas.Bool.{and_parts}
+use Rattle.std.specs.Cmp.Derive.{both_true}
 
 -- a test that is true, in the two ways that std says it
 pub passed : (b : Bool) → IsTrue b → T b
@@ -51,6 +52,16 @@ module _ {K X : Type 0} (R : K → K → Ordering) where
   unfolding IsStrictlySortedBy
   keys_rise [] sorted = tt
   keys_rise (e ∷ es) sorted = let parts = and_parts _ _ sorted in (below_each e.0 es parts.0, keys_rise es parts.1)
+
+  below_front : (k : K) (xs ys : List (K × X)) → IsTrue (below_all R k (xs ++ ys)) → IsTrue (below_all R k xs)
+  below_front k [] ys below = refl
+  below_front k (x ∷ xs) ys below = let parts = and_parts _ _ below in both_true parts.0 (below_front k xs ys parts.1)
+
+  -- the first of some pairs in order are in order
+  pub sorted_front : (xs ys : List (K × X)) → IsTrue (is_sorted R (xs ++ ys)) → IsTrue (is_sorted R xs)
+  sorted_front [] ys sorted = refl
+  sorted_front (x ∷ xs) ys sorted =
+      let parts = and_parts _ _ sorted in both_true (below_front x.0 xs ys parts.0) (sorted_front xs ys parts.1)
 
 module _ {K X : Type 0} {R : K → K → Ordering} (o : IsTotalOrder R) where
   -- what stands at a place is found
