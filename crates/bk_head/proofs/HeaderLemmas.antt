@@ -1,5 +1,5 @@
 -- What a header's bytes say.
-use Rattle.std.proofs.Common.{◌≡◌, ℕ, ◌+◌, ◌^◌, ◌<◌, ◌≤◌, ℤ, List, ◌++◌, length, take, drop, refl, sym, ap, ◌∙◌, append_assoc, arith}
+use Rattle.std.proofs.Common.{◌≡◌, ℕ, ◌+◌, ◌^◌, ◌<◌, ◌≤◌, ℤ, pos, List, ◌++◌, length, take, drop, refl, sym, ap, subst, ◌∙◌, append_assoc, arith}
 use Rattle.std.specs.Int.{w32, w64, to_be_bytes, from_be_bytes, cast_unsigned, cast_signed}
 use Rattle.std.proofs.Common.{Bool, true, eqb}
 use Rattle.std.specs.List.{starts_with}
@@ -10,7 +10,7 @@ use Rattle.byteorder.specs.Endian.{big_number}
 use borrow.Rule.Slice.PartMut.{mid_of}
 use Rattle.std.proofs.lemmas.Int.{of_z-to_z}
 use Rattle.bk_record.proofs.Records.{bytes_drop}
-use Rattle.bk_head.specs.Header.{IsHeader, magic, head_of, patch_of, version_field}
+use Rattle.bk_head.specs.Header.{IsHeader, SaysOfMap, magic, head_of, patch_of, version_field}
 use Rattle.bk_record.specs.Spelling.{IsBytes}
 use Rattle.bk_head.proofs.Bytes.{big_number-4, big_number-8, front_4, front_8, below_4, below_8}
 
@@ -70,6 +70,7 @@ pub header_read : (bytes : List ℕ) (version : ℕ) (offset count : ℤ) → Is
       count = cast_signed w32
           (cast_unsigned w32 count);
     })
+unfolding head_of
 header_read bytes version offset count each long is-magic is-version one is-offset is-count =
     let n : ℕ = from_be_bytes w64 (drop 8 bytes) in
     let m : ℕ = from_be_bytes w32 (drop 16 bytes) in
@@ -77,10 +78,30 @@ header_read bytes version offset count each long is-magic is-version one is-offs
     let at-count : big_number 4 (mid_of 16 1008 bytes) ≡ m = ap (big_number 4) (behind 16 1008 bytes (omega arith)) ∙ big_number-4 (drop 16 bytes) in
     let low-offset = bits_64 n offset (below_8 (drop 8 bytes) (bytes_drop 8 bytes each)) (is-offset ∙ ap (cast_signed w64) at-offset) in
     let low-count = bits_32 m count (below_4 (drop 16 bytes) (bytes_drop 16 bytes each)) (is-count ∙ ap (cast_signed w32) at-count) in
+    let fields = patch_of (cast_unsigned w64 (cast_signed w64 (cast_unsigned w64 offset))) (cast_unsigned w32 (cast_signed w32 (cast_unsigned w32 count))) in
     record {
+      fields = fields;
       rest = drop 20 bytes;
-      version_is = one;
       bytes_are = head_is bytes each long is-magic (sym is-version ∙ one)
           ∙ ap (λ (h : List ℕ). h ++ drop 20 bytes) (ap (λ (k : ℕ). head_of k m) (sym low-offset)
-          ∙ ap (λ (k : ℕ). head_of (cast_unsigned w64 (cast_signed w64 (cast_unsigned w64 offset))) k) (sym low-count));
+          ∙ ap (λ (k : ℕ). head_of (cast_unsigned w64 (cast_signed w64 (cast_unsigned w64 offset))) k) (sym low-count))
+          ∙ ap (λ (v : ℕ). magic ++ to_be_bytes w32 v ++ fields ++ drop 20 bytes) (sym one);
+      says = subst
+          (λ (v : ℕ). SaysOfMap v fields (cast_signed w64 (cast_unsigned w64 offset)) (cast_signed w32 (cast_unsigned w32 count))) (sym one) refl;
+    }
+
+-- a header of version 0 is one whatever its other bytes are
+pub old_header_read : (bytes : List ℕ) (version : ℕ) → IsBytes bytes → length bytes ≡ 1024 → take 4 bytes ≡ magic → version ≡ version_field bytes
+    → version ≡ 0 → IsHeader bytes (record { version = version; map_offset = pos 0; count = pos 0 })
+unfolding version_field
+old_header_read bytes version each long is-magic is-version none =
+    let fields = take 8 (drop 8 bytes) ++ take 4 (drop 16 bytes) in
+    let version_is : take 4 (drop 4 bytes) ≡ to_be_bytes w32 0 = sym
+    (front_4 (drop 4 bytes) (bytes_drop 4 bytes each) (omega (arith, length-drop 4 bytes))) ∙ ap (to_be_bytes w32) (sym is-version ∙ none) in
+    record {
+      fields = fields;
+      rest = drop 20 bytes;
+      bytes_are = joined bytes magic (to_be_bytes w32 0) (take 8 (drop 8 bytes)) (take 4 (drop 16 bytes)) is-magic version_is refl refl
+          ∙ ap (λ (v : ℕ). magic ++ to_be_bytes w32 v ++ fields ++ drop 20 bytes) (sym none);
+      says = subst (λ (v : ℕ). SaysOfMap v fields (pos 0) (pos 0)) (sym none) (refl, refl);
     }

@@ -8,7 +8,7 @@ pub enum HeadFault {
     /// The first four bytes are not `BKLO`.
     #[error("bad magic")]
     BadMagic,
-    /// The header has this version, which is not 1.
+    /// The header has this version, which is neither 0 nor 1.
     #[error("version {0}")]
     Version(u32),
     /// A number that is never negative is, read as a signed one.

@@ -1,7 +1,7 @@
 //! The header: the magic, the version, and where the ledgers map stands.
 
-ghost use Rattle.std.specs.Prelude.{◌≡◌, ◌↔◌, pos, IsOk, IfOk, IfErr, take};
-ghost use Rattle.bk_head.specs.Header.{IsHeader, HeaderFault, empty_header, patch_of, magic, version_field};
+ghost use Rattle.std.specs.Prelude.{◌≡◌, ◌↔◌, pos, IsOk, IfOk, IfErr};
+ghost use Rattle.bk_head.specs.Header.{IsHeader, HasHeader, HeaderFault, empty_header, patch_of};
 
 use crate::HeadFault;
 use bk_record::HEADER_LENGTH;
@@ -10,28 +10,32 @@ use byteorder::{BigEndian, ByteOrder};
 /// The first four bytes of every entry log.
 const MAGIC: [u8; 4] = *b"BKLO";
 
-/// The version of the header that has a ledgers map.
+/// The version of the form from before there was a ledgers map: its header says nothing of one.
+const WITHOUT_MAP: u32 = 0;
+
+/// The version of the header that has a ledgers map, and that new logs have.
 const VERSION: u32 = 1;
 
 /// What the header of an entry log says.
 #[derive(Clone, Copy, Debug, PartialEq, Eq)]
 pub struct Header {
-    /// The version of the format, 1.
+    /// The version of the format, 0 or 1.
     pub version: u32,
-    /// The position of the ledgers map's first byte in the log's file, 0 in a log that is not sealed. The format has
-    /// a signed number there, so a bad file can make it negative.
+    /// The position of the ledgers map's first byte in the log's file, 0 in a log that is not sealed or is of version 0.
+    /// The format has a signed number there, so a bad file can make it negative.
     pub map_offset: i64,
-    /// The number of ledgers in the map, 0 in a log that is not sealed, signed too.
+    /// The number of ledgers in the map, 0 in a log that is not sealed or is of version 0, signed too.
     pub count: i32,
 }
 
 /// Reads a log's first 1024 bytes (the BookKeeper entry log format). The offset and the count are not judged here,
-/// and the bytes from position 20 on are ignored.
+/// and the bytes from position 20 on are ignored. Version 0, the form from before there was a ledgers map, has neither:
+/// both are 0 then, whatever stands in their bytes.
 ///
 /// Faults, tried in this order: `BadMagic` where the first four bytes are not `BKLO`, `Version` with the version
-/// where it is not 1 (this project's rule).
+/// where it is neither 0 nor 1 (this project's rule).
 pub fn read_header(bytes: &[u8; HEADER_LENGTH]) -> Result<Header, HeadFault>
-    ensures ok { IsOk result ↔ ((take 4 bytes.now ≡ magic) × (version_field bytes.now ≡ 1)) }
+    ensures ok { IsOk result ↔ HasHeader bytes.now }
     ensures value { IfOk result (λ header. IsHeader bytes.now header) }
     ensures err { IfErr result (λ fault. HeaderFault bytes.now fault) }
 {
@@ -39,6 +43,13 @@ pub fn read_header(bytes: &[u8; HEADER_LENGTH]) -> Result<Header, HeadFault>
         return Err(HeadFault::BadMagic);
     }
     let version = BigEndian::read_u32(&bytes[4..]);
+    if version == WITHOUT_MAP {
+        return Ok(Header {
+            version,
+            map_offset: 0,
+            count: 0,
+        });
+    }
     if version != VERSION {
         return Err(HeadFault::Version(version));
     }

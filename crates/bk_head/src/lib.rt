@@ -11,7 +11,7 @@ mod writing;
 pub use batch::{BATCH_HEAD, PAIR};
 pub use fault::HeadFault;
 pub use header::{Header, new_header, patch_bytes, read_header};
-pub use laws::{patched_header_is_read, written_map_is_read};
+pub use laws::{old_header_has_no_map, patched_header_is_read, written_map_is_read};
 pub use reading::{add_pairs, pairs_in_batch, place_of_map, read_map};
 pub use writing::write_map;
 

@@ -33,8 +33,9 @@ fn other_versions_and_magics_are_refused(rt: HostRuntime) {
         (0, 65, HeadFault::BadMagic),
         (3, 80, HeadFault::BadMagic),
         (4, 1, HeadFault::Version(16_777_217)),
-        (7, 0, HeadFault::Version(0)),
+        (6, 1, HeadFault::Version(257)),
         (7, 2, HeadFault::Version(2)),
+        (7, 255, HeadFault::Version(255)),
     ];
     for (at, byte, fault) in faults {
         let mut bytes = new_header();
@@ -43,6 +44,27 @@ fn other_versions_and_magics_are_refused(rt: HostRuntime) {
         bytes[1] = 0;
         assert_eq!(rt; read_header(&bytes), Err(HeadFault::BadMagic));
     }
+}
+
+#[test]
+fn header_of_version_0_has_no_map(rt: HostRuntime) -> Result<(), Fail> {
+    let mut bytes = [255; 1024];
+    bytes[..8].copy_from_slice(&[66, 75, 76, 79, 0, 0, 0, 0]);
+    let header = read_header(&bytes)?;
+    assert_eq!(rt;
+        header,
+        Header {
+            version: 0,
+            map_offset: 0,
+            count: 0
+        }
+    );
+    assert!(rt; place_of_map(1269, &header)?.is_none());
+    bytes[7] = 1;
+    assert!(rt; read_header(&bytes)?.map_offset < 0);
+    bytes[0] = 0;
+    assert_eq!(rt; read_header(&bytes), Err(HeadFault::BadMagic));
+    Ok(())
 }
 
 #[test]
