@@ -12,11 +12,11 @@ use Rattle.bk_record.specs.Piece.{BeginsWith}
 use Rattle.bk_record.proofs.Records.{drop_record}
 use Rattle.bk_disk.specs.Disk.{view_end, IsInView}
 use Rattle.bk_log.specs.declared.fault.ScanFault.{ScanFault}
-use Rattle.bk_log.specs.declared.fault.ScanFault.TheVariants.{BadLength, Disk, Memory, Odd}
+use Rattle.bk_log.specs.declared.fault.ScanFault.TheVariants.{BadLength, Disk}
 use Rattle.bk_log.specs.declared.front.Front.{Front}
 use Rattle.bk_log.specs.declared.front.Front.TheVariants.{Record, Rest, Bad}
 use Rattle.bk_log.specs.Fronts.{IsFront, FitsIn}
-use Rattle.bk_log.specs.Ahead.{Ahead, AheadFails}
+use Rattle.bk_log.specs.Ahead.{Ahead}
 use Rattle.bk_log.specs.Places.{HasRecordAt}
 use Rattle.bk_log.specs.Ranges.{IsPassed, part}
 use Rattle.bk_log.specs.Scanning.{Scan, is_going, IsGiven, ScanFails}

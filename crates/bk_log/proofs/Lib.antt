@@ -19,3 +19,4 @@ pub mod OneRecord
 pub mod SizeSums
 pub mod Gains
 pub mod SealGains
+pub mod WholeScans

@@ -4,16 +4,16 @@ use Rattle.std.proofs.Common.{ap, ◌∙◌, subst, arith, length-append, length
 use Rattle.std.proofs.lemmas.Bool.{le-leb}
 use Rattle.std.proofs.lemmas.List.{take-append-drop, length-take-le, drop_at}
 use Rattle.std.proofs.lemmas.Slice.{drop-append-drop}
-use Rattle.std.specs.Int.{w32, w64, cast_unsigned}
 use Rattle.std.specs.List.{filter, AllByRecursion}
 use Rattle.std.specs.FinMap.{get, insert, len}
 use Rattle.bk_record.specs.Record.{key_of, is_foreign}
 use Rattle.bk_record.specs.Files.{Files, file_of}
 use Rattle.bk_record.specs.Scan.{entries_of}
 use Rattle.bk_record.proofs.Growth.{records_of-body}
+use Rattle.bk_record.proofs.EntryLists.{is_entry}
 use Rattle.bk_record.proofs.NumberMaps.{get-insert_same}
 use Rattle.bk_disk.specs.Disk.{patched, patched_file}
-use Rattle.bk_head.specs.Header.{IsHeader, empty_header, head_of, patch_of}
+use Rattle.bk_head.specs.Header.{IsHeader, empty_header, patch_of}
 use Rattle.bk_head.specs.declared.header.Header.{Header}
 use Rattle.bk_head.specs.Ledgers.{SpellsMap}
 use Rattle.bk_head.specs.Written.{IsWritable}
@@ -24,7 +24,7 @@ use Rattle.bk_log.specs.Writing.{Writing, Writes}
 use Rattle.bk_log.specs.Sealing.{map_bytes, map_fits, mapped, sealed, SealTurn, HasMap}
 use Rattle.bk_log.specs.declared.fault.LogFault.{LogFault}
 use Rattle.bk_log.proofs.Writes.{text_is_long}
-use Rattle.bk_log.proofs.Others.{is_entry, keeps_patch}
+use Rattle.bk_log.proofs.Others.{keeps_patch}
 use Rattle.bk_log.proofs.Sealed.{all_entries, patched-mapped, long_enough, length-patch_of}
 
 -- records with keys are entries, all of them
@@ -43,9 +43,10 @@ entries_put files w writes =
 -- a header stays one, whatever is behind it
 header-append : (bytes behind : List ℕ) (header : Header) → IsHeader bytes header → IsHeader (bytes ++ behind) header
 header-append bytes behind header is = record {
+  fields = is.fields;
   rest = is.rest ++ behind;
-  version_is = is.version_is;
-  bytes_are = ap (λ b. b ++ behind) is.bytes_are ∙ append_assoc (head_of (cast_unsigned w64 header.map_offset) (cast_unsigned w32 header.count)) is.rest behind;
+  bytes_are = ap (λ b. b ++ behind) is.bytes_are ∙ simp append_assoc;
+  says = is.says;
 }
 
 abbrev unsealed : Header
@@ -94,7 +95,7 @@ map_stands files w file writes writable is =
       );
       header = subst (λ b. IsHeader b (record { version = 1; map_offset = pos w.end; count = pos (len (sizes_of (entries_of file))) })) (sym open_is)
           (subst (λ s. IsHeader (front ++ drop 20 whole) (record { version = 1; map_offset = pos w.end; count = pos (len s) })) (sym sizes)
-          (patched_again whole unsealed w.end (len w.sizes) (header-append writes.file (map_bytes w) unsealed (header_put files w writes))));
+          (patched_again whole unsealed w.end (len w.sizes) (header-append writes.file (map_bytes w) unsealed (header_put files w writes)) refl));
       spelled = subst (λ s. SpellsMap (drop w.end file) s) (sym sizes) (subst (λ b. SpellsMap b w.sizes) (sym behind) (written_spells w.sizes writable));
     }
 

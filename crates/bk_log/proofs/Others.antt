@@ -1,5 +1,5 @@
 -- What sealing writes behind a log's records is foreign or torn, so the log's entries stay.
-use Rattle.std.proofs.Common.{◌≡◌, ℕ, zero, suc, ◌+◌, ◌-◌, ◌<◌, ◌≤◌, Bool, true, false, cond, not, List, [], ◌∷◌, ◌++◌, length, take, drop, Some, nat_cmp}
+use Rattle.std.proofs.Common.{◌≡◌, ℕ, zero, suc, ◌+◌, ◌-◌, ◌<◌, ◌≤◌, true, false, cond, not, List, [], ◌∷◌, ◌++◌, length, take, drop, Some, nat_cmp}
 use Rattle.std.proofs.Common.{unwrap_or, refl, sym, ap, ◌∙◌, subst, arith, length-append, length-drop}
 use Rattle.std.proofs.Math.Decide.{dec_le}
 use Rattle.std.proofs.lemmas.Bool.{le-leb}
@@ -20,13 +20,11 @@ use Rattle.bk_record.specs.Files.{Files, file_of, records_of, IsWhole}
 use Rattle.bk_record.specs.Scan.{entries_of}
 use Rattle.bk_record.proofs.Records.{length-record_of}
 use Rattle.bk_record.proofs.Bodies.{prefix_is_torn}
+use Rattle.bk_record.proofs.EntryLists.{is_entry}
 use Rattle.bk_record.proofs.Growth.{records_of-behind}
 use Rattle.bk_disk.specs.Disk.{IsFile, patched_file}
 use Rattle.bk_head.specs.Ledgers.{batch_ids, batch_payload, Batches}
 use Rattle.bk_log.specs.Sealing.{KeepsEntries}
-
-abbrev pub is_entry : ℕ × List ℕ → Bool
-is_entry r = not (is_foreign r.1)
 
 -- bytes that spell foreign records and a rest
 pub record Others (from : ℕ) (bytes : List ℕ) : Type 0 where

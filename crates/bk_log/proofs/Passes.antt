@@ -13,13 +13,11 @@ use Rattle.bk_record.specs.Body.Body.{done, torn}
 use Rattle.bk_record.specs.Piece.{BeginsWith}
 use Rattle.bk_record.proofs.Records.{Starts, starts_only, starts-torn, starts-nil, length-record_of, length_field-take}
 use Rattle.bk_record.proofs.Bodies.{body_append, body_record}
+use Rattle.bk_record.proofs.EntryLists.{is_entry}
 use Rattle.bk_record.proofs.Spellings.{bad_append}
 use Rattle.bk_record.specs.Spelling.{all_pieces, all_leftover}
 use Rattle.bk_log.specs.Ranges.{IsPassed, GoesOn, entries_in, foreign_in, part}
 use Rattle.bk_log.proofs.Ranges.{all_pieces-behind, all_leftover-behind, all_pieces-record, all_pieces-stop, all_leftover-stop}
-
-abbrev is_entry : ℕ × List ℕ → Bool
-is_entry r = not (is_foreign r.1)
 
 abbrev is_other : ℕ × List ℕ → Bool
 is_other r = is_foreign r.1
