@@ -9,7 +9,6 @@ use Rattle.std.specs.List.{AllByRecursion}
 use Rattle.std.specs.FinMap.{find, put, is_sorted}
 use Rattle.std.specs.FinMap.Entries.{by_order, below_all}
 use Rattle.std.proofs.lemmas.Bool.{and_parts}
-use Rattle.std.specs.Cmp.Derive.{both_true}
 use Rattle.bk_record.proofs.SortedPairs.{less_from_test}
 
 module _ {A : Type 0} (P : A → Type 0) where
@@ -30,18 +29,9 @@ module _ {K X : Type 0} (R : K → K → Ordering) where
   each_above k [] below = tt
   each_above k (e ∷ es) below = let parts = and_parts _ _ below in (less_from_test _ parts.0, each_above k es parts.1)
 
-  below_front : (k : K) (xs ys : List (K × X)) → IsTrue (below_all R k (xs ++ ys)) → IsTrue (below_all R k xs)
-  below_front k [] ys below = refl
-  below_front k (x ∷ xs) ys below = let parts = and_parts _ _ below in both_true parts.0 (below_front k xs ys parts.1)
-
   -- the first key is below those behind it
   pub head_below : (e : K × X) (es : List (K × X)) → IsTrue (is_sorted R (e ∷ es)) → AllByRecursion (λ d. R e.0 d.0 ≡ Less) es
   head_below e es sorted = each_above e.0 es (and_parts _ _ sorted).0
-
-  pub sorted_front : (xs ys : List (K × X)) → IsTrue (is_sorted R (xs ++ ys)) → IsTrue (is_sorted R xs)
-  sorted_front [] ys sorted = refl
-  sorted_front (x ∷ xs) ys sorted =
-      let parts = and_parts _ _ sorted in both_true (below_front x.0 xs ys parts.0) (sorted_front xs ys parts.1)
 
   pub sorted_back : (xs ys : List (K × X)) → IsTrue (is_sorted R (xs ++ ys)) → IsTrue (is_sorted R ys)
   sorted_back [] ys sorted = sorted

@@ -6,7 +6,8 @@ use Rattle.std.specs.FinMap.{find, put, is_sorted}
 use Rattle.std.proofs.lemmas.List.{get_or_read}
 use Rattle.bk_record.specs.Key.{EntryKey, key_cmp}
 use Rattle.bk_index.specs.Pages.{all_pairs, IsHome}
-use Rattle.bk_index.proofs.CutPairs.{sorted_front, sorted_back}
+use Rattle.bk_record.proofs.SortedPairs.{sorted_front}
+use Rattle.bk_index.proofs.CutPairs.{sorted_back}
 use Rattle.bk_index.proofs.Homes.{find_home, put_home, all_pairs-cut}
 
 -- a page of pairs in order is in order

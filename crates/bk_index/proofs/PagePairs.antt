@@ -9,8 +9,8 @@ use Rattle.bk_record.specs.Key.{EntryKey, key_cmp}
 use Rattle.bk_index.specs.Sorted.{IsAt, IsGapFor}
 use Rattle.bk_index.specs.Pages.{first_key}
 use Rattle.bk_record.proofs.Keys.{key_cmp_total}
-use Rattle.bk_record.proofs.SortedPairs.{Some-same, find_at, find_gap, put_at, put_gap, is_sorted_put}
-use Rattle.bk_index.proofs.CutPairs.{sorted_front, sorted_back}
+use Rattle.bk_record.proofs.SortedPairs.{Some-same, sorted_front, find_at, find_gap, put_at, put_gap, is_sorted_put}
+use Rattle.bk_index.proofs.CutPairs.{sorted_back}
 use Rattle.bk_index.proofs.KeyPlaces.{read_there, named}
 
 -- a write over a key's value leaves the first key
