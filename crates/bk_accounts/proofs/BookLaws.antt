@@ -3,10 +3,10 @@ use Rattle.std.proofs.Common.{◌≡◌, ℕ, ◌+◌, ◌-◌, Bool, true, fals
 use Rattle.std.specs.Option.{option_map}
 use Rattle.std.specs.Cmp.{nat_cmp_total, unsigned_tied}
 use Rattle.std.specs.FinMap.{get, get-insert, get-remove}
-use Rattle.bk_accounts.specs.Account.{Account, fresh, with_room, with_size, with_dead_size, with_name, without_name, without_size}
+use Rattle.bk_accounts.specs.Account.{Account, fresh, with_room, with_size, with_dead_size, with_name, without_name}
 use Rattle.bk_accounts.specs.Book.{Book, total_in, named_in, changed, after_open, after_ready, after_count, after_count_dead, after_name, after_unname}
-use Rattle.bk_accounts.specs.Book.{after_forget, after_drop}
-use Rattle.bk_accounts.proofs.Books.{get-changed, get-after_forget}
+use Rattle.bk_accounts.specs.Book.{after_drop}
+use Rattle.bk_accounts.proofs.Books.{get-changed}
 
 -- a number of an account, after a change that makes another of it
 number-changed : (number : Account → ℕ) (change : Account → Account) (to : ℕ → ℕ) → ((account : Account) → number (change account) ≡ to (number account))
@@ -60,24 +60,6 @@ named_in-after_ready book log ledger q = number-kept (λ a. a.named) (with_room 
 
 pub named_in-after_count : (book : Book) (log ledger size q : ℕ) → named_in (after_count book log ledger size) q ≡ named_in book q
 named_in-after_count book log ledger size q = number-kept (λ a. a.named) (with_size ledger size) (λ _. refl) book log q
-
-pub named_in-after_count_dead : (book : Book) (log size q : ℕ) → named_in (after_count_dead book log size) q ≡ named_in book q
-named_in-after_count_dead book log size q = number-kept (λ a. a.named) (with_dead_size size) (λ _. refl) book log q
-
--- a number that forgetting a ledger leaves
-number-forget : (number : Account → ℕ) (ledger : ℕ) → ((account : Account) → number (without_size ledger account) ≡ number account) → (book : Book) (q : ℕ)
-    → option_map number (get (after_forget book ledger) q) ≡ option_map number (get book q)
-number-forget number ledger is book q = ap (option_map number) (get-after_forget book ledger q) ∙ inside (get book q)
-  where
-    inside : (o : Option Account) → option_map number (option_map (without_size ledger) o) ≡ option_map number o
-    inside None = refl
-    inside (Some account) = ap (λ n. Some n) (is account)
-
-pub total_in-after_forget : (book : Book) (ledger q : ℕ) → total_in (after_forget book ledger) q ≡ total_in book q
-total_in-after_forget book ledger q = number-forget (λ a. a.total) ledger (λ _. refl) book q
-
-pub named_in-after_forget : (book : Book) (ledger q : ℕ) → named_in (after_forget book ledger) q ≡ named_in book q
-named_in-after_forget book ledger q = number-forget (λ a. a.named) ledger (λ _. refl) book q
 
 -- a number of a log that was opened, or dropped
 number-opened : (number : Account → ℕ) (book : Book) (log q : ℕ)

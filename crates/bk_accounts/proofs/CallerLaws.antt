@@ -1,21 +1,20 @@
 -- What a caller keeps that knows the entries of each log: the sums of the accounts through each call.
-use Rattle.std.proofs.Common.{◌≡◌, ℕ, ◌+◌, ◌-◌, ◌^◌, ◌<◌, Bool, true, false, cond, ◌||◌, ◌==◌, List, [], ◌∷◌, ◌++◌, Some, None, Option, IsSome, if◌then◌else◌}
-use Rattle.std.proofs.Common.{IsNone, IfSome, unwrap_or, nat_cmp, refl, sym, ap, subst, ◌∙◌, arith, eqb-true, eq-eqb}
+use Rattle.std.proofs.Common.{◌≡◌, ℕ, ◌+◌, ◌-◌, Bool, true, false, cond, ◌||◌, ◌==◌, List, [], ◌∷◌, ◌++◌, Some, None, Option, if◌then◌else◌}
+use Rattle.std.proofs.Common.{IsNone, nat_cmp, refl, sym, ap, subst, ◌∙◌, arith, eqb-true, eq-eqb}
 use Rattle.std.specs.Option.{option_map}
 use Rattle.std.specs.Cmp.{nat_cmp_total, eq_by_cmp_equiv, unsigned_tied}
 use Rattle.std.specs.FinSet.{FinSet, contains, insert, contains-insert}
 use Rattle.std.specs.FinMap as finmap
 use Rattle.std.specs.FinMap.{get, remove, get-empty, get-insert, get-remove}
 use Rattle.bk_accounts.specs.Account.{Account, fresh, with_room, with_size, with_dead_size, with_name, without_name, without_size}
-use Rattle.bk_accounts.specs.Book.{Book, HasAccount, IsNotOpen, total_in, named_in, total_at, remaining_at, changed, after_open, after_ready, after_count}
-use Rattle.bk_accounts.specs.Book.{after_count_dead, after_name, after_unname, after_forget, after_drop}
-use Rattle.bk_accounts.specs.Choice.{IsChoice, NoneBelow}
-use Rattle.bk_accounts.specs.Sums.{Measure, AreSums, all_bytes, live_bytes}
-use Rattle.bk_accounts.proofs.Books.{map_same, get-changed, get-after_forget}
+use Rattle.bk_accounts.specs.Book.{Book, IsNotOpen, changed, after_open, after_ready, after_count}
+use Rattle.bk_accounts.specs.Book.{after_count_dead, after_name, after_unname, after_drop}
+use Rattle.bk_accounts.specs.Sums.{Measure, AreSums, all_bytes}
+use Rattle.bk_accounts.proofs.Books.{map_same, get-changed}
 use Rattle.bk_accounts.proofs.EntrySums.{Matches, HasSums, sums_of_match, match_of_sums, match_fresh, match_room, match_count, match_dead, match_named}
 use Rattle.bk_accounts.proofs.EntrySums.{match_forget}
 
--- a set of dead ledgers with one more, as `sums_forget` wants it
+-- a set of dead ledgers with one more, as `sums_left` wants it
 pub contains-insert_dead : (dead : FinSet nat_cmp) (ledger l : ℕ) → contains (insert dead ledger) l ≡ (contains dead l || ledger == l)
 contains-insert_dead dead ledger l =
     contains-insert nat_cmp_total dead ledger l
@@ -130,13 +129,6 @@ module _ {E : Type 0} (measure : Measure E) where
         → AreSums measure is_dead later names (after_count_dead book log (measure.size e))
     sums_count_dead log old e later was dead is = grown log old e (with_dead_size (measure.size e)) later was is (λ n. match_dead measure is_dead old n e dead)
 
-    -- `forget`: the ledger is dead too
-    pub sums_forget : (dead_now : ℕ → Bool) (ledger : ℕ) → ((l : ℕ) → dead_now l ≡ (is_dead l || ledger == l))
-        → AreSums measure dead_now entries names (after_forget book ledger)
-    sums_forget dead_now ledger more = all dead_now entries names (after_forget book ledger) (λ log.
-        subst (Matches measure dead_now (entries log) (names log)) (sym (get-after_forget book ledger log))
-        (match_forget measure dead_now is_dead ledger more (entries log) (names log) (get book log) (each sums log)))
-
     -- `unname` of keys of a ledger, then its `forget`, told of each account: the ledger is dead too, and so many keys name each log
     pub sums_left : (dead_now : ℕ → Bool) (ledger : ℕ) (renamed : ℕ → ℕ) (left : Book) → ((l : ℕ) → dead_now l ≡ (is_dead l || ledger == l))
         → ((log : ℕ) → get left log ≡ option_map (λ (account : Account). record account { named = renamed log; live = remove account.live ledger }) (get book
@@ -169,60 +161,10 @@ module _ {E : Type 0} (measure : Measure E) where
         match_named measure is_dead (entries q) (names q) (renamed q) (λ n. n - 1) (omega arith) (get book q) (each sums q))
         (λ q apart. (refl, sym (is q ∙ ap (λ b. if b then renamed q + 1 else renamed q) apart)))
 
-    -- a log with a list of entries is open, and one without is not
-    pub sums_is_open : (log : ℕ) (old : List E) → entries log ≡ Some old → HasAccount book log
-    sums_is_open log old was = somewhere (get book log) (sums.total log ∙ ap (option_map (all_bytes measure)) was)
-      where
-        somewhere : (o : Option Account) → option_map (λ account. account.total) o ≡ Some (all_bytes measure old) → IsSome o
-        somewhere None is = cc
-        somewhere (Some account) is = refl
-
+    -- a log without a list of entries is not open
     pub sums_is_closed : (log : ℕ) → entries log ≡ None → IsNotOpen book log
     sums_is_closed log none = nowhere (get book log) (sums.total log ∙ ap (option_map (all_bytes measure)) none)
       where
         nowhere : (o : Option Account) → option_map (λ account. account.total) o ≡ None → IsNone o
         nowhere None is = refl
         nowhere (Some account) is = cc
-
-    -- what is owed at `count`, told of the log's entries
-    pub sums_fit : (log size : ℕ) (old : List E) → entries log ≡ Some old → all_bytes measure old + size < 2 ^ 32
-        → IfSome (total_in book log) (λ total. total + size < 2 ^ 32)
-    sums_fit log size old was fits =
-        subst (λ o. IfSome o (λ total. total + size < 2 ^ 32)) (sym (sums.total log ∙ ap (option_map (all_bytes measure)) was)) fits
-
-    -- what is owed at `name` and `unname`, told of the keys that name the log
-    pub names_fit : (log : ℕ) (P : ℕ → Type 0) → P (names log) → IfSome (named_in book log) P
-    names_fit log P holds = subst (λ o. IfSome o P) (sym (sums.named log)) (any (entries log))
-      where
-        any : (o : Option (List E)) → IfSome (option_map (λ _. names log) o) P
-        any None = tt
-        any (Some old) = holds
-
-    -- the sums of a log are those of its entries, nothing where it is not open
-    pub total_at-is : (log : ℕ) → total_at book log ≡ all_bytes measure (unwrap_or (entries log) [])
-    total_at-is log = ap (λ o. unwrap_or o 0) (sums.total log) ∙ inside (entries log)
-      where
-        inside : (o : Option (List E)) → unwrap_or (option_map (all_bytes measure) o) 0 ≡ all_bytes measure (unwrap_or o [])
-        inside None = refl
-        inside (Some old) = refl
-
-    pub remaining_at-is : (log : ℕ) → remaining_at book log ≡ live_bytes measure is_dead (unwrap_or (entries log) [])
-    remaining_at-is log = ap (λ o. unwrap_or o 0) (sums.remaining log) ∙ inside (entries log)
-      where
-        inside : (o : Option (List E)) → unwrap_or (option_map (live_bytes measure is_dead) o) 0 ≡ live_bytes measure is_dead (unwrap_or o [])
-        inside None = refl
-        inside (Some old) = refl
-
-    -- so a choice by the accounts is one by the entries
-    pub choice_by_entries : (threshold : ℕ) (allowed : List ℕ) (chosen : ℕ) → IsChoice (total_at book) (remaining_at book) threshold allowed chosen
-        → IsChoice (λ log. all_bytes measure (unwrap_or (entries log) [])) (λ log. live_bytes measure is_dead (unwrap_or (entries log) []))
-        threshold allowed chosen
-    choice_by_entries threshold allowed chosen choice =
-        subst (λ f. IsChoice f (λ log. live_bytes measure is_dead (unwrap_or (entries log) [])) threshold allowed chosen) (λ i log. total_at-is log i)
-        (subst (λ f. IsChoice (total_at book) f threshold allowed chosen) (λ i log. remaining_at-is log i) choice)
-
-    pub none_by_entries : (threshold : ℕ) (allowed : List ℕ) → NoneBelow (total_at book) (remaining_at book) threshold allowed
-        → NoneBelow (λ log. all_bytes measure (unwrap_or (entries log) [])) (λ log. live_bytes measure is_dead (unwrap_or (entries log) [])) threshold allowed
-    none_by_entries threshold allowed none =
-        subst (λ f. NoneBelow f (λ log. live_bytes measure is_dead (unwrap_or (entries log) [])) threshold allowed) (λ i log. total_at-is log i)
-        (subst (λ f. NoneBelow (total_at book) f threshold allowed) (λ i log. remaining_at-is log i) none)

@@ -62,10 +62,6 @@ pub none_is : {X : Type 0} (o : Option X) → is_some o ≡ false → o ≡ None
 none_is None h = refl
 none_is (Some x) h = cc
 
--- what no query of the entries finds, the map has not
-pub get-absent : {X : Type 0} (es : List (ℕ × X)) (k : ℕ) → is_some (lookup (is_at (nat_cmp k)) es) ≡ false → get (from_entries {R = nat_cmp} es) k ≡ None
-get-absent es k absent = get-entries es k ∙ none_is _ absent
-
 -- a value inserted where it stands changes nothing
 pub insert_same : {X : Type 0} (m : FinMap nat_cmp X) (k : ℕ) (v : X) → get m k ≡ Some v → insert m k v ≡ m
 insert_same m k v found = same_by_get _ _ (λ q. get-insert nat_cmp_total m k v q
