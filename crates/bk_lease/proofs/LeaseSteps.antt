@@ -9,7 +9,7 @@ use Rattle.bk_lease.specs.declared.rule.Register.{Register}
 use Rattle.bk_lease.specs.declared.rule.Role.{Role}
 use Rattle.bk_lease.specs.declared.rule.Role.TheVariants.{Keeper, Held, Spent}
 use Rattle.bk_lease.specs.Leases.{state_at, pending_on, WordIs, held_on, RuledBy, SlotRuled}
-use Rattle.bk_lease.specs.Steps.{Sitter, released, never}
+use Rattle.bk_lease.specs.Steps.{Sitter, released}
 use Rattle.bk_lease.proofs.Slots.{inside_slots}
 use Rattle.bk_lease.proofs.Views.{hold_of-here, hold_of-else, held_on-set}
 use Rattle.bk_lease.proofs.Words.{one_less, counted_open}

@@ -1,5 +1,5 @@
 -- What a change of one slot does to the states of all, and to the count of those that are taken: for whoever keeps beside a keeper what stands in its slots.
-use Rattle.std.proofs.Common.{◌≡◌, ◌≢◌, ℕ, zero, suc, ◌+◌, ◌<◌, ◌≤◌, List, [], ◌∷◌, length, set, replicate, sym, refl, ap, ◌∙◌, arith, lt_of_not-le}
+use Rattle.std.proofs.Common.{◌≡◌, ◌≢◌, ℕ, zero, suc, ◌+◌, ◌<◌, List, [], ◌∷◌, length, set, replicate, sym, refl, ap, ◌∙◌, arith, lt_of_not-le}
 use Rattle.std.proofs.Common.{get_or-set_same, get_or-set_other}
 use Rattle.std.proofs.lemmas.List.{set-set, set-get_or}
 use Rattle.std.proofs.Math.ListN.{get_or-eq_default}
@@ -8,22 +8,13 @@ use native.Mathlib.Decide.{dec_le}
 use Rattle.bk_lease.specs.declared.slot.Slot.{Slot}
 use Rattle.bk_lease.specs.declared.slot.Slot.TheVariants.{Free, Open, Closed}
 use Rattle.bk_lease.specs.Leases.{state_at, log_at, IsOpen}
-use Rattle.bk_lease.specs.Slots.{taken_of, taken_count, IsFree}
+use Rattle.bk_lease.specs.Slots.{taken_of, taken_count}
 use Rattle.bk_lease.specs.Values.{SlotTable, with_state, with_closed}
 
 -- a slot that is not free is one of the slots
 pub inside_slots : (slots : List Slot) (i : ℕ) (state : Slot) → state_at slots i ≡ state → state ≢ Free → i < length slots
 inside_slots slots i state is taken =
     dite (dec_le (length slots) i) (λ past. absurd (taken (sym is ∙ get_or-eq_default slots Free past))) (λ within. lt_of_not-le within)
-
-pub taken_of-le : (state : Slot) → taken_of state ≤ 1
-taken_of-le Free = omega arith
-taken_of-le (Open log) = omega arith
-taken_of-le (Closed log) = omega arith
-
-pub taken_count-le : (slots : List Slot) → taken_count slots ≤ length slots
-taken_count-le [] = omega arith
-taken_count-le (state ∷ states) = let first = taken_of-le state in let rest = taken_count-le states in omega arith
 
 pub taken_count-replicate : (n : ℕ) → taken_count (replicate n Free) ≡ 0
 taken_count-replicate zero = refl
@@ -35,13 +26,6 @@ pub taken_count-set : (slots : List Slot) (i : ℕ) (state : Slot) → i < lengt
 taken_count-set [] i state inside = absurd (omega arith)
 taken_count-set (s ∷ states) zero state inside = omega arith
 taken_count-set (s ∷ states) (suc i) state inside = let rest = taken_count-set states i state (omega arith) in omega arith
-
--- a free slot leaves the count below the number of slots
-pub taken_count-free : (slots : List Slot) (i : ℕ) → IsFree slots i → taken_count slots < length slots
-taken_count-free [] i free = absurd (let inside = free.0 in omega arith)
-taken_count-free (s ∷ states) zero free = let none : taken_of s ≡ 0 = ap taken_of free.1 in let rest = taken_count-le states in omega arith
-taken_count-free (s ∷ states) (suc i) free = let inside = free.0 in let first = taken_of-le s in
-    let rest = taken_count-free states i (omega arith, free.1) in omega arith
 
 taken_of-one : (state : Slot) → state ≢ Free → taken_of state ≡ 1
 taken_of-one Free taken = absurd (taken refl)
