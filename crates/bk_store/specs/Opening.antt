@@ -4,7 +4,7 @@ use Rattle.std.specs.FinMap as finite
 use Rattle.bk_record.specs.Files.{Files, file_of, header_length}
 use Rattle.bk_record.specs.Body.{IsBadAt}
 use Rattle.bk_disk.specs.Disk.{IsFile, view_end}
-use Rattle.bk_head.specs.Header.{magic, version_field, HeaderFault}
+use Rattle.bk_head.specs.Header.{HasHeader, HeaderFault}
 use Rattle.bk_log.specs.Growing.{HasNoBadLength}
 use Rattle.bk_cache.specs.Caches as caches
 use Rattle.bk_store.specs.Entries.{IsIndexOf}
@@ -20,9 +20,9 @@ use Rattle.bk_store.specs.declared.answer.OpenFault.TheVariants as open_faults
 
 -- ---- one file
 
--- A header, where there are bytes enough for one, has the magic and the version (this project's rule).
+-- A log with bytes enough for a header has one, of version 0 or 1 (this project's rule).
 abbrev pub IsHeaded : List ℕ → Type 0
-IsHeaded file = header_length ≤ length file → (take 4 (take header_length file) ≡ magic) × (version_field (take header_length file) ≡ 1)
+IsHeaded file = header_length ≤ length file → HasHeader (take header_length file)
 
 -- a file on which a store opens
 pub record Opens (file : List ℕ) : Type 0 where
