@@ -6,3 +6,4 @@ pub mod Sums
 pub mod Maps
 pub mod LedgerLines
 pub mod Fits
+pub mod Listed

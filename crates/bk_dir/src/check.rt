@@ -11,9 +11,9 @@ use crate::{BytesFault, DirFault};
 use bk_disk::{LogDisk, LogView};
 use bk_head::Header;
 use std::alloc::Global;
-use std::fmt;
 use std::fmt::{Display, Formatter};
 use std::io::Write;
+use std::{fmt, io};
 
 /// What `check` tells of a log.
 #[derive(Clone, Copy, Debug, PartialEq, Eq)]
@@ -49,8 +49,8 @@ impl Display for Health {
     }
 }
 
-/// Shows a line for each log, by rising ids, `ID WORD`, as soon as it is known. Gives the status: 1 where something is
-/// wrong with a log.
+/// Shows a line for each log, by rising ids, `ID WORD`, as soon as it is known. A log that goes meanwhile is passed
+/// over. Gives the status: 1 where something is wrong with a log.
 pub(crate) fn show_check<D: LogDisk, W: Write>(
     alloc: Global,
     disk: &mut D,
@@ -62,28 +62,35 @@ pub(crate) fn show_check<D: LogDisk, W: Write>(
     let ids = list_logs(alloc, disk)?;
     let mut status = 0;
     for log in ids.as_slice() {
-        let health = health_of(alloc, disk, *log)?;
-        writeln!(writer, "{log} {health}")?;
-        writer.flush()?;
-        if health.is_bad() {
-            status = 1;
+        if let Some(health) = health_of(alloc, disk, *log)? {
+            write_health(*log, health, writer)?;
+            if health.is_bad() {
+                status = 1;
+            }
         }
     }
     Ok(status)
 }
 
-/// What is to be told of a log that the disk has listed.
+/// Writes the line of a log, and hands it on, so that it is seen while the next log is read.
+pub(crate) fn write_health<W: Write>(log: u32, health: Health, writer: &mut W) -> io::Result<()> {
+    writeln!(writer, "{log} {health}")?;
+    writer.flush()
+}
+
+/// What is to be told of a log that the disk has listed; `None` where it has gone since.
 pub(crate) fn health_of<D: LogDisk>(
     alloc: Global,
     disk: &mut D,
     log: u32,
-) -> Result<Health, DirFault>
+) -> Result<Option<Health>, DirFault>
     ensures reads { OnlyReads (D.honest disk.old) (D.files disk.old) (D.honest disk.new) (D.files disk.new) }
 {
     match examine(alloc, disk, log) {
-        Ok(health) => Ok(health),
-        Err(DirFault::Log(fault)) => Ok(Health::Faulty(fault)),
-        Err(fault) => Err(fault.of_known()),
+        Ok(health) => Ok(Some(health)),
+        Err(DirFault::Log(fault)) => Ok(Some(Health::Faulty(fault))),
+        Err(DirFault::NoLog) => Ok(None),
+        Err(fault) => Err(fault),
     }
 }
 

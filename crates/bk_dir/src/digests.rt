@@ -5,7 +5,7 @@ ghost use Rattle.bk_dir.specs.Reading.{OnlyReads};
 
 use crate::DirFault;
 use crate::calls::{list_logs, view_of};
-use crate::check::health_of;
+use crate::check::{health_of, write_health};
 use crate::digest::{Digest, DigestChoice};
 use crate::fitting::fits;
 use crate::header::HEADER;
@@ -99,11 +99,14 @@ pub(crate) fn show_digests<D: LogDisk, W: Write>(
     let mut status = 0;
     for log in ids.as_slice() {
         let fitting = show_broken(alloc, disk, *log, &mut ledgers, writer)?;
-        let health = health_of(alloc, disk, *log)?;
-        writeln!(writer, "{log} {health}")?;
-        writer.flush()?;
-        if health.is_bad() || !fitting {
+        if !fitting {
             status = 1;
+        }
+        if let Some(health) = health_of(alloc, disk, *log)? {
+            write_health(*log, health, writer)?;
+            if health.is_bad() {
+                status = 1;
+            }
         }
     }
     if choice == DigestChoice::Auto {
@@ -112,7 +115,8 @@ pub(crate) fn show_digests<D: LogDisk, W: Write>(
     Ok(status)
 }
 
-/// Shows the entries of a log that don't fit, up to a bad length where there is one. Whether there is none of either.
+/// Shows the entries of a log that don't fit, up to a bad length where there is one. Whether there is none of either;
+/// there is none in a log that has gone since it was listed.
 fn show_broken<D: LogDisk, W: Write>(
     alloc: Global,
     disk: &mut D,
@@ -124,7 +128,8 @@ fn show_broken<D: LogDisk, W: Write>(
 {
     let view = match view_of(alloc, disk, log) {
         Ok(view) => view,
-        Err(fault) => return Err(fault.of_known()),
+        Err(DirFault::NoLog) => return Ok(true),
+        Err(fault) => return Err(fault),
     };
     match show_broken_in(alloc, &view, ledgers, writer) {
         Err(DirFault::Log(_)) => Ok(false),

@@ -1,5 +1,8 @@
 //! Why a command ends early, and what is wrong with a log.
 
+ghost use Rattle.std.specs.Prelude.{◌≡◌};
+ghost use Rattle.bk_dir.specs.declared.fault.DirFault.TheVariants as faults;
+
 use bk_disk::DiskFault;
 use bk_head::HeadFault;
 use bk_log::ScanFault;
@@ -26,15 +29,19 @@ pub(crate) enum DirFault {
     Disk,
     /// No memory was to be had.
     Memory,
-    /// The disk answered what an honest disk can't: a log that it has listed is gone, or is shorter than it said.
+    /// The disk answered what an honest disk can't: a log is shorter than it said.
     Odd,
     /// The output could not be written.
     Output,
+    /// Nobody reads the output any more: it is a pipe whose other end was closed.
+    Closed,
 }
 
 impl DirFault {
     /// The same, of a log that the disk has told of before: that there is no such log is odd.
-    pub(crate) fn of_known(self) -> DirFault {
+    pub(crate) fn of_known(self) -> DirFault
+        ensures { ¬ (result ≡ faults.NoLog) }
+    {
         match self {
             DirFault::NoLog => DirFault::Odd,
             fault => fault,
@@ -76,8 +83,11 @@ impl From<HeadFault> for DirFault {
 }
 
 impl From<io::Error> for DirFault {
-    fn from(_: io::Error) -> DirFault {
-        DirFault::Output
+    fn from(error: io::Error) -> DirFault {
+        match error.kind() {
+            io::ErrorKind::BrokenPipe => DirFault::Closed,
+            _ => DirFault::Output,
+        }
     }
 }
 
@@ -105,7 +115,7 @@ impl Display for DirFault {
             DirFault::Disk => write!(f, "disk"),
             DirFault::Memory => write!(f, "memory"),
             DirFault::Odd => write!(f, "odd disk"),
-            DirFault::Output => write!(f, "output"),
+            DirFault::Output | DirFault::Closed => write!(f, "output"),
         }
     }
 }

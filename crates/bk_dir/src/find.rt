@@ -1,54 +1,83 @@
 //! `find`: the last record of a key over all logs.
 
+ghost use Rattle.std.specs.Prelude.{◌≤◌, IfOk};
 ghost use Rattle.bk_dir.specs.Reading.{OnlyReads};
 
-use crate::DirFault;
 use crate::calls::{list_logs, view_of};
 use crate::data::show_data;
 use crate::header::HEADER;
+use crate::{BytesFault, DirFault};
 use bk_disk::{LogDisk, LogView};
 use bk_log::{Found, Scanner};
 use bk_record::Key;
 use std::alloc::Global;
 use std::io::Write;
 
-/// Shows the last record of a key in order of log, then position, `LOG AT DATA`, or `not found`. Headers aren't read.
-pub(crate) fn show_last<D: LogDisk, W: Write>(
+/// Shows the last record of a key in order of log, then position, `LOG AT DATA`. Headers aren't read. Gives the status.
+///
+/// A log that can't be read to its end is told on the error stream, `fault log ID: TEXT`, and searched up to there; the
+/// status is then 1. `not found` is shown only where every log was searched to its end. A log that goes meanwhile is
+/// passed over.
+pub(crate) fn show_last<D: LogDisk, W: Write, E: Write>(
     alloc: Global,
     disk: &mut D,
     key: Key,
     writer: &mut W,
-) -> Result<(), DirFault>
+    errors: &mut E,
+) -> Result<u8, DirFault>
+    ensures status { IfOk result (λ status. status ≤ 1) }
     ensures reads { OnlyReads (D.honest disk.old) (D.files disk.old) (D.honest disk.new) (D.files disk.new) }
 {
     let ids = list_logs(alloc, disk)?;
     let mut last = None;
+    let mut status = 0;
     for log in ids.as_slice() {
         let view = match view_of(alloc, disk, *log) {
             Ok(view) => view,
-            Err(fault) => return Err(fault.of_known()),
+            Err(DirFault::NoLog) => continue,
+            Err(fault) => return Err(fault),
         };
-        if let Some(found) = last_in(alloc, &view, key)? {
+        let mut found = None;
+        match last_in(alloc, &view, key, &mut found) {
+            Ok(()) => {}
+            Err(DirFault::Log(fault)) => {
+                tell_damage(*log, fault, errors);
+                status = 1;
+            }
+            Err(fault) => return Err(fault),
+        }
+        if let Some(found) = found {
             last = Some((*log, view, found));
         }
     }
     match last {
-        Some((log, view, found)) => show_record(alloc, log, &view, found, writer),
-        None => Ok(writeln!(writer, "not found")?),
+        Some((log, view, found)) => show_record(alloc, log, &view, found, writer)?,
+        None if status == 0 => writeln!(writer, "not found")?,
+        None => {}
     }
+    Ok(status)
 }
 
-/// The last entry of a key in a log.
-fn last_in<V: LogView>(alloc: Global, view: &V, key: Key) -> Result<Option<Found>, DirFault> {
+/// Tells a log that can't be read to its end. Whether the line comes through changes nothing.
+fn tell_damage<E: Write>(log: u32, fault: BytesFault, errors: &mut E) {
+    let _ = writeln!(errors, "fault log {log}: {fault}");
+}
+
+/// The last entry of a key in a log, into `last`, up to a bad length where there is one, which is then the fault.
+fn last_in<V: LogView>(
+    alloc: Global,
+    view: &V,
+    key: Key,
+    last: &mut Option<Found>,
+) -> Result<(), DirFault> {
     let end = view.end().max(HEADER);
     let mut scanner = Scanner::new(view, alloc, HEADER, end);
-    let mut last = None;
     while let Some(found) = scanner.next()? {
         if found.key == key {
-            last = Some(found);
+            *last = Some(found);
         }
     }
-    Ok(last)
+    Ok(())
 }
 
 /// Shows an entry that was found in a log.

@@ -1,13 +1,15 @@
 //! The header of a log, read from a disk.
 
-ghost use Rattle.std.specs.Prelude.{IsTrue, IfOk, IfSome, OnOk};
+ghost use Rattle.std.specs.Prelude.{IsTrue, IfOk, IfSome, IsErrOf, IsNone, OnOk};
+ghost use Rattle.std.specs.FinMap as map;
 ghost use Rattle.bk_dir.specs.Heads.{IsHeadOf, StartsWith};
 ghost use Rattle.bk_dir.specs.Reading.{OfFile, OnlyReads};
 ghost use Rattle.bk_dir.specs.Shown.{HeadText, Prints, WritesText};
 ghost use Rattle.bk_dir.specs.declared.command.DirCommand.TheVariants as commands;
+ghost use Rattle.bk_dir.specs.declared.fault.DirFault.TheVariants as faults;
 
 use crate::{BytesFault, DirFault};
-use bk_disk::LogDisk;
+use bk_disk::{DiskFault, LogDisk};
 use bk_head::{HeadFault, Header, read_header};
 use bk_record::HEADER_LENGTH;
 use std::alloc::Global;
@@ -34,7 +36,7 @@ pub(crate) struct LogHead {
     pub head: Head,
 }
 
-/// The length and the header of a log.
+/// The length and the header of a log. `NoLog` where there is no such log, or none any more.
 pub(crate) fn read_head<D: LogDisk>(
     alloc: Global,
     disk: &mut D,
@@ -43,10 +45,13 @@ pub(crate) fn read_head<D: LogDisk>(
     ensures reads { OnlyReads (D.honest disk.old) (D.files disk.old) (D.honest disk.new) (D.files disk.new) }
     ensures ok { IsTrue (D.honest disk.old)
         → IfOk result (λ found. OfFile (D.files disk.old) log (λ file. IsHeadOf file found)) }
+    ensures gone { IsTrue (D.honest disk.old)
+        → IsErrOf result faults.NoLog → IsNone (map.get (D.files disk.old) log) }
 {
     let length = match disk.length(alloc, log) {
         Ok(length) => length,
-        Err(fault) => return Err(DirFault::from(fault)),
+        Err(DiskFault::NoLog) => return Err(DirFault::NoLog),
+        Err(fault) => return Err(DirFault::from(fault).of_known()),
     };
     if length < HEADER {
         return Ok(LogHead {
@@ -59,6 +64,7 @@ pub(crate) fn read_head<D: LogDisk>(
             Some(head) => Ok(LogHead { length, head }),
             None => Err(DirFault::Odd),
         },
+        Err(DiskFault::NoLog) => Err(DirFault::NoLog),
         Err(fault) => Err(DirFault::from(fault).of_known()),
     }
 }

@@ -1,6 +1,7 @@
 //! `logs`: of each log its id, its length and its state.
 
-ghost use Rattle.std.specs.Prelude.{IsTrue, OnOk, Some};
+ghost use Rattle.std.specs.Prelude.{IsSome, IsTrue, OnOk, Some};
+ghost use Rattle.std.specs.FinMap as map;
 ghost use Rattle.std.specs.Io.KnownBytes.{Appends};
 ghost use Rattle.bk_dir.specs.Heads.{HeadState};
 ghost use Rattle.bk_dir.specs.Reading.{OnlyReads};
@@ -55,7 +56,7 @@ fn state_of(head: Head) -> LogStanding
     }
 }
 
-/// Shows a line for each log, by rising ids: `ID LENGTH STATE`.
+/// Shows a line for each log, by rising ids: `ID LENGTH STATE`. A log that goes meanwhile is passed over.
 pub(crate) fn show_logs<D: LogDisk, W: Write>(
     alloc: Global,
     disk: &mut D,
@@ -72,7 +73,7 @@ pub(crate) fn show_logs<D: LogDisk, W: Write>(
     Ok(())
 }
 
-/// Shows the line of a log that the disk has listed.
+/// Shows the line of a log that the disk has listed; nothing where it has gone since.
 fn show_log<D: LogDisk, W: Write>(
     alloc: Global,
     disk: &mut D,
@@ -80,12 +81,14 @@ fn show_log<D: LogDisk, W: Write>(
     writer: &mut W,
 ) -> Result<(), DirFault>
     ensures reads { OnlyReads (D.honest disk.old) (D.files disk.old) (D.honest disk.new) (D.files disk.new) }
-    ensures ok { IsTrue (D.honest disk.old) → OnOk result (WritesText (IsLogLine (D.files disk.old) log)
+    ensures ok { IsTrue (D.honest disk.old) → IsSome (map.get (D.files disk.old) log)
+        → OnOk result (WritesText (IsLogLine (D.files disk.old) log)
         (W.contents writer.old) (W.contents writer.new)) }
 {
     match read_head(alloc, disk, log) {
         Ok(found) => Ok(write_line(log, found.length, state_of(found.head), writer)?),
-        Err(fault) => Err(fault.of_known()),
+        Err(DirFault::NoLog) => Ok(()),
+        Err(fault) => Err(fault),
     }
 }
 

@@ -21,8 +21,12 @@ use std::io::Write;
 ///
 /// 1 comes with a line `fault TEXT` on the error stream where the command ends early: a log that isn't there, a header,
 /// map or record that can't be read where that is what was asked for, a device that fails, want of memory, a disk that
-/// answers what an honest one can't, or an output that can't be written. What was shown before it stays written. From
-/// `check` it comes too, with no such line, where a line says that something is wrong with a log, or with an entry.
+/// answers what an honest one can't, or an output that can't be written. What was shown before it stays written. Without
+/// such a line it comes where the output is a pipe that nobody reads any more, and from `check` where a line says that
+/// something is wrong with a log, or with an entry. `find` tells each log that it could not read to its end in a line
+/// `fault log ID: TEXT`, goes on with the next one, and ends with 1.
+///
+/// A log that goes while a command is at work is passed over where all logs are looked at.
 pub fn run_dir<D: LogDisk, W: Write, E: Write>(
     alloc: Global,
     disk: &mut D,
@@ -35,8 +39,9 @@ pub fn run_dir<D: LogDisk, W: Write, E: Write>(
     ensures done { IsTrue (D.honest disk.old) → result ≡ 0 → Prints command (D.files disk.old)
         (W.contents writer.old) (W.contents writer.new) }
 {
-    match show_all(alloc, disk, command, writer) {
+    match show_all(alloc, disk, command, writer, errors) {
         Ok(status) => status,
+        Err(DirFault::Closed) => 1,
         Err(fault) => {
             let _ = writeln!(errors, "fault {fault}");
             1
@@ -46,18 +51,19 @@ pub fn run_dir<D: LogDisk, W: Write, E: Write>(
 
 /// Shows what a command asks for, and hands on what the writer has kept back, also where the command ends early. Gives
 /// the status.
-fn show_all<D: LogDisk, W: Write>(
+fn show_all<D: LogDisk, W: Write, E: Write>(
     alloc: Global,
     disk: &mut D,
     command: DirCommand,
     writer: &mut W,
+    errors: &mut E,
 ) -> Result<u8, DirFault>
     ensures status { IfOk result (λ status. status ≤ 1) }
     ensures reads { OnlyReads (D.honest disk.old) (D.files disk.old) (D.honest disk.new) (D.files disk.new) }
     ensures done { IsTrue (D.honest disk.old) → IfOk result (λ status. status ≡ 0 → Prints command (D.files disk.old)
         (W.contents writer.old) (W.contents writer.new)) }
 {
-    let shown = show(alloc, disk, command, writer);
+    let shown = show(alloc, disk, command, writer, errors);
     let flushed = writer.flush();
     let status = shown?;
     flushed?;
@@ -65,11 +71,12 @@ fn show_all<D: LogDisk, W: Write>(
 }
 
 /// Shows what a command asks for. Gives the status.
-fn show<D: LogDisk, W: Write>(
+fn show<D: LogDisk, W: Write, E: Write>(
     alloc: Global,
     disk: &mut D,
     command: DirCommand,
     writer: &mut W,
+    errors: &mut E,
 ) -> Result<u8, DirFault>
     ensures status { IfOk result (λ status. status ≤ 1) }
     ensures reads { OnlyReads (D.honest disk.old) (D.files disk.old) (D.honest disk.new) (D.files disk.new) }
@@ -81,7 +88,7 @@ fn show<D: LogDisk, W: Write>(
         DirCommand::Header(log) => show_header(alloc, disk, log, writer)?,
         DirCommand::Map(log) => show_map(alloc, disk, log, writer)?,
         DirCommand::Scan(log) => show_scan(alloc, disk, log, writer)?,
-        DirCommand::Find(key) => show_last(alloc, disk, key, writer)?,
+        DirCommand::Find(key) => return show_last(alloc, disk, key, writer, errors),
         DirCommand::Check => return show_check(alloc, disk, writer),
         DirCommand::CheckDigests(choice) => return show_digests(alloc, disk, choice, writer),
     }

@@ -6,6 +6,7 @@ mod digests;
 mod failing;
 mod folder;
 mod hostile;
+mod leaving;
 mod maps;
 mod rows;
 

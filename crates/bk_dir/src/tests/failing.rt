@@ -51,12 +51,13 @@ fn each_call_that_fails_ends_a_command(rt: HostRuntime) -> Result<(), Fail> {
 struct Narrow {
     left: usize,
     taken: Vec<u8>,
+    reason: io::ErrorKind,
 }
 
 impl Write for Narrow {
     fn write(&mut self, buf: &[u8]) -> io::Result<usize> {
         if self.left == 0 {
-            return Err(io::Error::from(io::ErrorKind::Other));
+            return Err(io::Error::from(self.reason));
         }
         let count = buf.len().min(self.left);
         self.left -= count;
@@ -70,12 +71,18 @@ impl Write for Narrow {
 }
 
 /// Runs a command on a disk with one sealed log, to an output that takes so many bytes, and what the error stream got.
-fn run_narrow(alloc: Global, command: DirCommand, left: usize) -> Result<(u8, Vec<u8>), Fail> {
+fn run_narrow(
+    alloc: Global,
+    command: DirCommand,
+    left: usize,
+    reason: io::ErrorKind,
+) -> Result<(u8, Vec<u8>), Fail> {
     let mut disk = disk_of(alloc, &[SEALED_LOG])?;
     let mut errors = Vec::new(alloc);
     let mut writer = Narrow {
         left,
         taken: Vec::new(alloc),
+        reason,
     };
     let status = run_dir(alloc, &mut disk, command, &mut writer, &mut errors);
     Ok((status, errors))
@@ -93,7 +100,7 @@ fn an_output_that_is_full_ends_a_command(rt: HostRuntime) -> Result<(), Fail> {
     ];
     for (command, length) in lengths {
         for left in 0..length {
-            let (status, errors) = run_narrow(rt.alloc(), command, left)?;
+            let (status, errors) = run_narrow(rt.alloc(), command, left, io::ErrorKind::Other)?;
             assert_eq!(rt;
                 errors.as_slice(),
                 b"fault output\n".as_slice(),
@@ -101,8 +108,18 @@ fn an_output_that_is_full_ends_a_command(rt: HostRuntime) -> Result<(), Fail> {
             );
             assert_eq!(rt; status, 1, "{command:?}, {left} bytes");
         }
-        let (status, _) = run_narrow(rt.alloc(), command, length)?;
+        let (status, _) = run_narrow(rt.alloc(), command, length, io::ErrorKind::Other)?;
         assert_eq!(rt; status, 0, "{command:?}");
+    }
+    Ok(())
+}
+
+#[test]
+fn an_output_that_nobody_reads_ends_a_command_quietly(rt: HostRuntime) -> Result<(), Fail> {
+    for (command, _) in calls(&rt) {
+        let (status, errors) = run_narrow(rt.alloc(), command, 3, io::ErrorKind::BrokenPipe)?;
+        assert_eq!(rt; errors.len(), 0, "{command:?}");
+        assert_eq!(rt; status, 1, "{command:?}");
     }
     Ok(())
 }

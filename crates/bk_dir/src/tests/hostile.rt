@@ -197,7 +197,12 @@ fn a_bad_log_among_others(rt: HostRuntime) -> Result<(), Fail> {
             "1028 1 0 25\n",
             "fault bad length 1049 7\n",
         ),
-        told(find(&rt, 1, 0), "", "fault bad length 1049 7\n"),
+        told(
+            find(&rt, 1, 0),
+            "4 1028 68656c6c6f\n",
+            "fault log 4: bad length 1049 7\n",
+        ),
+        told(find(&rt, 1, 1), "", "fault log 4: bad length 1049 7\n"),
     ];
     let mut disk = disk_of(rt.alloc(), &[SEALED_LOG, BAD_HEAD, BAD_LENGTH])?;
     check(&rt, rt.alloc(), &mut disk, &rows, "with bad logs");

@@ -1,8 +1,10 @@
-use Rattle.std.proofs.Common.{[], get_or, subst}
+use Rattle.std.proofs.Common.{[], get_or, subst, sym, ◌∙◌, IsSome}
+use Rattle.std.specs.FinMap as map
 use Rattle.bk_record.specs.Files.{Files}
 use Rattle.bk_dir.specs.Shown.{IsLogLine, WritesText}
 use Rattle.bk_dir.specs.Shown.AreLines.{none}
 use Rattle.bk_dir.proofs.Lines.{appends_none, line_more}
+use Rattle.bk_dir.proofs.Listed.{listed_is_there}
 use Rattle.bk_dir.proofs.Reading.{honest_still, read_then}
 use Rattle.bk_dir.proofs.listing.show_logs.Goals as goal
 
@@ -20,5 +22,7 @@ loop-log-preserved g c =
       λ honest.
           line_more (IsLogLine (g.D.LogDisk.files c.args.disk.now)) logs c.loop-log.log-index _ _ _ c.loop-log-test.true (first.1 honest)
           (subst (λ (fs : Files). WritesText (IsLogLine fs log) before after) (first.0.1 honest)
-          (c.in_ok-show_log.ensures.ok (honest_still _ _ _ _ first.0 honest))),
+          (c.in_ok-show_log.ensures.ok (honest_still _ _ _ _ first.0 honest)
+          (subst (λ (fs : Files). IsSome (map.get fs log)) (sym (first.0.1 honest))
+          (listed_is_there (g.D.LogDisk.files c.args.disk.now) logs c.loop-log.log-index (c.as_slice-log-items.ensures.value ∙ c.in_ok-ids.ensures.ok honest) c.loop-log-test.true)))),
     )

@@ -1,0 +1,202 @@
+//! A folder of the system, as an operator looks at it: logs that come and go, and logs that can't be read.
+//!
+//! A disk answers one fault for a folder of which one file can't be opened. Here each file is tried when the folder is
+//! listed; those that can't be opened are left out, and told one by one beside what the others show.
+
+ghost use Rattle.std.specs.Prelude.{◌≤◌, false};
+ghost use Rattle.std.specs.FinMap as map;
+
+use crate::{DirCommand, run_dir};
+use bk_disk::{DirDisk, DiskFault, LogDisk, log_of};
+use std::alloc::{AllocError, Global};
+use std::fs::{self, DirEntry, File};
+use std::io::{self, Write};
+
+/// Runs a command on the folder at a path, as `run_dir` does on a disk, and returns the program's status: 0, or 1.
+///
+/// Where a command looks at all logs, one that can't be opened, as a link that leads nowhere or a file without
+/// permission, is passed over and told on the error stream, `fault log ID: disk: REASON`, and the status is 1. One that
+/// goes while the folder is listed is passed over. Where the folder has no log at all, a line on the error stream says so,
+/// and the status stays. A folder that can't be opened is `fault disk`.
+pub fn run_folder<W: Write, E: Write>(
+    rt: &HostRuntime,
+    path: &str,
+    command: DirCommand,
+    writer: &mut W,
+    errors: &mut E,
+) -> u8
+    ensures { result ≤ 1 }
+{
+    let disk = match DirDisk::open(rt, path) {
+        Ok(disk) => disk,
+        Err(fault) => {
+            let _ = writeln!(errors, "fault {fault}");
+            return 1;
+        }
+    };
+    let mut folder = Folder {
+        rt: *rt,
+        path,
+        disk,
+        unread: Vec::new(rt.alloc()),
+        is_empty: false,
+    };
+    let status = run_dir(rt.alloc(), &mut folder, command, writer, errors);
+    if folder.tell(errors) { 1 } else { status }
+}
+
+/// A log of a folder that can't be opened.
+#[derive(Drop)]
+struct Unread {
+    log: u32,
+    reason: io::Error,
+}
+
+/// The logs of a folder.
+#[derive(Drop)]
+struct Survey {
+    /// Those that can be opened, rising.
+    ids: Vec<u32>,
+    /// The others.
+    unread: Vec<Unread>,
+}
+
+/// What a file of a folder is.
+enum Entry {
+    /// No log, or one that has gone since it was listed.
+    Other,
+    /// A log that can be opened.
+    Log(u32),
+    /// A log that can't be opened.
+    Unread(Unread),
+}
+
+/// A disk over a folder whose list leaves out the logs that can't be opened, and remembers them.
+#[derive(Drop)]
+struct Folder<'a, D: LogDisk> {
+    rt: HostRuntime,
+    path: &'a str,
+    disk: D,
+    unread: Vec<Unread>,
+    is_empty: bool,
+}
+
+impl<'a, D: LogDisk> Folder<'a, D> {
+    /// Tells each log that can't be opened, or that there is none at all. Whether one can't be opened.
+    fn tell<E: Write>(&self, errors: &mut E) -> bool {
+        for unread in self.unread.as_slice() {
+            let _ = writeln!(errors, "fault log {}: disk: {}", unread.log, unread.reason);
+        }
+        if self.is_empty {
+            let _ = writeln!(
+                errors,
+                "no log found in {}: a log is a file named by its id in hexadecimal, such as 1f.log",
+                self.path
+            );
+        }
+        !self.unread.is_empty()
+    }
+}
+
+/// The logs of the folder at a path. `None` where the folder itself can't be read.
+fn look_over(rt: &HostRuntime, alloc: Global, path: &str) -> Result<Option<Survey>, AllocError> {
+    let mut found = Survey {
+        ids: Vec::new(alloc),
+        unread: Vec::new(alloc),
+    };
+    let Ok(entries) = fs::read_dir(rt, path) else {
+        return Ok(None);
+    };
+    for entry in entries {
+        let Ok(entry) = entry else {
+            return Ok(None);
+        };
+        match entry_of(rt, &entry) {
+            Entry::Other => {}
+            Entry::Log(log) => found.ids.push(log)?,
+            Entry::Unread(unread) => found.unread.push(unread)?,
+        }
+    }
+    found.ids.sort()?;
+    Ok(Some(found))
+}
+
+/// What a file of a folder is.
+fn entry_of(rt: &HostRuntime, entry: &DirEntry) -> Entry {
+    let Some(log) = log_of(entry.file_name()) else {
+        return Entry::Other;
+    };
+    match open_file(rt, entry) {
+        Ok(true) => Entry::Log(log),
+        Ok(false) => Entry::Other,
+        Err(reason) if fs::symlink_metadata(rt, entry.path()).is_ok() => {
+            Entry::Unread(Unread { log, reason })
+        }
+        Err(_) => Entry::Other,
+    }
+}
+
+/// Opens a file and lets it go again. Whether it is a file.
+fn open_file(rt: &HostRuntime, entry: &DirEntry) -> io::Result<bool> {
+    if !fs::metadata(rt, entry.path())?.is_file() {
+        return Ok(false);
+    }
+    let _opened = File::open(rt, entry.path())?;
+    Ok(true)
+}
+
+impl<'a, D: LogDisk> LogDisk for Folder<'a, D> {
+    type View = D::View;
+
+    ghost files = { λ _. map.empty };
+
+    ghost honest = { λ _. false };
+
+    ghost failures = { λ folder. D.failures folder.disk };
+
+    fn bounds(&self) {}
+
+    fn list(&mut self, alloc: Global) -> Result<Vec<u32>, DiskFault> {
+        match look_over(&self.rt, alloc, self.path) {
+            Ok(Some(found)) => {
+                self.is_empty = found.ids.is_empty() && found.unread.is_empty();
+                self.unread = found.unread;
+                Ok(found.ids)
+            }
+            Ok(None) => self.disk.list(alloc),
+            Err(_) => Err(DiskFault::Memory),
+        }
+    }
+
+    fn length(&mut self, alloc: Global, log: u32) -> Result<u64, DiskFault> {
+        self.disk.length(alloc, log)
+    }
+
+    fn create(&mut self, alloc: Global, log: u32) -> Result<(), DiskFault> {
+        self.disk.create(alloc, log)
+    }
+
+    fn append(&mut self, alloc: Global, log: u32, bytes: &[u8]) -> Result<(), DiskFault> {
+        self.disk.append(alloc, log, bytes)
+    }
+
+    fn patch(&mut self, alloc: Global, log: u32, bytes: &[u8; 12]) -> Result<(), DiskFault> {
+        self.disk.patch(alloc, log, bytes)
+    }
+
+    fn sync(&mut self, alloc: Global, log: u32) -> Result<(), DiskFault> {
+        self.disk.sync(alloc, log)
+    }
+
+    fn read_at(&mut self, alloc: Global, log: u32, at: u64, n: u64) -> Result<Vec<u8>, DiskFault> {
+        self.disk.read_at(alloc, log, at, n)
+    }
+
+    fn view(&mut self, alloc: Global, log: u32) -> Result<D::View, DiskFault> {
+        self.disk.view(alloc, log)
+    }
+
+    fn remove(&mut self, alloc: Global, log: u32) -> Result<(), DiskFault> {
+        self.disk.remove(alloc, log)
+    }
+}
