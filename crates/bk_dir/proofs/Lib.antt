@@ -2,6 +2,7 @@ pub mod Lines
 pub mod Reading
 pub mod Heads
 pub mod Scans
+pub mod Parts
 pub mod Sums
 pub mod Maps
 pub mod LedgerLines

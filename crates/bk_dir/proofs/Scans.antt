@@ -30,7 +30,7 @@ taken_none [] = refl
 taken_none (x ∷ xs) = refl
 
 -- the key of a payload has the ids that stand in it
-keyed_fields : (payload : List ℕ) (key : EntryKey) → key_of payload ≡ Some key → (key.ledger ≡ ledger_field payload) × (key.entry ≡ entry_field payload)
+pub keyed_fields : (payload : List ℕ) (key : EntryKey) → key_of payload ≡ Some key → (key.ledger ≡ ledger_field payload) × (key.entry ≡ entry_field payload)
 unfolding key_of
 keyed_fields payload key is =
     let read : EntryKey = record { ledger = ledger_field payload; entry = entry_field payload } in
@@ -41,7 +41,7 @@ keyed_fields payload key is =
     ] is
 
 -- the line of an entry that was found is that of the entry that stands there
-line_is : (found : Found) (payload : List ℕ) → key_of payload ≡ Some found.key → found.size ≡ 4 + length payload
+pub line_is : (found : Found) (payload : List ℕ) → key_of payload ≡ Some found.key → found.size ≡ 4 + length payload
     → found_line found.at found.key.ledger found.key.entry found.size ≡ entry_line (found.at, payload)
 line_is found payload keyed sized =
     let ids = keyed_fields payload found.key keyed in

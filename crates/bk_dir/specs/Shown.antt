@@ -1,17 +1,19 @@
 -- What a command shows of the files of a disk, where it is done.
-use Rattle.std.specs.Prelude.{◌≡◌, ℕ, List, [], ◌∷◌, ◌++◌, length, drop, codes, Option}
+use Rattle.std.specs.Prelude.{◌≡◌, ℕ, Bool, true, false, List, [], ◌∷◌, ◌++◌, length, drop, codes, Option}
 use Rattle.std.specs.Io.KnownBytes.{Appends}
 use Rattle.std.specs.FinMap as map
 use Rattle.bk_record.specs.Files.{Files, header_length, records_of, rest_of}
 use Rattle.bk_record.specs.Body.{Body}
 use Rattle.bk_dir.specs.declared.command.DirCommand.{DirCommand}
-use Rattle.bk_dir.specs.declared.command.DirCommand.TheVariants.{Logs, Header, Map, Scan, Find, Check, CheckDigests}
+use Rattle.bk_dir.specs.declared.command.DirCommand.TheVariants.{Logs, Header, Map, Scan, ScanPart, Find, Check, CheckDigests, Ledgers, Entries}
+use Rattle.bk_dir.specs.declared.command.ScanChoice.{ScanChoice}
 use Rattle.bk_dir.specs.declared.header.Head.{Head}
 use Rattle.bk_dir.specs.declared.header.Head.TheVariants as heads
 use Rattle.bk_dir.specs.declared.listing.LogStanding.{LogStanding}
 use Rattle.bk_head.specs.Ledgers.{LedgersMap}
 use Rattle.bk_dir.specs.Heads.{IsHead, HasState}
 use Rattle.bk_dir.specs.Maps.{IsMapIn, map_lines}
+use Rattle.bk_dir.specs.Parts.{IsPartText}
 use Rattle.bk_dir.specs.Reading.{OfFile}
 use Rattle.bk_dir.specs.Texts.{log_line, header_line, scan_lines}
 
@@ -45,12 +47,20 @@ MapText file heads.Short text = text ≡ codes "short\n"
 MapText file (heads.Bad fault) text = ⊥
 MapText file (heads.Whole header) text = (map : Option LedgersMap) × IsMapIn file header map × (text ≡ map_lines map)
 
--- What a command does to the writer where it is done. Of `find` and `check` nothing is said here.
+-- what a scan of chosen entries shows; where their data is shown too, nothing is said
+abbrev pub PartPrints : Bool → ℕ → ScanChoice → Files → Option (List ℕ) → Option (List ℕ) → Type 0
+PartPrints true log choice files before now = Unit {0}
+PartPrints false log choice files before now = WritesText (λ text. OfFile files log (λ file. IsPartText choice file text)) before now
+
+-- What a command does to the writer where it is done. Of `find`, `check`, `ledgers` and `entries` nothing is said here.
 abbrev pub Prints : DirCommand → Files → Option (List ℕ) → Option (List ℕ) → Type 0
 Prints Logs files before now = WritesText (AreLines (IsLogLine files) (map.keys files)) before now
 Prints (Header log) files before now = WritesText (λ text. OfFile files log (λ file. (head : Head) × IsHead file head × HeadText head text)) before now
 Prints (Scan log) files before now = WritesText (λ text. OfFile files log (λ file. IsScanText file text)) before now
+Prints (ScanPart log choice) files before now = PartPrints choice.data log choice files before now
 Prints (Map log) files before now = WritesText (λ text. OfFile files log (λ file. (head : Head) × IsHead file head × MapText file head text)) before now
 Prints (Find key) files before now = Unit {0}
 Prints Check files before now = Unit {0}
 Prints (CheckDigests choice) files before now = Unit {0}
+Prints Ledgers files before now = Unit {0}
+Prints (Entries range) files before now = Unit {0}

@@ -3,10 +3,11 @@
 ghost use Rattle.std.specs.Prelude.{◌≤◌, IfOk};
 ghost use Rattle.bk_dir.specs.Reading.{OnlyReads};
 
+use crate::DirFault;
 use crate::calls::{list_logs, view_of};
 use crate::data::show_data;
 use crate::header::HEADER;
-use crate::{BytesFault, DirFault};
+use crate::walk::tell_damage;
 use bk_disk::{LogDisk, LogView};
 use bk_log::{Found, Scanner};
 use bk_record::Key;
@@ -56,11 +57,6 @@ pub(crate) fn show_last<D: LogDisk, W: Write, E: Write>(
         None => {}
     }
     Ok(status)
-}
-
-/// Tells a log that can't be read to its end. Whether the line comes through changes nothing.
-fn tell_damage<E: Write>(log: u32, fault: BytesFault, errors: &mut E) {
-    let _ = writeln!(errors, "fault log {log}: {fault}");
 }
 
 /// The last entry of a key in a log, into `last`, up to a bad length where there is one, which is then the fault.

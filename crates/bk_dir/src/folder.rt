@@ -6,13 +6,22 @@
 ghost use Rattle.std.specs.Prelude.{◌≤◌, false};
 ghost use Rattle.std.specs.FinMap as map;
 
-use crate::{DirCommand, run_dir};
+use crate::{DirCommand, run_dir, run_stat};
 use bk_disk::{DirDisk, DiskFault, LogDisk, log_of};
 use std::alloc::{AllocError, Global};
 use std::fs::{self, DirEntry, File};
 use std::io::{self, Write};
 
-/// Runs a command on the folder at a path, as `run_dir` does on a disk, and returns the program's status: 0, or 1.
+/// What can be asked of a folder of the system.
+#[derive(Clone, Copy, Debug)]
+pub enum FolderCommand<'a> {
+    /// A command that any disk answers.
+    Dir(DirCommand),
+    /// Of each log how much stands in it, and how much of that is of ledgers that are not among these, which were deleted.
+    Stat(&'a [u64]),
+}
+
+/// Runs a command on the folder at a path, as `run_dir` and `run_stat` do on a disk, and returns the program's status: 0, or 1.
 ///
 /// Where a command looks at all logs, one that can't be opened, as a link that leads nowhere or a file without
 /// permission, is passed over and told on the error stream, `fault log ID: disk: REASON`, and the status is 1. One that
@@ -21,7 +30,7 @@ use std::io::{self, Write};
 pub fn run_folder<W: Write, E: Write>(
     rt: &HostRuntime,
     path: &str,
-    command: DirCommand,
+    command: &FolderCommand<'_>,
     writer: &mut W,
     errors: &mut E,
 ) -> u8
@@ -41,7 +50,10 @@ pub fn run_folder<W: Write, E: Write>(
         unread: Vec::new(rt.alloc()),
         is_empty: false,
     };
-    let status = run_dir(rt.alloc(), &mut folder, command, writer, errors);
+    let status = match command {
+        FolderCommand::Dir(command) => run_dir(rt.alloc(), &mut folder, *command, writer, errors),
+        FolderCommand::Stat(dead) => run_stat(rt.alloc(), &mut folder, dead, writer, errors),
+    };
     if folder.tell(errors) { 1 } else { status }
 }
 

@@ -45,7 +45,7 @@ impl Display for LogStanding {
 }
 
 /// What a log's header says of its state.
-fn state_of(head: Head) -> LogStanding
+pub(crate) fn state_of(head: Head) -> LogStanding
     ensures { HeadState head result }
 {
     match head {

@@ -6,11 +6,14 @@ ghost use Rattle.bk_dir.specs.Shown.{Prints};
 
 use crate::check::show_check;
 use crate::digests::show_digests;
+use crate::entries::show_range;
 use crate::find::show_last;
 use crate::header::show_header;
 use crate::ledgers::show_map;
 use crate::listing::show_logs;
+use crate::part::show_part;
 use crate::scan::show_scan;
+use crate::totals::show_totals;
 use crate::{DirCommand, DirFault};
 use bk_disk::LogDisk;
 use std::alloc::Global;
@@ -23,8 +26,8 @@ use std::io::Write;
 /// map or record that can't be read where that is what was asked for, a device that fails, want of memory, a disk that
 /// answers what an honest one can't, or an output that can't be written. What was shown before it stays written. Without
 /// such a line it comes where the output is a pipe that nobody reads any more, and from `check` where a line says that
-/// something is wrong with a log, or with an entry. `find` tells each log that it could not read to its end in a line
-/// `fault log ID: TEXT`, goes on with the next one, and ends with 1.
+/// something is wrong with a log, or with an entry. `find`, `ledgers` and `entries` tell each log that they could not read
+/// to its end in a line `fault log ID: TEXT`, go on with the next one, and end with 1.
 ///
 /// A log that goes while a command is at work is passed over where all logs are looked at.
 pub fn run_dir<D: LogDisk, W: Write, E: Write>(
@@ -41,11 +44,17 @@ pub fn run_dir<D: LogDisk, W: Write, E: Write>(
 {
     match show_all(alloc, disk, command, writer, errors) {
         Ok(status) => status,
-        Err(DirFault::Closed) => 1,
         Err(fault) => {
-            let _ = writeln!(errors, "fault {fault}");
+            tell_fault(fault, errors);
             1
         }
+    }
+}
+
+/// Tells on the error stream why a command ended early; nothing where nobody reads the output any more.
+pub(crate) fn tell_fault<E: Write>(fault: DirFault, errors: &mut E) {
+    if fault != DirFault::Closed {
+        let _ = writeln!(errors, "fault {fault}");
     }
 }
 
@@ -88,9 +97,12 @@ fn show<D: LogDisk, W: Write, E: Write>(
         DirCommand::Header(log) => show_header(alloc, disk, log, writer)?,
         DirCommand::Map(log) => show_map(alloc, disk, log, writer)?,
         DirCommand::Scan(log) => show_scan(alloc, disk, log, writer)?,
+        DirCommand::ScanPart(log, choice) => show_part(alloc, disk, log, choice, writer)?,
         DirCommand::Find(key) => return show_last(alloc, disk, key, writer, errors),
         DirCommand::Check => return show_check(alloc, disk, writer),
         DirCommand::CheckDigests(choice) => return show_digests(alloc, disk, choice, writer),
+        DirCommand::Ledgers => return show_totals(alloc, disk, writer, errors),
+        DirCommand::Entries(range) => return show_range(alloc, disk, range, writer, errors),
     }
     Ok(0)
 }

@@ -53,7 +53,7 @@ fn show_entries<V: LogView, W: Write>(
 }
 
 /// Writes the line of an entry.
-fn write_entry<W: Write>(found: Found, writer: &mut W) -> io::Result<()>
+pub(crate) fn write_entry<W: Write>(found: Found, writer: &mut W) -> io::Result<()>
     ensures { OnOk result (Appends (W.contents writer.old) (W.contents writer.new)
         (found_line found.at found.key.ledger found.key.entry found.size)) }
 {
@@ -69,7 +69,12 @@ fn write_entry<W: Write>(found: Found, writer: &mut W) -> io::Result<()>
 }
 
 /// Writes how many entries, foreign records and torn bytes there are.
-fn write_counts<W: Write>(entries: u64, foreign: u64, torn: u64, writer: &mut W) -> io::Result<()>
+pub(crate) fn write_counts<W: Write>(
+    entries: u64,
+    foreign: u64,
+    torn: u64,
+    writer: &mut W,
+) -> io::Result<()>
     ensures { OnOk result (Appends (W.contents writer.old) (W.contents writer.new) (counts_line entries foreign torn)) }
 {
     writeln!(writer, "entries {entries} foreign {foreign} torn {torn}")

@@ -2,6 +2,7 @@
 
 ghost use Rattle.std.specs.Prelude.{◌<◌, ◌^◌};
 
+mod amounts;
 mod digests;
 mod failing;
 mod folder;

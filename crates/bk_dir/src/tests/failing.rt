@@ -1,7 +1,7 @@
 //! Disks that fail, disks that are odd, and outputs that can't be written.
 
 use super::{SEALED_LOG, disk_of, find, run};
-use crate::{DirCommand, run_dir};
+use crate::{DirCommand, EntryRange, ScanChoice, run_dir};
 use bk_disk::FaultDisk;
 use std::alloc::Global;
 use std::io;
@@ -9,8 +9,22 @@ use std::io::Write;
 use std::process::Abort;
 use std::test::Fail;
 
+/// All entries of a log.
+const ALL: ScanChoice = ScanChoice {
+    ledger: None,
+    from: 0,
+    data: false,
+};
+
+/// Entry 0 of ledger 1.
+const FIRST: EntryRange = EntryRange {
+    ledger: 1,
+    first: 0,
+    last: 0,
+};
+
 /// How many calls each command makes on a disk with one sealed log.
-fn calls(rt: &impl Abort) -> [(DirCommand, u8); 6] {
+fn calls(rt: &impl Abort) -> [(DirCommand, u8); 9] {
     [
         (DirCommand::Logs, 3),
         (DirCommand::Header(0), 2),
@@ -18,6 +32,9 @@ fn calls(rt: &impl Abort) -> [(DirCommand, u8); 6] {
         (DirCommand::Scan(0), 1),
         (find(rt, 1, 0), 2),
         (DirCommand::Check, 4),
+        (DirCommand::ScanPart(0, ALL), 1),
+        (DirCommand::Ledgers, 2),
+        (DirCommand::Entries(FIRST), 2),
     ]
 }
 
@@ -90,13 +107,16 @@ fn run_narrow(
 
 #[test]
 fn an_output_that_is_full_ends_a_command(rt: HostRuntime) -> Result<(), Fail> {
-    let lengths: [(DirCommand, usize); 6] = [
+    let lengths: [(DirCommand, usize); 9] = [
         (DirCommand::Logs, 14),
         (DirCommand::Header(0), 27),
         (DirCommand::Map(0), 5),
         (DirCommand::Scan(0), 39),
         (find(&rt, 1, 0), 18),
         (DirCommand::Check, 5),
+        (DirCommand::ScanPart(0, ALL), 39),
+        (DirCommand::Ledgers, 13),
+        (DirCommand::Entries(FIRST), 12),
     ];
     for (command, length) in lengths {
         for left in 0..length {

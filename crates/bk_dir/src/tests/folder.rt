@@ -1,7 +1,7 @@
 //! Folders of the system that have what is no log, or can't be read. Each test makes its folder and takes it away.
 
 use super::{HELLO_AND_MAP, Row, SEALED, check, done, find};
-use crate::{DirCommand, run_folder};
+use crate::{DirCommand, FolderCommand, run_folder};
 use bk_disk::DirDisk;
 use std::fs;
 use std::os::unix::fs::symlink;
@@ -73,7 +73,13 @@ fn check_folder(rt: &impl Abort, host: &HostRuntime, path: &str, rows: &[Row<'_>
     for row in rows {
         let mut output = Vec::new(host.alloc());
         let mut errors = Vec::new(host.alloc());
-        let status = run_folder(host, path, row.command, &mut output, &mut errors);
+        let status = run_folder(
+            host,
+            path,
+            &FolderCommand::Dir(row.command),
+            &mut output,
+            &mut errors,
+        );
         let what = row.command;
         assert_eq!(rt;
             output.as_slice(),

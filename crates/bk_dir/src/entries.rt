@@ -1,0 +1,75 @@
+//! `entries`: the last records of a ledger's entries, in order.
+
+ghost use Rattle.std.specs.Prelude.{◌≤◌, IfOk};
+ghost use Rattle.bk_dir.specs.Reading.{OnlyReads};
+
+use crate::walk::{TakesEntries, take_in_logs};
+use crate::{DirFault, EntryRange};
+use bk_disk::LogDisk;
+use bk_log::Found;
+use std::alloc::{AllocError, Global};
+use std::collections::BTreeMap;
+use std::io;
+use std::io::Write;
+
+/// Where a record stands, and its size in bytes, the four of its length field included.
+#[derive(Clone, Copy)]
+struct Standing {
+    log: u32,
+    at: u64,
+    size: u32,
+}
+
+/// The last record of each entry that is asked for, by its number in the ledger.
+#[derive(Drop)]
+struct LastRecords {
+    range: EntryRange,
+    records: BTreeMap<u64, Standing>,
+}
+
+impl TakesEntries for LastRecords {
+    fn take_in(&mut self, log: u32, found: Found) -> Result<(), AllocError> {
+        let entry = found.key.entry();
+        if found.key.ledger() == self.range.ledger && self.range.has(entry) {
+            let standing = Standing {
+                log,
+                at: found.at,
+                size: found.size,
+            };
+            let _ = self.records.insert(entry, standing)?;
+        }
+        Ok(())
+    }
+}
+
+/// Shows for each entry of a ledger that is asked for, rising, its last record in order of log, then position:
+/// `ENTRY LOG AT SIZE`. Gives the status, as the walk over the logs does.
+pub(crate) fn show_range<D: LogDisk, W: Write, E: Write>(
+    alloc: Global,
+    disk: &mut D,
+    range: EntryRange,
+    writer: &mut W,
+    errors: &mut E,
+) -> Result<u8, DirFault>
+    ensures status { IfOk result (λ status. status ≤ 1) }
+    ensures reads { OnlyReads (D.honest disk.old) (D.files disk.old) (D.honest disk.new) (D.files disk.new) }
+{
+    let mut last = LastRecords {
+        range,
+        records: BTreeMap::new(alloc),
+    };
+    let status = take_in_logs(alloc, disk, &mut last, errors)?;
+    for (entry, standing) in &last.records {
+        write_standing(*entry, *standing, writer)?;
+    }
+    Ok(status)
+}
+
+/// Writes the line of an entry.
+fn write_standing<W: Write>(entry: u64, standing: Standing, writer: &mut W) -> io::Result<()> {
+    writeln!(
+        writer,
+        "{entry} {} {} {}",
+        standing.log, standing.at, standing.size
+    )
+}

@@ -1,0 +1,102 @@
+//! `scan` of those entries of a log that are asked for.
+
+ghost use Rattle.std.specs.Prelude.{◌≡◌, IsTrue, OnOk};
+ghost use Rattle.bk_dir.specs.Parts.{is_taken, IsPartText};
+ghost use Rattle.bk_dir.specs.Reading.{OnlyReads};
+ghost use Rattle.bk_dir.specs.Shown.{Prints, WritesText};
+ghost use Rattle.bk_dir.specs.declared.command.DirCommand.TheVariants as commands;
+
+use crate::calls::view_of;
+use crate::data::show_data;
+use crate::header::HEADER;
+use crate::scan::{write_counts, write_entry};
+use crate::{DirFault, ScanChoice};
+use bk_disk::{LogDisk, LogView};
+use bk_log::{Found, Scanner};
+use std::alloc::Global;
+use std::io::Write;
+
+/// Shows the entries of a log that are chosen, in the order of the file, `AT LEDGER ENTRY SIZE`, with the data behind it
+/// where that is asked for; and then how many were shown, how many records of the log are foreign and how many bytes are
+/// torn. The header isn't read.
+pub(crate) fn show_part<D: LogDisk, W: Write>(
+    alloc: Global,
+    disk: &mut D,
+    log: u32,
+    choice: ScanChoice,
+    writer: &mut W,
+) -> Result<(), DirFault>
+    ensures reads { OnlyReads (D.honest disk.old) (D.files disk.old) (D.honest disk.new) (D.files disk.new) }
+    ensures ok { IsTrue (D.honest disk.old) → OnOk result (Prints (commands.ScanPart log choice) (D.files disk.old)
+        (W.contents writer.old) (W.contents writer.new)) }
+{
+    let view = view_of(alloc, disk, log)?;
+    if choice.data {
+        show_with_data(alloc, &view, choice, writer)
+    } else {
+        show_chosen(alloc, &view, choice, writer)
+    }
+}
+
+/// Whether an entry is chosen.
+fn is_chosen(choice: &ScanChoice, found: &Found) -> bool
+    ensures { result ≡ is_taken choice.now found.now.at found.now.key.ledger }
+{
+    match choice.ledger {
+        Some(ledger) => choice.from <= found.at && ledger == found.key.ledger(),
+        None => choice.from <= found.at,
+    }
+}
+
+/// Shows the entries of a view that are chosen.
+fn show_chosen<V: LogView, W: Write>(
+    alloc: Global,
+    view: &V,
+    choice: ScanChoice,
+    writer: &mut W,
+) -> Result<(), DirFault>
+    ensures { IsTrue (V.honest view.now) → OnOk result (WritesText (IsPartText choice (V.bytes view.now))
+        (W.contents writer.old) (W.contents writer.new)) }
+{
+    let end = view.end().max(HEADER);
+    let mut scanner = Scanner::new(view, alloc, HEADER, end);
+    let mut entries: u64 = 0;
+    while let Some(found) = scanner.next()? {
+        if is_chosen(&choice, &found) {
+            write_entry(found, writer)?;
+            entries += 1;
+        }
+    }
+    write_counts(entries, scanner.foreign(), scanner.torn(), writer)?;
+    Ok(())
+}
+
+/// The same, with the data of each.
+fn show_with_data<V: LogView, W: Write>(
+    alloc: Global,
+    view: &V,
+    choice: ScanChoice,
+    writer: &mut W,
+) -> Result<(), DirFault> {
+    let end = view.end().max(HEADER);
+    let mut scanner = Scanner::new(view, alloc, HEADER, end);
+    let mut entries: u64 = 0;
+    while let Some(found) = scanner.next()? {
+        if is_chosen(&choice, &found) {
+            let key = found.key;
+            write!(
+                writer,
+                "{} {} {} {} ",
+                found.at,
+                key.ledger(),
+                key.entry(),
+                found.size
+            )?;
+            show_data(alloc, view, found, writer)?;
+            writeln!(writer, "")?;
+            entries = entries.saturating_add(1);
+        }
+    }
+    write_counts(entries, scanner.foreign(), scanner.torn(), writer)?;
+    Ok(())
+}

@@ -1,0 +1,106 @@
+//! `ledgers`: of each ledger how much of it stands in the logs.
+
+ghost use Rattle.std.specs.Prelude.{◌≤◌, IfOk};
+ghost use Rattle.bk_dir.specs.Reading.{OnlyReads};
+
+use crate::DirFault;
+use crate::walk::{TakesEntries, take_in_logs};
+use bk_disk::LogDisk;
+use bk_log::Found;
+use std::alloc::{AllocError, Global};
+use std::collections::BTreeMap;
+use std::io;
+use std::io::Write;
+
+/// What stands of a ledger in the logs.
+#[derive(Clone, Copy)]
+struct LedgerTotal {
+    /// How many records.
+    records: u64,
+    /// The bytes of these records, the four of each length field included.
+    bytes: u64,
+    /// The least entry.
+    first: u64,
+    /// The greatest entry.
+    last: u64,
+    /// How many logs have a record.
+    logs: u64,
+    /// The log of the record that was counted last.
+    log: u32,
+}
+
+impl LedgerTotal {
+    /// That of a ledger of which one record was found.
+    fn of(log: u32, found: Found) -> LedgerTotal {
+        let entry = found.key.entry();
+        LedgerTotal {
+            records: 1,
+            bytes: u64::from(found.size),
+            first: entry,
+            last: entry,
+            logs: 1,
+            log,
+        }
+    }
+
+    /// With one record more, of the same log or a later one.
+    fn with(self, log: u32, found: Found) -> LedgerTotal {
+        let entry = found.key.entry();
+        let more = u64::from(log != self.log);
+        LedgerTotal {
+            records: self.records.saturating_add(1),
+            bytes: self.bytes.saturating_add(u64::from(found.size)),
+            first: self.first.min(entry),
+            last: self.last.max(entry),
+            logs: self.logs.saturating_add(more),
+            log,
+        }
+    }
+}
+
+/// The total of each ledger that was met.
+#[derive(Drop)]
+struct Totals {
+    ledgers: BTreeMap<u64, LedgerTotal>,
+}
+
+impl TakesEntries for Totals {
+    fn take_in(&mut self, log: u32, found: Found) -> Result<(), AllocError> {
+        let ledger = found.key.ledger();
+        let total = match self.ledgers.get(&ledger) {
+            Some(total) => total.with(log, found),
+            None => LedgerTotal::of(log, found),
+        };
+        let _ = self.ledgers.insert(ledger, total)?;
+        Ok(())
+    }
+}
+
+/// Shows for each ledger, rising, `LEDGER RECORDS BYTES FIRST LAST LOGS`. Gives the status, as the walk over the logs does.
+pub(crate) fn show_totals<D: LogDisk, W: Write, E: Write>(
+    alloc: Global,
+    disk: &mut D,
+    writer: &mut W,
+    errors: &mut E,
+) -> Result<u8, DirFault>
+    ensures status { IfOk result (λ status. status ≤ 1) }
+    ensures reads { OnlyReads (D.honest disk.old) (D.files disk.old) (D.honest disk.new) (D.files disk.new) }
+{
+    let mut totals = Totals {
+        ledgers: BTreeMap::new(alloc),
+    };
+    let status = take_in_logs(alloc, disk, &mut totals, errors)?;
+    for (ledger, total) in &totals.ledgers {
+        write_total(*ledger, *total, writer)?;
+    }
+    Ok(status)
+}
+
+/// Writes the line of a ledger.
+fn write_total<W: Write>(ledger: u64, total: LedgerTotal, writer: &mut W) -> io::Result<()> {
+    writeln!(
+        writer,
+        "{ledger} {} {} {} {} {}",
+        total.records, total.bytes, total.first, total.last, total.logs
+    )
+}

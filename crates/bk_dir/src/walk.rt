@@ -1,0 +1,73 @@
+//! A walk over the entries of all logs of a folder.
+
+ghost use Rattle.std.specs.Prelude.{◌≤◌, IfOk};
+ghost use Rattle.bk_dir.specs.Reading.{OnlyReads};
+
+use crate::calls::{list_logs, view_of};
+use crate::header::HEADER;
+use crate::{BytesFault, DirFault};
+use bk_disk::{LogDisk, LogView};
+use bk_log::{Found, Scanner};
+use std::alloc::{AllocError, Global};
+use std::io::Write;
+
+/// Takes entries in, one after another.
+pub(crate) trait TakesEntries {
+    /// Takes in an entry of a log.
+    fn take_in(&mut self, log: u32, found: Found) -> Result<(), AllocError>;
+}
+
+/// Takes in the entries of all logs, by rising ids and then places. Gives the status.
+///
+/// A log that can't be read to its end is told on the error stream, `fault log ID: TEXT`, and taken in up to there; the
+/// status is then 1. A log that goes meanwhile is passed over.
+pub(crate) fn take_in_logs<D: LogDisk, T: TakesEntries, E: Write>(
+    alloc: Global,
+    disk: &mut D,
+    taking: &mut T,
+    errors: &mut E,
+) -> Result<u8, DirFault>
+    ensures status { IfOk result (λ status. status ≤ 1) }
+    ensures reads { OnlyReads (D.honest disk.old) (D.files disk.old) (D.honest disk.new) (D.files disk.new) }
+{
+    let ids = list_logs(alloc, disk)?;
+    let mut status = 0;
+    for log in ids.as_slice() {
+        let view = match view_of(alloc, disk, *log) {
+            Ok(view) => view,
+            Err(DirFault::NoLog) => continue,
+            Err(fault) => return Err(fault),
+        };
+        match take_in_view(alloc, *log, &view, taking) {
+            Ok(()) => {}
+            Err(DirFault::Log(fault)) => {
+                tell_damage(*log, fault, errors);
+                status = 1;
+            }
+            Err(fault) => return Err(fault),
+        }
+    }
+    Ok(status)
+}
+
+/// Takes in the entries that a view of a log has, up to a bad length where there is one, which is then the fault.
+pub(crate) fn take_in_view<V: LogView, T: TakesEntries>(
+    alloc: Global,
+    log: u32,
+    view: &V,
+    taking: &mut T,
+) -> Result<(), DirFault> {
+    let end = view.end().max(HEADER);
+    let mut scanner = Scanner::new(view, alloc, HEADER, end);
+    while let Some(found) = scanner.next()? {
+        if taking.take_in(log, found).is_err() {
+            return Err(DirFault::Memory);
+        }
+    }
+    Ok(())
+}
+
+/// Tells a log that can't be read to its end. Whether the line comes through changes nothing.
+pub(crate) fn tell_damage<E: Write>(log: u32, fault: BytesFault, errors: &mut E) {
+    let _ = writeln!(errors, "fault log {log}: {fault}");
+}
