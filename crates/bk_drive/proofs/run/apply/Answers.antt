@@ -1,3 +1,4 @@
+use Rattle.std.proofs.Common.{refl}
 use Rattle.bk_drive.proofs.Working.{step_stays, roll_stays, retire_stays, rebuild_stays, retire_failures, rebuild_failures, close_failures}
 use Rattle.bk_drive.proofs.Working.{close_beside, remove_beside, untold, told_of, publish_settings, agrees_still, beside_agrees, publish_agrees}
 use Rattle.bk_drive.proofs.Compacting.{begin_stays, copy_stays, end_stays, switch_stays, finish_stays, give_up_stays}
