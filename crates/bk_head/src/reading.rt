@@ -18,7 +18,8 @@ use std::collections::BTreeMap;
 
 /// Reads the ledgers map of a log of `length` bytes whose header was read. `tail` is the log from the header's offset
 /// on, of which nothing is asked where the offset is not in 1024 to `length`. `None` where the offset and the count
-/// are both 0, as in a log that is not sealed. The pairs may stand in any order and in batches of any number.
+/// are both 0, as in a log that is not sealed or is of version 0. The pairs may stand in any order and in batches of any
+/// number.
 ///
 /// Faults, tried in this order: `Negative` where the offset or the count is negative; `NotAMap` with the offset where
 /// it is not in 1024 to `length`. Then for each batch from the left: `NotAMap` where no whole record with the ids -1
