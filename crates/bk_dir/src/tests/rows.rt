@@ -92,6 +92,33 @@ fn several_logs(rt: HostRuntime) -> Result<(), Fail> {
     Ok(())
 }
 
+/// A log of version 0, in which bytes stand where later versions have the map's place.
+const OLD_LOG: File<'static> = File {
+    log: 0,
+    head: b"BKLO\0\0\0\0\xff\xff\xff\xff\xff\xff\xff\xff\xff\xff\xff\xff",
+    behind: b"\0\0\0\x15\0\0\0\0\0\0\0\x01\0\0\0\0\0\0\0\0hello\
+\0\0\0\x14\0\0\0\0\0\0\0\x02\0\0\0\0\0\0\0\0gone",
+    length: 1073,
+};
+
+#[test]
+fn a_log_of_version_0(rt: HostRuntime) -> Result<(), Fail> {
+    let rows = [
+        done(DirCommand::Logs, "0 1073 open\n"),
+        done(DirCommand::Header(0), "version 0 map 0 count 0\n"),
+        done(DirCommand::Map(0), "no map\n"),
+        done(
+            DirCommand::Scan(0),
+            "1028 1 0 25\n1053 2 0 24\nentries 2 foreign 0 torn 0\n",
+        ),
+        done(find(&rt, 1, 0), "0 1028 68656c6c6f\n"),
+        done(DirCommand::Check, "0 unsealed\n"),
+    ];
+    let mut disk = disk_of(rt.alloc(), &[OLD_LOG])?;
+    check(&rt, rt.alloc(), &mut disk, &rows, "an old log");
+    Ok(())
+}
+
 #[test]
 fn an_entry_without_data(rt: HostRuntime) -> Result<(), Fail> {
     let file = File {
