@@ -1,6 +1,8 @@
 pub mod Numbers
 pub mod Words
 pub mod Printable
+pub mod Numbered
+pub mod Forms
 pub mod Parts
 pub mod Lines
 pub mod Texts

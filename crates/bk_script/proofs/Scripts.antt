@@ -9,14 +9,14 @@ use Rattle.std.proofs.lemmas.List.FromFn.{length-enumerate_from, get_or-enumerat
 use Rattle.std.proofs.Math.Dec.{eqb-suc-zero}
 use Rattle.bk_drive.specs.declared.step.Step.{Step}
 use Rattle.bk_script.specs.Line.{Spells}
-use Rattle.bk_script.specs.Script.{lines_in, has_bytes, IsScript, IsGood, IsBad, IsFirstBad}
+use Rattle.bk_script.specs.Script.{lines_in, has_bytes, last_reader, IsScript, IsGood, IsBad, IsFirstBad}
 
 -- lines of which each that isn't empty spells a step, with these steps
 abbrev pub Spell : List (List ℕ) → List Step → Type 0
-Spell lines steps = AllZip Spells (filter has_bytes lines) steps
+Spell lines steps = AllZip (Spells last_reader) (filter has_bytes lines) steps
 
-zip_push : (lines : List (List ℕ)) (steps : List Step) (line : List ℕ) (step : Step) → AllZip Spells lines steps → Spells line step
-    → AllZip Spells (lines ++ line ∷ []) (steps ++ step ∷ [])
+zip_push : (lines : List (List ℕ)) (steps : List Step) (line : List ℕ) (step : Step) → AllZip (Spells last_reader) lines steps → Spells last_reader line step
+    → AllZip (Spells last_reader) (lines ++ line ∷ []) (steps ++ step ∷ [])
 zip_push [] [] line step all one = (one, tt)
 zip_push [] (s ∷ steps) line step all one = absurd all
 zip_push (l ∷ lines) [] line step all one = absurd all
@@ -37,7 +37,7 @@ spell_skip lines n line steps inside here empty so_far =
 
 -- the line at n spells a step
 pub spell_more : (lines : List (List ℕ)) (n : ℕ) (line : List ℕ) (steps : List Step) (step : Step) → n < length lines → line ≡ get_or lines n line
-    → line ≢ [] → Spells line step → Spell (take n lines) steps → Spell (take (n + 1) lines) (steps ++ step ∷ [])
+    → line ≢ [] → Spells last_reader line step → Spell (take n lines) steps → Spell (take (n + 1) lines) (steps ++ step ∷ [])
 spell_more lines n line steps step inside here filled one so_far =
     let test : has_bytes (get_or lines n line) ≡ true = rw (← here) (filled_test line filled) in
     let longer : filter has_bytes (take (n + 1) lines) ≡ filter has_bytes (take n lines) ++ line ∷ [] =

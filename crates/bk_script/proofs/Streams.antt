@@ -1,7 +1,7 @@
 -- What several reads take from known bytes, and what several writes add to them.
-use Rattle.std.proofs.Common.{ℕ, List, [], ◌++◌, Option, Some, None, refl, sym, ◌∙◌, ap, append_assoc}
+use Rattle.std.proofs.Common.{ℕ, List, [], Option, Some, None, refl, sym}
 use Rattle.std.proofs.lemmas.List.{append-nil}
-use Rattle.std.specs.Io.KnownBytes.{Consumes, Appends, Keeps}
+use Rattle.std.specs.Io.KnownBytes.{Appends, Keeps}
 
 pub appends_none : (known : Option (List ℕ)) → Appends known known []
 appends_none None = tt

@@ -10,11 +10,7 @@ use Rattle.std.proofs.lemmas.Str.Pattern.{IsSplitOnceResult, split_parts}
 use Rattle.std.proofs.Math.Dec.{eqb-suc-zero}
 use Rattle.std.proofs.lemmas.List.Sums.{AllPass-from_list_all}
 use Rattle.std.proofs.lemmas.Bool.{ne_eqb, false≢true}
-use Rattle.bk_drive.specs.declared.step.Work.{Work}
-use Rattle.bk_drive.specs.declared.step.Work.TheVariants.{Swap, WriteOne, Publish, Roll, Retire, Rebuild, Close, Remove}
-use Rattle.bk_drive.specs.declared.step.Work.TheVariants.{Begin, Copy, EndCopy, Switch, Finish, GiveUp}
-use Rattle.bk_compact.specs.declared.answer.Kind.TheVariants.{Minor, Major}
-use Rattle.bk_script.specs.Line.{IsWord, followed, word_of}
+use Rattle.bk_script.specs.Line.{IsWord, followed}
 use Rattle.bk_script.proofs.Numbers.{own}
 
 -- a text up to its first space, and what is behind it
@@ -47,23 +43,6 @@ IsWord-from_test word h = All-weaker (λ byte. not (eqb byte 32) ≡ true) (λ b
 pub IsWord-decimal : (n : ℕ) → n < 2 ^ 64 → IsWord (decimal n)
 IsWord-decimal n small = All-from_get_or (λ byte. byte ≢ 32) (decimal n) 0
     (not_in_digits own (decimal n) 32 (decimal_is_IsNumeral n small).0.1 (λ r. omega arith))
-
-pub IsWord-word_of : (call : Work) → IsWord (word_of call)
-IsWord-word_of Swap = IsWord-from_test (word_of Swap) refl
-IsWord-word_of WriteOne = IsWord-from_test (word_of WriteOne) refl
-IsWord-word_of Publish = IsWord-from_test (word_of Publish) refl
-IsWord-word_of Roll = IsWord-from_test (word_of Roll) refl
-IsWord-word_of (Retire log) = IsWord-from_test (word_of (Retire log)) refl
-IsWord-word_of Rebuild = IsWord-from_test (word_of Rebuild) refl
-IsWord-word_of (Close log) = IsWord-from_test (word_of (Close log)) refl
-IsWord-word_of (Remove log) = IsWord-from_test (word_of (Remove log)) refl
-IsWord-word_of (Begin Minor) = IsWord-from_test (word_of (Begin Minor)) refl
-IsWord-word_of (Begin Major) = IsWord-from_test (word_of (Begin Major)) refl
-IsWord-word_of (Copy count) = IsWord-from_test (word_of (Copy count)) refl
-IsWord-word_of EndCopy = IsWord-from_test (word_of EndCopy) refl
-IsWord-word_of (Switch count) = IsWord-from_test (word_of (Switch count)) refl
-IsWord-word_of Finish = IsWord-from_test (word_of Finish) refl
-IsWord-word_of GiveUp = IsWord-from_test (word_of GiveUp) refl
 
 -- and numbers too are read in one way
 pub numbers-injective : (m n : ℕ) (x y : Option (List ℕ)) → m < 2 ^ 64 → n < 2 ^ 64

@@ -1,5 +1,6 @@
 pub mod Number
 pub mod Line
+pub mod Numbers
 pub mod Text
 pub mod Script
 pub mod Run

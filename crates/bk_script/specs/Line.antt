@@ -1,6 +1,7 @@
 -- A line of a script, and the step that it spells: words with one space between.
-use Rattle.std.specs.Prelude.{◌≡◌, ◌≢◌, ℕ, ◌<◌, ◌≤◌, ◌^◌, List, [], ◌∷◌, ◌++◌, replicate, codes, Option, Some, None}
-use Rattle.std.specs.List.{All, join_with_byte}
+use Rattle.std.specs.Prelude.{◌≡◌, ◌≢◌, ℕ, ◌<◌, ◌≤◌, ◌^◌, ◌&&◌, nat_le, Bool, true, false, if◌then◌else◌, List, [], ◌∷◌, ◌++◌}
+use Rattle.std.specs.Prelude.{All, find, slice_index, replicate, codes, bytes_eq, Option, Some, None, option_and_then}
+use Rattle.std.specs.List.{join_with_byte}
 use Rattle.std.specs.Fmt.{decimal}
 use Rattle.std.specs.Int.{w64, to_be_bytes, IsInRange}
 use Rattle.std.specs.Global.{Vec}
@@ -36,61 +37,101 @@ payload_of ledger entry bytes = to_be_bytes w64 ledger ++ to_be_bytes w64 entry 
 abbrev pub IsAdd : ℕ → ℕ → List ℕ → Step → Type 0
 IsAdd ledger entry bytes step = (payload : Vec ℕ) × (step ≡ steps.Add payload) × (payload.items ≡ payload_of ledger entry bytes)
 
--- the first word of a line that asks for a call of the store
-abbrev pub word_of : Work → List ℕ
-word_of Swap = codes "swap"
-word_of WriteOne = codes "write"
-word_of Publish = codes "publish"
-word_of Roll = codes "roll"
-word_of (Retire log) = codes "retire"
-word_of Rebuild = codes "rebuild"
-word_of (Close log) = codes "close"
-word_of (Remove log) = codes "remove"
-word_of (Begin Minor) = codes "minor"
-word_of (Begin Major) = codes "major"
-word_of (Copy count) = codes "copy"
-word_of EndCopy = codes "end"
-word_of (Switch count) = codes "switch"
-word_of Finish = codes "finish"
-word_of GiveUp = codes "giveup"
+-- numbers with one space between, where there are some
+abbrev pub numbered : List ℕ → Option (List ℕ)
+numbered [] = None
+numbered (n ∷ numbers) = Some (followed (decimal n) (numbered numbers))
 
--- that word is the whole line
-abbrev pub IsAlone : Work → Type 0
-IsAlone Swap = Unit {0}
-IsAlone WriteOne = Unit {0}
-IsAlone Publish = Unit {0}
-IsAlone Roll = Unit {0}
-IsAlone (Retire log) = ⊥
-IsAlone Rebuild = Unit {0}
-IsAlone (Close log) = ⊥
-IsAlone (Remove log) = ⊥
-IsAlone (Begin kind) = Unit {0}
-IsAlone (Copy count) = ⊥
-IsAlone EndCopy = Unit {0}
-IsAlone (Switch count) = ⊥
-IsAlone Finish = Unit {0}
-IsAlone GiveUp = Unit {0}
+-- what a number of a line names: a reader, a ledger or an entry, a log, or how many
+pub data Range : Type 0 where
+  reader : Range
+  id : Range
+  log : Range
+  count : Range
 
--- The line spells the step (this project's rule). Ids are below 2 ^ 63, those of logs below 2 ^ 31, readers are numbered
--- from 0 to 3, a pad has up to 2097152 zero bytes, and what a copy or a switch counts is below 2 ^ 32.
-pub data Spells : List ℕ → Step → Type 0 where
-  work : {call : Work} → IsAlone call → Spells (word_of call) (steps.Work call)
+-- The greatest such number, where readers are numbered up to `readers`: ids are below 2 ^ 63, those of logs below 2 ^ 31,
+-- and what a copy or a switch counts is below 2 ^ 32.
+abbrev pub most : ℕ → Range → ℕ
+most readers reader = readers
+most readers id = 9223372036854775807
+most readers log = 2147483647
+most readers count = 4294967295
+
+-- The first word of a line, what the numbers behind it name, and the step that they make.
+pub record Form : Type 0 where
+  pub word : List ℕ
+  pub ranges : List Range
+  pub step : List ℕ → Step
+
+-- a word alone, and words with one and with three numbers behind them
+abbrev pub alone : List ℕ → Work → Form
+alone word call = record { word = word; ranges = []; step = λ numbers. steps.Work call }
+
+abbrev pub with_one : List ℕ → Range → (ℕ → Step) → Form
+with_one word range make = record { word = word; ranges = range ∷ []; step = λ numbers. make (slice_index numbers 0) }
+
+abbrev pub with_three : List ℕ → Range → Range → Range → (ℕ → ℕ → ℕ → Step) → Form
+with_three word first second third make = record {
+  word = word;
+  ranges = first ∷ second ∷ third ∷ [];
+  step = λ numbers. make (slice_index numbers 0) (slice_index numbers 1) (slice_index numbers 2);
+}
+
+-- all forms of lines whose step is made of numbers alone, each with a word of its own
+abbrev pub forms : List Form
+forms =
+    alone (codes "swap") Swap
+    ∷ alone (codes "write") WriteOne
+    ∷ alone (codes "publish") Publish
+    ∷ alone (codes "roll") Roll
+    ∷ alone (codes "rebuild") Rebuild
+    ∷ alone (codes "minor") (Begin Minor)
+    ∷ alone (codes "major") (Begin Major)
+    ∷ alone (codes "end") EndCopy
+    ∷ alone (codes "finish") Finish
+    ∷ alone (codes "giveup") GiveUp
+    ∷ with_one (codes "retire") log (λ n. steps.Work (Retire n))
+    ∷ with_one (codes "close") log (λ n. steps.Work (Close n))
+    ∷ with_one (codes "remove") log (λ n. steps.Work (Remove n))
+    ∷ with_one (codes "copy") count (λ n. steps.Work (Copy n))
+    ∷ with_one (codes "switch") count (λ n. steps.Work (Switch n))
+    ∷ with_one (codes "fetch") reader steps.Fetch
+    ∷ with_one (codes "release") reader steps.Release
+    ∷ with_one (codes "delete") id steps.Delete
+    ∷ with_three (codes "take") reader id id (λ n ledger entry. steps.Take n (record { ledger = ledger; entry = entry }))
+    ∷ []
+
+abbrev pub form_of : List ℕ → Option Form
+form_of word = find (λ form. bytes_eq word form.word) forms
+
+-- there are as many numbers as ranges, and none is past its range
+abbrev pub fits : ℕ → List Range → List ℕ → Bool
+fits readers [] [] = true
+fits readers [] (n ∷ numbers) = false
+fits readers (range ∷ ranges) [] = false
+fits readers (range ∷ ranges) (n ∷ numbers) = nat_le n (most readers range) && fits readers ranges numbers
+
+-- the step that a word and the numbers behind it ask for
+abbrev pub formed : ℕ → List ℕ → List ℕ → Option Step
+formed readers word numbers =
+    option_and_then (λ form. if fits readers form.ranges numbers then Some (form.step numbers) else None) (form_of word)
+
+-- the line is a word of a form, with fitting numbers behind it, and asks for the step
+pub record IsFormed (readers : ℕ) (line : List ℕ) (step : Step) : Type 0 where
+  pub word : List ℕ
+  pub numbers : List ℕ
+  pub made : formed readers word numbers ≡ Some step
+  pub spelled : line ≡ followed word (numbered numbers)
+
+-- The line spells the step (this project's rule), where readers are numbered from 0 to `readers`: it is of a form, or adds
+-- an entry with a text or with up to 2097152 zero bytes. Ids are below 2 ^ 63.
+pub data Spells (readers : ℕ) : List ℕ → Step → Type 0 where
+  form : {line : List ℕ} {step : Step} → IsFormed readers line step → Spells readers line step
   add : {ledger entry : ℕ} {step : Step} → ledger < 2 ^ 63 → entry < 2 ^ 63 → IsAdd ledger entry [] step
-      → Spells (words (codes "add" ∷ decimal ledger ∷ decimal entry ∷ [])) step
+      → Spells readers (words (codes "add" ∷ decimal ledger ∷ decimal entry ∷ [])) step
   add_text : {ledger entry : ℕ} {text : List ℕ} {step : Step} → ledger < 2 ^ 63 → entry < 2 ^ 63
       → text ≢ [] → All IsPrintable text → IsAdd ledger entry text step
-      → Spells (words (codes "add" ∷ decimal ledger ∷ decimal entry ∷ text ∷ [])) step
+      → Spells readers (words (codes "add" ∷ decimal ledger ∷ decimal entry ∷ text ∷ [])) step
   pad : {ledger entry size : ℕ} {step : Step} → ledger < 2 ^ 63 → entry < 2 ^ 63 → size ≤ 2097152
       → IsAdd ledger entry (replicate size 0) step
-      → Spells (words (codes "pad" ∷ decimal ledger ∷ decimal entry ∷ decimal size ∷ [])) step
-  take : {reader ledger entry : ℕ} → reader ≤ 3 → ledger < 2 ^ 63 → entry < 2 ^ 63
-      → Spells (words (codes "take" ∷ decimal reader ∷ decimal ledger ∷ decimal entry ∷ []))
-      (steps.Take reader (record { ledger = ledger; entry = entry }))
-  fetch : {reader : ℕ} → reader ≤ 3 → Spells (words (codes "fetch" ∷ decimal reader ∷ [])) (steps.Fetch reader)
-  release : {reader : ℕ} → reader ≤ 3 → Spells (words (codes "release" ∷ decimal reader ∷ [])) (steps.Release reader)
-  delete : {ledger : ℕ} → ledger < 2 ^ 63 → Spells (words (codes "delete" ∷ decimal ledger ∷ [])) (steps.Delete ledger)
-  retire : {log : ℕ} → log < 2 ^ 31 → Spells (words (codes "retire" ∷ decimal log ∷ [])) (steps.Work (Retire log))
-  close : {log : ℕ} → log < 2 ^ 31 → Spells (words (codes "close" ∷ decimal log ∷ [])) (steps.Work (Close log))
-  remove : {log : ℕ} → log < 2 ^ 31 → Spells (words (codes "remove" ∷ decimal log ∷ [])) (steps.Work (Remove log))
-  copy : {count : ℕ} → count < 2 ^ 32 → Spells (words (codes "copy" ∷ decimal count ∷ [])) (steps.Work (Copy count))
-  switch : {count : ℕ} → count < 2 ^ 32 → Spells (words (codes "switch" ∷ decimal count ∷ [])) (steps.Work (Switch count))
+      → Spells readers (words (codes "pad" ∷ decimal ledger ∷ decimal entry ∷ decimal size ∷ [])) step

@@ -11,16 +11,20 @@ lines_in = slice_split (λ byte. byte == 10)
 abbrev pub has_bytes : List ℕ → Bool
 has_bytes line = not (length line == 0)
 
+-- the number of a script's last reader
+abbrev pub last_reader : ℕ
+last_reader = 3
+
 -- The input spells the steps: its lines do, one each, but for empty lines, which are passed over.
 abbrev pub IsScript : List ℕ → List Step → Type 0
-IsScript input steps = AllZip Spells (filter has_bytes (lines_in input)) steps
+IsScript input steps = AllZip (Spells last_reader) (filter has_bytes (lines_in input)) steps
 
 -- the line spells a step, or is empty; the line does neither
 abbrev pub IsGood : List ℕ → Type 0
-IsGood line = (line ≡ []) ⊎ ((step : Step) × Spells line step)
+IsGood line = (line ≡ []) ⊎ ((step : Step) × Spells last_reader line step)
 
 abbrev pub IsBad : List ℕ → Type 0
-IsBad line = (line ≢ []) × ((step : Step) → ¬ (Spells line step))
+IsBad line = (line ≢ []) × ((step : Step) → ¬ (Spells last_reader line step))
 
 -- the first bad line is the one of this number, counted from 1
 pub record IsFirstBad (input : List ℕ) (number : ℕ) : Type 0 where

@@ -11,4 +11,6 @@ mod text;
 
 pub use digits::number;
 use fault::ScriptFault;
+pub use line::{LAST_READER, LineFault, read_step};
 pub use run::run_script;
+pub use text::Text;

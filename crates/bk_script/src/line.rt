@@ -1,88 +1,77 @@
 //! A line of a script, and the step that it spells: words with one space between.
 
-ghost use Rattle.std.specs.Prelude.{◌≡◌, ◌≢◌, ◌∷◌, ◌++◌, All, ◌↔◌, IsTrue, IfOk, MatchOption};
-ghost use Rattle.bk_script.specs.Line.{IsPrintable, IsWord, IsAlone, word_of, Spells};
+ghost use Rattle.std.specs.Prelude.{◌≡◌, ◌∷◌, ◌++◌, All, ◌↔◌, IsTrue, IfOk, MatchOption, option_copied};
+ghost use Rattle.bk_script.specs.Line.{IsPrintable, IsWord, followed, IsFormed, Spells};
 
 mod calls;
+mod forms;
+mod numbers;
 mod payload;
 mod words;
 
-use bk_drive::{Kind, Step, Work};
-use calls::{
-    read_add, read_close, read_copy, read_delete, read_fetch, read_pad, read_release, read_remove,
-    read_retire, read_switch, read_take,
-};
+use bk_drive::Step;
+use calls::{read_add, read_pad};
+use forms::step_of;
+use numbers::Numbers;
 use std::alloc::Global;
 use words::split_word;
 
+/// The number of the last reader of a script, in which readers are numbered from 0.
+pub const LAST_READER: u32 = 3;
+
 /// Why a line gave no step.
 #[derive(Clone, Copy, Debug, PartialEq, Eq)]
-pub(crate) enum LineFault {
+pub enum LineFault {
     /// The line spells no step.
     Bad,
     /// No memory was to be had.
     Memory,
 }
 
-/// The step that a line spells. `Bad` where it spells none; `Memory` where there is none for the step's payload.
-pub(crate) fn read_step(alloc: Global, line: &[u8]) -> Result<Step, LineFault>
-    ensures ok { IfOk result (Spells line.now) }
-    ensures bad { result ≡ Err LineFault.Bad → (step : _) → Spells line.now step → ⊥ }
+/// The step that a line spells, with readers numbered up to `last_reader`; in a script that is `LAST_READER`. `Bad` where it
+/// spells none; `Memory` where there is none for the step's payload.
+pub fn read_step(alloc: Global, line: &[u8], last_reader: u32) -> Result<Step, LineFault>
+    ensures ok { IfOk result (Spells last_reader line.now) }
+    ensures bad { result ≡ Err LineFault.Bad → (step : _) → ¬ (Spells last_reader line.now step) }
 {
     let Some(text) = printable(line) else {
         return Err(LineFault::Bad);
     };
     let (name, rest) = split_word(text);
     match rest {
-        Some(rest) => read_call(alloc, name, rest),
-        None => match work_named(name) {
-            Some(work) => Ok(Step::Work(work)),
+        Some(rest) => read_call(alloc, name, rest, last_reader),
+        None => match read_form(name, None, last_reader) {
+            Some(step) => Ok(step),
             None => Err(LineFault::Bad),
         },
     }
 }
 
-/// The call of the store that a word alone asks for.
-fn work_named(name: &str) -> Option<Work>
-    ensures { MatchOption result ((work : _) → IsAlone work → name.now ≢ word_of work)
-        (λ work. IsAlone work × (name.now ≡ word_of work)) }
+/// The step of a line whose first word is `name`, with a space and `rest` behind it.
+fn read_call(alloc: Global, name: &str, rest: &str, last_reader: u32) -> Result<Step, LineFault>
+    requires word { IsWord name.now }
+    requires printable { All IsPrintable rest.now }
+    ensures ok { IfOk result (Spells last_reader (name.now ++ 32 ∷ rest.now)) }
+    ensures bad { result ≡ Err LineFault.Bad → (step : _) → ¬ (Spells last_reader (name.now ++ 32 ∷ rest.now) step) }
 {
     match name {
-        "swap" => Some(Work::Swap),
-        "write" => Some(Work::WriteOne),
-        "publish" => Some(Work::Publish),
-        "roll" => Some(Work::Roll),
-        "rebuild" => Some(Work::Rebuild),
-        "minor" => Some(Work::Begin(Kind::Minor)),
-        "major" => Some(Work::Begin(Kind::Major)),
-        "end" => Some(Work::EndCopy),
-        "finish" => Some(Work::Finish),
-        "giveup" => Some(Work::GiveUp),
-        _ => None,
+        "add" => read_add(alloc, rest, last_reader),
+        "pad" => read_pad(alloc, rest, last_reader),
+        _ => match read_form(name, Some(rest), last_reader) {
+            Some(step) => Ok(step),
+            None => Err(LineFault::Bad),
+        },
     }
 }
 
-/// The step of a line whose first word is `name`, with a space and `rest` behind it.
-fn read_call(alloc: Global, name: &str, rest: &str) -> Result<Step, LineFault>
-    requires word { IsWord name.now }
-    requires printable { All IsPrintable rest.now }
-    ensures ok { IfOk result (Spells (name.now ++ 32 ∷ rest.now)) }
-    ensures bad { result ≡ Err LineFault.Bad → (step : _) → ¬ (Spells (name.now ++ 32 ∷ rest.now) step) }
+/// The step of a line of a form, whose first word is `name`, with a space and `rest` behind it where there is a rest.
+fn read_form(name: &str, rest: Option<&str>, last_reader: u32) -> Option<Step>
+    requires { IsWord name.now }
+    ensures { MatchOption result
+        ((step : _) → ¬ (IsFormed last_reader (followed name.now (option_copied rest.entry)) step))
+        (IsFormed last_reader (followed name.now (option_copied rest.entry))) }
 {
-    match name {
-        "add" => read_add(alloc, rest),
-        "pad" => read_pad(alloc, rest),
-        "take" => read_take(rest),
-        "fetch" => read_fetch(rest),
-        "release" => read_release(rest),
-        "delete" => read_delete(rest),
-        "retire" => read_retire(rest),
-        "close" => read_close(rest),
-        "remove" => read_remove(rest),
-        "copy" => read_copy(rest),
-        "switch" => read_switch(rest),
-        _ => Err(LineFault::Bad),
-    }
+    step_of(name, Numbers::read(rest)?, last_reader)
 }
 
 /// The bytes as text, where each is from a space to a tilde.

@@ -4,7 +4,7 @@ ghost use Rattle.std.specs.Prelude.{◌≡◌, ℕ, IfOk};
 ghost use Rattle.bk_script.specs.Script.{IsScript, IsFirstBad};
 
 use crate::ScriptFault;
-use crate::line::{LineFault, read_step};
+use crate::line::{LAST_READER, LineFault, read_step};
 use bk_drive::Step;
 use std::alloc::Global;
 
@@ -18,7 +18,7 @@ pub(crate) fn read_steps(alloc: Global, input: &[u8]) -> Result<Vec<Step>, Scrip
         if line.is_empty() {
             continue;
         }
-        match read_step(alloc, line) {
+        match read_step(alloc, line, LAST_READER) {
             Ok(step) => match steps.push(step) {
                 Ok(()) => {}
                 Err(_) => return Err(ScriptFault::Memory),

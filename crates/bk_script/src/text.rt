@@ -17,9 +17,9 @@ use bk_log::FetchFault;
 use std::fmt;
 use std::fmt::{Display, Formatter};
 
-/// A value as its text.
+/// A value as its text. Of an answer that is its line in the output of a script, without the line feed.
 #[derive(Drop)]
-pub(crate) struct Text<'a, T>(pub(crate) &'a T);
+pub struct Text<'a, T>(pub &'a T);
 
 impl Display for Text<'_, Answer> {
     ghost output = { λ text. Some (text_of text.0.now) };

@@ -1,9 +1,9 @@
 //! The words of a line: what stands before a space, and numbers with one space between.
 
-ghost use Rattle.std.specs.Prelude.{◌≡◌, ◌≢◌, ℕ, ◌≤◌, [], ◌∷◌, ◌++◌, IfSome, IfNone};
+ghost use Rattle.std.specs.Prelude.{◌≡◌, ◌≢◌, ℕ, ◌≤◌, ◌∷◌, ◌++◌, IfSome, IfNone};
 ghost use Rattle.std.specs.Option.{option_copied};
 ghost use Rattle.std.specs.Fmt.{decimal};
-ghost use Rattle.bk_script.specs.Line.{IsWord, words, followed};
+ghost use Rattle.bk_script.specs.Line.{IsWord, followed};
 
 use crate::number;
 
@@ -25,22 +25,4 @@ pub(crate) fn split_number(text: &str, most: u64) -> Option<(u64, &str)>
 {
     let (word, rest) = text.split_once(' ')?;
     Some((number(word, most)?, rest))
-}
-
-/// The three numbers that a text is, where none is past its bound.
-pub(crate) fn three_numbers(
-    text: &str,
-    first: u64,
-    second: u64,
-    third: u64,
-) -> Option<(u64, u64, u64)>
-    ensures value { IfSome result (λ r. (r.0 ≤ first) × (r.1 ≤ second) × (r.2 ≤ third)
-        × (text.now ≡ words (decimal r.0 ∷ decimal r.1 ∷ decimal r.2 ∷ []))) }
-    ensures none { IfNone result ((a b c : ℕ) → a ≤ first → b ≤ second → c ≤ third
-        → text.now ≢ words (decimal a ∷ decimal b ∷ decimal c ∷ [])) }
-{
-    let (a, text) = split_number(text, first)?;
-    let (b, text) = split_number(text, second)?;
-    let c = number(text, third)?;
-    Some((a, b, c))
 }
