@@ -4,7 +4,7 @@
 mod cli;
 mod program;
 
-pub use bk_dir::{Digest, DigestChoice, DirCommand, run_dir};
+pub use bk_dir::{Digest, DigestChoice, DirCommand, EntryRange, ScanChoice, run_dir};
 pub use bk_script::run_script;
 use program::{StartFault, run_words, tell_fault, words_of};
 use std::io::{BufWriter, Stderr};

@@ -9,9 +9,11 @@ ghost use Rattle.clap.specs.Values.{kind_of};
 #[cfg(test)]
 mod tests;
 
-use crate::cli::{FolderCall, folder_call, is_folder_call, script_call, text_of};
-use bk_dir::run_dir;
-use bk_disk::DirDisk;
+use crate::cli::{
+    ABOUT, COMMANDS, FolderAsk, FolderCall, PROGRAM_HELP, VERSION, folder_call, is_folder_call,
+    script_call, text_of,
+};
+use bk_dir::{FolderCommand, run_folder};
 use bk_script::run_script;
 use clap::Error;
 use clap::error::ErrorKind;
@@ -99,29 +101,106 @@ fn run_other<S: AsStr, W: Write, E: Write>(
 ) -> u8
     ensures { kind_of error.now ≡ ErrorKind.OutOfMemory → result ≡ 1 }
 {
-    if error.kind() == ErrorKind::OutOfMemory || !is_folder_call(words) {
+    if error.kind() == ErrorKind::OutOfMemory {
         return tell(rt.alloc(), error, writer, errors);
     }
-    match folder_call(rt.alloc(), words) {
-        Ok(call) => run_folder(rt, call, writer, errors),
-        Err(error) => tell(rt.alloc(), &error, writer, errors),
+    if is_folder_call(words) {
+        return match folder_call(rt.alloc(), words) {
+            Ok(call) => run_call(rt, &call, writer, errors),
+            Err(error) => tell(rt.alloc(), &error, writer, errors),
+        };
+    }
+    match about_program(words) {
+        Some(about) => show(about, writer, errors),
+        None => tell_wrong(rt.alloc(), words, error, writer, errors),
     }
 }
 
-/// Runs a command on a folder. Where that can't be opened, the status is 1, and the error stream gets the reason.
-fn run_folder<W: Write, E: Write>(
+/// Runs a command on a folder.
+fn run_call<W: Write, E: Write>(
     rt: &HostRuntime,
-    call: FolderCall<'_>,
+    call: &FolderCall<'_>,
     writer: &mut W,
     errors: &mut E,
 ) -> u8 {
-    match DirDisk::open(rt, call.path) {
-        Ok(mut disk) => run_dir(rt.alloc(), &mut disk, call.command, writer, errors),
-        Err(fault) => {
-            let _ = writeln!(errors, "fault {fault}");
-            1
+    match &call.ask {
+        FolderAsk::Dir(command) => {
+            let command = FolderCommand::Dir(*command);
+            run_folder(rt, call.path, &command, writer, errors)
+        }
+        FolderAsk::Stat(dead) => {
+            let command = FolderCommand::Stat(dead);
+            run_folder(rt, call.path, &command, writer, errors)
         }
     }
+}
+
+/// What is asked of the program itself.
+#[derive(Clone, Copy)]
+enum About {
+    /// What it is for, and its commands.
+    Help,
+    /// Its version.
+    Version,
+}
+
+/// What words ask of the program itself.
+fn about_program<S: AsStr>(words: &[S]) -> Option<About> {
+    match words {
+        [_, word] => match word.as_str() {
+            "--help" | "-h" | "help" => Some(About::Help),
+            "--version" | "-V" => Some(About::Version),
+            _ => None,
+        },
+        _ => None,
+    }
+}
+
+/// Shows what was asked of the program itself. Returns the status.
+fn show<W: Write, E: Write>(about: About, writer: &mut W, errors: &mut E) -> u8 {
+    let written = match about {
+        About::Help => write_program_help(writer),
+        About::Version => write_help(VERSION, writer),
+    };
+    match written {
+        Ok(()) => 0,
+        Err(error) => tell_unwritten(&error, errors),
+    }
+}
+
+/// Writes what the program is for, and its commands.
+fn write_program_help<W: Write>(writer: &mut W) -> io::Result<()> {
+    writer.write_all(ABOUT.as_bytes())?;
+    writer.write_all(COMMANDS.as_bytes())?;
+    write_help(PROGRAM_HELP, writer)
+}
+
+/// Tells what is wrong with words that call no command on a folder, and where they call no command at all, which there
+/// are. Returns the status.
+fn tell_wrong<S: AsStr, W: Write, E: Write>(
+    alloc: Global,
+    words: &[S],
+    error: &Error,
+    writer: &mut W,
+    errors: &mut E,
+) -> u8 {
+    let status = tell(alloc, error, writer, errors);
+    let calls_script = matches!(words, [_, first, ..] if first.as_str() == "script");
+    if status == 2 && !calls_script {
+        let _ = errors.write_all(b"\n");
+        let _ = errors.write_all(COMMANDS.as_bytes());
+    }
+    status
+}
+
+/// Tells that help could not be written; nothing where nobody reads it any more. Returns the status.
+fn tell_unwritten<E: Write>(error: &io::Error, errors: &mut E) -> u8
+    ensures { result ≡ 1 }
+{
+    if error.kind() != io::ErrorKind::BrokenPipe {
+        tell_fault(StartFault::Output, errors);
+    }
+    1
 }
 
 /// Writes help that was asked for, or tells on the error stream what is wrong with the words. Returns the status.
@@ -140,11 +219,10 @@ fn tell<W: Write, E: Write>(alloc: Global, error: &Error, writer: &mut W, errors
         let _ = errors.write_all(text.as_bytes());
         return 2;
     }
-    if write_help(text.as_str(), writer).is_err() {
-        tell_fault(StartFault::Output, errors);
-        return 1;
+    match write_help(text.as_str(), writer) {
+        Ok(()) => 0,
+        Err(error) => tell_unwritten(&error, errors),
     }
-    0
 }
 
 /// Writes help, and everything that the writer has kept back.

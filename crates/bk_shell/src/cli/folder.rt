@@ -4,25 +4,36 @@ ghost use Rattle.std.specs.Prelude.{◌≤◌, IfOk};
 
 mod help;
 
-use bk_dir::{Digest, DigestChoice, DirCommand};
-use bk_record::{Key, LAST_ID, LAST_LOG};
+use bk_dir::{Digest, DigestChoice, DirCommand, EntryRange, ScanChoice};
+use bk_disk::log_of;
+use bk_record::{Key, LAST_ID, LAST_LOG, MAX_LOG_LENGTH};
 use bk_script::number;
 use clap::error::ErrorKind;
-use clap::{Arg, ArgMatches, Command, Error};
+use clap::{Arg, ArgAction, ArgMatches, Command, Error};
 use help::{
-    ABOUT_CHECK, ABOUT_FIND, ABOUT_HEADER, ABOUT_LOGS, ABOUT_MAP, ABOUT_SCAN, CHECK_HELP,
-    FIND_HELP, HEADER_HELP, LOGS_HELP, MAP_HELP, SCAN_HELP,
+    ABOUT_CHECK, ABOUT_ENTRIES, ABOUT_FIND, ABOUT_HEADER, ABOUT_LEDGERS, ABOUT_LOGS, ABOUT_MAP,
+    ABOUT_SCAN, ABOUT_STAT, CHECK_HELP, ENTRIES_HELP, FIND_HELP, HEADER_HELP, LEDGERS_HELP,
+    LOGS_HELP, MAP_HELP, SCAN_HELP, STAT_HELP,
 };
 use std::alloc::{AllocError, Global};
 use std::convert::AsStr;
 
+/// What is asked of a folder.
+#[derive(Debug, PartialEq, Eq, Drop)]
+pub(crate) enum FolderAsk {
+    /// A command that any disk answers.
+    Dir(DirCommand),
+    /// How much stands in each log, and how much of that is of ledgers that aren't among these.
+    Stat(Vec<u64>),
+}
+
 /// A call of a command that reads a folder.
-#[derive(Clone, Copy, Debug, PartialEq, Eq)]
+#[derive(Debug, PartialEq, Eq, Drop)]
 pub(crate) struct FolderCall<'a> {
     /// The folder.
     pub path: &'a str,
     /// What is asked of it.
-    pub command: DirCommand,
+    pub ask: FolderAsk,
 }
 
 /// A word behind a command isn't what it is to be.
@@ -34,6 +45,11 @@ pub(crate) enum BadWord<'a> {
         text: &'a str,
         name: &'a str,
         most: u64,
+    },
+    /// It is neither a log's id nor the name of a log's file.
+    #[error("invalid value '{text}' for '<LOG>': not a number from 0 to {LAST_LOG} in plain digits")]
+    Log {
+        text: &'a str,
     },
     /// It is the name of no digest.
     #[error("invalid value '{text}' for '--digest <KIND>': not crc32c, crc32 or auto")]
@@ -52,7 +68,10 @@ pub(crate) fn is_folder_call<S: AsStr>(words: &[S]) -> bool {
 }
 
 fn is_folder_command(name: &str) -> bool {
-    matches!(name, "logs" | "header" | "map" | "scan" | "find" | "check")
+    matches!(
+        name,
+        "logs" | "header" | "map" | "scan" | "find" | "check" | "stat" | "ledgers" | "entries"
+    )
 }
 
 /// The command on a folder that words call. An error is a wrong command line, help that was asked for, or want of
@@ -66,28 +85,81 @@ pub(crate) fn folder_call<'a, S: AsStr>(
     let Some((name, found)) = matches.subcommand() else {
         return Err(commands.error(ErrorKind::MissingSubcommand, "a command is asked for")?);
     };
-    match read_call(name, found) {
-        Ok(call) => Ok(call),
+    match read_ask(alloc, name, found)? {
+        Ok(ask) => Ok(FolderCall {
+            path: word_of(found, "DIR"),
+            ask,
+        }),
         Err(bad) => {
-            let told = format!(in alloc; "{bad}")?;
+            let told = told_of(alloc, &bad)?;
             let mut command = Command::new(alloc, "bk_shell").override_usage(usage_of(name));
             Err(command.error(ErrorKind::ValueValidation, &told)?)
         }
     }
 }
 
-/// The call that a command of this name and the words behind it are.
-fn read_call<'a>(name: &str, found: &ArgMatches<'a>) -> Result<FolderCall<'a>, BadWord<'a>> {
-    let path = word_of(found, "DIR");
-    let command = match name {
-        "logs" => DirCommand::Logs,
-        "header" => DirCommand::Header(read_log(found)?),
-        "map" => DirCommand::Map(read_log(found)?),
-        "scan" => DirCommand::Scan(read_log(found)?),
-        "find" => DirCommand::Find(read_key(found)?),
-        _ => read_check(found)?,
+/// What is told of a bad word. Where it is the name of a log's file but for its end, the log's id is told too.
+fn told_of(alloc: Global, bad: &BadWord<'_>) -> Result<String, AllocError> {
+    if let BadWord::Log { text } = bad {
+        let name = format!(in alloc; "{text}.log")?;
+        if let Some(log) = log_of(&name) {
+            return format!(in alloc; "{bad}; the file {name} is log {log}");
+        }
+    }
+    format!(in alloc; "{bad}")
+}
+
+/// What a command of this name and the words behind it ask for.
+fn read_ask<'a>(
+    alloc: Global,
+    name: &str,
+    found: &ArgMatches<'a>,
+) -> Result<Result<FolderAsk, BadWord<'a>>, AllocError> {
+    if name == "stat" {
+        return read_stat(alloc, found);
+    }
+    match read_command(name, found) {
+        Ok(command) => Ok(Ok(FolderAsk::Dir(command))),
+        Err(bad) => Ok(Err(bad)),
+    }
+}
+
+/// The ledgers that `stat` takes for deleted.
+fn read_stat<'a>(
+    alloc: Global,
+    found: &ArgMatches<'a>,
+) -> Result<Result<FolderAsk, BadWord<'a>>, AllocError> {
+    let mut dead = Vec::new(alloc);
+    let Some(words) = found.get_strs("dead") else {
+        return Ok(Ok(FolderAsk::Stat(dead)));
     };
-    Ok(FolderCall { path, command })
+    for text in words {
+        match number(text, LAST_ID) {
+            Some(ledger) => dead.push(ledger)?,
+            None => {
+                return Ok(Err(BadWord::Number {
+                    text: *text,
+                    name: "LEDGER",
+                    most: LAST_ID,
+                }));
+            }
+        }
+    }
+    Ok(Ok(FolderAsk::Stat(dead)))
+}
+
+/// The command on any disk that a command of this name and the words behind it are.
+fn read_command<'a>(name: &str, found: &ArgMatches<'a>) -> Result<DirCommand, BadWord<'a>> {
+    match name {
+        "logs" => Ok(DirCommand::Logs),
+        "header" => Ok(DirCommand::Header(read_log(found)?)),
+        "map" => Ok(DirCommand::Map(read_log(found)?)),
+        "scan" => read_scan(found),
+        "find" => Ok(DirCommand::Find(read_key(found)?)),
+        "ledgers" => Ok(DirCommand::Ledgers),
+        "entries" => Ok(DirCommand::Entries(read_range(found)?)),
+        _ => read_check(found),
+    }
 }
 
 /// The word of this name. A parse gives each, since the command asks for it.
@@ -106,10 +178,61 @@ fn read_number<'a>(found: &ArgMatches<'a>, name: &'a str, most: u64) -> Result<u
     }
 }
 
-/// The log that is asked for.
+/// The number that the word behind an option is; `None` where the option isn't given.
+fn read_option<'a>(
+    found: &ArgMatches<'a>,
+    id: &str,
+    name: &'a str,
+    most: u64,
+) -> Result<Option<u64>, BadWord<'a>> {
+    let Some(text) = found.get_str(id) else {
+        return Ok(None);
+    };
+    match number(text, most) {
+        Some(n) => Ok(Some(n)),
+        None => Err(BadWord::Number { text, name, most }),
+    }
+}
+
+/// The log that is asked for, by its id or by its file's name.
 fn read_log<'a>(found: &ArgMatches<'a>) -> Result<u32, BadWord<'a>> {
-    let log = read_number(found, "LOG", u64::from(LAST_LOG))?;
-    Ok(log as u32)
+    let text = word_of(found, "LOG");
+    if let Some(log) = log_of(text) {
+        return Ok(log);
+    }
+    match number(text, u64::from(LAST_LOG)) {
+        Some(log) => Ok(log as u32),
+        None => Err(BadWord::Log { text }),
+    }
+}
+
+/// The scan that is asked for: of the whole log, or of the entries that the options name.
+fn read_scan<'a>(found: &ArgMatches<'a>) -> Result<DirCommand, BadWord<'a>> {
+    let log = read_log(found)?;
+    let ledger = read_option(found, "ledger", "LEDGER", LAST_ID)?;
+    let from = read_option(found, "from", "AT", MAX_LOG_LENGTH)?;
+    let data = found.get_flag("data");
+    if ledger.is_none() && from.is_none() && !data {
+        return Ok(DirCommand::Scan(log));
+    }
+    let choice = ScanChoice {
+        ledger,
+        from: from.unwrap_or(0),
+        data,
+    };
+    Ok(DirCommand::ScanPart(log, choice))
+}
+
+/// The entries of a ledger that are asked for: all, those from a first one on, or those up to a last one.
+fn read_range<'a>(found: &ArgMatches<'a>) -> Result<EntryRange, BadWord<'a>> {
+    let ledger = read_number(found, "LEDGER", LAST_ID)?;
+    let first = read_option(found, "FIRST", "FIRST", LAST_ID)?;
+    let last = read_option(found, "LAST", "LAST", LAST_ID)?;
+    Ok(EntryRange {
+        ledger,
+        first: first.unwrap_or(0),
+        last: last.unwrap_or(LAST_ID),
+    })
 }
 
 /// The key that is asked for.
@@ -144,24 +267,54 @@ fn usage_of(name: &str) -> &'static str {
     match name {
         "header" => "bk_shell header <DIR> <LOG>",
         "map" => "bk_shell map <DIR> <LOG>",
-        "scan" => "bk_shell scan <DIR> <LOG>",
+        "scan" => "bk_shell scan [OPTIONS] <DIR> <LOG>",
         "find" => "bk_shell find <DIR> <LEDGER> <ENTRY>",
         "check" => "bk_shell check [OPTIONS] <DIR>",
+        "stat" => "bk_shell stat [OPTIONS] <DIR>",
+        "ledgers" => "bk_shell ledgers <DIR>",
+        "entries" => "bk_shell entries <DIR> <LEDGER> [FIRST] [LAST]",
         _ => "bk_shell logs <DIR>",
     }
 }
 
 /// The commands that read a folder, as a command line of the program.
 fn folder_commands<'a>(alloc: Global) -> Result<Command<'a>, AllocError> {
-    Command::new(alloc, "bk_shell")
+    let commands = Command::new(alloc, "bk_shell")
         .about("Entry log storage of a bookie")
-        .subcommand_required(true)
+        .subcommand_required(true);
+    let commands = with_listing_commands(alloc, commands)?;
+    let commands = with_log_commands(alloc, commands)?;
+    with_ledger_commands(alloc, commands)
+}
+
+/// With the commands that show a line for each log.
+fn with_listing_commands<'a>(
+    alloc: Global,
+    commands: Command<'a>,
+) -> Result<Command<'a>, AllocError> {
+    commands
         .subcommand(on_folder(alloc, "logs", ABOUT_LOGS, LOGS_HELP)?)?
+        .subcommand(check_command(alloc)?)?
+        .subcommand(stat_command(alloc)?)
+}
+
+/// With the commands on one log.
+fn with_log_commands<'a>(alloc: Global, commands: Command<'a>) -> Result<Command<'a>, AllocError> {
+    commands
         .subcommand(on_log(alloc, "header", ABOUT_HEADER, HEADER_HELP)?)?
         .subcommand(on_log(alloc, "map", ABOUT_MAP, MAP_HELP)?)?
-        .subcommand(on_log(alloc, "scan", ABOUT_SCAN, SCAN_HELP)?)?
+        .subcommand(scan_command(alloc)?)
+}
+
+/// With the commands on ledgers and their entries.
+fn with_ledger_commands<'a>(
+    alloc: Global,
+    commands: Command<'a>,
+) -> Result<Command<'a>, AllocError> {
+    commands
         .subcommand(on_entry(alloc, "find", ABOUT_FIND, FIND_HELP)?)?
-        .subcommand(check_command(alloc)?)
+        .subcommand(on_folder(alloc, "ledgers", ABOUT_LEDGERS, LEDGERS_HELP)?)?
+        .subcommand(entries_command(alloc)?)
 }
 
 /// A command on a folder.
@@ -187,6 +340,55 @@ fn check_command<'a>(alloc: Global) -> Result<Command<'a>, AllocError> {
     )
 }
 
+/// The command `scan`.
+fn scan_command<'a>(alloc: Global) -> Result<Command<'a>, AllocError> {
+    on_log(alloc, "scan", ABOUT_SCAN, SCAN_HELP)?
+        .arg(
+            Arg::new(alloc, "ledger")
+                .long("ledger")
+                .value_name("LEDGER")
+                .help("Shows the entries of this ledger alone"),
+        )?
+        .arg(
+            Arg::new(alloc, "from").long("from").value_name("AT").help(
+                "Shows the entries that begin at this place of the file or behind it",
+            ),
+        )?
+        .arg(
+            Arg::new(alloc, "data")
+                .long("data")
+                .action(ArgAction::SetTrue)
+                .help("Shows the data of each entry too, in hexadecimal"),
+        )
+}
+
+/// The command `stat`.
+fn stat_command<'a>(alloc: Global) -> Result<Command<'a>, AllocError> {
+    on_folder(alloc, "stat", ABOUT_STAT, STAT_HELP)?.arg(
+        Arg::new(alloc, "dead")
+            .long("dead")
+            .action(ArgAction::Append)
+            .value_name("LEDGER")
+            .help("Takes this ledger for deleted; may be given many times"),
+    )
+}
+
+/// The command `entries`.
+fn entries_command<'a>(alloc: Global) -> Result<Command<'a>, AllocError> {
+    on_folder(alloc, "entries", ABOUT_ENTRIES, ENTRIES_HELP)?
+        .arg(word(alloc, "LEDGER", "The ledger, 0 to 9223372036854775807"))?
+        .arg(
+            Arg::new(alloc, "FIRST")
+                .value_name("FIRST")
+                .help("The first entry that is shown [default: 0]"),
+        )?
+        .arg(
+            Arg::new(alloc, "LAST").value_name("LAST").help(
+                "The last entry that is shown [default: the ledger's last]",
+            ),
+        )
+}
+
 /// A command on a log of a folder.
 fn on_log<'a>(
     alloc: Global,
@@ -194,7 +396,11 @@ fn on_log<'a>(
     about: &'a str,
     help: &'a str,
 ) -> Result<Command<'a>, AllocError> {
-    on_folder(alloc, name, about, help)?.arg(word(alloc, "LOG", "The log's id, 0 to 2147483647"))
+    on_folder(alloc, name, about, help)?.arg(word(
+        alloc,
+        "LOG",
+        "The log's id, 0 to 2147483647, or its file's name, such as 1f.log",
+    ))
 }
 
 /// A command on an entry of a folder's logs.

@@ -4,20 +4,50 @@
 pub(crate) const ABOUT_SCRIPT: &str =
     "Runs steps from standard input on a new store in memory, and prints an answer for each";
 
+/// What the program is, in a line.
+pub(crate) const ABOUT: &str = "Entry log storage of a bookie\n\n";
+
+/// How the program is called, and by which commands.
+pub(crate) const COMMANDS: &str = "\
+Usage: bk_shell COMMAND [OPTIONS] [WORDS]
+
+A folder of entry logs is read, and never written, by
+  check DIR                             whether each log is whole; with --digest KIND also each entry
+  logs DIR                              the logs: id, length and state
+  stat DIR                              how much stands in each log, and how much of that lives
+  ledgers DIR                           how much of each ledger stands in the logs
+  entries DIR LEDGER [FIRST [LAST]]     where the entries of a ledger stand
+  find DIR LEDGER ENTRY                 an entry's last record, with its data
+  scan DIR LOG                          the entries of a log
+  header DIR LOG                        the header of a log
+  map DIR LOG                           the ledgers map of a log
+
+A new store in memory is tried by
+  script                                runs steps from standard input, and prints an answer for each
+
+Of the program itself tell
+  help COMMAND                          one of these, with an example
+  --help, --version
+
+";
+
+/// The program's version, and the toolchain that its proofs are of.
+pub(crate) const VERSION: &str =
+    "bk_shell 0.1.0\nproved with rattle-kit-13b logic dac8208d650f15bf\n";
+
 /// What the program tells of its commands.
 pub(crate) const PROGRAM_HELP: &str = "\
-The commands logs, header, map, scan, find and check read a folder of entry logs, and never write in it. DIR is the
-folder. A log is a file of it that is named by its id in hexadecimal, as 1f.log; other files are passed over. A LOG is
-such an id in decimal, 0 to 2147483647. LEDGER and ENTRY are 0 to 9223372036854775807. Begin with `check`:
+DIR is a folder of entry logs. A log is a file of it that is named by its id in hexadecimal, as 1f.log; other files are
+passed over. A LOG is such an id in decimal, 0 to 2147483647, or the file's name: 31 and 1f.log are the same log. LEDGER
+and ENTRY are 0 to 9223372036854775807. Begin with `check`:
   $ bk_shell check /var/bookie/current
   0 ok
   1 fault bad length 52310 7
   2 unsealed
 
-`bk_shell help COMMAND` tells of a command, with an example.
-
-The status is 0 where all was shown. It is 1 where a command ends early, with a line `fault TEXT` on the error stream,
-or where `check` found a log with a fault. It is 2 where the command line is wrong.
+The status is 0 where all was shown. It is 1 where a command ends early, with a line `fault TEXT` on the error stream;
+where a log could not be read, which is told there too; and where `check` found a log with a fault. It is 2 where the
+command line is wrong. Where nobody reads the output any more, a command ends with status 1 and says nothing.
 ";
 
 /// What the program tells of its scripts.

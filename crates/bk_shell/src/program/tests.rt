@@ -177,6 +177,37 @@ fn a_wrong_command_line_is_told_with_status_2_and_reads_no_input(rt: HostRuntime
     }
 }
 
+/// Whether bytes are a text that has a part.
+fn holds(bytes: &[u8], part: &str) -> bool {
+    match str::from_utf8(bytes) {
+        Ok(text) => text.contains(part),
+        Err(_) => false,
+    }
+}
+
+#[test]
+fn a_wrong_command_gets_the_list_of_commands(rt: HostRuntime) {
+    let lines: [(&[&str], bool); 4] = [
+        (&["bk_shell"], true),
+        (&["bk_shell", "frob"], true),
+        (&["bk_shell", "help", "frob"], true),
+        (&["bk_shell", "script", "x"], false),
+    ];
+    for (words, has_list) in lines {
+        let shown = run(&rt, words, "");
+        assert_eq!(rt; shown.status, 2, "{words:?}");
+        assert_eq!(rt; holds(&shown.errors, "check DIR"), has_list, "{words:?}");
+    }
+}
+
+#[test]
+fn the_version_is_shown(rt: HostRuntime) {
+    let shown = run(&rt, &["bk_shell", "--version"], "");
+    assert_eq!(rt; shown.status, 0);
+    assert!(rt; shown.output.as_slice().starts_with(b"bk_shell 0.1.0\n"));
+    assert_eq!(rt; shown.errors.len(), 0);
+}
+
 #[test]
 fn help_goes_to_the_output_or_is_a_fault_of_its_own(rt: HostRuntime) {
     let shown = run(&rt, &["bk_shell", "--help"], "");
@@ -188,6 +219,9 @@ fn help_goes_to_the_output_or_is_a_fault_of_its_own(rt: HostRuntime) {
             .starts_with(b"Entry log storage of a bookie")
     );
     assert_eq!(rt; shown.errors.len(), 0);
+    for name in ["check", "stat", "script", "--version"] {
+        assert!(rt; holds(&shown.output, name), "{name} in the help");
+    }
     let mut errors = Vec::new(rt.alloc());
     let words: [&str; 3] = ["bk_shell", "help", "script"];
     let closed = run_words(&rt, &words, &mut Closed, &mut Closed, &mut errors);

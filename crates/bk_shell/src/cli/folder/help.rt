@@ -45,9 +45,15 @@ number in the ledger, and the bytes of its record. Then `entries N foreign N tor
 many records with a negative id, such as the batches of a ledgers map, and how many bytes at the end are no whole
 record. The header isn't read. A length below 16 ends the scan with `fault bad length AT N`.
 
+With --ledger or --from fewer entries are shown, and N is how many were; the scan reads the whole log all the same. With
+--data each line ends with the entry's data in hexadecimal, `-` where there is none.
+
 Example:
   $ bk_shell scan /var/bookie/current 0
   1028 1 0 25
+  entries 1 foreign 1 torn 0
+  $ bk_shell scan --ledger 1 --data /var/bookie/current 0.log
+  1028 1 0 25 68656c6c6f
   entries 1 foreign 1 torn 0
 ";
 
@@ -56,7 +62,8 @@ pub(crate) const ABOUT_FIND: &str = "Finds the last record of an entry in all lo
 pub(crate) const FIND_HELP: &str = "\
 Prints `LOG AT DATA`: the log of the entry's last record, where its payload begins there, and its data in hexadecimal,
 `-` where there is none; or `not found`. Of several records of an entry the one in the log of the highest id counts, and
-in that log the last. All logs are scanned; headers aren't read.
+in that log the last. All logs are scanned; headers aren't read. A log that can't be read to its end is told on the error
+stream, `fault log ID: TEXT`, and searched up to there; the status is then 1.
 
 Example:
   $ bk_shell find /var/bookie/current 1 0
@@ -98,4 +105,51 @@ Example:
   0 ok
   3 unsealed
   unknown 0
+";
+
+pub(crate) const ABOUT_STAT: &str = "Shows how much stands in each log, and how much of that lives";
+
+pub(crate) const STAT_HELP: &str = "\
+Prints for each log, by rising ids, `ID LENGTH ENTRIES BYTES LIVE SHARE STATE`: how many entries it has, the bytes of
+their records, how many of these are of ledgers that --dead doesn't name, and how many thousandths of BYTES that is,
+rounded down, `-` where there are no bytes. A STATE is that of `logs`. Then the sums, `logs N length N entries N bytes N
+live N share SHARE`. A log is compacted where its share is below a threshold, in a bookie by default 200 or 800. A log
+that can't be read to its end is told on the error stream, `fault log ID: TEXT`, and counted up to there; the status is
+then 1.
+
+Example:
+  $ bk_shell stat --dead 2 /var/bookie/current
+  0 1089 1 25 25 1000 sealed
+  3 1087 3 63 41 650 open
+  logs 2 length 2176 entries 4 bytes 88 live 66 share 750
+";
+
+pub(crate) const ABOUT_LEDGERS: &str = "Shows how much of each ledger stands in the logs";
+
+pub(crate) const LEDGERS_HELP: &str = "\
+Prints for each ledger, rising, `LEDGER RECORDS BYTES FIRST LAST LOGS`: how many records all logs have of it, the bytes
+of these, its first and its last entry, and how many logs have a record. An entry that has two records counts twice.
+A log that can't be read to its end is told on the error stream, `fault log ID: TEXT`, and counted up to there; the status
+is then 1.
+
+Example:
+  $ bk_shell ledgers /var/bookie/current
+  1 3 66 0 2 2
+  2 1 22 5 5 1
+";
+
+pub(crate) const ABOUT_ENTRIES: &str = "Shows where the entries of a ledger stand";
+
+pub(crate) const ENTRIES_HELP: &str = "\
+Prints for each entry of the ledger, rising, `ENTRY LOG AT SIZE`: the log of its last record, where its payload begins
+there, and the bytes of the record. FIRST and LAST bound the entries that are shown. Of several records of an entry the
+one in the log of the highest id counts, and in that log the last. A log that can't be read to its end is told on the error
+stream, `fault log ID: TEXT`, and searched up to there; the status is then 1.
+
+Example:
+  $ bk_shell entries /var/bookie/current 1
+  0 3 1050 21
+  2 3 1071 20
+  $ bk_shell entries /var/bookie/current 1 2
+  2 3 1071 20
 ";

@@ -116,6 +116,19 @@ fn a_folder_with_other_files(rt: HostRuntime) -> Result<(), Fail> {
         ),
         done(&["bk_shell", "check", "bk_shell_files"], "0 ok\n3 ok\n"),
         done(
+            &["bk_shell", "stat", "bk_shell_files", "--dead", "1"],
+            "0 1089 1 25 0 0 sealed\n3 1089 1 25 0 0 sealed\nlogs 2 length 2178 entries 2 bytes 50 live 0 share 0\n",
+        ),
+        done(&["bk_shell", "ledgers", "bk_shell_files"], "1 2 50 0 0 2\n"),
+        done(
+            &["bk_shell", "entries", "bk_shell_files", "1"],
+            "0 3 1028 25\n",
+        ),
+        done(
+            &["bk_shell", "scan", "--data", "bk_shell_files", "3.log"],
+            "1028 1 0 25 68656c6c6f\nentries 1 foreign 1 torn 0\n",
+        ),
+        done(
             &["bk_shell", "check", "--digest", "auto", "bk_shell_files"],
             "0 ok\n3 ok\nunknown 1\n",
         ),
@@ -159,15 +172,26 @@ fn a_folder_with_other_files(rt: HostRuntime) -> Result<(), Fail> {
 }
 
 #[test]
+fn a_folder_without_logs_is_told(rt: HostRuntime) -> Result<(), Fail> {
+    let rows = [Row {
+        words: &["bk_shell", "check", "bk_shell_none"],
+        status: 0,
+        output: "",
+        errors: "no log found in bk_shell_none: a log is a file named by its id in hexadecimal, such as 1f.log\n",
+    }];
+    anew(&rt, "bk_shell_none")?;
+    check(&rt, &rt, &rows);
+    fs::remove_dir_all(&rt, "bk_shell_none")?;
+    Ok(())
+}
+
+#[test]
 fn a_folder_that_is_gone(rt: HostRuntime) -> Result<(), Fail> {
+    const TOLD: &str = "fault log 5: disk: No such file or directory (os error 2)\n";
     let folder = "bk_shell_gone";
     let broken = [
-        told(&["bk_shell", "logs", "bk_shell_gone"], "fault disk\n"),
-        told(&["bk_shell", "check", "bk_shell_gone"], "fault disk\n"),
-        told(
-            &["bk_shell", "find", "bk_shell_gone", "0", "0"],
-            "fault disk\n",
-        ),
+        told(&["bk_shell", "logs", "bk_shell_gone"], TOLD),
+        told(&["bk_shell", "check", "bk_shell_gone"], TOLD),
         told(
             &["bk_shell", "scan", "bk_shell_gone", "5"],
             "fault no log\n",
