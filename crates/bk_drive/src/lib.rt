@@ -4,7 +4,6 @@
 mod readers;
 mod run;
 mod step;
-mod sweeping;
 mod taking;
 #[cfg(test)]
 mod tests;
@@ -22,4 +21,3 @@ pub use bk_store::{
 pub use readers::{Readers, Reading};
 pub use run::{Ran, apply, drive};
 pub use step::{Answer, FetchAnswer, ReleaseAnswer, Step, TakeAnswer, Work};
-pub use sweeping::{compact_one, remove_unnamed};
