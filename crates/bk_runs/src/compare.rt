@@ -1,6 +1,7 @@
 //! Comparing what a run told with what it is to tell.
 
-ghost use Rattle.std.specs.Prelude.{◌≡◌, ◌+◌, ◌-◌, ◌^◌, ◌<◌, ◌≤◌, ◌↔◌, IsTrue, IfSome, IfNone, length, if◌then◌else◌};
+ghost use Rattle.std.specs.Prelude.{◌≡◌, ℕ, ◌+◌, ◌-◌, ◌^◌, ◌<◌, ◌↔◌, IsTrue, IfSome, IfNone, length};
+ghost use Rattle.bk_runs.specs.Lines.{HaveSame, HaveOther};
 
 /// How many runs were taken, and how many of them agree.
 #[derive(Clone, Copy, Debug, PartialEq, Eq)]
@@ -54,15 +55,19 @@ impl Tally {
 /// The number of the first line, counted from 0, in which two texts differ, also where one of them has ended. `None` where
 /// they have the same lines.
 pub(crate) fn first_other(expected: &[String], got: &[String]) -> Option<usize>
-    ensures same { IfNone result (length expected.now ≡ length got.now) }
-    ensures within { IfSome result (λ i. (i ≤ length expected.now) × (i ≤ length got.now)) }
+    ensures length { IfNone result (length expected.now ≡ length got.now) }
+    ensures same { IfNone result ((k : ℕ) → k < length expected.now → HaveSame expected.now got.now k) }
+    ensures before { IfSome result (λ i. (k : ℕ) → k < i → HaveSame expected.now got.now k) }
+    ensures other { IfSome result (HaveOther expected.now got.now) }
 {
-    let found = expected
-        .iter()
-        .zip(got)
-        .position(|(expected, got)| expected.as_str() != got.as_str());
-    if found.is_some() || expected.len() == got.len() {
-        return found;
+    let both = expected.len().min(got.len());
+    for index in 0..both {
+        if expected[index].as_str() != got[index].as_str() {
+            return Some(index);
+        }
     }
-    Some(expected.len().min(got.len()))
+    if expected.len() == got.len() {
+        return None;
+    }
+    Some(both)
 }

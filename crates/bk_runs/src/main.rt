@@ -1,14 +1,13 @@
 //! A program that takes worked runs from files, runs each on a disk in memory, and tells which answer otherwise.
 #![tactic(auto)]
 
-mod answers;
 mod compare;
 mod fault;
 mod hexadecimal;
 mod noting;
+mod numbers;
 mod parse;
 mod running;
-mod steps;
 mod worked;
 
 use compare::{Tally, first_other};

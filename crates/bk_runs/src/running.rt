@@ -2,12 +2,12 @@
 
 ghost use Rattle.std.specs.Prelude.{◌<◌, ◌^◌};
 
-use crate::answers::line_of;
 use crate::noting::NotingDisk;
 use crate::worked::{Failing, Worked};
 use crate::{RunFault, first_other};
 use bk_disk::{FaultDisk, LogDisk, MemDisk};
 use bk_drive::{Answer, OpenFault, Ran, drive};
+use bk_script::Text;
 use std::alloc::{AllocError, Global};
 use std::fmt;
 use std::fmt::{Display, Formatter};
@@ -238,7 +238,7 @@ fn told_of(alloc: Global, ran: &Ran<NotingDisk<FaultDisk<MemDisk>>>) -> Result<T
 fn lines_of(alloc: Global, answers: &[Answer]) -> Result<Vec<String>, AllocError> {
     let mut lines = Vec::with_capacity(alloc, answers.len())?;
     for answer in answers {
-        lines.push(line_of(alloc, answer)?)?;
+        lines.push(format!(in alloc; "{}", Text(answer))?)?;
     }
     Ok(lines)
 }

@@ -3,11 +3,14 @@
 use super::Section;
 use crate::hexadecimal::text_bytes;
 use crate::noting::line_of;
-use crate::steps::{read_step, small_number};
+use crate::numbers::small_number;
 use crate::worked::{Failing, Other, Worked};
 use bk_drive::Settings;
-use bk_script::number;
+use bk_script::{LineFault, number, read_step};
 use std::alloc::{AllocError, Global};
+
+/// The number of the last reader that a run may name. A script ends at 3, so that no script is answered `no reader`.
+const LAST_READER: u32 = u32::MAX;
 
 /// Puts what a line of a section says into the run. Whether it says something there.
 pub(crate) fn read_line(
@@ -126,12 +129,13 @@ fn failing_each(alloc: Global, rest: &str) -> Result<Option<Failing>, AllocError
 
 /// A line of the script.
 fn read_script(alloc: Global, worked: &mut Worked, line: &str) -> Result<bool, AllocError> {
-    match read_step(alloc, line)? {
-        Some(step) => {
+    match read_step(alloc, line.as_bytes(), LAST_READER) {
+        Ok(step) => {
             worked.steps.push(step)?;
             Ok(true)
         }
-        None => Ok(false),
+        Err(LineFault::Bad) => Ok(false),
+        Err(LineFault::Memory) => Err(AllocError),
     }
 }
 
