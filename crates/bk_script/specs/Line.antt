@@ -77,7 +77,7 @@ with_three word first second third make = record {
   step = λ numbers. make (slice_index numbers 0) (slice_index numbers 1) (slice_index numbers 2);
 }
 
--- all forms of lines whose step is made of numbers alone, each with a word of its own
+-- all forms of lines whose step is made of numbers alone; of two with one word the first would count
 abbrev pub forms : List Form
 forms =
     alone (codes "swap") Swap
