@@ -17,8 +17,8 @@ use std::io::Write;
 /// Shows the last record of a key in order of log, then position, `LOG AT DATA`. Headers aren't read. Gives the status.
 ///
 /// A log that can't be read to its end is told on the error stream, `fault log ID: TEXT`, and searched up to there; the
-/// status is then 1. `not found` is shown only where every log was searched to its end. A log that goes meanwhile is
-/// passed over.
+/// status is then 1. `not found` is shown only where every log that could be opened was searched to its end. A log that
+/// goes meanwhile is passed over.
 pub(crate) fn show_last<D: LogDisk, W: Write, E: Write>(
     alloc: Global,
     disk: &mut D,
