@@ -2,6 +2,7 @@ pub mod Records
 pub mod Bodies
 pub mod Growth
 pub mod Keys
+pub mod Limits
 pub mod Entries
 pub mod Scans
 pub mod Pieces

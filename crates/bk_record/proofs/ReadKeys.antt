@@ -4,7 +4,8 @@ use Rattle.std.proofs.Common.{refl, sym, ap, ◌∙◌, arith}
 use Rattle.std.proofs.lemmas.Bool.{false≢true, le-ltb, ltb-false}
 use Rattle.std.specs.Option.{ok_or}
 use Rattle.bk_record.specs.Key.{EntryKey}
-use Rattle.bk_record.specs.Record.{IsPayload, key_of, read_key, read_added, max_added, unless_too_long, ledger_field, entry_field}
+use Rattle.bk_record.specs.Limits.{max_added}
+use Rattle.bk_record.specs.Record.{IsPayload, key_of, read_key, read_added, unless_too_long, ledger_field, entry_field}
 use Rattle.bk_record.specs.declared.fault.RecordFault.{RecordFault}
 use Rattle.bk_record.specs.declared.fault.RecordFault.TheVariants.{Short, Negative, TooLong}
 

@@ -1,6 +1,7 @@
 pub mod Key
 pub mod Location
 pub mod Keyed
+pub mod Limits
 pub mod Record
 pub mod Body
 pub mod Files

@@ -4,6 +4,7 @@ use Rattle.std.specs.Prelude.{is_some, if◌then◌else◌, Option, Some, None, 
 use Rattle.std.specs.Int.{w32, w64, to_be_bytes, from_be_bytes, cast_signed}
 use Rattle.std.specs.Option.{ok_or}
 use Rattle.bk_record.specs.Key.{EntryKey}
+use Rattle.bk_record.specs.Limits.{max_added}
 use Rattle.bk_record.specs.declared.fault.RecordFault.{RecordFault}
 use Rattle.bk_record.specs.declared.fault.RecordFault.TheVariants.{Short, Negative, TooLong}
 
@@ -39,10 +40,6 @@ key_of payload = if nat_lt (ledger_field payload) (2 ^ 63) && nat_lt (entry_fiel
 -- the payload is no entry's: an id is negative, as in the batches of a ledgers map
 abbrev pub is_foreign : List ℕ → Bool
 is_foreign payload = not (is_some (key_of payload))
-
--- the most bytes that the payload of an add may have (this project's rule)
-abbrev pub max_added : ℕ
-max_added = 1048576
 
 -- the key that a payload gives, or why it gives none
 unfoldable pub read_key : List ℕ → Result EntryKey RecordFault

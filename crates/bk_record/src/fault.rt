@@ -11,7 +11,7 @@ pub enum RecordFault {
     /// The ledger id or the entry id, read as a signed number, is negative.
     #[error("negative number")]
     Negative,
-    /// The payload of an add has this many bytes: more than 1,048,576.
+    /// The payload of an add has this many bytes: more than 5,000,000.
     #[error("too long {0}")]
     TooLong(u64),
     /// No memory was to be had.

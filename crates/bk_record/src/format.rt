@@ -16,7 +16,17 @@ pub const RECORD_HEAD: usize = LENGTH_FIELD + IDS_LENGTH;
 pub const MAX_PAYLOAD: usize = 2_147_483_647;
 
 /// The most bytes that the payload of an add may have (this project's rule).
-pub const MAX_ADDED: usize = 1_048_576;
+pub const MAX_ADDED: usize = 5_000_000;
+
+/// The most that the limit of a log can be set to, in bytes (this project's rule).
+pub const MAX_LOG_LIMIT: u32 = 4_000_000_000;
+
+/// The most that the limit of a write cache can be set to, in bytes of payloads (this project's rule).
+pub const MAX_CACHE_LIMIT: u32 = 1_073_741_824;
+
+/// The most zero bytes that a line of a script may ask for as the data of an entry: more than an entry may have, so
+/// that a script can show the refusal (this project's rule).
+pub const MAX_PAD: u64 = 8_388_608;
 
 /// The most bytes of a log, since a location has 32 bits for a position.
 pub const MAX_LOG_LENGTH: u64 = 4_294_967_295;

@@ -72,9 +72,10 @@ impl Ord for Key {
     ghost matches_eq = { Prim.search (comparing, rules) };
 
     fn cmp(&self, other: &Key) -> Ordering {
-        self.ledger
-            .cmp(&other.ledger)
-            .then(self.entry.cmp(&other.entry))
+        match self.ledger.cmp(&other.ledger) {
+            Ordering::Equal => self.entry.cmp(&other.entry),
+            unequal => unequal,
+        }
     }
 }
 

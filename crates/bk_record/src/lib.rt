@@ -13,8 +13,8 @@ mod tests;
 
 pub use fault::RecordFault;
 pub use format::{
-    HEADER_LENGTH, IDS_LENGTH, LAST_ID, LAST_LOG, LENGTH_FIELD, MAX_ADDED, MAX_LOG_LENGTH,
-    MAX_PAYLOAD, RECORD_HEAD,
+    HEADER_LENGTH, IDS_LENGTH, LAST_ID, LAST_LOG, LENGTH_FIELD, MAX_ADDED, MAX_CACHE_LIMIT,
+    MAX_LOG_LENGTH, MAX_LOG_LIMIT, MAX_PAD, MAX_PAYLOAD, RECORD_HEAD,
 };
 pub use key::Key;
 pub use laws::{last_record_wins, one_piece, one_spelling};

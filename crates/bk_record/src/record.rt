@@ -27,7 +27,7 @@ pub fn key_of(payload: &[u8]) -> Result<Key, RecordFault>
 }
 
 /// The key of a payload that is to be added: as `key_of`, and then `TooLong` with the length where the payload has
-/// more than 1,048,576 bytes (this project's rule).
+/// more than 5,000,000 bytes (this project's rule).
 #[tactic(auto, unfolding(crate::specs::Record::read_added))]
 pub fn check_add(payload: &[u8]) -> Result<Key, RecordFault>
     ensures { result ≡ read_added payload.now }

@@ -68,9 +68,9 @@ fn a_payload_is_refused_by_its_length_and_its_ids(rt: HostRuntime) -> Result<(),
         (15, 0xff, Some(RecordFault::Short(15))),
         (16, 0xff, Some(RecordFault::Negative)),
         (16, 0, None),
-        (1_048_576, 0x7f, None),
-        (1_048_577, 0x7f, Some(RecordFault::TooLong(1_048_577))),
-        (1_048_577, 0xff, Some(RecordFault::Negative)),
+        (5_000_000, 0x7f, None),
+        (5_000_001, 0x7f, Some(RecordFault::TooLong(5_000_001))),
+        (5_000_001, 0xff, Some(RecordFault::Negative)),
     ];
     for (length, byte, fault) in cases {
         let payload = vec![in rt.alloc(); byte; length]?;
@@ -175,7 +175,7 @@ fn faults_as_texts(rt: HostRuntime) -> Result<(), Fail> {
     let cases = [
         (RecordFault::Short(15), "short 15"),
         (RecordFault::Negative, "negative number"),
-        (RecordFault::TooLong(1_048_577), "too long 1048577"),
+        (RecordFault::TooLong(5_000_001), "too long 5000001"),
         (RecordFault::Memory, "memory"),
     ];
     for (fault, text) in cases {
