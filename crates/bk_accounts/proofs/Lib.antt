@@ -14,3 +14,4 @@ pub mod Rooms
 pub mod ValueSums
 pub mod Tallies
 mod Worked
+pub mod LastCounts

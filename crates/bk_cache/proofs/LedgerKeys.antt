@@ -16,7 +16,8 @@ use Rattle.std.proofs.lemmas.Option.{slice_get-map}
 use Rattle.std.proofs.lemmas.Bool.{ltb-true}
 use Rattle.std.proofs.lemmas.Cmp.{ranked}
 use Rattle.bk_record.specs.Key.{EntryKey, key_cmp}
-use Rattle.bk_record.specs.Record.{key_of, read_key, read_added, unless_too_long, max_added, ledger_field, entry_field}
+use Rattle.bk_record.specs.Limits.{max_added}
+use Rattle.bk_record.specs.Record.{key_of, read_key, read_added, unless_too_long, ledger_field, entry_field}
 use Rattle.bk_record.specs.declared.fault.RecordFault.{RecordFault}
 use Rattle.bk_record.specs.declared.fault.RecordFault.TheVariants.{Short, Negative, TooLong}
 use Rattle.bk_record.specs.Scan.{Payloads}

@@ -8,6 +8,7 @@ use Rattle.std.specs.Cmp.{Equal-is}
 use Rattle.std.specs.declared.alloc.AllocError.{AllocError}
 use Rattle.std.specs.FinMap.{empty, get, insert, get-empty, get-insert}
 use Rattle.bk_record.specs.Key.{EntryKey, key_cmp}
+use Rattle.bk_record.specs.Limits.{max_cache_limit}
 use Rattle.bk_record.specs.Record.{read_added}
 use Rattle.bk_record.specs.Scan.{Payloads}
 use Rattle.bk_record.specs.Keyed.{without_ledger}
@@ -20,7 +21,7 @@ use Rattle.bk_cache.specs.Kept.{IsSound}
 use Rattle.bk_cache.proofs.KeyedPayloads.{keyed_empty, keyed_insert, keyed_without, keyed_flush_without}
 use Rattle.bk_cache.proofs.Used.{used_of-empty, used_of-insert, used_of-without_ledger-le}
 
-pub sound_new : (limit most : ℕ) → limit ≤ 1073741824 → IsSound (new_caches limit most)
+pub sound_new : (limit most : ℕ) → limit ≤ max_cache_limit → IsSound (new_caches limit most)
 sound_new limit most limited =
     record {
       within = rw used_of-empty (omega arith);

@@ -3,6 +3,7 @@ use Rattle.std.specs.Prelude.{◌≡◌, ℕ, ◌≤◌, List, length, sum_by, S
 use Rattle.std.specs.Map.{values_of}
 use Rattle.std.specs.FinMap.{find, is_sorted}
 use Rattle.bk_record.specs.Key.{EntryKey, key_cmp}
+use Rattle.bk_record.specs.Limits.{max_cache_limit}
 use Rattle.bk_record.specs.Record.{read_added}
 use Rattle.bk_cache.specs.Recents.{Entry}
 use Rattle.bk_cache.specs.Caches.{CacheState, used_of, flush_of, AllKeyed, AreApart}
@@ -18,7 +19,7 @@ pub record KeepsPairs (pairs : List Entry) (used : ℕ) : Type 0 where
 pub record IsSound (s : CacheState) : Type 0 where
   pub within : used_of s.active ≤ s.limit
   pub flush_within : used_of (flush_of s) ≤ s.limit
-  pub limited : s.limit ≤ 1073741824
+  pub limited : s.limit ≤ max_cache_limit
   pub apart : AreApart s
   pub keyed : AllKeyed s.active
   pub flush_keyed : AllKeyed (flush_of s)

@@ -4,6 +4,7 @@
 ghost use Rattle.std.specs.Prelude.{◌≡◌, ◌↔◌, ◌⊎◌, ◌+◌, ◌≤◌, [], Some, None, Ok, length, is_some, option_map, IsSome, IsTrue, IfSome, IfOk};
 ghost use Rattle.std.specs.FinMap as map;
 ghost use Rattle.bk_record.specs.Key.{EntryKey};
+ghost use Rattle.bk_record.specs.Limits.{max_cache_limit};
 ghost use Rattle.bk_record.specs.Record.{read_added};
 ghost use Rattle.bk_record.specs.Keyed.{ledger_count};
 ghost use Rattle.bk_cache.specs.Recents.{recent_of, remembered, IsOldOrRemembered};
@@ -48,7 +49,7 @@ impl Caches {
     /// and `recent` how many recent entries there may be, from 0 to 65,536. The table of these is made at once, so the
     /// only error is want of memory.
     pub fn new(alloc: Global, limit: u64, recent: u32) -> Result<Caches, AllocError>
-        requires { limit ≤ 1073741824 }
+        requires { limit ≤ max_cache_limit }
         ensures value { IfOk result (λ caches. caches ≡ new_caches limit recent) }
         ensures sound { IfOk result IsSound }
     {

@@ -1,5 +1,5 @@
 -- The fences of pages rise, so that a test of keys parts them in two: where the page of a key is.
-use Rattle.std.proofs.Common.{◌≡◌, ℕ, zero, suc, ◌<◌, ◌≤◌, ◌-◌, Bool, true, false, List, [], ◌∷◌, ◌++◌, length, get_or, map, refl, subst, arith}
+use Rattle.std.proofs.Common.{◌≡◌, inl, inr, ℕ, zero, suc, ◌<◌, ◌≤◌, ◌-◌, Bool, true, false, List, [], ◌∷◌, ◌++◌, length, get_or, map, refl, sym, subst, ◌∙◌, arith}
 use Rattle.std.specs.declared.cmp.Ordering.TheVariants.{Less}
 use Rattle.std.specs.Ordering.{is_le}
 use Rattle.std.specs.Bool.{IsTrue}
@@ -7,6 +7,7 @@ use Rattle.std.specs.List.{AllByRecursion, All}
 use Rattle.std.specs.List.Sorted.{IsPartitionedBy, IsPartitionPoint, IsStrictlySortedBy}
 use Rattle.std.specs.FinMap.{is_sorted}
 use Rattle.std.proofs.lemmas.List.{length-map}
+use Rattle.std.proofs.lemmas.Option.{slice_get_cases, get_or_from_slice_get}
 use Rattle.bk_record.specs.Key.{EntryKey, key_cmp}
 use Rattle.bk_index.specs.Pages.{first_key, all_pairs, IsHome, AreFenced}
 use Rattle.bk_index.proofs.CutPairs.{each_back, head_below, sorted_back}
@@ -76,6 +77,19 @@ module _ {X : Type 0} where
           not_behind = λ i d before. at.0 i d (omega arith) before;
           behind = λ i d from within. at.1 i d from (omega (arith, length-map pages first_key));
         }
+
+-- where the last fence is not behind the key, all fences stand before it
+pub all_before : (p : EntryKey → Bool) (fences : List EntryKey) (last : EntryKey) → IsPartitionedBy p fences → 0 < length fences
+    → last ≡ get_or fences (length fences - 1) last → p last ≡ true → IsPartitionPoint (λ f. p f ≡ true) (λ f. p f ≡ false) fences (length fences)
+all_before p fences last parted some read passes = elim (slice_get_cases fences (length fences - 1)).1 [
+  | inl (held, there, is, at) ↦
+      let same : (d : EntryKey) → last ≡ get_or fences (length fences - 1) d = λ d.
+      read ∙ get_or_from_slice_get fences (length fences - 1) held last is ∙ sym (get_or_from_slice_get fences (length fences - 1) held d is) in (
+        λ i d within before. parted i (length fences - 1) d (omega arith) (omega arith) (subst (λ f. p f ≡ true) (same d) passes),
+        λ i d from within. absurd (omega arith),
+      )
+  | inr (past, none) ↦ absurd (omega arith)
+]
 
 pub is_downward_key : (key : EntryKey) → IsDownward (λ f. is_le (key_cmp f key))
 is_downward_key key a b less passes = rw (below_key key a b less passes) refl

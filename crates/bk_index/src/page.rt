@@ -86,6 +86,18 @@ impl Page {
         self.pairs.binary_search_by_key(key, |&(held, _)| held)
     }
 
+    /// The same for a key that is to go in. Keys mostly rise, so the last pair is asked first.
+    pub(crate) fn place_for(&self, key: &Key) -> Result<usize, usize>
+        ensures found { IfOk result (IsAt self.now key.now) }
+        ensures absent { IfErr result (IsGapFor self.now key.now) }
+    {
+        let count = self.pairs.len();
+        if count > 0 && self.pairs[count - 1].0 < *key {
+            return Err(count);
+        }
+        self.place_of(key)
+    }
+
     /// The location of a key, `None` where the page has none.
     pub(crate) fn get(&self, key: &Key) -> Option<Location>
         ensures { result ≡ find key_cmp key.now self.now }

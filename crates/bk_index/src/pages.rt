@@ -78,6 +78,19 @@ impl Pages {
             .saturating_sub(1)
     }
 
+    // The same for a key that is to go in. Keys mostly rise, so the last page is asked first.
+    fn home_for(&self, key: &Key) -> usize
+        requires { IsTrue (is_sorted key_cmp (all_pairs self.now)) }
+        ensures home { IsHome key.now self.now result }
+        ensures bound { 0 < length self.now → result < length self.now }
+    {
+        let count = self.fences.len();
+        if count > 0 && self.fences[count - 1] <= *key {
+            return count - 1;
+        }
+        self.home(key)
+    }
+
     /// The location of a key, `None` where no page has it.
     pub(crate) fn get(&self, key: &Key) -> Option<Location>
         requires { IsTrue (is_sorted key_cmp (all_pairs self.now)) }
@@ -105,9 +118,9 @@ impl Pages {
             self.begin(key, location)?;
             return Ok(None);
         }
-        let at = self.home(&key);
+        let at = self.home_for(&key);
         let page = &mut self.list[at];
-        match page.place_of(&key) {
+        match page.place_for(&key) {
             Ok(place) => Ok(Some(page.replace(place, key, location))),
             Err(place) => {
                 self.add(at, place, key, location)?;

@@ -12,7 +12,7 @@ invariant_of-self c =
     let pages = c.self.inside.list.items in
     let held = c.index_mut-page.result.now in
     let read = c.index_mut-page.ensures.value in
-    let at = c.home-at.result in
+    let at = c.home_for-at.result in
     let within : at < length pages = search rules in
     let sized = c.self.invariant.sizes at held within in
     let same = ap length read in
@@ -23,18 +23,18 @@ invariant_of-self c =
 pub returns-in-Ok-clause-ok : goal.returns-in-Ok-clause-ok
 returns-in-Ok-clause-ok c =
     let pages = c.self.inside.list.items in
-    let at = c.home-at.result in
+    let at = c.home_for-at.result in
     let within : at < length pages = search rules in
-    let home = rw (← c.self.view_is) at c.home-at.ensures.home in
+    let home = rw (← c.self.view_is) at c.home_for-at.ensures.home in
     rw (← c.self.view_is)
     (put_there pages at within c.index_mut-page.result.now c.index_mut-page.ensures.value c.args.key home c.args.location c.replace.new.self
     c.replace.ensures.replaced)
 
 pub returns-in-Ok-clause-before : goal.returns-in-Ok-clause-before
 returns-in-Ok-clause-before c =
-    let at = c.home-at.result in
+    let at = c.home_for-at.result in
     let within : at < length c.self.inside.list.items = search rules in
-    let home = rw (← c.self.view_is) at c.home-at.ensures.home in
+    let home = rw (← c.self.view_is) at c.home_for-at.ensures.home in
     rw (← c.self.view_is)
     (sym (find_there c.self.inside.list.items at within c.index_mut-page.result.now c.index_mut-page.ensures.value c.args.key home ∙ c.replace.ensures.before))
 
@@ -44,9 +44,9 @@ returns-in_ok-add-in-Err-clause-before c =
     let pages = c.self.inside.list.items in
     let held = c.index_mut-page.result.now in
     let read = c.index_mut-page.ensures.value in
-    let at = c.home-at.result in
+    let at = c.home_for-at.result in
     let within : at < length pages = search rules in
-    let home = rw (← c.self.view_is) at c.home-at.ensures.home in
+    let home = rw (← c.self.view_is) at c.home_for-at.ensures.home in
     let sorted = rw (← c.self.view_is) at c.requires in
     rw (← c.self.view_is)
     (sym (find_there pages at within held read c.args.key home
@@ -57,9 +57,9 @@ returns-in_err-add-in-Err-clause-held c is_held =
     let pages = c.self.inside.list.items in
     let held = c.index_mut-page.result.now in
     let read = c.index_mut-page.ensures.value in
-    let at = c.home-at.result in
+    let at = c.home_for-at.result in
     let within : at < length pages = search rules in
-    let home = rw (← c.self.view_is) at c.home-at.ensures.home in
+    let home = rw (← c.self.view_is) at c.home_for-at.ensures.home in
     let sorted = rw (← c.self.view_is) at c.requires in
     let none = find_there pages at within held read c.args.key home
     ∙ find_absent held (sorted_held pages at within held read sorted) c.args.key c.in-Err.place c.in-Err.ensures.absent in
