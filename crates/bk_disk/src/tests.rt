@@ -9,3 +9,4 @@ mod listing;
 mod names;
 mod refused;
 mod table;
+mod writer;
