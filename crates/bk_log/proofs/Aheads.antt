@@ -8,7 +8,7 @@ use Rattle.bk_log.specs.declared.fault.ScanFault.{ScanFault}
 use Rattle.bk_log.specs.declared.fault.ScanFault.TheVariants.{Memory}
 use Rattle.bk_log.specs.declared.front.Front.TheVariants.{Record}
 use Rattle.bk_log.specs.Fronts.{IsFront}
-use Rattle.bk_log.specs.Ahead.{Ahead, ShowsAhead, AheadFails}
+use Rattle.bk_log.specs.Ahead.{Ahead, ShowsAhead, ShowsWindow, AheadFails}
 
 -- a step within the bytes at hand
 skipped_within : (bytes read : List ℕ) (at offset size : ℕ) → size ≤ length read - offset → drop offset read ≡ take (length read - offset) (drop at bytes)
@@ -26,7 +26,7 @@ skipped_past bytes read at offset within =
     let none : length read - (offset + (length read - offset)) ≡ 0 = omega arith in
     drop_all (offset + (length read - offset)) read (omega arith) ∙ sym (ap (λ n. take n (drop at bytes)) none)
 
-pub shows_skip : (honest : Bool) (bytes read : List ℕ) (at offset size step taken : ℕ) → ShowsAhead honest bytes at offset read → step ≡ size
+shows_skip : (honest : Bool) (bytes read : List ℕ) (at offset size step taken : ℕ) → ShowsAhead honest bytes at offset read → step ≡ size
     → taken ≡ min size (length read - offset) → ShowsAhead honest bytes (at + step) (offset + taken) read
 shows_skip honest bytes read at offset size step taken shows same least = record {
   within = omega (arith, shows.within);
@@ -39,6 +39,22 @@ shows_skip honest bytes read at offset size step taken shows same least = record
         rw all (skipped_past bytes read (at + step) offset shows.within)
   ];
 }
+
+-- bytes among those that were read are the view's
+pub lent : (bytes read : List ℕ) (since start before count from : ℕ) → drop start read ≡ take (length read - start) (drop since bytes)
+    → before + count ≤ length read - start → from ≡ since + before → take count (drop (start + before) read) ≡ take count (drop from bytes)
+lent bytes read since start before count from shown enough place =
+    let known : length read - start ≡ before + (length read - start - before) = omega arith in
+    ap (take count)
+    (sym (drop-drop before start read) ∙ ap (drop before) (shown ∙ ap (λ n. take n (drop since bytes)) known)
+    ∙ drop-take before (length read - start - before) (drop since bytes))
+    ∙ take-take count (length read - start - before) (drop before (drop since bytes)) (omega arith)
+    ∙ ap (take count) (drop-drop before since bytes ∙ ap (λ n. drop n bytes) (sym place))
+
+pub shows_window : (honest : Bool) (bytes read : List ℕ) (at offset since start size step taken : ℕ) → ShowsWindow honest bytes at offset since start read
+    → step ≡ size → taken ≡ min size (length read - offset) → ShowsWindow honest bytes (at + step) (offset + taken) since start read
+shows_window honest bytes read at offset since start size step taken shows same least =
+    record { ahead = shows_skip honest bytes read at offset size step taken shows.ahead same least; begun = shows.begun }
 
 -- as many bytes as are said to be left
 pub length-left : (bytes : List ℕ) (at left : ℕ) → IsInView bytes at left → left ≡ length (take left (drop at bytes))

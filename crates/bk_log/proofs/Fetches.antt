@@ -12,7 +12,7 @@ use Rattle.bk_log.proofs.Begins.{key_of-take}
 use Rattle.bk_disk.specs.Disk.{IsInView}
 use Rattle.bk_log.specs.declared.reading.ReadFault.{ReadFault}
 use Rattle.bk_log.specs.declared.reading.ReadFault.TheVariants.{Disk, PastEnd, Memory, Odd}
-use Rattle.bk_log.specs.Reads.{ReadFails, Fills}
+use Rattle.bk_log.specs.Reads.{ReadFails, FillsFront}
 use Rattle.bk_log.specs.Places.{HasRecordAt, HasEntryAt, FetchFails, missed}
 
 -- how many bytes of the file a record takes
@@ -69,6 +69,35 @@ pub record HeadRead (file : List ℕ) (at from n : ℕ) (head : List ℕ) : Type
   pub number : n ≡ length_field head
   pub written : to_be_bytes w32 n ≡ take 4 head
 
+-- the head among the first bytes that were read
+pub head_of_front : (file out : List ℕ) (at from n size : ℕ) → 20 ≤ size → IsInView file (from - 4) size
+    → take size out ≡ take size (drop (from - 4) file) → from ≡ at → n ≡ length_field (take 20 out) → to_be_bytes w32 n ≡ take 4 (take 20 out)
+    → HeadRead file at from n (take 20 out)
+head_of_front file out at from n size most view shown place number written = record {
+  place = place;
+  view = (view.0, omega (arith, view.1, most));
+  shown = sym (take-take 20 size out most) ∙ ap (take 20) shown ∙ take-take 20 size (drop (from - 4) file) most;
+  number = number;
+  written = written;
+}
+
+-- its ids
+pub ids_of_front : (out : List ℕ) → take 16 (drop 4 out) ≡ take 16 (drop 4 (take 20 out))
+ids_of_front out = sym (take-take 16 16 (drop 4 out) (omega arith)) ∙ sym (ap (take 16) (drop-take 4 16 out))
+
+-- a payload that is all among them
+pub payload_of_front : (file out : List ℕ) (from n size : ℕ) → 1028 ≤ from → 20 ≤ size → IsInView file (from - 4) size
+    → take size out ≡ take size (drop (from - 4) file) → n ≤ size - 4 → IsInView file from n × (take n (drop 4 out) ≡ take n (drop from file))
+payload_of_front file out from n size least most view shown enough =
+    let field : size ≡ 4 + (size - 4) = omega arith in
+    let cut : (xs : List ℕ) → drop 4 (take size xs) ≡ take (size - 4) (drop 4 xs) = λ xs.
+    ap (λ k. drop 4 (take k xs)) field ∙ drop-take 4 (size - 4) xs in
+    let behind : take (size - 4) (drop 4 out) ≡ take (size - 4) (drop from file) =
+    sym (cut out) ∙ ap (drop 4) shown ∙ cut (drop (from - 4) file) ∙ ap (take (size - 4)) (drop-field file from (omega arith)) in (
+      (omega arith, omega (arith, view.1)),
+      sym (take-take n (size - 4) (drop 4 out) enough) ∙ ap (take n) behind ∙ take-take n (size - 4) (drop from file) enough,
+    )
+
 -- the field that stands there
 field_read : (file head : List ℕ) (at from n : ℕ) → HeadRead file at from n head → take 4 head ≡ take 4 (drop (at - 4) file)
 field_read file head at from n read =
@@ -109,7 +138,7 @@ needs_payload file head at from n key read payload here =
 
 -- the head could not be read
 pub head_refused : (file : List ℕ) (at from : ℕ) (key : EntryKey) (fault : ReadFault) (out : List ℕ) → from ≡ at
-    → Fills {T = Unit {0}} file (from - 4) 20 (Err fault) out → FetchFails file at key (missed fault)
+    → FillsFront file (from - 4) (Err fault) out → FetchFails file at key (missed fault)
 head_refused file at from key Disk out place fills = tt
 head_refused file at from key PastEnd out place fills = λ payload here. fills (needs_head file at from key place payload here)
 head_refused file at from key Memory out place fills = absurd fills
@@ -167,3 +196,11 @@ pub fetch_found : (file head payload : List ℕ) (at from n : ℕ) (key : EntryK
     → HasEntryAt file at key payload
 fetch_found file head payload at from n key least read legal keyed shown =
     subst (HasEntryAt file at key) (sym shown.1) (entry_here file head at from n key least read legal keyed shown.0)
+
+-- the payload is all among the first bytes that were read
+pub entry_of_front : (file out : List ℕ) (at from n size : ℕ) (key : EntryKey) → 1028 ≤ at → 20 ≤ size → IsInView file (from - 4) size
+    → take size out ≡ take size (drop (from - 4) file) → HeadRead file at from n (take 20 out) → (16 ≤ n) × (n < 2 ^ 31)
+    → key_of (take 16 (drop 4 (take 20 out))) ≡ Some key → n ≤ size - 4 → HasEntryAt file at key (take n (drop 4 out))
+entry_of_front file out at from n size key least most view shown read legal keyed enough =
+    fetch_found file (take 20 out) (take n (drop 4 out)) at from n key least read legal keyed
+    (payload_of_front file out from n size (omega (arith, least, read.place)) most view shown enough)

@@ -32,6 +32,11 @@ pub record ShowsAhead (honest : Bool) (bytes : List ℕ) (at offset : ℕ) (read
   pub within : offset ≤ length read
   pub shown : IsTrue honest → drop offset read ≡ take (length read - offset) (drop at bytes)
 
+-- the bytes behind an offset are those from the position on, and those behind a start are those from an earlier one on
+pub record ShowsWindow (honest : Bool) (bytes : List ℕ) (at offset since start : ℕ) (read : List ℕ) : Type 0 where
+  pub ahead : ShowsAhead honest bytes at offset read
+  pub begun : ShowsAhead honest bytes since start read
+
 -- a read of so many bytes that lie in an honest view
 abbrev pub ReadsLeft : {T : Type 0} → List ℕ → ℕ → ℕ → Result T ScanFault → List ℕ → Type 0
 ReadsLeft bytes at n (Ok _) out = out ≡ take n (drop at bytes)

@@ -24,3 +24,11 @@ Fills file at n (Err Disk) out = Unit {0}
 Fills file at n (Err PastEnd) out = ¬ (IsInView file at n)
 Fills file at n (Err Memory) out = ⊥
 Fills file at n (Err Odd) out = ⊥
+
+-- a read of the first bytes from a position on, twenty or more, into the front of a buffer
+abbrev pub FillsFront : List ℕ → ℕ → Result ℕ ReadFault → List ℕ → Type 0
+FillsFront file at (Ok n) out = IsInView file at n × (take n out ≡ take n (drop at file))
+FillsFront file at (Err Disk) out = Unit {0}
+FillsFront file at (Err PastEnd) out = ¬ (IsInView file at 20)
+FillsFront file at (Err Memory) out = ⊥
+FillsFront file at (Err Odd) out = ⊥

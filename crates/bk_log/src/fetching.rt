@@ -1,4 +1,5 @@
-//! One entry, by its place: the head of the record that stands there is read and its key compared, then its payload.
+//! One entry, by its place: the first bytes of the record that stands there are read and its key compared, then what its
+//! payload has more.
 
 ghost use Rattle.std.specs.Prelude.{◌≡◌, ◌≤◌, ◌↔◌, false, IsTrue, IsErrOf, length};
 ghost use Rattle.bk_record.specs.Record.{key_of as payload_key};
@@ -6,13 +7,16 @@ ghost use Rattle.bk_log.specs.Places.{Fetches, missed};
 
 use crate::FetchFault;
 use crate::length::{is_payload_length, length_in};
-use crate::reading::{ReadFault, read, read_into};
+use crate::reading::{ReadFault, read, read_front};
 use bk_disk::LogView;
 use bk_record::{Key, LENGTH_FIELD, Location, RECORD_HEAD, key_of};
 use std::alloc::Global;
 
 /// The length of a record's length field in bytes.
 const FIELD: u64 = LENGTH_FIELD as u64;
+
+/// How many bytes are read at once, of a record that may have fewer: so a short one is read by one read.
+const FRAME: usize = 256;
 
 /// The payload of the whole record of this key whose payload begins at the location's position in the view, its ids
 /// among its bytes. The location's log is not looked at: it is the caller's to bring the log's view.
@@ -30,13 +34,21 @@ pub fn fetch<V: LogView>(
         → Fetches (λ v. v.items) (V.bytes view.now) location.at key result }
 {
     let at = u64::from(location.at());
-    let mut head = [0u8; RECORD_HEAD];
-    if let Err(fault) = read_into(view, at - FIELD, &mut head) {
-        return Err(fetch_fault(fault));
-    }
-    let length = length_in(&head);
-    if !is_payload_length(length) || !is_of_key(&head[LENGTH_FIELD..], key) {
+    let mut frame = [0u8; FRAME];
+    let front = match read_front(view, at - FIELD, &mut frame) {
+        Ok(front) => front,
+        Err(fault) => return Err(fetch_fault(fault)),
+    };
+    let length = length_in(&frame[..RECORD_HEAD]);
+    if !is_payload_length(length) || !is_of_key(&frame[LENGTH_FIELD..RECORD_HEAD], key) {
         return Err(FetchFault::NotThere);
+    }
+    if length as usize <= front - LENGTH_FIELD {
+        let payload = &frame[LENGTH_FIELD..LENGTH_FIELD + length as usize];
+        return match Vec::from_slice(alloc, payload) {
+            Ok(payload) => Ok(payload),
+            Err(_) => Err(FetchFault::Memory),
+        };
     }
     match read(view, alloc, at, u64::from(length)) {
         Ok(payload) => Ok(payload),

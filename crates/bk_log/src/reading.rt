@@ -1,9 +1,10 @@
 //! Bytes of a view: as many as were asked for, or why not.
 
-ghost use Rattle.std.specs.Prelude.{◌≡◌, false, IsTrue, IsErrOf, IfOk, length};
-ghost use Rattle.bk_log.specs.Reads.{GivesBytes, Fills};
+ghost use Rattle.std.specs.Prelude.{◌≡◌, ◌≤◌, false, IsTrue, IsErrOf, IfOk, length};
+ghost use Rattle.bk_log.specs.Reads.{GivesBytes, Fills, FillsFront};
 
 use bk_disk::{DiskFault, LogView};
+use bk_record::RECORD_HEAD;
 use std::alloc::Global;
 
 /// Why bytes of a view could not be read.
@@ -50,5 +51,23 @@ pub(crate) fn read_into<V: LogView>(view: &V, at: u64, out: &mut [u8]) -> Result
         Err(DiskFault::Disk) => Err(ReadFault::Disk),
         Err(DiskFault::PastEnd) => Err(ReadFault::PastEnd),
         Err(_) => Err(ReadFault::Odd),
+    }
+}
+
+/// The bytes of a view from a position on, written over the first ones of `out`: as many as it has, or as the view has from
+/// there on. Answers how many, which are twenty or more.
+pub(crate) fn read_front<V: LogView>(view: &V, at: u64, out: &mut [u8]) -> Result<usize, ReadFault>
+    requires { RECORD_HEAD ≤ length out.old }
+    ensures cause { IsErrOf result ReadFault.Disk → V.sound view.now ≡ false }
+    ensures fits { IfOk result (λ n. (RECORD_HEAD ≤ n) × (n ≤ length out.new)) }
+    ensures turn { IsTrue (V.honest view.now) → FillsFront (V.bytes view.now) at result out.new }
+{
+    let left = view.end().saturating_sub(at).min(out.len() as u64) as usize;
+    if left < RECORD_HEAD {
+        return Err(ReadFault::PastEnd);
+    }
+    match read_into(view, at, &mut out[..left]) {
+        Ok(()) => Ok(left),
+        Err(fault) => Err(fault),
     }
 }

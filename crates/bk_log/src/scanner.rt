@@ -1,9 +1,10 @@
 //! A scan of a part of a log, entry by entry. Everything before the position was given or passed over as foreign; a
 //! fault, once met, and the end, once reached, stay.
 
-ghost use Rattle.std.specs.Prelude.{◌≡◌, ◌≤◌, false, IsTrue, IsErrOf};
+ghost use Rattle.std.specs.Prelude.{◌≡◌, ◌+◌, ◌≤◌, ℕ, List, length, false, IsTrue, IsErrOf, IfSome};
 ghost use Rattle.bk_disk.specs.Disk.{view_end};
 ghost use Rattle.bk_record.specs.Files.{header_length};
+ghost use Rattle.bk_log.specs.Places.{HasEntryAt};
 
 mod step;
 
@@ -87,6 +88,18 @@ impl<'a, V: LogView> Scanner<'a, V> {
             Some(fault) => Err(fault),
             None => Ok(None),
         }
+    }
+
+    /// The payload of an entry that this scan found, where its window still has it: of the entry that was found last, but
+    /// for one that is longer than a window or cut by its end. It reads nothing; where it is `None`, `fetch` reads the
+    /// entry by its place.
+    pub fn payload(&self, found: &Found) -> Option<&[u8]>
+        requires { 4 ≤ found.now.size }
+        ensures long { IfSome result (λ payload. length payload.now + 4 ≡ found.now.size) }
+        ensures entry { IsTrue self.now.honest → (payload : List ℕ) → HasEntryAt self.now.file found.now.at found.now.key payload
+            → found.now.size ≡ 4 + length payload → IfSome result (λ lent. lent.now ≡ payload) }
+    {
+        self.window.lend(found.at, found.size as usize - 4)
     }
 
     /// How many foreign records were passed over.

@@ -1,6 +1,6 @@
 //! Reading ahead in a view: bytes are read in windows, and looked at record by record.
 
-ghost use Rattle.std.specs.Prelude.{◌≡◌, ◌+◌, ◌-◌, ◌≤◌, ◌<◌, ◌^◌, false, IsTrue, IsErrOf, IfOk, IfErr, OnOk, length, take, drop};
+ghost use Rattle.std.specs.Prelude.{◌≡◌, ◌+◌, ◌-◌, ◌≤◌, ◌<◌, ◌^◌, false, IsTrue, IsErrOf, IfOk, IfErr, IfSome, OnOk, OnErr, IsOkUnless, length, take, drop};
 ghost use Rattle.bk_disk.specs.Disk.{IsInView};
 ghost use Rattle.bk_log.specs.Ahead.{HasRoomFor, ReadsLeft};
 ghost use Rattle.bk_log.specs.Fronts.{FitsIn};
@@ -12,23 +12,30 @@ use bk_record::RECORD_HEAD;
 use std::alloc::Global;
 use std::marker::Model;
 
-/// How many bytes are read at once, where so many are left.
+/// How many bytes are read at once at most.
 const WINDOW: u64 = 65_536;
 
-/// A position in a view that moves on. The bytes behind `offset` in `read` are those of the view from the position on;
-/// `read` is made once, where the first record is met, and is no longer than what was left then.
+/// How many bytes are read at once at first, where the first record has no more. Each window then has twice as many as the
+/// one before, so that who looks at few records reads few bytes.
+const FIRST: u64 = 512;
+
+/// A position in a view that moves on. The bytes behind `offset` in `read` are those of the view from the position on, and
+/// those behind `start` the view's from `since` on, where the window was read. `read` is made where the first record is met,
+/// and is no longer than what is left then; where memory for a longer one is refused, it stays as it is.
 #[derive(Drop)]
 pub(crate) struct Window<'a, V: LogView> {
     view: &'a V,
     alloc: Global,
     at: u64,
+    since: u64,
     read: Vec<u8>,
+    start: usize,
     offset: usize,
 }
 
 impl<'a, V: LogView> Model for Window<'a, V> {
     ghost use Rattle.std.specs.Prelude.{◌-◌, length};
-    ghost use Rattle.bk_log.specs.Ahead.{Ahead, ahead_code, ShowsAhead};
+    ghost use Rattle.bk_log.specs.Ahead.{Ahead, ahead_code, ShowsWindow};
 
     ghost Value = { Ahead };
 
@@ -43,7 +50,7 @@ impl<'a, V: LogView> Model for Window<'a, V> {
       room = length w.read.items;
     } };
 
-    ghost invariant = { λ w. ShowsAhead (V.honest w.view.now) (V.bytes w.view.now) w.at w.offset w.read.items };
+    ghost invariant = { λ w. ShowsWindow (V.honest w.view.now) (V.bytes w.view.now) w.at w.offset w.since w.start w.read.items };
 }
 
 impl<'a, V: LogView> Window<'a, V> {
@@ -64,7 +71,9 @@ impl<'a, V: LogView> Window<'a, V> {
             view,
             alloc,
             at,
+            since: at,
             read: Vec::new(alloc),
+            start: 0,
             offset: 0,
         }
     }
@@ -98,7 +107,7 @@ impl<'a, V: LogView> Window<'a, V> {
         read_left(self.view, self.at, head)?;
         let front = front_of(head, left);
         if let Front::Record { size, .. } = front {
-            if let Err(fault) = self.make(left) {
+            if let Err(fault) = self.make(left, size) {
                 return Err(fault);
             }
             if u64::from(size) < WINDOW {
@@ -108,25 +117,40 @@ impl<'a, V: LogView> Window<'a, V> {
         Ok(front)
     }
 
-    /// Makes the buffer of the windows, where there is none yet.
-    fn make(&mut self, left: u64) -> Result<(), ScanFault>
+    /// Makes the buffer of the windows, where there is none yet; else a longer one, where memory is to be had.
+    fn make(&mut self, left: u64, needed: u32) -> Result<(), ScanFault>
         requires { 0 < left }
-        ensures same { self.new ≡ record self.old { room = self.new.room } }
+        ensures same { self.new ≡ record self.old { ready = self.new.ready; room = self.new.room } }
         ensures ok { OnOk result (0 < self.new.room) }
         ensures err { IfErr result (λ fault. (fault ≡ ScanFault.Memory) × (self.old.room ≡ 0)) }
     {
-        if !self.read.is_empty() {
-            return Ok(());
+        if self.read.is_empty() {
+            return self.take_room(left.min(FIRST.max(u64::from(needed))).min(WINDOW));
         }
-        let size = left.min(WINDOW) as usize;
-        match vec![in self.alloc; 0u8; size] {
-            Ok(read) => {
-                self.read = read;
-                self.offset = size;
-                Ok(())
-            }
-            Err(_) => Err(ScanFault::Memory),
+        let longer = left.min(2 * self.read.len() as u64).min(WINDOW);
+        if longer > self.read.len() as u64 {
+            let _ = self.take_room(longer);
         }
+        Ok(())
+    }
+
+    /// Makes a buffer of so many bytes, none of which is at hand.
+    fn take_room(&mut self, size: u64) -> Result<(), ScanFault>
+        requires { 0 < size }
+        ensures same { self.new ≡ record self.old { ready = self.new.ready; room = self.new.room } }
+        ensures ok { OnOk result (0 < self.new.room) }
+        ensures err { OnErr result (self.new ≡ self.old) }
+        ensures only { IsOkUnless result ScanFault.Memory }
+    {
+        let size = size as usize;
+        let Ok(read) = vec![in self.alloc; 0u8; size] else {
+            return Err(ScanFault::Memory);
+        };
+        self.read = read;
+        self.since = self.at;
+        self.start = size;
+        self.offset = size;
+        Ok(())
     }
 
     /// Reads a window of the bytes that are left.
@@ -141,8 +165,11 @@ impl<'a, V: LogView> Window<'a, V> {
     {
         let size = left.min(self.read.len() as u64) as usize;
         self.read.truncate(size);
+        self.since = self.at;
+        self.start = size;
         self.offset = size;
         read_left(self.view, self.at, &mut self.read)?;
+        self.start = 0;
         self.offset = 0;
         Ok(())
     }
@@ -154,6 +181,20 @@ impl<'a, V: LogView> Window<'a, V> {
     {
         self.at += u64::from(size);
         self.offset += (size as usize).min(self.read.len() - self.offset);
+    }
+
+    /// So many bytes of the view from a position on, where the window has them all. It reads nothing.
+    pub(crate) fn lend(&self, from: u64, count: usize) -> Option<&[u8]>
+        ensures long { IfSome result (λ bytes. length bytes.now ≡ count) }
+        ensures value { IsTrue self.now.honest → IfSome result (λ bytes. bytes.now ≡ take count (drop from self.now.bytes)) }
+    {
+        let before = from.checked_sub(self.since)?;
+        let known = self.read.len() - self.start;
+        if before > known as u64 || count > known - before as usize {
+            return None;
+        }
+        let begin = self.start + before as usize;
+        Some(&self.read[begin..begin + count])
     }
 }
 

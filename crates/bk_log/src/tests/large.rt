@@ -16,35 +16,40 @@ use std::process::Abort;
 /// The greatest id of a ledger or an entry.
 const LAST: u64 = i64::MAX as u64;
 
-/// A log of so many records of one size, of `mask + 1` ledgers, where a ledger's records have so many bytes.
+/// A log of so many records of one size, of `mask + 1` ledgers, where a ledger's records have so many bytes. Of so many a
+/// scan lends the payload: those that no window cuts.
 #[derive(Clone, Copy)]
 struct Shape {
     records: u32,
     mask: u32,
     payload: u32,
     each: u64,
+    lent: u32,
 }
 
-/// Records of 50 bytes, which don't end where a window of 65,536 does; eighteen records of 1,100,004 bytes; three records
-/// of each of 4,096 ledgers.
+/// Records of 50 bytes, of which seven windows, of 1,024 to 65,536 bytes, end in one; eighteen records of 1,100,004 bytes,
+/// longer than a window; three records of each of 4,096 ledgers, of 24 bytes, whose heads no window has alone.
 const SHAPES: [Shape; 3] = [
     Shape {
         records: 5_000,
         mask: 0,
         payload: 46,
         each: 250_000,
+        lent: 4_993,
     },
     Shape {
         records: 18,
         mask: 1,
         payload: 1_100_000,
         each: 9_900_036,
+        lent: 0,
     },
     Shape {
         records: 12_288,
         mask: 4_095,
         payload: 20,
         each: 72,
+        lent: 12_288,
     },
 ];
 
@@ -91,9 +96,10 @@ fn write(rt: &impl Abort, alloc: Global, disk: &mut MemDisk, shape: Shape) -> Lo
     writer
 }
 
-/// A scan gives the records in their order.
+/// A scan gives the records in their order, and lends payloads.
 fn check_found(rt: &impl Abort, alloc: Global, view: &MemView, shape: Shape) {
     let mut scanner = Scanner::new(view, alloc, 1024, view.end());
+    let mut lent: u32 = 0;
     for number in 0..shape.records {
         let found = Found {
             key: key_at(rt, shape, number),
@@ -101,7 +107,13 @@ fn check_found(rt: &impl Abort, alloc: Global, view: &MemView, shape: Shape) {
             size: shape.payload.saturating_add(4),
         };
         assert_eq!(rt; scanner.next(), Ok(Some(found)), "{number}");
+        if let Some(payload) = scanner.payload(&found) {
+            let expected = payload_at(rt, alloc, shape, number);
+            assert!(rt; payload == expected.as_slice(), "{number}");
+            lent = lent.saturating_add(1);
+        }
     }
+    assert_eq!(rt; lent, shape.lent);
 }
 
 /// The header says that a map begins at this position, and the map tells each ledger's bytes.

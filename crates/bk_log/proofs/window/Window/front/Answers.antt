@@ -9,7 +9,7 @@ use Rattle.bk_log.proofs.window.Window.front.Goals.{in-Record+in_default-make+el
 pub returns-then-wanted-len-clause-turn : goal.returns-then-wanted-len-clause-turn
 returns-then-wanted-len-clause-turn g c = λ h.
     c.front_of.ensures.front _ (length-left _ _ _ (c.requires h))
-    (window_head _ c.args.self.now _ _ _ _ _ _ c.self.view_is c.self.invariant h c.min-wanted.ensures
+    (window_head _ c.args.self.now _ _ _ _ _ _ c.self.view_is c.self.invariant.ahead h c.min-wanted.ensures
     (omega (arith, c.if-wanted-len.true, c.len.ensures, c.self.inside.read.ok.0)) c.deref.ensures.value refl)
 
 pub returns-in-Err-clause-turn : goal.returns-in-Err-clause-turn
