@@ -10,10 +10,12 @@ use Rattle.bk_record.specs.Files.{file_of}
 use Rattle.bk_record.specs.Scan.{Payloads}
 use Rattle.bk_cache.specs.Caches as caches
 use Rattle.bk_store.specs.Carried.{Carries}
+use Rattle.bk_store.specs.Ledgers.{with_add}
 use Rattle.bk_store.specs.State.{State, Parts}
 use Rattle.bk_store.specs.Meaning.{written_at, holds}
 use Rattle.bk_store.specs.Turns.{AddTurn}
 use Rattle.bk_store.specs.Kept.{Keeps, Promises}
+use Rattle.bk_store.specs.declared.adding.AddKind.{AddKind}
 use Rattle.bk_store.specs.declared.answer.Added.{Added}
 use Rattle.bk_store.specs.declared.answer.Added.TheVariants.{Accepted, Held}
 use Rattle.bk_store.specs.declared.answer.AddFault.{AddFault}
@@ -21,6 +23,7 @@ use Rattle.bk_store.specs.declared.answer.AddFault.TheVariants as add_faults
 use Rattle.bk_store.proofs.KeyMaps.{get-insert_other, inserted_here}
 use Rattle.bk_store.proofs.Meaning.{unheld_unmapped}
 use Rattle.bk_store.proofs.CachedMoves.{carries_added}
+use Rattle.bk_store.proofs.TrailMoves.{replays_added, follows_added}
 use Rattle.bk_store.proofs.KeptParts.{with_state, keeps_same}
 
 not_held : (s : State) (key : EntryKey) → holds s key ≡ false → (written_at s key ≡ None) × (finite.get s.index key ≡ None)
@@ -36,7 +39,7 @@ not_held s key is =
 module _ (p : Parts) (payload : List ℕ) (key : EntryKey) (reads : read_added payload ≡ Ok key) (keeps : Keeps p)
     (alive : set.contains p.state.ledgers.dead key.ledger ≡ false) (unheld : holds p.state key ≡ false) where
   abbrev added : Parts
-  added = with_state p (record p.state { caches = caches.with_added p.state.caches payload })
+  added = with_state p (record p.state { caches = caches.with_added p.state.caches payload; ledgers = with_add p.state.ledgers key payload })
 
   pub is_key : caches.added_key payload ≡ key
   is_key = ap (λ r. result_unwrap_or r (record { ledger = 0; entry = 0 })) reads
@@ -69,6 +72,8 @@ module _ (p : Parts) (payload : List ℕ) (key : EntryKey) (reads : read_added p
               let missing = unheld_unmapped promise.map.carries key none.0 none.1 in
               get-insert_other promise.map.carried key payload k
               (λ same. let wrong : ◌≡◌ {A = Option (List ℕ)} (Some b) None = sym old ∙ ap (finite.get promise.map.carried) same ∙ missing in cc) ∙ old;
+          replays = replays_added promise.map.replays keeps.fits.ledgers key payload alive
+              (unheld_unmapped promise.map.carries key none.0 none.1);
         };
         shows = promise.shows;
         counted = promise.counted;
@@ -77,14 +82,28 @@ module _ (p : Parts) (payload : List ℕ) (key : EntryKey) (reads : read_added p
       }
 
   added_kept : Keeps added
-  added_kept = record { fits = keeps.fits; job = keeps.job; promises = λ honest. promised (keeps.promises honest) }
+  added_kept =
+      let fits = keeps.fits in
+      record {
+        fits = record {
+          limits = fits.limits;
+          logs = fits.logs;
+          sent = fits.sent;
+          placed = fits.placed;
+          ledgers = follows_added fits.ledgers key payload;
+          accounts = fits.accounts;
+        };
+        job = keeps.job;
+        promises = λ honest. promised (keeps.promises honest);
+      }
 
-pub keeps_add : (p q : Parts) (payload : List ℕ) (result : Result Added AddFault) → Keeps p → AddTurn p.state payload result q.state
-    → q ≡ with_state p q.state → Keeps q
-keeps_add p q payload (Err (add_faults.Bad fault)) keeps turn beside = keeps_same p q keeps beside turn.1
-keeps_add p q payload (Err add_faults.Deleted) keeps turn beside = keeps_same p q keeps beside turn.3
-keeps_add p q payload (Ok Held) keeps turn beside = keeps_same p q keeps beside turn.1
-keeps_add p q payload (Err (add_faults.Full used limit)) keeps turn beside = keeps_same p q keeps beside turn.4
-keeps_add p q payload (Err add_faults.Memory) keeps turn beside = keeps_same p q keeps beside turn.2
-keeps_add p q payload (Ok Accepted) keeps turn beside =
-    subst Keeps (sym (beside ∙ ap (with_state p) turn.2)) (added_kept p payload turn.0.key turn.0.reads keeps turn.0.lives turn.0.held)
+pub keeps_add : (p q : Parts) (kind : AddKind) (payload : List ℕ) (result : Result Added AddFault) → Keeps p
+    → AddTurn p.state kind payload result q.state → q ≡ with_state p q.state → Keeps q
+keeps_add p q kind payload (Err (add_faults.Bad fault)) keeps turn beside = keeps_same p q keeps beside turn.1
+keeps_add p q kind payload (Err add_faults.Deleted) keeps turn beside = keeps_same p q keeps beside turn.3
+keeps_add p q kind payload (Err add_faults.Fenced) keeps turn beside = keeps_same p q keeps beside turn.4
+keeps_add p q kind payload (Ok Held) keeps turn beside = keeps_same p q keeps beside turn.1
+keeps_add p q kind payload (Err (add_faults.Full used limit)) keeps turn beside = keeps_same p q keeps beside turn.4
+keeps_add p q kind payload (Err add_faults.Memory) keeps turn beside = keeps_same p q keeps beside turn.2
+keeps_add p q kind payload (Ok (Accepted receipt)) keeps turn beside =
+    subst Keeps (sym (beside ∙ ap (with_state p) turn.3)) (added_kept p payload turn.0.key turn.0.reads keeps turn.0.lives turn.0.held)

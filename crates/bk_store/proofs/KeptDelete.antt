@@ -29,6 +29,7 @@ use Rattle.bk_store.specs.declared.answer.DeleteFault.TheVariants as delete_faul
 use Rattle.bk_store.proofs.KeyMaps.{left_cases, left_same}
 use Rattle.bk_store.proofs.LedgerLeaves.{carries_without_ledger}
 use Rattle.bk_store.proofs.ShownMoves.{shows_without_ledger}
+use Rattle.bk_store.proofs.TrailMoves.{replays_deleted, follows_deleted}
 use Rattle.bk_store.proofs.KeptParts.{keeps_same}
 use Rattle.bk_store.proofs.JobStays.{job_stays}
 
@@ -167,6 +168,7 @@ module _ (p : Parts) (ledger : ℕ) (keeps : Keeps p) (book : Book) (left : AreL
       recent = λ key payload is.
           let old = recent_left p.state ledger key payload is in
           left_same promise.map.carried ledger key old.0 ∙ promise.map.recent key payload old.1;
+      replays = replays_deleted promise.map.replays ledger;
     };
     shows = shows_without_ledger promise.shows ledger;
     counted = sums_left entry_measure promise.counted (set.contains (set.insert p.state.ledgers.dead ledger)) ledger
@@ -185,6 +187,7 @@ module _ (p : Parts) (ledger : ℕ) (keeps : Keeps p) (book : Book) (left : AreL
           logs = fits.logs;
           sent = λ key place is. fits.sent key place (left_cases p.state.index ledger key place is).1;
           placed = placed_left p.state ledger fits.placed;
+          ledgers = follows_deleted fits.ledgers ledger;
           accounts = record {
             named = λ id. named_left (without_ledger p.state.index ledger) ledger p.accounts book id (log_count p.state.index id)
                 (finite.get p.state.logs id) left (fits.accounts.named id);

@@ -94,6 +94,7 @@ module _ (p : Parts) (keeps : Keeps p) where
           };
           sent = fits.sent;
           placed = fits.placed;
+          ledgers = fits.ledgers;
           accounts = fits.accounts;
         };
         job = keeps.job;
@@ -115,6 +116,7 @@ module _ (p : Parts) (keeps : Keeps p) where
           };
           sent = fits.sent;
           placed = fits.placed;
+          ledgers = fits.ledgers;
           accounts = fits.accounts;
         };
         job = λ job is.
@@ -205,6 +207,7 @@ module _ (p : Parts) (keeps : Keeps p) where
                 omega (arith, below))
                 fits.placed.newest;
           };
+          ledgers = fits.ledgers;
           accounts = record {
             named = named_now;
             total = each_new (λ id l. total_at (after_open p.accounts next) id + header_length ≤ l.acknowledged)
@@ -263,6 +266,7 @@ module _ (p : Parts) (keeps : Keeps p) where
             carried = promise.map.carried;
             carries = carries_grown grows promise.map.carries;
             recent = promise.map.recent;
+            replays = promise.map.replays;
           };
           shows = subst (λ ps. Shows (file_of files) ps p.state.index) (λ i id. sym (parts_now id) i) (shows_grown promise.shows (file_of files) grows.stood);
           counted = sums_open entry_measure promise.counted next (acknowledged_entries files (finite.insert p.state.logs next new)) unnamed

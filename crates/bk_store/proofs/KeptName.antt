@@ -128,6 +128,7 @@ module _ (p : Parts) (keeps : Keeps p) (key : EntryKey) (place : Place) (may : M
           | inr old ↦ fits.sent k pl old.1
         ];
         placed = fits.placed;
+        ledgers = fits.ledgers;
         accounts = record {
           named = names_move p.state.index key place p.accounts (finite.get p.state.logs) fits.accounts.named (finite.get p.state.index key) refl;
           total = λ id log is. subst (λ n. n + header_length ≤ log.acknowledged)
@@ -163,6 +164,7 @@ module _ (p : Parts) (keeps : Keeps p) (key : EntryKey) (place : Place) (may : M
               | inr here ↦ ap (finite.get promise.map.carried) here.0 ∙ mapped ∙ ap (λ (x : List ℕ). Some x) (sym here.1)
             ]
           ];
+          replays = promise.map.replays;
         };
         shows = shows_sent promise.shows key place (payload, entry_same place key payload (part_is honest) stands);
         counted = sums_move p.state.index key place p.accounts (set.contains p.state.ledgers.dead) (acknowledged_entries p.state.files p.state.logs) promise.counted

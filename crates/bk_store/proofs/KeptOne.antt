@@ -73,6 +73,7 @@ module _ (p : Parts) (id : ℕ) (log new : Log) (held : finite.get p.state.logs 
           (λ q l. l.state ≡ Writing → (key : EntryKey) (place : Place) → finite.get p.state.places key ≡ Some place → place.log ≤ q)
           (λ now. fits.placed.newest id log held (written now)) (λ q l _ is. fits.placed.newest q l is);
     };
+    ledgers = fits.ledgers;
     accounts = record {
       named = λ q. named q ∙ fits.accounts.named q ∙ names_stay p.state.logs id log new held (log_count p.state.index) q;
       total = each_log p.state.logs id log new held (λ q l. total_at accounts q + header_length ≤ l.acknowledged) total
@@ -125,6 +126,7 @@ module _ (p : Parts) (id : ℕ) (log new : Log) (held : finite.get p.state.logs 
           carried = promise.map.carried;
           carries = carries_grown grows promise.map.carries;
           recent = promise.map.recent;
+          replays = promise.map.replays;
         };
         shows = shows grows.stood;
         counted = counted;

@@ -102,6 +102,7 @@ module _ (p : Parts) (keeps : Keeps p) (id : ℕ) (log : Log) (held : finite.get
           rising = fits.placed.rising;
           newest = λ q l is now. fits.placed.newest q l (log-remove_cases p.state.logs id q l is).1 now;
         };
+        ledgers = fits.ledgers;
         accounts = record {
           named = names_left;
           total = λ q l is.
@@ -180,7 +181,12 @@ module _ (p : Parts) (keeps : Keeps p) (id : ℕ) (log : Log) (held : finite.get
 
     removed_promises : (promise : Promises p) → Promises removed
     removed_promises promise = record {
-      map = record { carried = promise.map.carried; carries = removed_carries promise; recent = promise.map.recent };
+      map = record {
+        carried = promise.map.carried;
+        carries = removed_carries promise;
+        recent = promise.map.recent;
+        replays = promise.map.replays;
+      };
       shows = subst (λ (ps : Bytes). Shows (file_of files) ps p.state.index) (λ i q. sym (parts_left q) i) (record {
         stands = λ place key payload entry. elim (same_or_apart place.log id) [
           | inl here ↦ absurd (none_stands place key payload (ap (open_parts p.state.logs) here ∙ hidden) entry)

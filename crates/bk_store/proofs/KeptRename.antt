@@ -31,6 +31,7 @@ module _ (p : Parts) (keeps : Keeps p) (key : EntryKey) (from_place to_place : P
           | inr old ↦ fits.sent k pl old.1
         ];
         placed = fits.placed;
+        ledgers = fits.ledgers;
         accounts = record {
           named = names_move p.state.index key to_place p.accounts (finite.get p.state.logs) fits.accounts.named (finite.get p.state.index key) refl;
           total = λ id log is. subst (λ n. n + header_length ≤ log.acknowledged)
@@ -66,6 +67,7 @@ module _ (p : Parts) (keeps : Keeps p) (key : EntryKey) (from_place to_place : P
           let same : was ≡ from_place = same_Some was from_place (sym is ∙ there) in
           inr (inl (subst (λ (x : Place). x.log < to_place.log) (sym same) may.later)));
       recent = promise.map.recent;
+      replays = promise.map.replays;
     };
     shows = shows_sent promise.shows key to_place (may.stands honest);
     counted = sums_move p.state.index key to_place p.accounts (set.contains p.state.ledgers.dead) (acknowledged_entries p.state.files p.state.logs) promise.counted

@@ -125,6 +125,7 @@ module _ (p : Parts) (keeps : Keeps p) (index : Places) (may : MayReplace p.stat
         logs = fits.logs;
         sent = may.sent;
         placed = fits.placed;
+        ledgers = fits.ledgers;
         accounts = record {
           named = λ id. names_now id (log_count p.state.index id) (finite.get p.state.logs id) (fits.accounts.named id);
           total = λ id log is. subst (λ n. n + header_length ≤ log.acknowledged)
@@ -140,6 +141,7 @@ module _ (p : Parts) (keeps : Keeps p) (index : Places) (may : MayReplace p.stat
           carried = promise.map.carried;
           carries = carries_rebuilt promise.map.carries promise.shows (may.made honest);
           recent = promise.map.recent;
+          replays = promise.map.replays;
         };
         shows = shows_rebuilt promise.map.carries promise.shows (may.made honest);
         counted = record {

@@ -114,6 +114,7 @@ module _ (p : Parts) (keeps : Keeps p) (rule : LogState → Log → Log) (mild :
         };
         sent = λ key place is. views_ruled rule mild p.state.logs logs changed place.log (fits.sent key place is);
         placed = all_unplaced held.flush finite.empty logs refl;
+        ledgers = fits.ledgers;
         accounts = record {
           named = λ id. fits.accounts.named id ∙ names_ruled rule mild p.state.logs logs changed (log_count p.state.index) id;
           total = each_ruled rule mild p.state.logs logs changed (λ id l. total_at p.accounts id + header_length ≤ l.acknowledged)
@@ -129,6 +130,7 @@ module _ (p : Parts) (keeps : Keeps p) (rule : LogState → Log → Log) (mild :
       carried = promise.map.carried;
       carries = carries;
       recent = λ key payload is. promise.map.recent key payload (ap (λ r. recent_of r key) (sym recent) ∙ is);
+      replays = promise.map.replays;
     };
     shows = subst (λ ps. Shows (file_of p.state.files) ps p.state.index) (λ i id. sym (parts_ruled rule mild p.state.logs logs changed id) i) promise.shows;
     counted = subst (λ f. AreSums entry_measure (set.contains p.state.ledgers.dead) f (log_count p.state.index) p.accounts)

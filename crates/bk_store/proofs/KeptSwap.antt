@@ -38,6 +38,7 @@ module _ (p : Parts) (keeps : Keeps p) (idle : p.state.caches.flush ≡ None) wh
       carried = promise.map.carried;
       carries = carries_same_cached promise.map.carries (written_at swapped.state) same_cached;
       recent = promise.map.recent;
+      replays = promise.map.replays;
     };
     shows = promise.shows;
     counted = promise.counted;
@@ -54,6 +55,7 @@ module _ (p : Parts) (keeps : Keeps p) (idle : p.state.caches.flush ≡ None) wh
           logs = fits.logs;
           sent = fits.sent;
           placed = all_unplaced (Some p.state.caches.active) p.state.places p.state.logs no_places;
+          ledgers = fits.ledgers;
           accounts = fits.accounts;
         };
         job = keeps.job;

@@ -31,6 +31,7 @@ keeps_given p keeps =
         };
         sent = fits.sent;
         placed = fits.placed;
+        ledgers = fits.ledgers;
         accounts = fits.accounts;
       };
       job = keeps.job;

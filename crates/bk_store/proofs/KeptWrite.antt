@@ -89,6 +89,7 @@ keeps_ready p log ledger keeps =
         logs = fits.logs;
         sent = fits.sent;
         placed = fits.placed;
+        ledgers = fits.ledgers;
         accounts = record {
           named = λ q. named_in-after_ready p.accounts log ledger q ∙ fits.accounts.named q;
           total = λ q l is. subst (λ n. n + header_length ≤ l.acknowledged) (sym (total_readied p.accounts log ledger q)) (fits.accounts.total q l is);
@@ -163,6 +164,7 @@ keeps_noted p key payload place keeps flushing in_log unplaced first stands =
               ∙ (fits.logs.writing place.log).1 (in_log.log, in_log.held, in_log.state_is) in
               subst (λ n. pl.log ≤ n) (sym (same_Some id place.log one)) (not_above k pl is);
         };
+        ledgers = fits.ledgers;
         accounts = fits.accounts;
       };
       job = keeps.job;

@@ -3,6 +3,7 @@ pub mod OneEntry
 pub mod LastEntries
 pub mod Meaning
 pub mod KeyMaps
+pub mod Ledgers
 pub mod Growing
 pub mod IndexMoves
 pub mod CachedMoves
@@ -16,14 +17,16 @@ pub mod Walks
 pub mod HeldWalks
 pub mod Indexes
 pub mod Noted
+pub mod TrailMoves
 pub mod KeptParts
 pub mod KeptJob
 pub mod KeptAdd
 pub mod KeptSwap
 pub mod Tables
-pub mod Ledgers
 pub mod PlainMaps
 pub mod KeptDelete
+pub mod KeptFence
+pub mod Replaying
 pub mod Unnaming
 pub mod OpenedSums
 pub mod OpenedLogs

@@ -28,7 +28,8 @@ use Rattle.bk_cache.specs.Caches.{CacheState}
 use Rattle.bk_store.specs.Entries.{IsIndexOf}
 use Rattle.bk_store.specs.Carried.{Cached, Carries}
 use Rattle.bk_store.specs.Logs.{View, Log, Logs, found_log, open_parts, is_open, published_part}
-use Rattle.bk_store.specs.State.{Parts, opened_ledgers}
+use Rattle.bk_store.specs.Ledgers.{KnownLedgers, opened_ledgers}
+use Rattle.bk_store.specs.State.{Parts}
 use Rattle.bk_store.specs.Meaning.{written_at}
 use Rattle.bk_store.specs.Turns.{valid_ledgers}
 use Rattle.bk_lease.specs.Values.{SlotTable}
@@ -43,6 +44,7 @@ use Rattle.bk_store.specs.declared.answer.OpenFault.TheVariants as open_faults
 use Rattle.bk_store.specs.declared.open.tally.Tally.{Tally}
 use Rattle.bk_store.proofs.Cases.{some_or_none, some_value}
 use Rattle.bk_store.proofs.Growing.{none_stands, entry_same}
+use Rattle.bk_store.proofs.TrailMoves.{replays_none, follows_none}
 use Rattle.bk_store.proofs.KeptParts.{none_placed, all_unplaced}
 use Rattle.bk_store.proofs.EntryLists.{IsIndexOfList, list_empty, list_index}
 use Rattle.bk_store.proofs.Walks.{walked, keyed_at}
@@ -200,6 +202,7 @@ module _ (settings : Settings) (honest : Bool) (files : Files) (failures : ℕ) 
         let r = sent_read key place named in
         record { log = found_log r.0.view r.0.slot r.0.end; view = r.0.view; held = r.1.held; opened = refl; view_is = refl };
     placed = all_unplaced p.state.caches.flush finite.empty logs refl;
+    ledgers = follows_none t.dead;
     accounts = record { named = named_here; total = total_here };
   }
 
@@ -280,6 +283,7 @@ module _ (settings : Settings) (honest : Bool) (files : Files) (failures : ℕ) 
         carries = subst (λ (c : Cached). Carries (file_of files) t.index c t.dead (live (scan_of files) t.dead)) (λ i key. none_written key i)
             (carries_opened files whole_index);
         recent = λ key payload wrong. cc;
+        replays = replays_none (live (scan_of files) t.dead);
       };
       shows = record {
         stands = λ place key payload entry. elim (each_held place.log) [
@@ -398,8 +402,8 @@ taken_unnamed settings honest files dead ids next t logs taken log =
     ])
 
 -- the parts that an opening makes
-abbrev pub made_parts : Settings → Files → Bool → ℕ → CacheState → Places → Tally → Logs → SlotTable → ℕ → List ℕ → Parts
-made_parts settings files honest failures kept places t logs keeper next filled = record {
+abbrev pub made_parts : Settings → Files → Bool → ℕ → CacheState → Places → Tally → Logs → SlotTable → ℕ → KnownLedgers → List ℕ → Parts
+made_parts settings files honest failures kept places t logs keeper next known filled = record {
   state = record {
     settings = settings;
     files = files;
@@ -411,7 +415,7 @@ made_parts settings files honest failures kept places t logs keeper next filled 
     logs = logs;
     keeper = keeper;
     next = next;
-    ledgers = opened_ledgers t.dead;
+    ledgers = known;
     job = None;
   };
   accounts = t.accounts;
@@ -422,8 +426,9 @@ made_parts settings files honest failures kept places t logs keeper next filled 
 module _ (settings : Settings) (honest honest' : Bool) (files files' : Files) (failures : ℕ) (dead : Ledgers) (ids : List ℕ) (next : ℕ) (t : Tally)
     (logs : Logs) (taken : AreTaken honest files ids next (started dead) t finite.empty logs) (keeper : SlotTable) (stays : honest' ≡ honest)
     (same : IsTrue honest → files' ≡ files) (listed : IsTrue honest → ids ≡ finite.keys files)
-    (kept : CacheState) (places : Places) (now : Tally) (filled : List ℕ) (kept_are : kept ≡ caches.new_caches settings.cache_limit settings.recent)
-    (places_are : places ≡ finite.empty) (now_is : now ≡ with_names t) (filled_is : filled ≡ []) where
+    (kept : CacheState) (places : Places) (now : Tally) (known : KnownLedgers) (filled : List ℕ) (kept_are : kept ≡ caches.new_caches settings.cache_limit settings.recent)
+    (places_are : places ≡ finite.empty) (now_is : now ≡ with_names t) (known_is : known ≡ opened_ledgers now.dead)
+    (filled_is : filled ≡ []) where
   taken_now : AreTaken honest' files' ids next (started dead) t finite.empty logs
   taken_now = taken_as honest honest' files files' dead ids next (started dead) t finite.empty logs taken refl refl stays same
 
@@ -431,11 +436,13 @@ module _ (settings : Settings) (honest honest' : Bool) (files files' : Files) (f
   listed_now is' = let is : IsTrue honest = sym stays ∙ is' in listed is ∙ ap finite.keys (sym (same is))
 
   parts_are : opened_parts settings files' honest' failures t logs keeper next
-      ≡ made_parts settings files' honest' failures kept places now logs keeper next filled
-  parts_are = λ i. made_parts settings files' honest' failures (sym kept_are i) (sym places_are i) (sym now_is i) logs keeper next (sym filled_is i)
+      ≡ made_parts settings files' honest' failures kept places now logs keeper next known filled
+  parts_are =
+      let known_as : opened_ledgers t.dead ≡ known = sym (known_is ∙ ap (λ (x : Tally). opened_ledgers x.dead) now_is) in
+      λ i. made_parts settings files' honest' failures (sym kept_are i) (sym places_are i) (sym now_is i) logs keeper next (known_as i) (sym filled_is i)
 
   pub opened_keeps : IsAllowed settings → IsSeated settings keeper logs
-      → Keeps (made_parts settings files' honest' failures kept places now logs keeper next filled)
+      → Keeps (made_parts settings files' honest' failures kept places now logs keeper next known filled)
   opened_keeps allowed seated = subst Keeps parts_are (record {
     fits = opened_fits settings honest' files' failures dead ids next t logs taken_now keeper allowed seated;
     job = λ job wrong. absurd (cc);
@@ -443,7 +450,7 @@ module _ (settings : Settings) (honest honest' : Bool) (files files' : Files) (f
   })
 
   pub opened_is : (given : List ℕ) → dead ≡ valid_ledgers given
-      → IsOpened honest files settings given (made_parts settings files' honest' failures kept places now logs keeper next filled).state
+      → IsOpened honest files settings given (made_parts settings files' honest' failures kept places now logs keeper next known filled).state
   opened_is given dead_are = subst (λ p. IsOpened honest files settings given p.state) parts_are (record {
     settings_are = refl;
     caches_are = refl;

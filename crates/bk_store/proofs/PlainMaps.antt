@@ -16,11 +16,13 @@ use Rattle.bk_lease.specs.Values.{Ticket}
 use Rattle.bk_store.specs.Entries.{HasEntry}
 use Rattle.bk_store.specs.Carried.{Carries}
 use Rattle.bk_store.specs.Logs.{View, HasOpenView, view_of, is_open, open_parts, published_part}
-use Rattle.bk_store.specs.State.{State, Parts, KnownLedgers}
+use Rattle.bk_store.specs.Ledgers.{KnownLedgers, is_barred, receipt_of, with_add, with_deletion, with_fence}
+use Rattle.bk_store.specs.State.{State, Parts}
 use Rattle.bk_store.specs.Meaning.{written_at, cached_at, holds}
 use Rattle.bk_store.specs.Kept.{Keeps, Promises}
-use Rattle.bk_store.specs.Turns.{AddTurn, TakeTurn, SwapTurn, DeleteTurn, deleted}
-use Rattle.bk_store.specs.Plain.{Plain, IsNew, PlainAdd, PlainTake, PlainDelete, after_swap, after_delete, told_at, MatchesPlain}
+use Rattle.bk_store.specs.Turns.{AsksToAdd, AddTurn, TakeTurn, SwapTurn, DeleteTurn, FenceTurn, deleted, is_dead, is_fenced}
+use Rattle.bk_store.specs.Plain.{Plain, IsLive, IsNew, IsUnfenced, PlainAdd, PlainTake, PlainDelete, PlainFence, after_swap, after_delete, told_at, MatchesPlain}
+use Rattle.bk_store.specs.declared.adding.AddKind.{AddKind}
 use Rattle.bk_store.specs.declared.answer.Added.{Added}
 use Rattle.bk_store.specs.declared.answer.Added.TheVariants.{Accepted, Held}
 use Rattle.bk_store.specs.declared.answer.AddFault.{AddFault}
@@ -31,6 +33,10 @@ use Rattle.bk_store.specs.declared.answer.TakeFault.{TakeFault}
 use Rattle.bk_store.specs.declared.answer.TakeFault.TheVariants as take_faults
 use Rattle.bk_store.specs.declared.answer.DeleteFault.{DeleteFault}
 use Rattle.bk_store.specs.declared.answer.DeleteFault.TheVariants as delete_faults
+use Rattle.bk_store.specs.declared.answer.Fence.{Fence}
+use Rattle.bk_store.specs.declared.answer.Fence.TheVariants as fences
+use Rattle.bk_store.specs.declared.answer.FenceFault.{FenceFault}
+use Rattle.bk_store.specs.declared.answer.FenceFault.TheVariants as fence_faults
 use Rattle.bk_store.specs.declared.answer.SwapAnswer.{SwapAnswer}
 use Rattle.bk_store.specs.declared.answer.SwapAnswer.TheVariants.{Running, Nothing, Swapped}
 use Rattle.bk_store.proofs.Cases.{some_or_none, some_value}
@@ -101,24 +107,33 @@ module _ (parts : Parts) (keeps : Keeps parts) (promise : Promises parts) (p : P
   dead_is : (ledger : ℕ) (b : Bool) → set.contains s.ledgers.dead ledger ≡ b → set.contains p.ledgers.dead ledger ≡ b
   dead_is ledger b is = ap (λ (l : KnownLedgers). set.contains l.dead ledger) (sym agrees.ledgers) ∙ is
 
-  pub plain_add : (t : State) (payload : List ℕ) (r : Result Added AddFault) → AddTurn s payload r t
-      → (q : Plain) × PlainAdd s.caches.limit p payload r q × MatchesPlain t q
-  plain_add t payload (Err (add_faults.Bad fault)) turn = (p, (turn.0, refl), agrees_same agrees turn.1)
-  plain_add t payload (Err add_faults.Deleted) turn = (p, (turn.0, turn.1, lives_in turn.0 true turn.2, refl), agrees_same agrees turn.3)
-  plain_add t payload (Ok Held) turn =
+  barred_is : (kind : AddKind) (ledger : ℕ) (b : Bool) → is_barred kind s.ledgers.fenced ledger ≡ b → is_barred kind p.ledgers.fenced ledger ≡ b
+  barred_is kind ledger b is = ap (λ (l : KnownLedgers). is_barred kind l.fenced ledger) (sym agrees.ledgers) ∙ is
+
+  live_in : (kind : AddKind) (payload : List ℕ) (has : Bool) (asks : AsksToAdd s kind payload has) → IsLive p kind payload asks.key
+  live_in kind payload has asks = record {
+    reads = asks.reads;
+    lives = lives_in asks.key false asks.lives;
+    unbarred = barred_is kind asks.key.ledger false asks.unbarred;
+  }
+
+  new_in : (kind : AddKind) (payload : List ℕ) (asks : AsksToAdd s kind payload false) → IsNew p kind payload asks.key
+  new_in kind payload asks = record { live = live_in kind payload false asks; missing = missing asks.key asks.held }
+
+  pub plain_add : (t : State) (kind : AddKind) (payload : List ℕ) (r : Result Added AddFault) → AddTurn s kind payload r t
+      → (q : Plain) × PlainAdd s.caches.limit kind p payload r q × MatchesPlain t q
+  plain_add t kind payload (Err (add_faults.Bad fault)) turn = (p, (turn.0, refl), agrees_same agrees turn.1)
+  plain_add t kind payload (Err add_faults.Deleted) turn = (p, (turn.0, turn.1, lives_in turn.0 true turn.2, refl), agrees_same agrees turn.3)
+  plain_add t kind payload (Err add_faults.Fenced) turn =
+      (p, (turn.0, turn.1, lives_in turn.0 false turn.2, barred_is kind turn.0.ledger true turn.3, refl), agrees_same agrees turn.4)
+  plain_add t kind payload (Ok Held) turn =
+      let asks = turn.0 in (p, (asks.key, live_in kind payload true asks, mapped_is asks.key ∙ asks.held, refl), agrees_same agrees turn.1)
+  plain_add t kind payload (Err (add_faults.Full used most)) turn =
       let asks = turn.0 in (
-        p,
-        (asks.key, record { reads = asks.reads; lives = lives_in asks.key false asks.lives }, mapped_is asks.key ∙ asks.held, refl),
-        agrees_same agrees turn.1,
-      )
-  plain_add t payload (Err (add_faults.Full used most)) turn =
-      let asks = turn.0 in
-      let new : IsNew p payload asks.key =
-      record { live = record { reads = asks.reads; lives = lives_in asks.key false asks.lives }; missing = missing asks.key asks.held } in (
         p,
         (
           asks.key,
-          new,
+          new_in kind payload asks,
           subst (λ a. s.caches.limit < caches.used_of a + length payload) agrees.active turn.1,
           turn.2 ∙ ap caches.used_of agrees.active,
           turn.3,
@@ -126,21 +141,31 @@ module _ (parts : Parts) (keeps : Keeps parts) (promise : Promises parts) (p : P
         ),
         agrees_same agrees turn.4,
       )
-  plain_add t payload (Err add_faults.Memory) turn =
+  plain_add t kind payload (Err add_faults.Memory) turn =
+      let asks = turn.0 in (
+        p,
+        (asks.key, new_in kind payload asks, subst (λ a. ¬ (s.caches.limit < caches.used_of a + length payload)) agrees.active turn.1, refl),
+        agrees_same agrees turn.2,
+      )
+  plain_add t kind payload (Ok (Accepted receipt)) turn =
       let asks = turn.0 in
-      let new : IsNew p payload asks.key =
-      record { live = record { reads = asks.reads; lives = lives_in asks.key false asks.lives }; missing = missing asks.key asks.held } in
-      (p, (asks.key, new, subst (λ a. ¬ (s.caches.limit < caches.used_of a + length payload)) agrees.active turn.1, refl), agrees_same agrees turn.2)
-  plain_add t payload (Ok Accepted) turn =
-      let asks = turn.0 in
-      let new : IsNew p payload asks.key =
-      record { live = record { reads = asks.reads; lives = lives_in asks.key false asks.lives }; missing = missing asks.key asks.held } in
-      let q : Plain = record p { map = finite.insert p.map asks.key payload; active = finite.insert p.active asks.key payload } in
+      let q : Plain = record p {
+        map = finite.insert p.map asks.key payload;
+        ledgers = with_add p.ledgers asks.key payload;
+        active = finite.insert p.active asks.key payload;
+      } in
       let after = added.carries_accepted parts payload asks.key asks.reads keeps asks.lives asks.held carries in (
         q,
-        (asks.key, new, subst (λ a. ¬ (s.caches.limit < caches.used_of a + length payload)) agrees.active turn.1, refl),
-        agrees_same (agrees_of (record s { caches = caches.with_added s.caches payload }) q after agrees.ledgers
-            ((λ i. finite.insert (agrees.active i) (added.is_key parts payload asks.key asks.reads keeps asks.lives asks.held i) payload)) agrees.flush) turn.2,
+        (
+          asks.key,
+          new_in kind payload asks,
+          subst (λ a. ¬ (s.caches.limit < caches.used_of a + length payload)) agrees.active turn.1,
+          turn.2 ∙ ap (λ (l : KnownLedgers). receipt_of l.trail asks.key payload) agrees.ledgers,
+          refl,
+        ),
+        agrees_same (agrees_of (record s { caches = caches.with_added s.caches payload; ledgers = with_add s.ledgers asks.key payload }) q after
+            (ap (λ l. with_add l asks.key payload) agrees.ledgers)
+            ((λ i. finite.insert (agrees.active i) (added.is_key parts payload asks.key asks.reads keeps asks.lives asks.held i) payload)) agrees.flush) turn.3,
       )
 
   -- what a read finds in memory is the map's
@@ -239,6 +264,35 @@ module _ (parts : Parts) (keeps : Keeps parts) (promise : Promises parts) (p : P
     (dead_is ledger false turn.0, turn.1 ∙ held_is_mapped s p.map carries ledger apart, refl),
     agrees_same (agrees_of (deleted s ledger) (after_delete p ledger)
         (carries_without_ledger carries (written_at (deleted s ledger)) ledger (removed.written_gone s ledger) (removed.written_same s ledger))
-        (ap (λ (l : KnownLedgers). record l { dead = set.insert l.dead ledger }) agrees.ledgers) (ap (λ m. without_ledger m ledger) agrees.active)
+        (ap (λ l. with_deletion l ledger) agrees.ledgers) (ap (λ m. without_ledger m ledger) agrees.active)
         (ap (option_map (λ m. without_ledger m ledger)) agrees.flush)) turn.2,
   )
+
+-- a fence, which asks nothing of the disk
+module _ (s : State) (p : Plain) (agrees : MatchesPlain s p) where
+  known_as : (P : KnownLedgers → Type 0) → P s.ledgers → P p.ledgers
+  known_as P is = subst P agrees.ledgers is
+
+  unfenced_in : (ledger : ℕ) → is_dead s ledger ≡ false → is_fenced s ledger ≡ false → IsUnfenced p ledger
+  unfenced_in ledger alive not =
+      known_as (λ l. (set.contains l.dead ledger ≡ false) × (set.contains l.fenced ledger ≡ false)) (alive, not)
+
+  pub plain_fence : (t : State) (ledger : ℕ) (r : Result Fence FenceFault) → FenceTurn s ledger r t
+      → (q : Plain) × PlainFence p ledger r q × MatchesPlain t q
+  plain_fence t ledger (Err fence_faults.Deleted) turn =
+      (p, (known_as (λ l. set.contains l.dead ledger ≡ true) turn.0, refl), agrees_same agrees turn.1)
+  plain_fence t ledger (Ok fences.AlreadyFenced) turn = (
+    p,
+    (known_as (λ l. (set.contains l.dead ledger ≡ false) × (set.contains l.fenced ledger ≡ true)) (turn.0, turn.1), refl),
+    agrees_same agrees turn.2,
+  )
+  plain_fence t ledger (Err fence_faults.Memory) turn = (p, (unfenced_in ledger turn.0 turn.1, refl), agrees_same agrees turn.2)
+  plain_fence t ledger (Ok fences.Fenced) turn =
+      let q : Plain = record p { ledgers = with_fence p.ledgers ledger } in
+      let after : MatchesPlain (record s { ledgers = with_fence s.ledgers ledger }) q = record {
+        meaning = agrees.meaning;
+        ledgers = ap (λ l. with_fence l ledger) agrees.ledgers;
+        active = agrees.active;
+        flush = agrees.flush;
+      } in
+      (q, (unfenced_in ledger turn.0 turn.1, refl), agrees_same after turn.2)

@@ -6,7 +6,8 @@ use Rattle.std.specs.FinSet as set
 use Rattle.bk_record.specs.Key.{EntryKey, key_cmp}
 use Rattle.bk_record.specs.Scan.{scan_of}
 use Rattle.bk_cache.specs.Caches as caches
-use Rattle.bk_store.specs.State.{State, KnownLedgers}
+use Rattle.bk_store.specs.Ledgers.{KnownLedgers}
+use Rattle.bk_store.specs.State.{State}
 use Rattle.bk_store.specs.Meaning.{MeansTheSame, written_at}
 use Rattle.bk_store.specs.Opening.{IsOpened}
 use Rattle.bk_store.specs.Turns.{valid_ledgers}

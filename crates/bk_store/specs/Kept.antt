@@ -7,7 +7,7 @@ use Rattle.bk_record.specs.Key.{EntryKey, key_cmp}
 use Rattle.bk_record.specs.Location.{Place}
 use Rattle.bk_record.specs.Record.{ledger_field}
 use Rattle.bk_record.specs.Files.{Files, file_of, header_length, In}
-use Rattle.bk_record.specs.Scan.{Payloads, Ledgers, entries_of}
+use Rattle.bk_record.specs.Scan.{Payloads, entries_of}
 use Rattle.bk_log.specs.Writing as writers
 use Rattle.bk_log.specs.Growing.{HasNoBadLength}
 use Rattle.bk_record.specs.Keyed.{log_count, Places}
@@ -20,6 +20,8 @@ use Rattle.bk_store.specs.Carried.{Carries}
 use Rattle.bk_store.specs.Shown.{Shows}
 use Rattle.bk_store.specs.Jobs.{Job}
 use Rattle.bk_store.specs.JobKept.{IsJob}
+use Rattle.bk_store.specs.Trail.{Replays}
+use Rattle.bk_store.specs.Ledgers.{KnownLedgers, FollowsTrail}
 use Rattle.bk_store.specs.Logs.{View, Log, Logs, HasOpenView, IsFlushLog, is_written, open_parts, acknowledged_part}
 use Rattle.bk_store.specs.State.{Parts}
 use Rattle.bk_store.specs.Limits.{IsAllowed}
@@ -80,16 +82,17 @@ pub record AreAccounted (book : Book) (index : Places) (held : Logs) : Type 0 wh
 
 -- What is kept beside any disk, each fact over what it needs: a step that leaves all of this hands the fact on as it is.
 pub record Fitting (settings : Settings) (cache_limit next : ℕ) (keeper : SlotTable) (held : Logs) (written : Option ℕ) (listed : List ℕ)
-    (index : Places) (flush : Option Payloads) (places : Places) (book : Book) : Type 0 where
+    (index : Places) (flush : Option Payloads) (places : Places) (known : KnownLedgers) (book : Book) : Type 0 where
   pub limits : IsLimited settings cache_limit next
   pub logs : AreHeld settings next keeper held written listed
   pub sent : AreSent index held
   pub placed : IsPlaced flush places held
+  pub ledgers : FollowsTrail known
   pub accounts : AreAccounted book index held
 
 abbrev pub Fits : Parts → Type 0
 Fits p = Fitting p.state.settings p.state.caches.limit p.state.next p.state.keeper p.state.logs p.writing p.filled p.state.index
-    p.state.caches.flush p.state.places p.accounts
+    p.state.caches.flush p.state.places p.state.ledgers p.accounts
 
 -- how an entry is measured: by its ledger and the size of its record
 abbrev pub entry_measure : Measure (ℕ × List ℕ)
@@ -114,11 +117,13 @@ pub record IsWrittenAt (flush : Option Payloads) (files : Files) (key : EntryKey
   pub flushing : finite.get (caches.entries_of_flush flush) key ≡ Some payload
   pub stands : HasEntry (file_of files) place key payload
 
--- the files, the index and the caches carry a map, and each recent entry is a pair of it
-pub record CarriesMap (files : Files) (index : Places) (held : caches.CacheState) (dead : Ledgers) : Type 0 where
+-- the files, the index and the caches carry a map; each recent entry is a pair of it; and it has what the trail says that
+-- came in
+pub record CarriesMap (files : Files) (index : Places) (held : caches.CacheState) (known : KnownLedgers) : Type 0 where
   pub carried : Payloads
-  pub carries : Carries (file_of files) index (caches.held held) dead carried
+  pub carries : Carries (file_of files) index (caches.held held) known.dead carried
   pub recent : (key : EntryKey) (payload : List ℕ) → recent_of held.recent key ≡ Some payload → finite.get carried key ≡ Some payload
+  pub replays : Replays carried known.trail
 
 -- each log that is held has its file, and there is no file of a later id
 pub record AreBacked (files : Files) (next : ℕ) (held : Logs) : Type 0 where
@@ -131,16 +136,16 @@ AreWritten flush files places = (key : EntryKey) (place : Place) → finite.get 
 
 -- What is kept beside an honest disk: the files, the index and the caches carry a map, the logs show what the index names,
 -- and the accounts are those of the acknowledged parts. Each fact is over what it needs.
-pub record Promising (files : Files) (next : ℕ) (held : Logs) (index : Places) (cached : caches.CacheState) (places : Places) (dead : Ledgers)
-    (book : Book) : Type 0 where
-  pub map : CarriesMap files index cached dead
+pub record Promising (files : Files) (next : ℕ) (held : Logs) (index : Places) (cached : caches.CacheState) (places : Places)
+    (known : KnownLedgers) (book : Book) : Type 0 where
+  pub map : CarriesMap files index cached known
   pub shows : Shows (file_of files) (open_parts held) index
-  pub counted : AreSums entry_measure (set.contains dead) (acknowledged_entries files held) (log_count index) book
+  pub counted : AreSums entry_measure (set.contains known.dead) (acknowledged_entries files held) (log_count index) book
   pub logs : AreBacked files next held
   pub placed : AreWritten cached.flush files places
 
 abbrev pub Promises : Parts → Type 0
-Promises p = Promising p.state.files p.state.next p.state.logs p.state.index p.state.caches p.state.places p.state.ledgers.dead p.accounts
+Promises p = Promising p.state.files p.state.next p.state.logs p.state.index p.state.caches p.state.places p.state.ledgers p.accounts
 
 -- a store's parts keep both, and so does the job of a compaction that runs
 pub record Keeps (p : Parts) : Type 0 where

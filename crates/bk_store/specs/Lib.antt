@@ -3,6 +3,9 @@ pub mod Carried
 pub mod Shown
 pub mod Logs
 pub mod Jobs
+pub mod Trail
+pub mod Spread
+pub mod Ledgers
 pub mod State
 pub mod Meaning
 pub mod Limits

@@ -10,7 +10,8 @@ use Rattle.bk_cache.specs.Caches as caches
 use Rattle.bk_store.specs.Entries.{IsIndexOf}
 use Rattle.bk_store.specs.Limits.{IsAllowed}
 use Rattle.bk_store.specs.Logs.{View, Logs, found_log}
-use Rattle.bk_store.specs.State.{State, opened_ledgers}
+use Rattle.bk_store.specs.Ledgers.{opened_ledgers}
+use Rattle.bk_store.specs.State.{State}
 use Rattle.bk_store.specs.Turns.{valid_ledgers}
 use Rattle.bk_store.specs.declared.settings.Settings.{Settings}
 use Rattle.bk_store.specs.declared.answer.LogCause.{LogCause}
@@ -95,7 +96,8 @@ pub record HoldsFiles (files : Files) (s : State) : Type 0 where
   pub none : (id : ℕ) → finite.get files id ≡ None → finite.get s.logs id ≡ None
   pub next : IsNextId files s.next
 
--- A store that was opened: these settings, nothing cached, no flush, these ledgers dead, and what the files give.
+-- A store that was opened: these settings, nothing cached, no flush, these ledgers dead and none fenced, no mark in the trail,
+-- and what the files give.
 pub record IsOpened (honest : Bool) (files : Files) (settings : Settings) (dead : List ℕ) (s : State) : Type 0 where
   pub settings_are : s.settings ≡ settings
   pub caches_are : s.caches ≡ caches.new_caches settings.cache_limit settings.recent

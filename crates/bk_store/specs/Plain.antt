@@ -13,8 +13,10 @@ use Rattle.bk_record.specs.Keyed.{ledger_count, without_ledger}
 use Rattle.bk_cache.specs.Caches.{used_of, AreApart}
 use Rattle.bk_lease.specs.Values.{LeasedView}
 use Rattle.bk_store.specs.Entries.{HasEntry}
-use Rattle.bk_store.specs.State.{State, Parts, KnownLedgers}
+use Rattle.bk_store.specs.Ledgers.{KnownLedgers, is_barred, receipt_of, with_add, with_deletion, with_fence}
+use Rattle.bk_store.specs.State.{State, Parts}
 use Rattle.bk_store.specs.Kept.{Keeps}
+use Rattle.bk_store.specs.declared.adding.AddKind.{AddKind}
 use Rattle.bk_store.specs.declared.answer.Added.{Added}
 use Rattle.bk_store.specs.declared.answer.Added.TheVariants.{Accepted, Held}
 use Rattle.bk_store.specs.declared.answer.AddFault.{AddFault}
@@ -25,6 +27,10 @@ use Rattle.bk_store.specs.declared.answer.TakeFault.{TakeFault}
 use Rattle.bk_store.specs.declared.answer.TakeFault.TheVariants as take_faults
 use Rattle.bk_store.specs.declared.answer.DeleteFault.{DeleteFault}
 use Rattle.bk_store.specs.declared.answer.DeleteFault.TheVariants as delete_faults
+use Rattle.bk_store.specs.declared.answer.Fence.{Fence}
+use Rattle.bk_store.specs.declared.answer.Fence.TheVariants as fences
+use Rattle.bk_store.specs.declared.answer.FenceFault.{FenceFault}
+use Rattle.bk_store.specs.declared.answer.FenceFault.TheVariants as fence_faults
 use Rattle.bk_store.specs.declared.answer.SwapAnswer.{SwapAnswer}
 use Rattle.bk_store.specs.declared.answer.SwapAnswer.TheVariants.{Running, Nothing, Swapped}
 
@@ -44,31 +50,47 @@ IsDeleted p ledger = set.contains p.ledgers.dead ledger ≡ true
 abbrev pub IsAlive : Plain → ℕ → Type 0
 IsAlive p ledger = set.contains p.ledgers.dead ledger ≡ false
 
--- a payload that may be added, of this key, whose ledger lives
-pub record IsLive (p : Plain) (payload : List ℕ) (key : EntryKey) : Type 0 where
+-- the ledger lives, and is fenced, or is not
+abbrev pub IsFenced : Plain → ℕ → Type 0
+IsFenced p ledger = IsAlive p ledger × (set.contains p.ledgers.fenced ledger ≡ true)
+
+abbrev pub IsUnfenced : Plain → ℕ → Type 0
+IsUnfenced p ledger = IsAlive p ledger × (set.contains p.ledgers.fenced ledger ≡ false)
+
+-- a payload that may be added, of this key, whose ledger lives and no fence bars
+pub record IsLive (p : Plain) (kind : AddKind) (payload : List ℕ) (key : EntryKey) : Type 0 where
   pub reads : read_added payload ≡ Ok key
   pub lives : IsAlive p key.ledger
+  pub unbarred : is_barred kind p.ledgers.fenced key.ledger ≡ false
 
 -- the same of a key that the map does not have
-pub record IsNew (p : Plain) (payload : List ℕ) (key : EntryKey) : Type 0 where
-  pub live : IsLive p payload key
+pub record IsNew (p : Plain) (kind : AddKind) (payload : List ℕ) (key : EntryKey) : Type 0 where
+  pub live : IsLive p kind payload key
   pub missing : finite.get p.map key ≡ None
 
 -- the payload would take the active pairs past this many bytes
 abbrev pub IsOver : ℕ → Plain → List ℕ → Type 0
 IsOver limit p payload = limit < used_of p.active + length payload
 
--- An add is bad where its payload is, else deleted where its ledger is dead, else held where the map has its key, else full
--- where there is no room, else accepted, and then the map has it. Want of memory may come in place of an acceptance.
-abbrev pub PlainAdd : ℕ → Plain → List ℕ → Result Added AddFault → Plain → Type 0
-PlainAdd limit p payload (Err (add_faults.Bad fault)) q = (read_added payload ≡ Err fault) × (q ≡ p)
-PlainAdd limit p payload (Err add_faults.Deleted) q = (key : EntryKey) × (read_added payload ≡ Ok key) × IsDeleted p key.ledger × (q ≡ p)
-PlainAdd limit p payload (Ok Held) q = (key : EntryKey) × IsLive p payload key × IsSome (finite.get p.map key) × (q ≡ p)
-PlainAdd limit p payload (Err (add_faults.Full used most)) q = (key : EntryKey) × IsNew p payload key × IsOver limit p payload
+-- An add is bad where its payload is, else deleted where its ledger is dead, else fenced where a fence bars its ledger, else
+-- held where the map has its key, else full where there is no room, else accepted: then the map has it, and it is marked in
+-- the trail. Want of memory may come in place of an acceptance.
+abbrev pub PlainAdd : ℕ → AddKind → Plain → List ℕ → Result Added AddFault → Plain → Type 0
+PlainAdd limit kind p payload (Err (add_faults.Bad fault)) q = (read_added payload ≡ Err fault) × (q ≡ p)
+PlainAdd limit kind p payload (Err add_faults.Deleted) q = (key : EntryKey) × (read_added payload ≡ Ok key) × IsDeleted p key.ledger × (q ≡ p)
+PlainAdd limit kind p payload (Err add_faults.Fenced) q = (key : EntryKey) × (read_added payload ≡ Ok key) × IsAlive p key.ledger
+    × (is_barred kind p.ledgers.fenced key.ledger ≡ true) × (q ≡ p)
+PlainAdd limit kind p payload (Ok Held) q = (key : EntryKey) × IsLive p kind payload key × IsSome (finite.get p.map key) × (q ≡ p)
+PlainAdd limit kind p payload (Err (add_faults.Full used most)) q = (key : EntryKey) × IsNew p kind payload key × IsOver limit p payload
     × (used ≡ used_of p.active) × (most ≡ limit) × (q ≡ p)
-PlainAdd limit p payload (Err add_faults.Memory) q = (key : EntryKey) × IsNew p payload key × (¬ (IsOver limit p payload)) × (q ≡ p)
-PlainAdd limit p payload (Ok Accepted) q = (key : EntryKey) × IsNew p payload key × (¬ (IsOver limit p payload))
-    × (q ≡ record p { map = finite.insert p.map key payload; active = finite.insert p.active key payload })
+PlainAdd limit kind p payload (Err add_faults.Memory) q = (key : EntryKey) × IsNew p kind payload key × (¬ (IsOver limit p payload)) × (q ≡ p)
+PlainAdd limit kind p payload (Ok (Accepted receipt)) q = (key : EntryKey) × IsNew p kind payload key × (¬ (IsOver limit p payload))
+    × (receipt ≡ receipt_of p.ledgers.trail key payload)
+    × (q ≡ record p {
+      map = finite.insert p.map key payload;
+      ledgers = with_add p.ledgers key payload;
+      active = finite.insert p.active key payload;
+    })
 
 -- a lease on an entry: on the log of its place, with a view that shows what the log held and has the entry there
 pub record IsLeaseOn {V : Type 0} (bytes : V → List ℕ) (honest : V → Bool) (lease : LeasedView V) (place : Place) (key : EntryKey)
@@ -96,11 +118,11 @@ after_swap Running p = p
 after_swap Nothing p = p
 after_swap (Swapped n) p = record p { active = finite.empty; flush = Some p.active }
 
--- the plain state without a ledger, which is dead from then on
+-- the plain state without a ledger, which is dead from then on and fenced no more
 abbrev pub after_delete : Plain → ℕ → Plain
 after_delete p ledger = record {
   map = without_ledger p.map ledger;
-  ledgers = record p.ledgers { dead = set.insert p.ledgers.dead ledger };
+  ledgers = with_deletion p.ledgers ledger;
   active = without_ledger p.active ledger;
   flush = option_map (λ m. without_ledger m ledger) p.flush;
 }
@@ -110,6 +132,14 @@ abbrev pub PlainDelete : Plain → ℕ → Result ℕ DeleteFault → Plain → 
 PlainDelete p ledger (Err delete_faults.AlreadyDeleted) q = IsDeleted p ledger × (q ≡ p)
 PlainDelete p ledger (Err delete_faults.Memory) q = IsAlive p ledger × (q ≡ p)
 PlainDelete p ledger (Ok n) q = IsAlive p ledger × (n ≡ ledger_count p.map ledger) × (q ≡ after_delete p ledger)
+
+-- A fence is refused where its ledger is dead, else it was there already, else it comes and is marked in the trail. Want of memory may come in
+-- its place.
+abbrev pub PlainFence : Plain → ℕ → Result Fence FenceFault → Plain → Type 0
+PlainFence p ledger (Err fence_faults.Deleted) q = IsDeleted p ledger × (q ≡ p)
+PlainFence p ledger (Ok fences.AlreadyFenced) q = IsFenced p ledger × (q ≡ p)
+PlainFence p ledger (Err fence_faults.Memory) q = IsUnfenced p ledger × (q ≡ p)
+PlainFence p ledger (Ok fences.Fenced) q = IsUnfenced p ledger × (q ≡ record p { ledgers = with_fence p.ledgers ledger })
 
 -- ---- a store, beside the plain map
 

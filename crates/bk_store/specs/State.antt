@@ -3,9 +3,7 @@ use Rattle.std.specs.Prelude.{◌≡◌, ℕ, zero, suc, Bool, List, Option}
 use Rattle.std.proofs.Common.{refl}
 use Rattle.std.specs.Coded.{Coded, code_by, coded×, coded_ℕ, coded_bool, coded_list, coded_option}
 use Rattle.std.specs.FinMap as finite
-use Rattle.std.specs.FinSet as set
 use Rattle.bk_record.specs.Files.{Files}
-use Rattle.bk_record.specs.Scan.{Ledgers}
 use Rattle.bk_log.specs.Writing as writers
 use Rattle.bk_record.specs.Keyed.{Places, places_code}
 use Rattle.bk_cache.specs.Caches.{CacheState, cache_code}
@@ -13,18 +11,11 @@ use Rattle.bk_accounts.specs.Book.{Book, book_code}
 use Rattle.bk_lease.specs.Values.{SlotTable}
 use Rattle.bk_lease.specs.Codes.{slot_table_code}
 use Rattle.bk_store.specs.Jobs.{Job, job_code}
+use Rattle.bk_store.specs.Ledgers.{KnownLedgers, known_ledgers_code}
 use Rattle.bk_store.specs.Logs.{View, Log, Logs}
 use Rattle.bk_store.specs.declared.log.LogState.{LogState}
 use Rattle.bk_store.specs.declared.log.LogState.TheVariants.{Writing, Filled, Copying, Readable, Retired, Closed}
 use Rattle.bk_store.specs.declared.settings.Settings.{Settings}
-
--- what a store knows of ledgers: those that are dead
-pub record KnownLedgers : Type 0 where
-  pub dead : Ledgers
-
--- what it knows when it was just opened
-abbrev pub opened_ledgers : Ledgers → KnownLedgers
-opened_ledgers dead = record { dead = dead }
 
 -- What is to be seen of a store: its limits; the disk's files, whether it is honest, and how often it has failed; the
 -- caches; the places of the running flush's entries, by key; the index; the logs that it holds; the table of the slots in
@@ -110,9 +101,6 @@ settings_code = code_by (ℕ × (ℕ × (ℕ × (ℕ × (ℕ × (ℕ × ℕ)))))
 
 abbrev pub files_code : Coded Files
 files_code = finite.code coded_ℕ (coded_list coded_ℕ)
-
-abbrev pub known_ledgers_code : Coded KnownLedgers
-known_ledgers_code = code_by Ledgers (set.code coded_ℕ) (λ l. l.dead) (λ dead. record { dead = dead }) (λ _. refl)
 
 -- a state is stored as the tuple of its fields
 abbrev pub state_code : Coded State

@@ -1,4 +1,4 @@
--- Turns of a store that ask no device: an add, a take, a deletion, a swap.
+-- Turns of a store that ask no device: an add, a take, a deletion, a fence, a swap.
 use Rattle.std.specs.Prelude.{◌≡◌, ◌⊎◌, ℕ, ◌+◌, ◌<◌, ◌^◌, nat_lt, Bool, true, false, not, ◌==◌, ◌&&◌, List, Some, None, IsSome, is_some, Result, Ok, Err}
 use Rattle.std.specs.List.{count_by, filter}
 use Rattle.std.specs.FinMap as finite
@@ -10,10 +10,12 @@ use Rattle.bk_record.specs.Scan.{Ledgers}
 use Rattle.bk_record.specs.Keyed.{ledger_count, without_ledger}
 use Rattle.bk_cache.specs.Caches as caches
 use Rattle.bk_lease.specs.Values.{LeasedView, with_given}
+use Rattle.bk_store.specs.Ledgers.{is_barred, receipt_of, with_add, with_deletion, with_fence}
 use Rattle.bk_store.specs.Logs.{view_of}
 use Rattle.bk_store.specs.State.{State}
 use Rattle.bk_store.specs.Meaning.{written_at, cached_at, holds}
 use Rattle.bk_store.specs.Leasing.{IsLeaseOf, IsMet}
+use Rattle.bk_store.specs.declared.adding.AddKind.{AddKind}
 use Rattle.bk_store.specs.declared.answer.Added.{Added}
 use Rattle.bk_store.specs.declared.answer.Added.TheVariants.{Accepted, Held}
 use Rattle.bk_store.specs.declared.answer.AddFault.{AddFault}
@@ -24,6 +26,10 @@ use Rattle.bk_store.specs.declared.answer.TakeFault.{TakeFault}
 use Rattle.bk_store.specs.declared.answer.TakeFault.TheVariants as take_faults
 use Rattle.bk_store.specs.declared.answer.DeleteFault.{DeleteFault}
 use Rattle.bk_store.specs.declared.answer.DeleteFault.TheVariants as delete_faults
+use Rattle.bk_store.specs.declared.answer.Fence.{Fence}
+use Rattle.bk_store.specs.declared.answer.Fence.TheVariants as fences
+use Rattle.bk_store.specs.declared.answer.FenceFault.{FenceFault}
+use Rattle.bk_store.specs.declared.answer.FenceFault.TheVariants as fence_faults
 use Rattle.bk_store.specs.declared.answer.SwapAnswer.{SwapAnswer}
 use Rattle.bk_store.specs.declared.answer.SwapAnswer.TheVariants.{Running, Nothing, Swapped}
 
@@ -31,23 +37,32 @@ use Rattle.bk_store.specs.declared.answer.SwapAnswer.TheVariants.{Running, Nothi
 abbrev pub is_dead : State → ℕ → Bool
 is_dead s ledger = set.contains s.ledgers.dead ledger
 
--- a payload that may be added, of a key whose ledger lives and which the store has, or has not
-pub record AsksToAdd (s : State) (payload : List ℕ) (has : Bool) : Type 0 where
+-- the ledger is fenced
+abbrev pub is_fenced : State → ℕ → Bool
+is_fenced s ledger = set.contains s.ledgers.fenced ledger
+
+-- a payload that may be added, of a key whose ledger lives and no fence bars, and which the store has, or has not
+pub record AsksToAdd (s : State) (kind : AddKind) (payload : List ℕ) (has : Bool) : Type 0 where
   pub key : EntryKey
   pub reads : read_added payload ≡ Ok key
   pub lives : is_dead s key.ledger ≡ false
+  pub unbarred : is_barred kind s.ledgers.fenced key.ledger ≡ false
   pub held : holds s key ≡ has
 
--- An add is kept in the active cache where its payload is an entry's of a live ledger, its key is new and there is room.
-abbrev pub AddTurn : State → List ℕ → Result Added AddFault → State → Type 0
-AddTurn s payload (Err (add_faults.Bad fault)) t = (read_added payload ≡ Err fault) × (t ≡ s)
-AddTurn s payload (Err add_faults.Deleted) t = (key : EntryKey) × (read_added payload ≡ Ok key) × (is_dead s key.ledger ≡ true) × (t ≡ s)
-AddTurn s payload (Ok Held) t = AsksToAdd s payload true × (t ≡ s)
-AddTurn s payload (Err (add_faults.Full used limit)) t = AsksToAdd s payload false × caches.IsFull s.caches payload
+-- An add is kept in the active cache where its payload is an entry's of a live ledger that no fence bars, its key is new and
+-- there is room; and then it is marked in the trail, and has its receipt.
+abbrev pub AddTurn : State → AddKind → List ℕ → Result Added AddFault → State → Type 0
+AddTurn s kind payload (Err (add_faults.Bad fault)) t = (read_added payload ≡ Err fault) × (t ≡ s)
+AddTurn s kind payload (Err add_faults.Deleted) t = (key : EntryKey) × (read_added payload ≡ Ok key) × (is_dead s key.ledger ≡ true) × (t ≡ s)
+AddTurn s kind payload (Err add_faults.Fenced) t = (key : EntryKey) × (read_added payload ≡ Ok key) × (is_dead s key.ledger ≡ false)
+    × (is_barred kind s.ledgers.fenced key.ledger ≡ true) × (t ≡ s)
+AddTurn s kind payload (Ok Held) t = AsksToAdd s kind payload true × (t ≡ s)
+AddTurn s kind payload (Err (add_faults.Full used limit)) t = AsksToAdd s kind payload false × caches.IsFull s.caches payload
     × (used ≡ caches.used_of s.caches.active) × (limit ≡ s.caches.limit) × (t ≡ s)
-AddTurn s payload (Err add_faults.Memory) t = AsksToAdd s payload false × (¬ (caches.IsFull s.caches payload)) × (t ≡ s)
-AddTurn s payload (Ok Accepted) t = AsksToAdd s payload false × (¬ (caches.IsFull s.caches payload))
-    × (t ≡ record s { caches = caches.with_added s.caches payload })
+AddTurn s kind payload (Err add_faults.Memory) t = AsksToAdd s kind payload false × (¬ (caches.IsFull s.caches payload)) × (t ≡ s)
+AddTurn s kind payload (Ok (Accepted receipt)) t = (asks : AsksToAdd s kind payload false) × (¬ (caches.IsFull s.caches payload))
+    × (receipt ≡ receipt_of s.ledgers.trail asks.key payload)
+    × (t ≡ record s { caches = caches.with_added s.caches payload; ledgers = with_add s.ledgers asks.key payload })
 
 -- the key is of a live ledger, is not cached, and the index sends it to this place: so it is to be read in a log
 pub record IsInLog (s : State) (key : EntryKey) (place : Place) : Type 0 where
@@ -81,13 +96,13 @@ abbrev pub held_count : State → ℕ → ℕ
 held_count s ledger = ledger_count s.caches.active ledger + ledger_count (caches.flush_of s.caches) ledger
     + count_by (λ e. (e.0.ledger == ledger) && not (is_some (written_at s e.0))) (finite.entries s.index)
 
--- the state without a ledger, which is dead from then on
+-- the state without a ledger, which is dead from then on and fenced no more
 abbrev pub deleted : State → ℕ → State
 deleted s ledger = record s {
   caches = caches.without s.caches ledger;
   places = without_ledger s.places ledger;
   index = without_ledger s.index ledger;
-  ledgers = record s.ledgers { dead = set.insert s.ledgers.dead ledger };
+  ledgers = with_deletion s.ledgers ledger;
 }
 
 -- A deletion takes the entries of a ledger out, and tells how many there were.
@@ -95,6 +110,14 @@ abbrev pub DeleteTurn : State → ℕ → Result ℕ DeleteFault → State → T
 DeleteTurn s ledger (Err delete_faults.AlreadyDeleted) t = (is_dead s ledger ≡ true) × (t ≡ s)
 DeleteTurn s ledger (Err delete_faults.Memory) t = (is_dead s ledger ≡ false) × (t ≡ s)
 DeleteTurn s ledger (Ok n) t = (is_dead s ledger ≡ false) × (n ≡ held_count s ledger) × (t ≡ deleted s ledger)
+
+-- A fence of a live ledger is marked in the trail, unless the ledger was fenced before.
+abbrev pub FenceTurn : State → ℕ → Result Fence FenceFault → State → Type 0
+FenceTurn s ledger (Err fence_faults.Deleted) t = (is_dead s ledger ≡ true) × (t ≡ s)
+FenceTurn s ledger (Ok fences.AlreadyFenced) t = (is_dead s ledger ≡ false) × (is_fenced s ledger ≡ true) × (t ≡ s)
+FenceTurn s ledger (Err fence_faults.Memory) t = (is_dead s ledger ≡ false) × (is_fenced s ledger ≡ false) × (t ≡ s)
+FenceTurn s ledger (Ok fences.Fenced) t = (is_dead s ledger ≡ false) × (is_fenced s ledger ≡ false)
+    × (t ≡ record s { ledgers = with_fence s.ledgers ledger })
 
 -- A swap makes the active cache the flushing one, unless a flush runs or there is nothing to flush.
 abbrev pub SwapTurn : State → SwapAnswer → State → Type 0

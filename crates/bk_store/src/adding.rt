@@ -1,18 +1,30 @@
 //! An add, and a swap.
 
-ghost use Rattle.std.specs.Prelude.{◌≡◌};
-ghost use Rattle.bk_store.specs.Turns.{AddTurn, SwapTurn};
+ghost use Rattle.std.specs.Prelude.{◌≡◌, false, None, Ok};
+ghost use Rattle.std.specs.FinMap as map;
+ghost use Rattle.bk_record.specs.Record.{read_added};
+ghost use Rattle.bk_store.specs.Turns.{AddTurn, SwapTurn, is_dead};
+ghost use Rattle.bk_store.specs.Ledgers.{is_barred};
 ghost use Rattle.bk_store.specs.Kept.{Keeps};
 
 use crate::fields::Fields;
 use crate::{AddFault, Added, SwapAnswer};
 use bk_cache::{CacheAdd, CacheFault, Swap};
 use bk_disk::LogDisk;
-use bk_record::check_add;
+use bk_record::{Key, check_add};
+
+/// Who adds an entry. Of a fenced ledger only a recovery may.
+#[derive(Clone, Copy, Debug, PartialEq, Eq)]
+pub enum AddKind {
+    /// The ledger's writer.
+    Ordinary,
+    /// A recovery of the ledger, which goes on behind its fence.
+    Recovery,
+}
 
 impl<D: LogDisk> Fields<D> {
-    pub fn add(&mut self, payload: &[u8]) -> Result<Added, AddFault>
-        ensures turn { AddTurn self.old.state payload.now result self.new.state }
+    pub fn add(&mut self, kind: AddKind, payload: &[u8]) -> Result<Added, AddFault>
+        ensures turn { AddTurn self.old.state kind payload.now result self.new.state }
         ensures beside { self.new ≡ record self.old { state = self.new.state } }
     {
         let key = match check_add(payload) {
@@ -22,15 +34,41 @@ impl<D: LogDisk> Fields<D> {
         if self.ledgers.is_dead(key.ledger()) {
             return Err(AddFault::Deleted);
         }
+        if self.ledgers.bars(kind, key.ledger()) {
+            return Err(AddFault::Fenced);
+        }
         if self.index.get(&key).is_some() {
             return Ok(Added::Held);
         }
+        // Room in the trail comes first: what is accepted is marked.
+        if self.ledgers.ready().is_err() {
+            return self.refuse(kind, &key, payload);
+        }
         match self.caches.add(key, payload) {
-            Ok(CacheAdd::Taken) => Ok(Added::Accepted),
+            Ok(CacheAdd::Taken) => Ok(Added::Accepted(self.ledgers.accept(key, payload))),
             Ok(CacheAdd::Held) => Ok(Added::Held),
             Err(CacheFault::Full { used, limit }) => Err(AddFault::Full { used, limit }),
             Err(CacheFault::Memory) => Err(AddFault::Memory),
         }
+    }
+
+    // What an add answers where there is no room in the trail, and the index does not have its key.
+    fn refuse(&self, kind: AddKind, key: &Key, payload: &[u8]) -> Result<Added, AddFault>
+        requires reads { read_added payload.now ≡ Ok key.now }
+        requires lives { is_dead self.now.state key.now.ledger ≡ false }
+        requires unbarred { is_barred kind self.now.state.ledgers.fenced key.now.ledger ≡ false }
+        requires unnamed { map.get self.now.state.index key.now ≡ None }
+        ensures { AddTurn self.now.state kind payload.now result self.now.state }
+    {
+        if self.caches.holds(key) {
+            return Ok(Added::Held);
+        }
+        let used = self.caches.used();
+        let limit = self.caches.limit();
+        if used + payload.len() as u64 > limit {
+            return Err(AddFault::Full { used, limit });
+        }
+        Err(AddFault::Memory)
     }
 
     pub fn swap(&mut self) -> SwapAnswer

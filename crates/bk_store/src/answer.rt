@@ -1,5 +1,6 @@
 //! What the calls of a store answer: an enum for each call, and why a call is refused.
 
+use crate::Receipt;
 use bk_lease::Lease;
 use bk_record::{Location, RecordFault};
 use std::sync::Arc;
@@ -8,8 +9,8 @@ use thiserror::Error;
 /// What became of an add.
 #[derive(Clone, Copy, Debug, PartialEq, Eq)]
 pub enum Added {
-    /// The entry is kept from now on.
-    Accepted,
+    /// The entry is kept from now on; here is its receipt.
+    Accepted(Receipt),
     /// An entry of that key is kept already; its first bytes stay (this project's rule).
     Held,
 }
@@ -23,6 +24,9 @@ pub enum AddFault {
     /// The entry's ledger was deleted.
     #[error("deleted")]
     Deleted,
+    /// The entry's ledger is fenced, and this is no recovery add.
+    #[error("fenced")]
+    Fenced,
     /// The active cache has `used` payload bytes, and this payload would take it past its limit.
     #[error("full {used} {limit}")]
     Full { used: u64, limit: u64 },
@@ -64,6 +68,26 @@ pub enum DeleteFault {
     /// The ledger was deleted before.
     #[error("already deleted")]
     AlreadyDeleted,
+    /// No memory was to be had.
+    #[error("memory")]
+    Memory,
+}
+
+/// What became of a fence.
+#[derive(Clone, Copy, Debug, PartialEq, Eq)]
+pub enum Fence {
+    /// The ledger is fenced from now on.
+    Fenced,
+    /// The ledger was fenced before.
+    AlreadyFenced,
+}
+
+/// Why a ledger was not fenced. The store is as it was.
+#[derive(Clone, Copy, Debug, PartialEq, Eq, Error)]
+pub enum FenceFault {
+    /// The ledger was deleted.
+    #[error("deleted")]
+    Deleted,
     /// No memory was to be had.
     #[error("memory")]
     Memory,

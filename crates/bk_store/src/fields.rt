@@ -56,7 +56,7 @@ impl<D: LogDisk> Model for Fields<D> {
         logs = f.logs;
         keeper = f.keeper;
         next = f.next;
-        ledgers = f.ledgers;
+        ledgers = f.ledgers.known;
         job = f.job;
       };
       accounts = f.accounts;

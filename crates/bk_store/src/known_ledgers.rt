@@ -1,42 +1,136 @@
-//! What a store knows of ledgers.
+//! What a store knows of ledgers, and its trail.
+//!
+//! A mark is made together with the change that it tells: room for it comes first, so that nothing is changed that is not
+//! marked.
 
-ghost use Rattle.std.specs.Prelude.{◌≡◌, OnOk, OnErr};
+ghost use Rattle.std.specs.Prelude.{◌≡◌, ◌<◌, length, OnOk, OnErr};
 ghost use Rattle.std.specs.FinSet as set;
 
-use crate::dead::DeadLedgers;
-use std::alloc::AllocError;
+use crate::ledger_set::LedgerSet;
+use crate::trail::Trail;
+use crate::{AddKind, Mark, Receipt};
+use bk_record::Key;
+use sha2::{Digest, Sha256};
+use std::alloc::{AllocError, Global};
 use std::marker::Model;
 
-/// What a store knows of ledgers: those that were deleted.
+/// What a store knows of ledgers: those that were deleted, those that are fenced, and what it accepted since it was opened.
 #[derive(Drop)]
 pub(crate) struct KnownLedgers {
-    pub dead: DeadLedgers,
+    dead: LedgerSet,
+    fenced: LedgerSet,
+    trail: Trail,
 }
 
 impl Model for KnownLedgers {
-    ghost use Rattle.bk_store.specs.State.{known_ledgers_code};
-    ghost use Rattle.bk_store.specs.State as state;
+    ghost use Rattle.bk_store.specs.Ledgers.{HeldLedgers, held_ledgers_code};
 
-    ghost Value = { state.KnownLedgers };
+    ghost Value = { HeldLedgers };
 
-    ghost coded = { known_ledgers_code };
+    ghost coded = { held_ledgers_code };
 
-    ghost view = { λ l. record { dead = l.dead } };
+    ghost view = { λ l. record {
+      known = record { dead = l.dead; fenced = l.fenced; trail = l.trail.marks };
+      room = l.trail.room;
+    } };
 }
 
 impl KnownLedgers {
+    ghost use Rattle.bk_store.specs.Ledgers.{opened_ledgers, is_barred, receipt_of, with_add, with_deletion, with_fence};
+
+    /// What is known when a store was just opened, beside these dead ledgers: none is fenced, and there is no mark.
+    pub fn opened(alloc: Global, dead: LedgerSet) -> KnownLedgers
+        ensures { result.known ≡ opened_ledgers dead }
+    {
+        KnownLedgers {
+            dead,
+            fenced: LedgerSet::new(alloc),
+            trail: Trail::new(alloc),
+        }
+    }
+
     /// Whether a ledger was deleted.
     pub fn is_dead(&self, ledger: u64) -> bool
-        ensures { result ≡ set.contains self.now.dead ledger }
+        ensures { result ≡ set.contains self.now.known.dead ledger }
     {
         self.dead.contains(ledger)
     }
 
-    /// A ledger is dead from now on. The only error is want of memory, which leaves all as it was.
-    pub fn delete(&mut self, ledger: u64) -> Result<(), AllocError>
-        ensures ok { OnOk result (self.new ≡ record self.old { dead = set.insert self.old.dead ledger }) }
-        ensures err { OnErr result (self.new ≡ self.old) }
+    /// Whether a ledger is fenced.
+    pub fn is_fenced(&self, ledger: u64) -> bool
+        ensures { result ≡ set.contains self.now.known.fenced ledger }
     {
-        self.dead.insert(ledger)
+        self.fenced.contains(ledger)
+    }
+
+    /// Whether a fence keeps adds of this kind out of a ledger.
+    pub fn bars(&self, kind: AddKind, ledger: u64) -> bool
+        ensures { result ≡ is_barred kind self.now.known.fenced ledger }
+    {
+        match kind {
+            AddKind::Ordinary => self.fenced.contains(ledger),
+            AddKind::Recovery => false,
+        }
+    }
+
+    /// The marks of what was accepted, in their order.
+    pub fn trail(&self) -> &[Mark]
+        ensures { result.now ≡ self.now.known.trail }
+    {
+        self.trail.marks()
+    }
+
+    /// How many marks there are.
+    pub fn front(&self) -> u64
+        ensures { result ≡ length self.now.known.trail }
+    {
+        self.trail.len()
+    }
+
+    /// Makes room for one mark more. The only error is want of memory; what is known stays.
+    pub fn ready(&mut self) -> Result<(), AllocError>
+        ensures same { self.new.known ≡ self.old.known }
+        ensures ok { OnOk result (0 < self.new.room) }
+    {
+        self.trail.ready()
+    }
+
+    /// An entry came in, for whose mark there is room.
+    pub fn accept(&mut self, key: Key, payload: &[u8]) -> Receipt
+        requires { 0 < self.old.room }
+        ensures receipt { result ≡ receipt_of self.old.known.trail key payload.now }
+        ensures known { self.new.known ≡ with_add self.old.known key payload.now }
+    {
+        let number = self.trail.len();
+        let digest = Sha256::digest(payload);
+        self.trail.push(Mark::Add { key, digest });
+        Receipt {
+            number,
+            key,
+            digest,
+        }
+    }
+
+    /// A ledger is dead from now on, and fenced no more. The only error is want of memory, which leaves what is known.
+    pub fn delete(&mut self, ledger: u64) -> Result<(), AllocError>
+        ensures ok { OnOk result (self.new.known ≡ with_deletion self.old.known ledger) }
+        ensures err { OnErr result (self.new.known ≡ self.old.known) }
+    {
+        self.trail.ready()?;
+        self.dead.insert(ledger)?;
+        self.fenced.remove(ledger);
+        self.trail.push(Mark::Delete { ledger });
+        Ok(())
+    }
+
+    /// A ledger is fenced from now on. The only error is want of memory, which leaves what is known.
+    pub fn fence(&mut self, ledger: u64) -> Result<(), AllocError>
+        ensures ok { OnOk result (self.new.known ≡ with_fence self.old.known ledger) }
+        ensures err { OnErr result (self.new.known ≡ self.old.known) }
+    {
+        self.trail.ready()?;
+        self.fenced.insert(ledger)?;
+        self.trail.push(Mark::Fence { ledger });
+        Ok(())
     }
 }

@@ -1,6 +1,6 @@
 //! Laws of the definitions that contracts cite, stated once for all stores; the functions do nothing.
 
-ghost use Rattle.std.specs.Prelude.{◌≡◌, ◌≢◌, ℕ, List, None, Result, ◌||◌, is_some, if◌then◌else◌, IsTrue, true};
+ghost use Rattle.std.specs.Prelude.{◌≡◌, ◌≢◌, ◌↔◌, ℕ, List, Some, None, Result, ◌||◌, is_some, if◌then◌else◌, IsTrue, true};
 ghost use Rattle.std.specs.FinMap as finite;
 ghost use Rattle.std.specs.FinSet as set;
 ghost use Rattle.std.specs.Option.{option_or};
@@ -11,17 +11,23 @@ ghost use Rattle.bk_record.specs.Scan.{Payloads, Ledgers, scan_of, live};
 ghost use Rattle.bk_store.specs.Entries.{Bytes, IsIndexOf};
 ghost use Rattle.bk_store.specs.Carried.{Cached, Carries};
 ghost use Rattle.bk_store.specs.Shown.{Shows};
+ghost use Rattle.bk_store.specs.Trail.{Replays, CameIn, WasDeleted, HasDigest, replay_of};
+ghost use Rattle.bk_store.specs.Ledgers.{FollowsTrail};
 ghost use Rattle.bk_store.specs.State.{State};
-ghost use Rattle.bk_store.specs.Turns.{AddTurn, TakeTurn, SwapTurn, DeleteTurn, valid_ledgers};
-ghost use Rattle.bk_store.specs.Meaning.{MeansTheSame, written_at};
+ghost use Rattle.bk_store.specs.Turns.{AddTurn, TakeTurn, SwapTurn, DeleteTurn, FenceTurn, valid_ledgers};
+ghost use Rattle.bk_store.specs.Meaning.{IsMeaning, MeansTheSame, written_at};
 ghost use Rattle.bk_store.specs.Opening.{IsOpened};
 ghost use Rattle.bk_store.specs.declared.settings.Settings.{Settings};
-ghost use Rattle.bk_store.specs.Plain.{Plain, PlainAdd, PlainTake, PlainDelete, after_swap, MatchesPlain, IsKept};
+ghost use Rattle.bk_store.specs.Plain.{Plain, PlainAdd, PlainTake, PlainDelete, PlainFence, after_swap, MatchesPlain, IsKept};
+ghost use Rattle.bk_store.specs.declared.mark.Mark.{Mark};
+ghost use Rattle.bk_store.specs.declared.adding.AddKind.{AddKind};
 ghost use Rattle.bk_store.specs.declared.answer.Added.{Added};
 ghost use Rattle.bk_store.specs.declared.answer.AddFault.{AddFault};
 ghost use Rattle.bk_store.specs.declared.answer.Taken.{Taken};
 ghost use Rattle.bk_store.specs.declared.answer.TakeFault.{TakeFault};
 ghost use Rattle.bk_store.specs.declared.answer.DeleteFault.{DeleteFault};
+ghost use Rattle.bk_store.specs.declared.answer.Fence.{Fence};
+ghost use Rattle.bk_store.specs.declared.answer.FenceFault.{FenceFault};
 ghost use Rattle.bk_store.specs.declared.answer.SwapAnswer.{SwapAnswer};
 
 use bk_disk::LogView;
@@ -82,8 +88,8 @@ pub fn deleted_ledger_leaves()
 
 /// An add of a store answers as the plain map does, and leaves them agreeing.
 pub fn add_is_plain()
-    ensures { (s t : State) (p : Plain) (payload : List ℕ) (answer : Result Added AddFault) → IsKept s → IsTrue s.honest → MatchesPlain s p
-        → AddTurn s payload answer t → (q : Plain) × PlainAdd s.caches.limit p payload answer q × MatchesPlain t q }
+    ensures { (s t : State) (p : Plain) (kind : AddKind) (payload : List ℕ) (answer : Result Added AddFault) → IsKept s → IsTrue s.honest
+        → MatchesPlain s p → AddTurn s kind payload answer t → (q : Plain) × PlainAdd s.caches.limit kind p payload answer q × MatchesPlain t q }
 {}
 
 /// A take of a store answers as the plain map does, and leaves them agreeing: a lease has a view in which the entry stands
@@ -103,6 +109,28 @@ pub fn swap_is_plain()
 pub fn delete_is_plain()
     ensures { (s t : State) (p : Plain) (ledger : ℕ) (answer : Result ℕ DeleteFault) → IsKept s → IsTrue s.honest → MatchesPlain s p
         → DeleteTurn s ledger answer t → (q : Plain) × PlainDelete p ledger answer q × MatchesPlain t q }
+{}
+
+/// A fence of a store answers as the plain map does, and leaves them agreeing.
+pub fn fence_is_plain()
+    ensures { (s t : State) (p : Plain) (ledger : ℕ) (answer : Result Fence FenceFault) → MatchesPlain s p
+        → FenceTurn s ledger answer t → (q : Plain) × PlainFence p ledger answer q × MatchesPlain t q }
+{}
+
+/// What a trail replays to: the digests of the entries that came in and whose ledgers were not deleted since, each key
+/// having come in once.
+pub fn replay_is_what_came_in()
+    ensures { (map : Payloads) (trail : List Mark) → Replays map trail → (key : EntryKey) (digest : List ℕ) → (finite.get (replay_of trail) key ≡ Some digest)
+        ↔ ((number : ℕ) × CameIn trail number key digest × ¬ (WasDeleted trail key.ledger)) }
+{}
+
+/// A store keeps what its trail tells: the deleted ledgers are dead; the fenced ones are those that were fenced and not
+/// deleted; and what it means has what the trail replays to, with that digest, no key having come in twice.
+pub fn trail_is_kept()
+    ensures follows { (s : State) → IsKept s → FollowsTrail s.ledgers }
+    ensures replays { (s : State) (map : Payloads) → IsKept s → IsTrue s.honest → IsMeaning map s → Replays map s.ledgers.trail }
+    ensures has { (s : State) (map : Payloads) → IsKept s → IsTrue s.honest → IsMeaning map s → (key : EntryKey) (digest : List ℕ)
+        → finite.get (replay_of s.ledgers.trail) key ≡ Some digest → HasDigest map key digest }
 {}
 
 /// A store that is opened on the files of another one, with the same dead ledgers, means at every key what that one means,

@@ -12,9 +12,9 @@ mod logs;
 mod scan;
 mod tally;
 
-use crate::dead::DeadLedgers;
 use crate::fields::Fields;
 use crate::known_ledgers::KnownLedgers;
+use crate::ledger_set::LedgerSet;
 use crate::logs::LogTable;
 use crate::places::FlushPlaces;
 use crate::{OpenFault, Settings};
@@ -61,7 +61,7 @@ impl<D: LogDisk> Fields<D> {
         let Ok(caches) = Caches::new(alloc, u64::from(settings.cache_limit), settings.recent) else {
             return Err(OpenFault::Memory);
         };
-        let Ok(dead) = DeadLedgers::of(alloc, dead) else {
+        let Ok(dead) = LedgerSet::of(alloc, dead) else {
             return Err(OpenFault::Memory);
         };
         let mut tally = Tally::new(alloc, dead);
@@ -86,7 +86,7 @@ impl<D: LogDisk> Fields<D> {
             writing: None,
             filled: Vec::new(alloc),
             next,
-            ledgers: KnownLedgers { dead },
+            ledgers: KnownLedgers::opened(alloc, dead),
             job: None,
         })
     }

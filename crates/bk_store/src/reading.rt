@@ -4,7 +4,8 @@ ghost use Rattle.std.specs.Prelude.{◌≡◌, ◌<◌, ◌≤◌, ◌↔◌, �
 ghost use Rattle.std.specs.FinMap as map;
 ghost use Rattle.bk_record.specs.Files.{header_length};
 ghost use Rattle.bk_record.specs.Keyed.{log_count};
-ghost use Rattle.bk_record.specs.Record.{max_added, read_added};
+ghost use Rattle.bk_record.specs.Limits.{max_added};
+ghost use Rattle.bk_record.specs.Record.{read_added};
 ghost use Rattle.bk_cache.specs.Caches.{flush_of};
 ghost use Rattle.bk_store.specs.Doors.{IsNextEntry, IsWritingLog, MayMakeTurn, writer_of};
 ghost use Rattle.bk_store.specs.Limits.{IsAllowed};
@@ -92,7 +93,7 @@ impl<D: LogDisk> Store<D> {
         self.fields.caches.flush_len()
     }
 
-    /// The flush's first entry without a place, by their keys: its key, and its payload of 16 to 1,048,576 bytes. `None`
+    /// The flush's first entry without a place, by their keys: its key, and its payload of 16 to 5,000,000 bytes. `None`
     /// where every entry has a place, or no flush runs.
     pub fn next_entry(&self) -> Option<(Key, &Arc<Vec<u8>>)>
         ensures next { IsNextEntry self.now (option_map (λ e. (e.0, e.1.now.value.items)) result) }

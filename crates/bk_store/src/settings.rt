@@ -3,10 +3,12 @@
 ghost use Rattle.std.specs.Prelude.{◌↔◌, IsTrue};
 ghost use Rattle.bk_store.specs.Limits.{IsAllowed};
 
+use bk_record::{MAX_CACHE_LIMIT, MAX_LOG_LIMIT};
+
 /// The limits and thresholds of a store (this project's rule).
 #[derive(Clone, Copy, Debug, PartialEq, Eq)]
 pub struct Settings {
-    /// A log with a record is sealed before one that would take it past this many bytes: 2,048 to 1,073,741,824.
+    /// A log with a record is sealed before one that would take it past this many bytes: 2,048 to 4,000,000,000.
     pub log_limit: u32,
     /// The most payload bytes of one write cache: 16 to 1,073,741,824.
     pub cache_limit: u32,
@@ -28,9 +30,9 @@ impl Settings {
         ensures { IsTrue result ↔ IsAllowed self.now }
     {
         2048 <= self.log_limit
-            && self.log_limit <= 1 << 30
+            && self.log_limit <= MAX_LOG_LIMIT
             && 16 <= self.cache_limit
-            && self.cache_limit <= 1 << 30
+            && self.cache_limit <= MAX_CACHE_LIMIT
             && self.recent <= 65_536
             && 1 <= self.slots
             && self.slots <= 65_536

@@ -4,16 +4,18 @@
 //! type promises stands in `specs/Kept.antt`: beside an honest disk the files, the index and the write caches carry a map,
 //! and the accounts are those of the acknowledged parts.
 
-ghost use Rattle.std.specs.Prelude.{◌≡◌, ◌↔◌, Some, IsTrue, IsErrOf, IfOk, IfErr, option_map};
+ghost use Rattle.std.specs.Prelude.{◌≡◌, ◌↔◌, Some, IsTrue, IsErrOf, IfOk, IfErr, length, option_map};
 ghost use Rattle.std.specs.FinMap as map;
 ghost use Rattle.bk_store.specs.Plain.{IsKept};
 ghost use Rattle.bk_store.specs.Limits.{IsAllowed};
 ghost use Rattle.bk_store.specs.Opening.{IsOpened, OpenFails};
-ghost use Rattle.bk_store.specs.Turns.{AddTurn, TakeTurn, DeleteTurn, SwapTurn};
+ghost use Rattle.bk_store.specs.Turns.{AddTurn, TakeTurn, DeleteTurn, FenceTurn, SwapTurn};
+ghost use Rattle.bk_store.specs.declared.adding.AddKind.TheVariants.{Ordinary, Recovery};
 
 use crate::fields::Fields;
 use crate::{
-    AddFault, Added, DeleteFault, LogState, OpenFault, Settings, SwapAnswer, TakeFault, Taken,
+    AddFault, AddKind, Added, DeleteFault, Fence, FenceFault, LogState, Mark, OpenFault, Settings,
+    SwapAnswer, TakeFault, Taken,
 };
 use bk_disk::LogDisk;
 use bk_record::Key;
@@ -72,16 +74,52 @@ impl<D: LogDisk> Store<D> {
         Ok(Store { fields })
     }
 
-    /// Adds an entry, unless one of its key is held: the first bytes of a key stay (this project's rule). The payload
-    /// is the ledger id and the entry id, eight bytes each, big-endian, then the data.
+    /// Adds an entry, unless one of its key is held: the first bytes of a key stay. The payload is the ledger id and the
+    /// entry id, eight bytes each, big-endian, then the data. An entry that is accepted is marked in the trail, and the
+    /// answer has its receipt.
     ///
-    /// Faults, tried in this order, the last two only where the key is new; each leaves the store as it was: `Bad` with
-    /// the payload's fault, `Deleted` where the ledger was deleted, `Full` where the active cache has no room for the
-    /// payload, `Memory`.
+    /// Faults, tried in this order; each leaves the store as it was: `Bad` with the payload's fault, `Deleted` where the
+    /// ledger was deleted, `Fenced` where it is fenced; then, only where the key is new, `Full` where the active cache has
+    /// no room for the payload, `Memory`.
     pub fn add(&mut self, payload: &[u8]) -> Result<Added, AddFault>
-        ensures { AddTurn self.old payload.now result self.new }
+        ensures { AddTurn self.old Ordinary payload.now result self.new }
     {
-        self.fields.add(payload)
+        self.fields.add(AddKind::Ordinary, payload)
+    }
+
+    /// Adds an entry as `add` does, to a fenced ledger too: who recovers a ledger fences it, and then writes what its
+    /// writer did not write everywhere.
+    ///
+    /// The faults are those of `add` but for `Fenced`.
+    pub fn add_recovery(&mut self, payload: &[u8]) -> Result<Added, AddFault>
+        ensures { AddTurn self.old Recovery payload.now result self.new }
+    {
+        self.fields.add(AddKind::Recovery, payload)
+    }
+
+    /// Fences a ledger: ordinary adds to it are refused, until it is deleted or the store is opened anew. Any number may be
+    /// fenced, also one that is no ledger's id. A ledger that is fenced already stays so, and that takes no memory.
+    ///
+    /// Faults, tried in this order; each leaves the store as it was: `Deleted` where the ledger was deleted; `Memory`, only
+    /// where the ledger is not fenced yet.
+    pub fn fence(&mut self, ledger: u64) -> Result<Fence, FenceFault>
+        ensures { FenceTurn self.old ledger result self.new }
+    {
+        self.fields.fence(ledger)
+    }
+
+    /// How many marks the trail has: the number that the next one gets.
+    pub fn front(&self) -> u64
+        ensures { result ≡ length self.now.ledgers.trail }
+    {
+        self.fields.ledgers.front()
+    }
+
+    /// The trail: a mark for each add, deletion and fence that was accepted since the store was opened, in their order.
+    pub fn trail(&self) -> &[Mark]
+        ensures { result.now ≡ self.now.ledgers.trail }
+    {
+        self.fields.ledgers.trail()
     }
 
     /// The entry of a key: its payload where a cache has it, else a lease on the log where the index says that it
@@ -97,7 +135,7 @@ impl<D: LogDisk> Store<D> {
     }
 
     /// Deletes a ledger: its entries leave the caches, the running flush, the index and the accounts, and it is dead for as
-    /// long as the store is. A flush that loses all its entries still runs; the files stay as they are. Any number may be
+    /// long as the store is, and fenced no more; the trail has a mark of it. A flush that loses all its entries still runs; the files stay as they are. Any number may be
     /// deleted, also one that is no ledger's id (this project's rule).
     ///
     /// The answer is how many keys of the ledger were held, each counted once. Faults, tried in this order; each leaves the

@@ -6,7 +6,7 @@ ghost use Rattle.bk_accounts.specs.Book.{HasAccount, total_in};
 ghost use Rattle.bk_store.specs.Found.{with_entry, with_names, named_by, AreUnnamed};
 
 use crate::OpenFault;
-use crate::dead::DeadLedgers;
+use crate::ledger_set::LedgerSet;
 use bk_accounts::Accounts;
 use bk_index::Index;
 use bk_log::Found;
@@ -18,12 +18,12 @@ use std::alloc::Global;
 pub(super) struct Tally {
     pub index: Index,
     pub accounts: Accounts,
-    pub dead: DeadLedgers,
+    pub dead: LedgerSet,
 }
 
 impl Tally {
     /// No log was read yet.
-    pub fn new(alloc: Global, dead: DeadLedgers) -> Tally
+    pub fn new(alloc: Global, dead: LedgerSet) -> Tally
         ensures { result ≡ record { index = map.empty; accounts = map.empty; dead = dead } }
     {
         Tally {

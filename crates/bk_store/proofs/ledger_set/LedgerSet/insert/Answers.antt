@@ -1,7 +1,7 @@
 use Rattle.std.proofs.Common.{ap, ◌∙◌}
 use Rattle.std.specs.FinSet as set
 use Rattle.bk_store.proofs.Ledgers.{ledgers-insert}
-use Rattle.bk_store.proofs.dead.DeadLedgers.insert.Goals as goal
+use Rattle.bk_store.proofs.ledger_set.LedgerSet.insert.Goals as goal
 
 pub returns-clause-ok : goal.returns-clause-ok
 returns-clause-ok c =

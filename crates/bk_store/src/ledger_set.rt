@@ -1,4 +1,4 @@
-//! The ledgers that were deleted.
+//! Sets of ledgers: those that were deleted, and those that are fenced.
 
 ghost use Rattle.std.specs.Prelude.{◌≡◌, ◌<◌, ◌^◌, OnOk, OnErr, IfOk, nat_lt};
 ghost use Rattle.std.specs.List.{filter};
@@ -11,11 +11,11 @@ use std::marker::Model;
 
 /// A set of ledgers.
 #[derive(Drop)]
-pub(crate) struct DeadLedgers {
+pub(crate) struct LedgerSet {
     ledgers: BTreeSet<u64>,
 }
 
-impl Model for DeadLedgers {
+impl Model for LedgerSet {
     ghost use Rattle.std.specs.Coded.{coded_ℕ};
     ghost use Rattle.std.specs.FinSet as set;
     ghost use Rattle.bk_record.specs.Scan.{Ledgers};
@@ -24,16 +24,25 @@ impl Model for DeadLedgers {
 
     ghost coded = { set.code coded_ℕ };
 
-    ghost view = { λ dead. set.from_list dead.ledgers.keys };
+    ghost view = { λ s. set.from_list s.ledgers.keys };
 }
 
-impl DeadLedgers {
+impl LedgerSet {
     ghost use Rattle.bk_store.specs.Turns.{valid_ledgers};
+
+    /// No ledger.
+    pub fn new(alloc: Global) -> LedgerSet
+        ensures { result ≡ set.empty }
+    {
+        LedgerSet {
+            ledgers: BTreeSet::new(alloc),
+        }
+    }
 
     /// The ledgers of a list; one that is past the greatest id, or that stands in it again, means nothing. The only error
     /// is want of memory.
-    pub fn of(alloc: Global, listed: &[u64]) -> Result<DeadLedgers, AllocError>
-        ensures { IfOk result (λ dead. dead ≡ valid_ledgers listed.now) }
+    pub fn of(alloc: Global, listed: &[u64]) -> Result<LedgerSet, AllocError>
+        ensures { IfOk result (λ ledgers. ledgers ≡ valid_ledgers listed.now) }
     {
         let mut ledgers = BTreeSet::new(alloc);
         for ledger in listed {
@@ -41,7 +50,7 @@ impl DeadLedgers {
                 ledgers.insert(*ledger)?;
             }
         }
-        Ok(DeadLedgers { ledgers })
+        Ok(LedgerSet { ledgers })
     }
 
     /// Whether the ledger is one of them.
@@ -58,5 +67,12 @@ impl DeadLedgers {
     {
         self.ledgers.insert(ledger)?;
         Ok(())
+    }
+
+    /// Lets a ledger go, if it is one of them. It takes no memory.
+    pub fn remove(&mut self, ledger: u64)
+        ensures { self.new ≡ set.remove self.old ledger }
+    {
+        self.ledgers.remove(&ledger);
     }
 }
