@@ -1,3 +1,4 @@
 mod Taking
 mod Views
 mod Reading
+mod Still

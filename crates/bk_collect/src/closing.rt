@@ -2,6 +2,7 @@
 
 ghost use Rattle.std.specs.Prelude.{◌≡◌, IsTrue};
 ghost use Rattle.bk_store.specs.Meaning.{MeansTheSame};
+ghost use Rattle.bk_step.specs.Staying.{Stays, CachesStay, SlotsStay};
 ghost use Rattle.bk_collect.specs.Collecting.{CloseTurn};
 
 use crate::CloseAnswer;
@@ -12,6 +13,9 @@ use bk_store::{LogState, Store};
 /// a log that is leased stays as it is. It takes no memory, and asks no device.
 pub fn close<D: LogDisk>(store: &mut Store<D>, log: u32) -> CloseAnswer
     ensures turn { CloseTurn store.old log result store.new }
+    ensures stays { Stays store.old store.new × CachesStay store.old store.new
+        × (¬ (result ≡ CloseAnswer.Closed) → SlotsStay store.old.keeper store.new.keeper)
+        × (store.new.failures ≡ store.old.failures) }
     ensures honest { store.new.honest ≡ store.old.honest }
     ensures meaning { IsTrue store.old.honest → MeansTheSame store.old store.new }
 {

@@ -8,6 +8,7 @@ ghost use Rattle.bk_disk.specs.Disk.{AreSound};
 ghost use Rattle.bk_store.specs.Doors.{MayReplace};
 ghost use Rattle.bk_store.specs.Logs.{view_of};
 ghost use Rattle.bk_store.specs.Meaning.{MeansTheSame};
+ghost use Rattle.bk_step.specs.Staying.{StandsStill};
 ghost use Rattle.bk_collect.specs.Collecting.{RebuildFails, RebuildTurn, open_view};
 
 use crate::CollectFault;
@@ -26,6 +27,7 @@ use std::sync::Arc;
 /// behaved as no honest one does. The store is as it was after each.
 pub fn rebuild<D: LogDisk>(store: &mut Store<D>) -> Result<u64, CollectFault>
     ensures turn { RebuildTurn store.old result store.new }
+    ensures stays { StandsStill store.old store.new × (store.new.failures ≡ store.old.failures) }
     ensures sound { AreSound D.View.sound → ¬ (IsErrOf result CollectFault.Disk) }
     ensures honest { store.new.honest ≡ store.old.honest }
     ensures meaning { IsTrue store.old.honest → MeansTheSame store.old store.new }

@@ -1,8 +1,9 @@
 //! Removing a closed log: its file goes, and its slot is free for another log.
 
-ghost use Rattle.std.specs.Prelude.{◌≡◌, IsErrOf, IsTrue};
+ghost use Rattle.std.specs.Prelude.{◌≡◌, IsErrOf, IsTrue, Ok};
 ghost use Rattle.bk_disk.specs.Disk.{IsCaused};
 ghost use Rattle.bk_store.specs.Meaning.{MeansTheSame};
+ghost use Rattle.bk_step.specs.Staying.{Stays, CachesStay, SlotsStay};
 ghost use Rattle.bk_collect.specs.Collecting.{RemoveTurn};
 
 use crate::{CollectFault, RemoveAnswer};
@@ -17,6 +18,8 @@ use bk_store::{LogState, Store};
 /// never comes from an honest disk, and `Log` never comes.
 pub fn remove<D: LogDisk>(store: &mut Store<D>, log: u32) -> Result<RemoveAnswer, CollectFault>
     ensures turn { RemoveTurn store.old log result store.new }
+    ensures stays { Stays store.old store.new × CachesStay store.old store.new
+        × (¬ (result ≡ Ok RemoveAnswer.Removed) → SlotsStay store.old.keeper store.new.keeper) }
     ensures cause { IsCaused store.old.failures store.new.failures (IsErrOf result CollectFault.Disk) }
     ensures honest { store.new.honest ≡ store.old.honest }
     ensures meaning { IsTrue store.old.honest → MeansTheSame store.old store.new }

@@ -4,6 +4,7 @@ ghost use Rattle.std.specs.Prelude.{◌≡◌, IsTrue};
 ghost use Rattle.std.specs.Bool.{OnFalse, OnTrue};
 ghost use Rattle.bk_store.specs.Doors.{IsIdle};
 ghost use Rattle.bk_store.specs.Meaning.{MeansTheSame};
+ghost use Rattle.bk_step.specs.Staying.{StandsStill};
 ghost use Rattle.bk_collect.specs.Collecting.{IsCompacted, RetireTurn};
 
 use crate::RetireAnswer;
@@ -15,6 +16,7 @@ use bk_store::{LogState, Store};
 /// asks no device.
 pub fn retire<D: LogDisk>(store: &mut Store<D>, log: u32) -> RetireAnswer
     ensures turn { RetireTurn store.old log result store.new }
+    ensures stays { StandsStill store.old store.new × (store.new.failures ≡ store.old.failures) }
     ensures honest { store.new.honest ≡ store.old.honest }
     ensures meaning { IsTrue store.old.honest → MeansTheSame store.old store.new }
 {

@@ -9,3 +9,4 @@ mod Stepping
 mod Switched
 mod Sealed
 mod Turns
+mod Still

@@ -13,10 +13,11 @@ use Rattle.bk_store.specs.Plain.{IsKept}
 use Rattle.bk_store.specs.declared.job.Phase.TheVariants.{Copy, Switch}
 use Rattle.bk_store.specs.declared.log.LogState.TheVariants.{Readable}
 use Rattle.bk_store.proofs.LogMaps.{log-inserted}
-use Rattle.bk_compact.specs.Compacting.{IsRunning, EndTurn, SealsCopy, ShowsCopy, entries_left, compact_fault_of, with_job}
+use Rattle.bk_step.specs.Faults.{step_fault_of}
+use Rattle.bk_compact.specs.Compacting.{IsRunning, EndTurn, SealsCopy, ShowsCopy, entries_left, with_job}
 use Rattle.bk_compact.specs.Going.{IsAtEnd, IsCopying}
 use Rattle.bk_compact.specs.declared.answer.EndAnswer.TheVariants as ends
-use Rattle.bk_compact.specs.declared.answer.CompactFault.{CompactFault}
+use Rattle.bk_step.specs.declared.fault.StepFault.{StepFault}
 use Rattle.bk_compact.proofs.Ended.{sealed_keeps}
 use Rattle.bk_compact.proofs.Finished.{taken_out}
 
@@ -75,10 +76,10 @@ module _ (s out : State) (kept : IsKept s) (job own : Job) (running : IsRunning 
     ),
   )
 
-  pub not_sealed : (cause : LogFault) (fault : CompactFault) (t : State) → fault ≡ compact_fault_of cause → Seals out id Readable (Err cause) t
+  pub not_sealed : (cause : LogFault) (fault : StepFault) (t : State) → fault ≡ step_fault_of cause → Seals out id Readable (Err cause) t
       → EndTurn s (Err fault) t
   not_sealed cause fault t told_so seals = (job, running, inr (cause, told_so, inl (seals_copy (Err cause) t seals)))
 
-  pub not_shown : (cause : LogFault) (fault : CompactFault) (mid t : State) → fault ≡ compact_fault_of cause → Seals out id Readable (Ok tt) mid
+  pub not_shown : (cause : LogFault) (fault : StepFault) (mid t : State) → fault ≡ step_fault_of cause → Seals out id Readable (Ok tt) mid
       → ShowTurn mid id (Err cause) t → EndTurn s (Err fault) t
   not_shown cause fault mid t told_so seals shows = (job, running, inr (cause, told_so, inr (shows_copy (Err cause) mid t seals shows)))

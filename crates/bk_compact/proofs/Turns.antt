@@ -21,13 +21,14 @@ use Rattle.bk_store.specs.declared.log.LogState.TheVariants.{Copying, Readable}
 use Rattle.bk_store.proofs.JobStays.{job_stays, stays_same}
 use Rattle.bk_compact.specs.declared.answer.CopyAnswer.{CopyAnswer}
 use Rattle.bk_compact.specs.declared.answer.CopyAnswer.TheVariants as copies
-use Rattle.bk_compact.specs.declared.answer.CompactFault.{CompactFault}
-use Rattle.bk_compact.specs.declared.answer.CompactFault.TheVariants as faults
+use Rattle.bk_step.specs.declared.fault.StepFault.{StepFault}
+use Rattle.bk_step.specs.declared.fault.StepFault.TheVariants as step_faults
 use Rattle.bk_compact.specs.declared.entries.Stopped.{Stopped}
 use Rattle.bk_compact.specs.declared.scanning.Unread.{Unread}
 use Rattle.bk_compact.specs.declared.scanning.Unread.TheVariants as unreads
 use Rattle.bk_compact.specs.declared.entries.Stopped.TheVariants as stops
-use Rattle.bk_compact.specs.Compacting.{AreFound, CopyTurn, Copies, EndTurn, Examines, ExaminesAll, HasUnsoundSource, TellsExactly}
+use Rattle.bk_step.specs.Faults.{TellsItsCause}
+use Rattle.bk_compact.specs.Compacting.{AreFound, CopyTurn, Copies, EndTurn, Examines, ExaminesAll, HasUnsoundSource}
 use Rattle.bk_compact.specs.Compacting.{IsRunning, SourceFails, Steps, TellsFailures, entries_left, with_job}
 use Rattle.bk_compact.specs.Going.{CopiesAll, IsAtEnd, IsCopying, IsOut, told_unread}
 use Rattle.bk_compact.proofs.Stored.{kept_job}
@@ -79,7 +80,7 @@ module _ (s : State) (job : Job) (running : IsRunning s Copy job) (n : ℕ) (mid
   )
 
   pub memory_turn : (done : ℕ) → CopiesAll (with_job s None) job n (Err (stops.Memory done)) mid after → t ≡ with_job mid (Some after)
-      → CopyTurn s n (Err (faults.Memory done)) t
+      → CopyTurn s n (Err (step_faults.Memory done)) t
   memory_turn done all back =
       let was = all.0.0 in
       let same : mid ≡ record was { files = mid.files } = all.0.3 in (
@@ -99,14 +100,14 @@ module _ (s : State) (job : Job) (running : IsRunning s Copy job) (n : ℕ) (mid
         ),
       )
 
-  pub unread_turn : CopiesAll (with_job s None) job n (Err stops.Unread) mid after → t ≡ with_job mid (Some after) → CopyTurn s n (Err faults.Disk) t
+  pub unread_turn : CopiesAll (with_job s None) job n (Err stops.Unread) mid after → t ≡ with_job mid (Some after) → CopyTurn s n (Err step_faults.Disk) t
   unread_turn all back = (
     job,
     running,
     (all.0.0, (mid, (after, steps_back s job n all.0.0 mid after all.0.1, inl (all.1, back)))),
   )
 
-  pub failed_turn : CopiesAll (with_job s None) job n (Err stops.Failed) t after → CopyTurn s n (Err faults.Disk) t
+  pub failed_turn : CopiesAll (with_job s None) job n (Err stops.Failed) t after → CopyTurn s n (Err step_faults.Disk) t
   failed_turn all =
       let last = all.1.0 in
       let job' = all.1.1.0 in (
@@ -115,7 +116,7 @@ module _ (s : State) (job : Job) (running : IsRunning s Copy job) (n : ℕ) (mid
         (all.0, (last, (job', steps_back s job n all.0 last job' all.1.1.1, inr all.1.1.2))),
       )
 
-  pub odd_turn : CopiesAll (with_job s None) job n (Err stops.Odd) t after → CopyTurn s n (Err faults.Odd) t
+  pub odd_turn : CopiesAll (with_job s None) job n (Err stops.Odd) t after → CopyTurn s n (Err step_faults.Odd) t
   odd_turn all =
       let last = all.1.1.0 in
       let job' = all.1.1.1.0 in (
@@ -133,14 +134,14 @@ back_same s job runs = ap (λ j. with_job s j) runs
 
 -- the copying did not begin
 module _ (s : State) (job : Job) (running : IsRunning s Copy job) (n : ℕ) where
-  pub refused_turn : CopyTurn s n (Err (faults.Memory 0)) s
+  pub refused_turn : CopyTurn s n (Err (step_faults.Memory 0)) s
   refused_turn = (job, running, (with_job s None, (job, unbegun s job n, record { files = λ _. refl; left = back_same s job running.runs })))
 
-  pub unsound_turn : HasUnsoundSource s job → CopyTurn s n (Err faults.Disk) s
+  pub unsound_turn : HasUnsoundSource s job → CopyTurn s n (Err step_faults.Disk) s
   unsound_turn unsound =
       (job, running, (0, (with_job s None, (job, unbegun s job n, inl (unsound, back_same s job running.runs)))))
 
-  pub abandoned_turn : (t : State) → s.honest ≡ false → SetTurn (with_job s None) job.copy Readable t → CopyTurn s n (Err faults.Odd) t
+  pub abandoned_turn : (t : State) → s.honest ≡ false → SetTurn (with_job s None) job.copy Readable t → CopyTurn s n (Err step_faults.Odd) t
   abandoned_turn t odd set = (job, running, (odd, (0, (with_job s None, (job, unbegun s job n, inl set)))))
 
 -- ---- how often the device failed
@@ -162,25 +163,25 @@ set_failures : (s t : State) (id : ℕ) → SetTurn s id Readable t → t.failur
 set_failures s t id turn = ap (λ (x : State). x.failures) turn.2
 
 -- the count rises by one, or not at all
-copy_counts : (s : State) (n : ℕ) (result : Result CopyAnswer CompactFault) (t : State) → CopyTurn s n result t
-    → (t.failures ≡ s.failures) ⊎ ((t.failures ≡ s.failures + 1) × (result ≡ Err faults.Disk))
+copy_counts : (s : State) (n : ℕ) (result : Result CopyAnswer StepFault) (t : State) → CopyTurn s n result t
+    → (t.failures ≡ s.failures) ⊎ ((t.failures ≡ s.failures + 1) × (result ≡ Err step_faults.Disk))
 copy_counts s n (Ok copies.NoJob) t turn = inl (ap (λ (x : State). x.failures) turn.1)
 copy_counts s n (Ok copies.NotNow) t turn = inl (ap (λ (x : State). x.failures) turn.1)
 copy_counts s n (Ok copies.AtEnd) t turn = inl (ap (λ (x : State). x.failures) turn.3)
 copy_counts s n (Ok (copies.Copied k)) t turn =
     let mid = turn.2.0 in
     inl (ap (λ (x : State). x.failures) turn.2.1.3 ∙ steps_failures s turn.0 n k mid turn.2.1.0 turn.2.1.1.0)
-copy_counts s n (Err (faults.Memory done)) t turn =
+copy_counts s n (Err (step_faults.Memory done)) t turn =
     let mid = turn.2.0 in
     inl (ap (λ (x : State). x.failures) turn.2.1.2.left ∙ steps_failures s turn.0 n done mid turn.2.1.0 turn.2.1.1)
-copy_counts s n (Err faults.Disk) t turn =
+copy_counts s n (Err step_faults.Disk) t turn =
     let mid = turn.2.1.0 in
     let same = steps_failures s turn.0 n turn.2.0 mid turn.2.1.1.0 turn.2.1.1.1 in
     elim turn.2.1.1.2 [
       | inl read ↦ inl (ap (λ (x : State). x.failures) read.1 ∙ same)
       | inr put ↦ inr (ap (λ (x : State). x.failures) put.1.1.put.3 ∙ ap (λ k. k + 1) same, refl)
     ]
-copy_counts s n (Err faults.Odd) t turn =
+copy_counts s n (Err step_faults.Odd) t turn =
     let odd = turn.2.1 in
     let mid = odd.1.0 in
     let same = steps_failures s turn.0 n odd.0 mid odd.1.1.0 odd.1.1.1 in
@@ -188,18 +189,18 @@ copy_counts s n (Err faults.Odd) t turn =
       | inl set ↦ inl (set_failures mid t turn.0.copy set ∙ same)
       | inr put ↦ inl (ap (λ (x : State). x.failures) put.1.1.put.1.2 ∙ same)
     ]
-copy_counts s n (Err faults.LogsFull) t turn = absurd turn.2
-copy_counts s n (Err faults.NoMoreIds) t turn = absurd turn.2
+copy_counts s n (Err step_faults.LogsFull) t turn = absurd turn.2
+copy_counts s n (Err step_faults.NoMoreIds) t turn = absurd turn.2
 
-pub copy_tells : (s : State) (n : ℕ) (result : Result CopyAnswer CompactFault) (t : State) → CopyTurn s n result t → TellsFailures s result t
+pub copy_tells : (s : State) (n : ℕ) (result : Result CopyAnswer StepFault) (t : State) → CopyTurn s n result t → TellsFailures s result t
 copy_tells s n result t turn = elim (copy_counts s n result t turn) [
   | inl same ↦ record { later = omega (arith, same); once = omega (arith, same); told_so = λ more. absurd (omega (arith, same, more)) }
   | inr once ↦ record { later = omega (arith, once.0); once = omega (arith, once.0); told_so = λ _. once.1 }
 ]
 
 -- an answer that is not `Disk`
-pub copy_caused : (s : State) (n : ℕ) (result : Result CopyAnswer CompactFault) (t : State) → CopyTurn s n result t → ¬ (result ≡ Err faults.Disk)
-    → IsCaused s.failures t.failures (result ≡ Err faults.Disk)
+pub copy_caused : (s : State) (n : ℕ) (result : Result CopyAnswer StepFault) (t : State) → CopyTurn s n result t → ¬ (result ≡ Err step_faults.Disk)
+    → IsCaused s.failures t.failures (result ≡ Err step_faults.Disk)
 copy_caused s n result t turn not = elim (copy_counts s n result t turn) [
   | inl same ↦ record {
     later = omega (arith, same);
@@ -225,7 +226,7 @@ never_unsound bytes honest sound all s job v last is =
     not_both b one other = cc
 
 pub failed_once : (s : State) (job : Job) (n : ℕ) (t : State) (after : Job) → CopiesAll (with_job s None) job n (Err stops.Failed) t after
-    → IsCaused s.failures t.failures (IsErrOf {T = CopyAnswer} (Err faults.Disk) faults.Disk)
+    → IsCaused s.failures t.failures (IsErrOf {T = CopyAnswer} (Err step_faults.Disk) step_faults.Disk)
 failed_once s job n t after all =
     let same = steps_failures (with_job s None) job n all.0 all.1.0 all.1.1.0 all.1.1.1 in
     once_caused s.failures t.failures (ap (λ (x : State). x.failures) all.1.1.2.1.1.put.3 ∙ ap (λ k. k + 1) same) refl
@@ -233,10 +234,10 @@ failed_once s job n t after all =
 -- ---- a compaction that is abandoned since its source could not be read
 
 module _ (s t : State) (job : Job) (running : IsRunning s Copy job) (set : SetTurn (with_job s None) job.copy Readable t)
-    (unread : Unread) (fault : CompactFault)
+    (unread : Unread) (fault : StepFault)
     (told_so : fault ≡ told_unread unread) where
   pub abandoned_end : SourceFails s job (told_unread unread) → EndTurn s (Err fault) t
-  abandoned_end fails = subst (λ (f : CompactFault). EndTurn s (Err f) t) (sym told_so) (job, running, inl (fails, set))
+  abandoned_end fails = subst (λ (f : StepFault). EndTurn s (Err f) t) (sym told_so) (job, running, inl (fails, set))
 
   same_count : t.failures ≡ s.failures
   same_count = set_failures (with_job s None) t job.copy set
@@ -248,7 +249,7 @@ module _ (s t : State) (job : Job) (running : IsRunning s Copy job) (set : SetTu
     told_so = λ more. absurd (omega (arith, more, same_count));
   }
 
-  pub abandoned_cause : {T : Type 0} → ¬ (IsErrOf {T = Bool} (Err unread) unreads.Disk) → TellsExactly {T = T} s (Err fault) t
+  pub abandoned_cause : {T : Type 0} → ¬ (IsErrOf {T = Bool} (Err unread) unreads.Disk) → TellsItsCause {T = T} s (Err fault) t
   abandoned_cause never = record {
     later = omega (arith, same_count);
     once = omega (arith, same_count);
@@ -256,10 +257,10 @@ module _ (s t : State) (job : Job) (running : IsRunning s Copy job) (set : SetTu
     told = λ more. absurd (omega (arith, more, same_count));
   }
     where
-      one : {T : Type 0} → IsErrOf {T = T} (Err fault) faults.Disk → fault ≡ faults.Disk
+      one : {T : Type 0} → IsErrOf {T = T} (Err fault) step_faults.Disk → fault ≡ step_faults.Disk
       one same = cc
 
-      no_disk : (r : Unread) → ¬ (IsErrOf {T = Bool} (Err r) unreads.Disk) → told_unread r ≡ faults.Disk → ⊥
+      no_disk : (r : Unread) → ¬ (IsErrOf {T = Bool} (Err r) unreads.Disk) → told_unread r ≡ step_faults.Disk → ⊥
       no_disk unreads.Disk not told = not refl
       no_disk unreads.Memory not told = cc
       no_disk unreads.Odd not told = cc

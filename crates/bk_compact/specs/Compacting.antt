@@ -6,7 +6,6 @@ use Rattle.std.specs.FinMap as finite
 use Rattle.bk_record.specs.Location.{Place}
 use Rattle.bk_record.specs.Record.{key_of}
 use Rattle.bk_record.specs.Keyed.{log_count}
-use Rattle.bk_disk.specs.Disk.{IsCaused}
 use Rattle.bk_log.specs.declared.found.Found.{Found}
 use Rattle.bk_log.specs.declared.fault.LogFault.{LogFault}
 use Rattle.bk_log.specs.declared.fault.LogFault.TheVariants as log_faults
@@ -23,7 +22,7 @@ use Rattle.bk_store.specs.declared.job.Phase.TheVariants.{Copy, Switch}
 use Rattle.bk_store.specs.declared.settings.Settings.{Settings}
 use Rattle.bk_store.specs.declared.log.LogState.TheVariants.{Copying, Readable, Retired}
 use Rattle.bk_store.specs.declared.answer.MakeFault.{MakeFault}
-use Rattle.bk_store.specs.declared.answer.MakeFault.TheVariants as makes
+use Rattle.bk_step.specs.Faults.{step_fault_of, step_fault_of_make}
 use Rattle.bk_compact.specs.declared.answer.Kind.{Kind}
 use Rattle.bk_compact.specs.declared.answer.Kind.TheVariants.{Minor, Major}
 use Rattle.bk_compact.specs.declared.answer.BeginAnswer.{BeginAnswer}
@@ -38,36 +37,17 @@ use Rattle.bk_compact.specs.declared.answer.FinishAnswer.{FinishAnswer}
 use Rattle.bk_compact.specs.declared.answer.FinishAnswer.TheVariants as finishes
 use Rattle.bk_compact.specs.declared.answer.GiveUpAnswer.{GiveUpAnswer}
 use Rattle.bk_compact.specs.declared.answer.GiveUpAnswer.TheVariants as give_ups
-use Rattle.bk_compact.specs.declared.answer.CompactFault.{CompactFault}
-use Rattle.bk_compact.specs.declared.answer.CompactFault.TheVariants as faults
+use Rattle.bk_step.specs.declared.fault.StepFault.{StepFault}
+use Rattle.bk_step.specs.declared.fault.StepFault.TheVariants as step_faults
 
 -- ---- faults
 
--- the device failed in a call exactly where the call is answered by `Disk`, and then once
-abbrev pub TellsExactly : {T : Type 0} → State → Result T CompactFault → State → Type 0
-TellsExactly s result t = IsCaused s.failures t.failures (IsErrOf result faults.Disk)
-
 -- the device failed in a call once at most, and only where the call is answered by `Disk`, which may also tell of a view that
 -- can't be read
-pub record TellsFailures {T : Type 0} (s : State) (result : Result T CompactFault) (t : State) : Type 0 where
+pub record TellsFailures {T : Type 0} (s : State) (result : Result T StepFault) (t : State) : Type 0 where
   pub later : s.failures ≤ t.failures
   pub once : t.failures ≤ s.failures + 1
-  pub told_so : s.failures < t.failures → IsErrOf result faults.Disk
-
--- a fault of a log, as a compaction tells it
-abbrev pub compact_fault_of : LogFault → CompactFault
-compact_fault_of log_faults.Memory = faults.Memory 0
-compact_fault_of log_faults.Disk = faults.Disk
-compact_fault_of log_faults.Failed = faults.Odd
-compact_fault_of log_faults.Odd = faults.Odd
-
--- and a fault of the making of a log
-abbrev pub compact_fault_of_make : MakeFault → CompactFault
-compact_fault_of_make makes.LogsFull = faults.LogsFull
-compact_fault_of_make makes.NoMoreIds = faults.NoMoreIds
-compact_fault_of_make makes.Memory = faults.Memory 0
-compact_fault_of_make makes.Disk = faults.Disk
-compact_fault_of_make makes.Odd = faults.Odd
+  pub told_so : s.failures < t.failures → IsErrOf result step_faults.Disk
 
 -- ---- the job
 
@@ -103,13 +83,13 @@ pub record IsChosen (s : State) (kind : Kind) (log : ℕ) : Type 0 where
   pub choice : IsTrue s.honest → Chooses s (threshold_of s.settings kind) (Some log)
 
 -- A compaction begins with a log that is chosen, whose entries will be copied to a log that is made.
-abbrev pub BeginTurn : State → Kind → Result BeginAnswer CompactFault → State → Type 0
+abbrev pub BeginTurn : State → Kind → Result BeginAnswer StepFault → State → Type 0
 BeginTurn s kind (Ok begins.JobRunning) t = IsSome s.job × (t ≡ s)
 BeginTurn s kind (Ok begins.NothingToDo) t = (s.job ≡ None) × (IsTrue s.honest → Chooses s (threshold_of s.settings kind) None) × (t ≡ s)
 BeginTurn s kind (Ok (begins.Chosen log)) t = IsChosen s kind log
     × ((copy : ℕ) × ((mid : State) × MakeTurn s Copying (Ok copy) mid × (t ≡ with_job mid (Some (new_job log copy)))))
 BeginTurn s kind (Err fault) t = ((log : ℕ) × IsChosen s kind log)
-    × ((cause : MakeFault) × (fault ≡ compact_fault_of_make cause) × MakeTurn s Copying (Err cause) t)
+    × ((cause : MakeFault) × (fault ≡ step_fault_of_make cause) × MakeTurn s Copying (Err cause) t)
 
 -- ---- copying
 
@@ -175,21 +155,21 @@ pub record GoesOnCopying (mid : State) (after : Job) (t : State) : Type 0 where
   pub left : t ≡ record mid { files = t.files; job = Some after }
 
 -- The copying was refused for this fault, after such steps.
-abbrev pub StopsCopying : State → Job → ℕ → CompactFault → State → Type 0
-StopsCopying s job n (faults.Memory done) t = (mid : State) × ((after : Job) × Steps s job n done mid after × GoesOnCopying mid after t)
-StopsCopying s job n faults.Disk t = (copied : ℕ) × ((mid : State) × ((after : Job) × Steps s job n copied mid after
+abbrev pub StopsCopying : State → Job → ℕ → StepFault → State → Type 0
+StopsCopying s job n (step_faults.Memory done) t = (mid : State) × ((after : Job) × Steps s job n done mid after × GoesOnCopying mid after t)
+StopsCopying s job n step_faults.Disk t = (copied : ℕ) × ((mid : State) × ((after : Job) × Steps s job n copied mid after
     × ((HasUnsoundSource s job × (t ≡ with_job mid (Some after)))
     ⊎ ((found : Found) × ((payload : List ℕ) × Copies mid after found payload (Err log_faults.Disk) t)))))
-StopsCopying s job n faults.Odd t = (s.honest ≡ false) × ((copied : ℕ) × ((mid : State) × ((after : Job) × Steps s job n copied mid after
+StopsCopying s job n step_faults.Odd t = (s.honest ≡ false) × ((copied : ℕ) × ((mid : State) × ((after : Job) × Steps s job n copied mid after
     × (SetTurn mid job.copy Readable t
     ⊎ ((found : Found) × ((payload : List ℕ) × Copies mid after found payload (Err log_faults.Odd) t))))))
-StopsCopying s job n faults.LogsFull t = ⊥
-StopsCopying s job n faults.NoMoreIds t = ⊥
+StopsCopying s job n step_faults.LogsFull t = ⊥
+StopsCopying s job n step_faults.NoMoreIds t = ⊥
 
 -- A copy examines the next entries of the source, so many or all that are left, and copies each that the index sends its key
 -- to. Want of memory, and a source that can't be read, leave the job with what was copied; a device that fails while an entry
 -- is put in the copy, and a disk that is odd, end the compaction.
-abbrev pub CopyTurn : State → ℕ → Result CopyAnswer CompactFault → State → Type 0
+abbrev pub CopyTurn : State → ℕ → Result CopyAnswer StepFault → State → Type 0
 CopyTurn s n (Ok copies.NoJob) t = (s.job ≡ None) × (t ≡ s)
 CopyTurn s n (Ok copies.NotNow) t = ((job : Job) × IsRunning s Switch job) × (t ≡ s)
 CopyTurn s n (Ok copies.AtEnd) t = (job : Job) × IsRunning s Copy job × (IsTrue s.honest → entries_left s job ≡ []) × (t ≡ s)
@@ -202,12 +182,12 @@ CopyTurn s n (Err fault) t = (job : Job) × IsRunning s Copy job × StopsCopying
 -- ---- the end of copying
 
 -- the source could not be read from the job's position on
-abbrev pub SourceFails : State → Job → CompactFault → Type 0
-SourceFails s job (faults.Memory done) = done ≡ 0
-SourceFails s job faults.Disk = HasUnsoundSource s job
-SourceFails s job faults.Odd = s.honest ≡ false
-SourceFails s job faults.LogsFull = ⊥
-SourceFails s job faults.NoMoreIds = ⊥
+abbrev pub SourceFails : State → Job → StepFault → Type 0
+SourceFails s job (step_faults.Memory done) = done ≡ 0
+SourceFails s job step_faults.Disk = HasUnsoundSource s job
+SourceFails s job step_faults.Odd = s.honest ≡ false
+SourceFails s job step_faults.LogsFull = ⊥
+SourceFails s job step_faults.NoMoreIds = ⊥
 
 -- the copy is sealed, the job being out of the store, and every entry of the source examined
 pub record SealsCopy (s : State) (job : Job) (result : Result (Unit {0}) LogFault) (t : State) : Type 0 where
@@ -220,7 +200,7 @@ ShowsCopy s job result t = (mid : State) × SealsCopy s job (Ok tt) mid × ShowT
 
 -- The copy is sealed and shown, and the job goes on to switch the index, with all its moves. Any fault ends the compaction:
 -- the copy is Readable as it is.
-abbrev pub EndTurn : State → Result EndAnswer CompactFault → State → Type 0
+abbrev pub EndTurn : State → Result EndAnswer StepFault → State → Type 0
 EndTurn s (Ok ends.NoJob) t = (s.job ≡ None) × (t ≡ s)
 EndTurn s (Ok ends.NotNow) t = ((job : Job) × IsRunning s Switch job) × (t ≡ s)
 EndTurn s (Ok ends.NotAtEnd) t = (job : Job) × IsRunning s Copy job × (IsTrue s.honest → ¬ (entries_left s job ≡ [])) × (t ≡ s)
@@ -228,7 +208,7 @@ EndTurn s (Ok (ends.Ended k)) t = (job : Job) × IsRunning s Copy job × (k ≡ 
     × ((mid : State) × ShowsCopy s job (Ok tt) mid × (t ≡ with_job mid (Some (record job { phase = Switch }))))
 EndTurn s (Err fault) t = (job : Job) × IsRunning s Copy job
     × ((SourceFails s job fault × SetTurn (with_job s None) job.copy Readable t)
-    ⊎ ((cause : LogFault) × (fault ≡ compact_fault_of cause) × (SealsCopy s job (Err cause) t ⊎ ShowsCopy s job (Err cause) t)))
+    ⊎ ((cause : LogFault) × (fault ≡ step_fault_of cause) × (SealsCopy s job (Err cause) t ⊎ ShowsCopy s job (Err cause) t)))
 
 -- ---- switching
 

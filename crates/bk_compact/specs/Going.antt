@@ -21,8 +21,8 @@ use Rattle.bk_store.specs.Copying.{IsLeastUsed}
 use Rattle.bk_store.specs.Doors.{SetTurn}
 use Rattle.bk_store.specs.declared.job.Phase.TheVariants.{Copy, Switch}
 use Rattle.bk_store.specs.declared.log.LogState.TheVariants.{Readable}
-use Rattle.bk_compact.specs.declared.answer.CompactFault.{CompactFault}
-use Rattle.bk_compact.specs.declared.answer.CompactFault.TheVariants as faults
+use Rattle.bk_step.specs.declared.fault.StepFault.{StepFault}
+use Rattle.bk_step.specs.declared.fault.StepFault.TheVariants as step_faults
 use Rattle.bk_compact.specs.declared.entries.Stopped.{Stopped}
 use Rattle.bk_compact.specs.declared.scanning.Unread.{Unread}
 use Rattle.bk_compact.specs.declared.scanning.Unread.TheVariants as unreads
@@ -57,10 +57,10 @@ told_read scan_faults.Memory = unreads.Memory
 told_read scan_faults.Odd = unreads.Odd
 
 -- and as a compaction tells it
-abbrev pub told_unread : Unread → CompactFault
-told_unread unreads.Memory = faults.Memory 0
-told_unread unreads.Disk = faults.Disk
-told_unread unreads.Odd = faults.Odd
+abbrev pub told_unread : Unread → StepFault
+told_unread unreads.Memory = step_faults.Memory 0
+told_unread unreads.Disk = step_faults.Disk
+told_unread unreads.Odd = step_faults.Odd
 
 -- whether no entry of the source is left, beside an honest disk
 abbrev pub IsAtEnd : State → Job → Bool → Type 0

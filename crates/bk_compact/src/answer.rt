@@ -1,6 +1,4 @@
-//! What the calls of a compaction answer: an enum for each call, and why a call is refused.
-
-use thiserror::Error;
+//! What the calls of a compaction answer: an enum for each call.
 
 /// The two kinds of compaction: they differ in the threshold below which a log is compacted.
 #[derive(Clone, Copy, Debug, PartialEq, Eq)]
@@ -81,24 +79,4 @@ pub enum GiveUpAnswer {
     NoJob,
     /// The compaction is over. What was copied stays in the copy, and keys that were sent there stay so.
     GivenUp,
-}
-
-/// Why a call of a compaction was refused.
-#[derive(Clone, Copy, Debug, PartialEq, Eq, Error)]
-pub enum CompactFault {
-    /// The device failed.
-    #[error("disk")]
-    Disk,
-    /// No memory was to be had; `done` entries were copied before.
-    #[error("memory after {done}")]
-    Memory { done: u64 },
-    /// As many logs as there are slots are held.
-    #[error("logs full")]
-    LogsFull,
-    /// The next log's id is past 2^31 - 1.
-    #[error("no more ids")]
-    NoMoreIds,
-    /// The disk answered what an honest disk cannot.
-    #[error("odd disk")]
-    Odd,
 }

@@ -4,12 +4,14 @@ ghost use Rattle.std.specs.Prelude.{◌≡◌, ◌↔◌, ◌+◌, ℕ, Some, Is
 ghost use Rattle.std.specs.FinMap as finite;
 ghost use Rattle.bk_store.specs.Logs.{IsNextHeld};
 ghost use Rattle.bk_store.specs.Meaning.{MeansTheSame};
-ghost use Rattle.bk_compact.specs.Compacting.{BeginTurn, Chooses, IsCandidate, TellsExactly, threshold_of};
+ghost use Rattle.bk_step.specs.Staying.{StandsStill};
+ghost use Rattle.bk_step.specs.Faults.{TellsItsCause};
+ghost use Rattle.bk_compact.specs.Compacting.{BeginTurn, Chooses, IsCandidate, threshold_of};
 ghost use Rattle.bk_compact.specs.Going.{IsBetter, IsChoosing};
 
-use crate::faults::making_fault;
-use crate::{BeginAnswer, CompactFault, Kind};
+use crate::{BeginAnswer, Kind};
 use bk_disk::LogDisk;
+use bk_step::StepFault;
 use bk_store::{Job, LogState, Store};
 
 /// Begins a compaction, unless one runs: chooses the log to compact, and makes the log that its entries will be copied to.
@@ -22,9 +24,10 @@ use bk_store::{Job, LogState, Store};
 /// `LogsFull` where no slot is free, then `NoMoreIds` where the last id is used up: nothing is changed. `Memory`, with
 /// `done` 0, where an allocation was refused, `Disk` where the device failed, and `Odd` where it behaved as no honest one
 /// does: no compaction runs, and a log whose file stands is held as a Readable one without records.
-pub fn begin<D: LogDisk>(store: &mut Store<D>, kind: Kind) -> Result<BeginAnswer, CompactFault>
+pub fn begin<D: LogDisk>(store: &mut Store<D>, kind: Kind) -> Result<BeginAnswer, StepFault>
     ensures turn { BeginTurn store.old kind result store.new }
-    ensures cause { TellsExactly store.old result store.new }
+    ensures stays { StandsStill store.old store.new }
+    ensures cause { TellsItsCause store.old result store.new }
     ensures honest { store.new.honest ≡ store.old.honest }
     ensures meaning { IsTrue store.old.honest → MeansTheSame store.old store.new }
 {
@@ -41,7 +44,7 @@ pub fn begin<D: LogDisk>(store: &mut Store<D>, kind: Kind) -> Result<BeginAnswer
             store.set_job(job);
             Ok(BeginAnswer::Chosen(source))
         }
-        Err(fault) => Err(making_fault(fault)),
+        Err(fault) => Err(StepFault::of_make(fault)),
     }
 }
 

@@ -8,14 +8,17 @@ ghost use Rattle.bk_disk.specs.Disk.{AreSound};
 ghost use Rattle.bk_store.specs.Jobs.{Job as JobState};
 ghost use Rattle.bk_store.specs.Meaning.{MeansTheSame, KeepsMeaning};
 ghost use Rattle.bk_store.specs.declared.job.Phase.TheVariants.{Copy as CopyPhase};
-ghost use Rattle.bk_compact.specs.Compacting.{CopyTurn, TellsExactly, IsRunning, TellsFailures};
+ghost use Rattle.bk_step.specs.Staying.{StandsStill};
+ghost use Rattle.bk_step.specs.Faults.{TellsItsCause};
+ghost use Rattle.bk_compact.specs.Compacting.{CopyTurn, IsRunning, TellsFailures};
 ghost use Rattle.bk_compact.specs.Going.{IsAtEnd};
 
+use crate::CopyAnswer;
 use crate::entries::{Stopped, copy_entries};
 use crate::finishing::abandon;
 use crate::scanning::{Unread, is_at_end};
-use crate::{CompactFault, CopyAnswer};
 use bk_disk::LogDisk;
+use bk_step::StepFault;
 use bk_store::{Phase, Store};
 
 /// Examines the next `count` entries of what the source shows, or those that are left, and copies each that the index sends
@@ -26,10 +29,11 @@ use bk_store::{Phase, Store};
 /// with the entry that was refused. `Disk` where the source can't be read: the same. `Disk` where the copy could not be
 /// written, and `Odd` where the disk behaved as no honest one does: the compaction is over, and the copy is Readable as it
 /// is.
-pub fn copy<D: LogDisk>(store: &mut Store<D>, count: u64) -> Result<CopyAnswer, CompactFault>
+pub fn copy<D: LogDisk>(store: &mut Store<D>, count: u64) -> Result<CopyAnswer, StepFault>
     ensures turn { CopyTurn store.old count result store.new }
+    ensures stays { StandsStill store.old store.new }
     ensures cause { TellsFailures store.old result store.new }
-    ensures sound { AreSound D.View.sound → TellsExactly store.old result store.new }
+    ensures sound { AreSound D.View.sound → TellsItsCause store.old result store.new }
     ensures honest { store.new.honest ≡ store.old.honest }
     ensures meaning { IsTrue store.old.honest → MeansTheSame store.old store.new }
 {
@@ -44,20 +48,20 @@ pub fn copy<D: LogDisk>(store: &mut Store<D>, count: u64) -> Result<CopyAnswer, 
     match is_at_end(store, job) {
         Ok(true) => Ok(CopyAnswer::AtEnd),
         Ok(false) => go_on(store, count),
-        Err(Unread::Memory) => Err(CompactFault::Memory { done: 0 }),
-        Err(Unread::Disk) => Err(CompactFault::Disk),
+        Err(Unread::Memory) => Err(StepFault::Memory { done: 0 }),
+        Err(Unread::Disk) => Err(StepFault::Disk),
         Err(Unread::Odd) => {
             abandon(store);
-            Err(CompactFault::Odd)
+            Err(StepFault::Odd)
         }
     }
 }
 
 /// Takes the job out, copies, and gives the job back where it goes on.
-fn go_on<D: LogDisk>(store: &mut Store<D>, count: u64) -> Result<CopyAnswer, CompactFault>
+fn go_on<D: LogDisk>(store: &mut Store<D>, count: u64) -> Result<CopyAnswer, StepFault>
     requires { (job : JobState) × IsRunning store.old CopyPhase job × IsAtEnd store.old job false }
     ensures turn { CopyTurn store.old count result store.new }
-    ensures sound { AreSound D.View.sound → TellsExactly store.old result store.new }
+    ensures sound { AreSound D.View.sound → TellsItsCause store.old result store.new }
     ensures stays { KeepsMeaning store.old store.new }
 {
     store.promise();
@@ -68,7 +72,7 @@ fn go_on<D: LogDisk>(store: &mut Store<D>, count: u64) -> Result<CopyAnswer, Com
         unreachable!();
     };
     let Ok(view) = view.clone() else {
-        return Err(CompactFault::Memory { done: 0 });
+        return Err(StepFault::Memory { done: 0 });
     };
     let Some(mut job) = store.take_job() else {
         unreachable!();
@@ -80,13 +84,13 @@ fn go_on<D: LogDisk>(store: &mut Store<D>, count: u64) -> Result<CopyAnswer, Com
         }
         Err(Stopped::Memory(done)) => {
             store.set_job(job);
-            Err(CompactFault::Memory { done })
+            Err(StepFault::Memory { done })
         }
         Err(Stopped::Unread) => {
             store.set_job(job);
-            Err(CompactFault::Disk)
+            Err(StepFault::Disk)
         }
-        Err(Stopped::Failed) => Err(CompactFault::Disk),
-        Err(Stopped::Odd) => Err(CompactFault::Odd),
+        Err(Stopped::Failed) => Err(StepFault::Disk),
+        Err(Stopped::Odd) => Err(StepFault::Odd),
     }
 }

@@ -6,6 +6,7 @@ ghost use Rattle.bk_store.specs.Jobs.{Job as JobState};
 ghost use Rattle.bk_store.specs.Meaning.{MeansTheSame, KeepsMeaning};
 ghost use Rattle.bk_store.specs.declared.job.Phase.TheVariants.{Copy as CopyPhase};
 ghost use Rattle.bk_store.specs.declared.log.LogState.TheVariants.{Readable as ReadableState};
+ghost use Rattle.bk_step.specs.Staying.{StandsStill};
 ghost use Rattle.bk_compact.specs.Compacting.{FinishTurn, GiveUpTurn, IsRunning, IsUndisturbed, with_job};
 
 use crate::{FinishAnswer, GiveUpAnswer};
@@ -16,6 +17,7 @@ use bk_store::{LogState, Phase, Store};
 /// index was made anew after the entries were copied, the source stays as it was. It takes no memory, and asks no device.
 pub fn finish<D: LogDisk>(store: &mut Store<D>) -> FinishAnswer
     ensures turn { FinishTurn store.old result store.new }
+    ensures stays { StandsStill store.old store.new × (store.new.failures ≡ store.old.failures) }
     ensures retires { IsTrue store.old.honest → (source : ℕ) → IsUndisturbed store.old source → result ≡ FinishAnswer.Retired source }
     ensures honest { store.new.honest ≡ store.old.honest }
     ensures meaning { IsTrue store.old.honest → MeansTheSame store.old store.new }
@@ -48,6 +50,7 @@ pub fn finish<D: LogDisk>(store: &mut Store<D>) -> FinishAnswer
 /// sent to it stay so. It takes no memory, and asks no device.
 pub fn give_up<D: LogDisk>(store: &mut Store<D>) -> GiveUpAnswer
     ensures turn { GiveUpTurn store.old result store.new }
+    ensures stays { StandsStill store.old store.new × (store.new.failures ≡ store.old.failures) }
     ensures honest { store.new.honest ≡ store.old.honest }
     ensures meaning { IsTrue store.old.honest → MeansTheSame store.old store.new }
 {

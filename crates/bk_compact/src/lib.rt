@@ -7,16 +7,15 @@ mod beginning;
 mod copying;
 mod ending;
 mod entries;
-mod faults;
 mod finishing;
 mod scanning;
 mod switching;
 
 pub use answer::{
-    BeginAnswer, CompactFault, CopyAnswer, EndAnswer, FinishAnswer, GiveUpAnswer, Kind,
-    SwitchAnswer,
+    BeginAnswer, CopyAnswer, EndAnswer, FinishAnswer, GiveUpAnswer, Kind, SwitchAnswer,
 };
 pub use beginning::begin;
+pub use bk_step::StepFault as CompactFault;
 pub use copying::copy;
 pub use ending::end_copy;
 pub use finishing::{finish, give_up};

@@ -7,9 +7,9 @@ ghost use Rattle.bk_store.specs.JobKept.{IsJob};
 ghost use Rattle.bk_compact.specs.Compacting.{SourceFails};
 ghost use Rattle.bk_compact.specs.Going.{IsAtEnd, ScansFrom, told_read, told_unread};
 
-use crate::CompactFault;
 use bk_disk::{LogDisk, LogView};
 use bk_log::{ScanFault, Scanner};
+use bk_step::StepFault;
 use bk_store::{Job, Store};
 use std::alloc::Global;
 
@@ -59,13 +59,13 @@ pub(crate) fn is_at_end<D: LogDisk>(store: &Store<D>, job: &Job) -> Result<bool,
 
 impl Unread {
     /// The same, as a compaction tells it.
-    pub(crate) fn told(self) -> CompactFault
+    pub(crate) fn told(self) -> StepFault
         ensures { result ≡ told_unread self }
     {
         match self {
-            Unread::Memory => CompactFault::Memory { done: 0 },
-            Unread::Disk => CompactFault::Disk,
-            Unread::Odd => CompactFault::Odd,
+            Unread::Memory => StepFault::Memory { done: 0 },
+            Unread::Disk => StepFault::Disk,
+            Unread::Odd => StepFault::Odd,
         }
     }
 }

@@ -3,6 +3,7 @@
 ghost use Rattle.std.specs.Prelude.{◌≡◌, IsTrue};
 ghost use Rattle.bk_store.specs.Meaning.{MeansTheSame, KeepsMeaning};
 ghost use Rattle.bk_store.specs.declared.job.Phase.TheVariants.{Switch as SwitchPhase};
+ghost use Rattle.bk_step.specs.Staying.{StandsStill};
 ghost use Rattle.bk_compact.specs.Compacting.{SwitchTurn};
 ghost use Rattle.bk_compact.specs.Going.{IsOut, Switches};
 
@@ -15,6 +16,7 @@ use bk_store::{Job, Phase, Store};
 /// were sent, and how many moves wait. It takes no memory, and asks no device.
 pub fn switch<D: LogDisk>(store: &mut Store<D>, count: u64) -> SwitchAnswer
     ensures turn { SwitchTurn store.old count result store.new }
+    ensures stays { StandsStill store.old store.new × (store.new.failures ≡ store.old.failures) }
     ensures honest { store.new.honest ≡ store.old.honest }
     ensures meaning { IsTrue store.old.honest → MeansTheSame store.old store.new }
 {

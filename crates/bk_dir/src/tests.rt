@@ -4,6 +4,7 @@ ghost use Rattle.std.specs.Prelude.{◌<◌, ◌^◌};
 
 mod amounts;
 mod digests;
+mod every_byte;
 mod failing;
 mod folder;
 mod hostile;

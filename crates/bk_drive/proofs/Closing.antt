@@ -1,6 +1,6 @@
 -- What a step of the store alone does to the leases of the readers: all but a close and a removal leave the slots that are
 -- taken; where a log was closed, a reader with a lease of it would be met; and a log that is removed was closed before.
-use Rattle.std.proofs.Common.{◌≡◌, ◌⊎◌, inl, inr, ℕ, List, Option, Result, Ok, Err, refl, sym, ap, subst, ◌∙◌}
+use Rattle.std.proofs.Common.{◌≡◌, ◌⊎◌, inl, inr, ℕ, List, Option, Result, Ok, refl, sym, ap, subst, ◌∙◌}
 use Rattle.bk_lease.specs.Leases.{IsClosed}
 use Rattle.bk_lease.specs.declared.slot.Slot.TheVariants.{Open}
 use Rattle.bk_store.specs.State.{State}
@@ -14,65 +14,34 @@ use Rattle.bk_collect.specs.declared.answer.CollectFault.{CollectFault}
 use Rattle.bk_drive.specs.Plain.{HasAt}
 use Rattle.bk_drive.specs.Machine.{Hold, WorkTurn, Closes, RemovesLog, LetsGo, IsUnread}
 use Rattle.bk_drive.specs.Leased.{AreOpenLeases, IsShut}
+use Rattle.bk_drive.specs.Leaving.{LeavesSlots}
+use Rattle.bk_step.specs.Staying.{Stays, SlotsStay}
 use Rattle.bk_drive.specs.declared.step.Step.TheVariants as steps
 use Rattle.bk_drive.specs.declared.step.Work.{Work}
 use Rattle.bk_drive.specs.declared.step.Work.TheVariants as works
 use Rattle.bk_drive.specs.declared.step.Answer.{Answer}
 use Rattle.bk_drive.specs.declared.step.Answer.TheVariants as answers
-use Rattle.bk_drive.proofs.Gone.{GoneStays, gone_same}
-use Rattle.bk_drive.proofs.Leases.{SlotsStay, slots_same, leases_stay, closed_stays, seats_kept, closing_table, closing_meets, closing_leaves}
+use Rattle.bk_drive.proofs.Leases.{leases_stay, closed_stays, seats_kept, closing_table, closing_meets, closing_leaves}
 use Rattle.bk_drive.proofs.Leases.{closing_closes, closing_stays, removed_leases, removed_unread, removed_gone, removed_shut}
-use Rattle.bk_drive.proofs.Runs.{swap_logs}
-use Rattle.bk_drive.proofs.Working.{step_stays, roll_stays, retire_stays, rebuild_stays, close_stays, close_beside}
-use Rattle.bk_drive.proofs.Working.{remove_beside, remove_slots, publish_slots, publish_gone}
-use Rattle.bk_drive.proofs.Compacting.{begin_stays, copy_stays, end_stays, switch_stays, finish_stays, give_up_stays}
-
--- a log that is gone stays so
-work_gone : (s t : State) (work : Work) (a : Answer) → WorkTurn s work a t → GoneStays s t
-work_gone s t works.Swap a turn = let same = swap_logs s t turn.0 turn.2 in gone_same s t same.logs same.next
-work_gone s t works.WriteOne a turn = (step_stays s t turn.0 turn.2).gone
-work_gone s t works.Publish a turn = publish_gone s t turn.0 turn.2
-work_gone s t works.Roll a turn = (roll_stays s t turn.0 turn.2).gone
-work_gone s t (works.Retire log) a turn = (retire_stays s t log turn.0 turn.2).gone
-work_gone s t works.Rebuild a turn = (rebuild_stays s t turn.0 turn.2).gone
-work_gone s t (works.Close log) a turn = (close_beside s t log turn.0 turn.2).gone
-work_gone s t (works.Remove log) a turn = (remove_beside s t log turn.0 turn.2).gone
-work_gone s t (works.Begin kind) a turn = (begin_stays s t kind turn.0 turn.2).gone
-work_gone s t (works.Copy n) a turn = (copy_stays s t n turn.0 turn.2).gone
-work_gone s t works.EndCopy a turn = (end_stays s t turn.0 turn.2).gone
-work_gone s t (works.Switch n) a turn = (switch_stays s t n turn.0 turn.2).gone
-work_gone s t works.Finish a turn = (finish_stays s t turn.0 turn.2).gone
-work_gone s t works.GiveUp a turn = (give_up_stays s t turn.0 turn.2).gone
 
 -- a log was removed
 pub record IsRemoval (s t : State) : Type 0 where
   pub log : ℕ
   pub turn : RemoveTurn s log (Ok removes.Removed) t
 
-removal_or_not : (s t : State) (log : ℕ) (r : Result RemoveAnswer CollectFault) → RemoveTurn s log r t → IsRemoval s t ⊎ SlotsStay s.keeper t.keeper
-removal_or_not s t log (Ok removes.NoLog) turn = inr (remove_slots s t log (Ok removes.NoLog) turn (λ same. cc))
-removal_or_not s t log (Ok removes.NotClosed) turn = inr (remove_slots s t log (Ok removes.NotClosed) turn (λ same. cc))
-removal_or_not s t log (Ok removes.Removed) turn = inl (record { log = log; turn = turn })
-removal_or_not s t log (Err fault) turn = inr (remove_slots s t log (Err fault) turn (λ same. cc))
+removal_or_not : (s t : State) (log : ℕ) (r : Result RemoveAnswer CollectFault) → RemoveTurn s log r t → LeavesSlots s (answers.Remove r) t
+    → IsRemoval s t ⊎ SlotsStay s.keeper t.keeper
+removal_or_not s t log (Ok removes.Removed) turn slots = inl (record { log = log; turn = turn })
+removal_or_not s t log r turn slots = inr (slots (λ same. cc))
 
 -- a step of the store alone that did not close a log removed one, or all slots that were taken are as before
-work_slots : (s t : State) (work : Work) (a : Answer) → WorkTurn s work a t → ((log : ℕ) → ¬ (Closes (steps.Work work) a log))
+work_slots : (s t : State) (work : Work) (a : Answer) → WorkTurn s work a t → LeavesSlots s a t → ((log : ℕ) → ¬ (Closes (steps.Work work) a log))
     → IsRemoval s t ⊎ SlotsStay s.keeper t.keeper
-work_slots s t works.Swap a turn other = inr (slots_same _ _ (swap_logs s t turn.0 turn.2).keeper)
-work_slots s t works.WriteOne a turn other = inr (step_stays s t turn.0 turn.2).slots
-work_slots s t works.Publish a turn other = inr (publish_slots s t turn.0 turn.2)
-work_slots s t works.Roll a turn other = inr (roll_stays s t turn.0 turn.2).slots
-work_slots s t (works.Retire log) a turn other = inr (retire_stays s t log turn.0 turn.2).slots
-work_slots s t works.Rebuild a turn other = inr (rebuild_stays s t turn.0 turn.2).slots
-work_slots s t (works.Close log) a turn other =
-    inr (close_stays s t log turn.0 turn.2 (λ is. other log (refl, turn.1 ∙ ap answers.Close is))).slots
-work_slots s t (works.Remove log) a turn other = removal_or_not s t log turn.0 turn.2
-work_slots s t (works.Begin kind) a turn other = inr (begin_stays s t kind turn.0 turn.2).slots
-work_slots s t (works.Copy n) a turn other = inr (copy_stays s t n turn.0 turn.2).slots
-work_slots s t works.EndCopy a turn other = inr (end_stays s t turn.0 turn.2).slots
-work_slots s t (works.Switch n) a turn other = inr (switch_stays s t n turn.0 turn.2).slots
-work_slots s t works.Finish a turn other = inr (finish_stays s t turn.0 turn.2).slots
-work_slots s t works.GiveUp a turn other = inr (give_up_stays s t turn.0 turn.2).slots
+work_slots s t (works.Close log) a turn slots other =
+    inr (subst (λ (x : Answer). LeavesSlots s x t) turn.1 slots (λ is. other log (refl, turn.1 ∙ ap answers.Close is)))
+work_slots s t (works.Remove log) a turn slots other =
+    removal_or_not s t log turn.0 turn.2 (subst (λ (x : Answer). LeavesSlots s x t) turn.1 slots)
+work_slots s t work a turn slots other = inr (subst (λ (x : Answer). LeavesSlots s x t) turn.1 slots)
 
 -- a step that was answered Removed was a removal
 removal_of : (s t : State) (work : Work) (a : Answer) (log : ℕ) → WorkTurn s work a t → RemovesLog (steps.Work work) a log
@@ -99,21 +68,21 @@ close_of s t work a log turn is =
 
 -- ---- a step that did not close a log
 
-module _ (s t : State) (work : Work) (a : Answer) (kept : IsKept s) (turn : WorkTurn s work a t) (other : (log : ℕ) → ¬ (Closes (steps.Work work) a log))
-    (readers : List (Option Hold)) (leases : AreOpenLeases s.keeper readers) where
+module _ (s t : State) (work : Work) (a : Answer) (kept : IsKept s) (turn : WorkTurn s work a t) (stays : Stays s t) (left : LeavesSlots s a t)
+    (other : (log : ℕ) → ¬ (Closes (steps.Work work) a log)) (readers : List (Option Hold)) (leases : AreOpenLeases s.keeper readers) where
   pub open_leases : AreOpenLeases t.keeper readers
-  open_leases = elim (work_slots s t work a turn other) [
+  open_leases = elim (work_slots s t work a turn left other) [
     | inl removal ↦ removed_leases s t removal.log kept removal.turn readers leases
     | inr slots ↦ leases_stay s.keeper t.keeper slots readers leases
   ]
 
   pub open_shut : (log : ℕ) → IsShut s log → IsShut t log
   open_shut log shut = elim shut [
-    | inl stands ↦ elim (work_slots s t work a turn other) [
+    | inl stands ↦ elim (work_slots s t work a turn left other) [
       | inl removal ↦ removed_shut s t removal.log kept removal.turn log stands
       | inr slots ↦ inl (closed_stays s.keeper t.keeper slots log stands)
     ]
-    | inr gone ↦ inr ((work_gone s t work a turn).gone log gone)
+    | inr gone ↦ inr (stays.gone log gone)
   ]
 
   pub open_unread : (log : ℕ) → LetsGo (steps.Work work) a log → IsUnread readers log
@@ -137,8 +106,8 @@ one_closed work a log other is too = elim too [
   | inr removes ↦ let first = is.1 in let second = removes.1 in absurd (let e = sym first ∙ second in cc)
 ]
 
-module _ (s t : State) (work : Work) (a : Answer) (log : ℕ) (kept : IsKept s) (turn : WorkTurn s work a t) (is : Closes (steps.Work work) a log)
-    (readers : List (Option Hold)) (leases : AreOpenLeases s.keeper readers) where
+module _ (s t : State) (work : Work) (a : Answer) (log : ℕ) (kept : IsKept s) (turn : WorkTurn s work a t) (stays : Stays s t)
+    (is : Closes (steps.Work work) a log) (readers : List (Option Hold)) (leases : AreOpenLeases s.keeper readers) where
   closing : CloseTurn s log closes.Closed t
   closing = close_of s t work a log turn is
 
@@ -155,7 +124,7 @@ module _ (s t : State) (work : Work) (a : Answer) (log : ℕ) (kept : IsKept s) 
   pub left_shut : (other : ℕ) → IsShut s other → IsShut t other
   left_shut other shut = elim shut [
     | inl stands ↦ inl (closing_stays s t log (seats_kept s kept) closing other stands)
-    | inr gone ↦ inr ((work_gone s t work a turn).gone other gone)
+    | inr gone ↦ inr (stays.gone other gone)
   ]
 
   pub left_lets_go : (other : ℕ) → LetsGo (steps.Work work) a other → IsShut t other

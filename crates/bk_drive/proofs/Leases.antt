@@ -32,35 +32,17 @@ use Rattle.bk_drive.specs.declared.step.TakeAnswer.TheVariants as takes
 use Rattle.bk_drive.specs.declared.step.ReleaseAnswer.{ReleaseAnswer}
 use Rattle.bk_drive.specs.declared.step.ReleaseAnswer.TheVariants as releases
 use Rattle.bk_drive.specs.Headline.{reader_count}
-use Rattle.bk_drive.specs.Leased.{IsOpenLease, AreOpenLeases, StandsClosed, IsGone, IsShut}
+use Rattle.bk_drive.specs.Leased.{IsOpenLease, AreOpenLeases, StandsClosed, IsShut}
 use Rattle.bk_drive.proofs.Slots.{seat_of}
-use Rattle.bk_drive.proofs.Gone.{GoneStays, gone_same}
+use Rattle.bk_step.specs.Staying.{IsGone, SlotsStay}
+use Rattle.bk_step.proofs.Gone.{GoneStays, gone_same}
+use Rattle.bk_step.proofs.Still.{slots_same}
 
 -- the logs of a store are seated in its table
 pub seats_kept : (s : State) → IsKept s → AreSeated s.keeper s.logs
 seats_kept s kept = subst (λ (x : State). AreSeated x.keeper x.logs) kept.seen kept.keeps.fits.logs.seated.seats
 
 -- ---- slots that are taken stay as they are
-
-pub record SlotsStay (old new : SlotTable) : Type 0 where
-  pub table : new.table ≡ old.table
-  pub stay : (slot : ℕ) → state_at old.slots slot ≢ Free → state_at new.slots slot ≡ state_at old.slots slot
-
-pub slots_same : (old new : SlotTable) → new ≡ old → SlotsStay old new
-slots_same old new same = record { table = ap (λ (k : SlotTable). k.table) same; stay = λ slot _. ap (λ (k : SlotTable). state_at k.slots slot) same }
-
-pub slots_then : {a b c : SlotTable} → SlotsStay a b → SlotsStay b c → SlotsStay a c
-slots_then {a = a} {b = b} first second = record {
-  table = second.table ∙ first.table;
-  stay = λ slot full. second.stay slot (λ free. full (sym (first.stay slot full) ∙ free)) ∙ first.stay slot full;
-}
-
--- a log comes into a slot that was free
-pub slots_opened : (keeper : SlotTable) (slot : ℕ) (state : Slot) → state_at keeper.slots slot ≡ Free → SlotsStay keeper (with_state keeper slot state)
-slots_opened keeper slot state free = record {
-  table = refl;
-  stay = λ other full. state_at-set_else keeper.slots slot other state (λ same. full (ap (state_at keeper.slots) same ∙ free));
-}
 
 open-free : (id : ℕ) → Open id ≢ Free
 open-free id same = cc
@@ -89,10 +71,10 @@ module _ (old new : SlotTable) (same : new ≡ old) where
   leases_same = leases_stay old new (slots_same old new same)
 
 -- a log that is closed, or gone, stays so
-pub shut_stays : {s t : State} → SlotsStay s.keeper t.keeper → GoneStays s t → (log : ℕ) → IsShut s log → IsShut t log
-shut_stays {s = s} {t = t} slots gone log shut = elim shut [
+shut_stays : (s t : State) → SlotsStay s.keeper t.keeper → GoneStays s t → (log : ℕ) → IsShut s log → IsShut t log
+shut_stays s t slots gone log shut = elim shut [
   | inl closed ↦ inl (closed_stays s.keeper t.keeper slots log closed)
-  | inr left ↦ inr (gone.gone log left)
+  | inr left ↦ inr (gone log left)
 ]
 
 -- the logs, their table and the next id are as before
@@ -109,7 +91,7 @@ logs_same s t same = record {
 }
 
 pub shut_same : {s t : State} → SameLogs s t → (log : ℕ) → IsShut s log → IsShut t log
-shut_same {s = s} {t = t} same = shut_stays (slots_same s.keeper t.keeper same.keeper) (gone_same s t same.logs same.next)
+shut_same {s = s} {t = t} same = shut_stays s t (slots_same s.keeper t.keeper same.keeper) (gone_same s t same.logs same.next)
 
 -- ---- what readers hold
 

@@ -1,12 +1,10 @@
 pub mod Standing
 pub mod Owing
 pub mod Slots
-pub mod Gone
 pub mod Leases
 pub mod ReaderTurns
-pub mod Working
 pub mod Runs
-pub mod Compacting
+pub mod Agreeing
 pub mod Closing
 pub mod PlainTurns
 pub mod Driving

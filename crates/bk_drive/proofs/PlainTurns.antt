@@ -4,17 +4,20 @@ use Rattle.std.specs.declared.alloc.Global.{Global}
 use Rattle.bk_record.specs.Key.{EntryKey}
 use Rattle.bk_log.specs.declared.fault.FetchFault.{FetchFault}
 use Rattle.bk_store.specs.State.{State}
-use Rattle.bk_store.specs.Turns.{AddTurn, DeleteTurn}
+use Rattle.bk_store.specs.Turns.{AddTurn, DeleteTurn, FenceTurn}
 use Rattle.bk_store.specs.Plain.{Plain, IsKept}
 use Rattle.bk_store.specs.Plain as plain
+use Rattle.bk_store.specs.declared.adding.AddKind.TheVariants.{Ordinary, Recovery}
 use Rattle.bk_store.specs.declared.answer.Added.{Added}
 use Rattle.bk_store.specs.declared.answer.AddFault.{AddFault}
 use Rattle.bk_store.specs.declared.answer.TakeFault.{TakeFault}
 use Rattle.bk_store.specs.declared.answer.DeleteFault.{DeleteFault}
+use Rattle.bk_store.specs.declared.answer.Fence.{Fence}
+use Rattle.bk_store.specs.declared.answer.FenceFault.{FenceFault}
 use Rattle.bk_drive.specs.Plain.{PlainDesk, after_work}
 use Rattle.bk_drive.specs.Machine.{Hold, WorkTurn, LetsGo, IsUnread, Turn, ReaderTake, ReaderFetch, ReaderRelease, PlainTurn}
 use Rattle.bk_drive.specs.Machine.Turn.{worked}
-use Rattle.bk_drive.specs.Machine.PlainTurn.{worked as plain_worked, added, deleted, taken, fetched, released}
+use Rattle.bk_drive.specs.Machine.PlainTurn.{worked as plain_worked, added, recovered, deleted, fenced, taken, fetched, released}
 use Rattle.bk_drive.specs.Leased.{AreOpenLeases}
 use Rattle.bk_drive.specs.Headline.{AreOwed, Agrees}
 use Rattle.bk_drive.specs.declared.step.Step.{Step}
@@ -25,7 +28,7 @@ use Rattle.bk_drive.specs.declared.step.Answer.TheVariants as answers
 use Rattle.bk_drive.specs.declared.step.TakeAnswer.{TakeAnswer}
 use Rattle.bk_drive.specs.declared.step.FetchAnswer.{FetchAnswer}
 use Rattle.bk_drive.specs.declared.step.ReleaseAnswer.{ReleaseAnswer}
-use Rattle.bk_drive.proofs.Runs.{added_plain, deleted_plain}
+use Rattle.bk_drive.proofs.Runs.{added_plain, deleted_plain, fenced_plain}
 use Rattle.bk_drive.proofs.ReaderTurns.{owed_take, owed_fetch, owed_release}
 
 -- one turn of the machine beside one of the plain one, wherever they agree
@@ -53,17 +56,29 @@ module _ (s t : State) (readers readers' : List (Option Hold)) (work : Work) (a 
   )
 
 module _ (s t : State) (kept : IsKept s) (honest : IsTrue s.honest) (readers : List (Option Hold)) (leases : AreOpenLeases t.keeper readers) where
-  pub goes_added : (payload : Vec ℕ Global) (r : Result Added AddFault) → AddTurn s payload.items r t
+  pub goes_added : (payload : Vec ℕ Global) (r : Result Added AddFault) → AddTurn s Ordinary payload.items r t
       → GoesOn s readers (steps.Add payload) (answers.Add r) t readers
   goes_added payload r turn = λ p agrees.
-      let done = added_plain s t p.store kept honest agrees.store payload.items r turn in
+      let done = added_plain s t p.store kept honest agrees.store Ordinary payload.items r turn in
       (record p { store = done.0 }, added done.1, record { store = done.2; readers = agrees.readers; leases = leases })
+
+  pub goes_recovered : (payload : Vec ℕ Global) (r : Result Added AddFault) → AddTurn s Recovery payload.items r t
+      → GoesOn s readers (steps.AddRecovery payload) (answers.Add r) t readers
+  goes_recovered payload r turn = λ p agrees.
+      let done = added_plain s t p.store kept honest agrees.store Recovery payload.items r turn in
+      (record p { store = done.0 }, recovered done.1, record { store = done.2; readers = agrees.readers; leases = leases })
 
   pub goes_deleted : (ledger : ℕ) (r : Result ℕ DeleteFault) → DeleteTurn s ledger r t
       → GoesOn s readers (steps.Delete ledger) (answers.Delete r) t readers
   goes_deleted ledger r turn = λ p agrees.
       let done = deleted_plain s t p.store kept honest agrees.store ledger r turn in
       (record p { store = done.0 }, deleted done.1, record { store = done.2; readers = agrees.readers; leases = leases })
+
+  pub goes_fenced : (ledger : ℕ) (r : Result Fence FenceFault) → FenceTurn s ledger r t
+      → GoesOn s readers (steps.Fence ledger) (answers.Fence r) t readers
+  goes_fenced ledger r turn = λ p agrees.
+      let done = fenced_plain s t p.store kept honest agrees.store ledger r turn in
+      (record p { store = done.0 }, fenced done.1, record { store = done.2; readers = agrees.readers; leases = leases })
 
 pub goes_taken : (s t : State) (readers readers' : List (Option Hold)) (reader : ℕ) (key : EntryKey) (r : Result TakeAnswer TakeFault)
     → IsKept s → IsTrue s.honest

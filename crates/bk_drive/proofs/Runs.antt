@@ -10,20 +10,25 @@ use Rattle.bk_record.proofs.Keys.{key_cmp_antisymmetric}
 use Rattle.bk_store.specs.State.{State}
 use Rattle.bk_cache.specs.Caches as caches
 use Rattle.bk_store.specs.Kept.{Promises}
-use Rattle.bk_store.specs.Turns.{valid_ledgers, AddTurn, DeleteTurn, SwapTurn}
+use Rattle.bk_store.specs.Turns.{valid_ledgers, AddTurn, DeleteTurn, FenceTurn, SwapTurn}
 use Rattle.bk_store.specs.Opening.{IsOpened}
-use Rattle.bk_store.specs.Plain.{Plain, PlainAdd, PlainDelete, after_swap, IsKept}
+use Rattle.bk_store.specs.Plain.{Plain, PlainAdd, PlainDelete, PlainFence, after_swap, IsKept}
 use Rattle.bk_store.specs.Plain as plain
 use Rattle.bk_store.specs.declared.settings.Settings.{Settings}
+use Rattle.bk_store.specs.declared.adding.AddKind.{AddKind}
 use Rattle.bk_store.specs.declared.answer.Added.{Added}
 use Rattle.bk_store.specs.declared.answer.Added.TheVariants.{Accepted, Held}
 use Rattle.bk_store.specs.declared.answer.AddFault.{AddFault}
 use Rattle.bk_store.specs.declared.answer.AddFault.TheVariants as add_faults
 use Rattle.bk_store.specs.declared.answer.DeleteFault.{DeleteFault}
 use Rattle.bk_store.specs.declared.answer.DeleteFault.TheVariants as delete_faults
+use Rattle.bk_store.specs.declared.answer.Fence.{Fence}
+use Rattle.bk_store.specs.declared.answer.Fence.TheVariants as fences
+use Rattle.bk_store.specs.declared.answer.FenceFault.{FenceFault}
+use Rattle.bk_store.specs.declared.answer.FenceFault.TheVariants as fence_faults
 use Rattle.bk_store.specs.declared.answer.SwapAnswer.{SwapAnswer}
 use Rattle.bk_store.specs.declared.answer.SwapAnswer.TheVariants as swaps
-use Rattle.bk_store.proofs.PlainMaps.{plain_add, plain_delete, plain_swap}
+use Rattle.bk_store.proofs.PlainMaps.{plain_add, plain_delete, plain_fence, plain_swap}
 use Rattle.bk_drive.specs.Plain.{PlainDesk}
 use Rattle.bk_drive.specs.Machine.{Desk, Turn, PlainTurn}
 use Rattle.bk_drive.specs.Headline.{Agrees, Run, first_desk, first_plain, reader_count}
@@ -46,16 +51,20 @@ module _ (s t : State) (p : Plain) (kept : IsKept s) (honest : IsTrue s.honest) 
   limit_is : kept.parts.state.caches.limit ≡ s.settings.cache_limit
   limit_is = kept.keeps.fits.limits.limit ∙ ap (λ (x : State). x.settings.cache_limit) kept.seen
 
-  pub added_plain : (payload : List ℕ) (r : Result Added AddFault) → AddTurn s payload r t
-      → (q : Plain) × PlainAdd s.settings.cache_limit p payload r q × plain.MatchesPlain t q
-  added_plain payload r turn =
-      let done = plain_add kept.parts kept.keeps keeps_promises p agrees_seen t payload r (subst (λ (x : State). AddTurn x payload r t) (sym kept.seen) turn) in
-      (done.0, subst (λ limit. PlainAdd limit p payload r done.0) limit_is done.1, done.2)
+  pub added_plain : (kind : AddKind) (payload : List ℕ) (r : Result Added AddFault) → AddTurn s kind payload r t
+      → (q : Plain) × PlainAdd s.settings.cache_limit kind p payload r q × plain.MatchesPlain t q
+  added_plain kind payload r turn =
+      let done = plain_add kept.parts kept.keeps keeps_promises p agrees_seen t kind payload r
+      (subst (λ (x : State). AddTurn x kind payload r t) (sym kept.seen) turn) in
+      (done.0, subst (λ limit. PlainAdd limit kind p payload r done.0) limit_is done.1, done.2)
 
   pub deleted_plain : (ledger : ℕ) (r : Result ℕ DeleteFault) → DeleteTurn s ledger r t → (q : Plain) × PlainDelete p ledger r q × plain.MatchesPlain t q
   deleted_plain ledger r turn =
       plain_delete kept.parts kept.keeps keeps_promises p agrees_seen (subst (λ (x : State). caches.AreApart x.caches) (sym kept.seen) kept.apart) t ledger r
       (subst (λ (x : State). DeleteTurn x ledger r t) (sym kept.seen) turn)
+
+  pub fenced_plain : (ledger : ℕ) (r : Result Fence FenceFault) → FenceTurn s ledger r t → (q : Plain) × PlainFence p ledger r q × plain.MatchesPlain t q
+  fenced_plain ledger r turn = plain_fence s p agrees t ledger r turn
 
   pub swapped_plain : (r : SwapAnswer) → SwapTurn s r t → plain.MatchesPlain t (after_swap r p)
   swapped_plain r turn =
@@ -66,33 +75,25 @@ module _ (s t : State) (p : Plain) (kept : IsKept s) (honest : IsTrue s.honest) 
 logs_as : {s t u : State} → t ≡ u → SameLogs s u → SameLogs s t
 logs_as {s = s} is same = subst (λ (x : State). SameLogs s x) (sym is) same
 
-pub add_logs : (s t : State) (payload : List ℕ) (r : Result Added AddFault) → AddTurn s payload r t → SameLogs s t
-add_logs s t payload (Err (add_faults.Bad fault)) turn = logs_same s t turn.1
-add_logs s t payload (Err add_faults.Deleted) turn = logs_same s t turn.3
-add_logs s t payload (Ok Held) turn = logs_same s t turn.1
-add_logs s t payload (Err (add_faults.Full used limit)) turn = logs_same s t turn.4
-add_logs s t payload (Err add_faults.Memory) turn = logs_same s t turn.2
-add_logs s t payload (Ok Accepted) turn = logs_as turn.2 (record { keeper = refl; logs = refl; next = refl })
+pub add_logs : (s t : State) (kind : AddKind) (payload : List ℕ) (r : Result Added AddFault) → AddTurn s kind payload r t → SameLogs s t
+add_logs s t kind payload (Err (add_faults.Bad fault)) turn = logs_same s t turn.1
+add_logs s t kind payload (Err add_faults.Deleted) turn = logs_same s t turn.3
+add_logs s t kind payload (Err add_faults.Fenced) turn = logs_same s t turn.4
+add_logs s t kind payload (Ok Held) turn = logs_same s t turn.1
+add_logs s t kind payload (Err (add_faults.Full used limit)) turn = logs_same s t turn.4
+add_logs s t kind payload (Err add_faults.Memory) turn = logs_same s t turn.2
+add_logs s t kind payload (Ok (Accepted receipt)) turn = logs_as turn.3 (record { keeper = refl; logs = refl; next = refl })
 
 pub delete_logs : (s t : State) (ledger : ℕ) (r : Result ℕ DeleteFault) → DeleteTurn s ledger r t → SameLogs s t
 delete_logs s t ledger (Err delete_faults.AlreadyDeleted) turn = logs_same s t turn.1
 delete_logs s t ledger (Err delete_faults.Memory) turn = logs_same s t turn.1
 delete_logs s t ledger (Ok n) turn = logs_as turn.2 (record { keeper = refl; logs = refl; next = refl })
 
-pub swap_logs : (s t : State) (r : SwapAnswer) → SwapTurn s r t → SameLogs s t
-swap_logs s t swaps.Running turn = logs_same s t turn.1
-swap_logs s t swaps.Nothing turn = logs_same s t turn.2
-swap_logs s t (swaps.Swapped n) turn = logs_as turn.3 (record { keeper = refl; logs = refl; next = refl })
-
-pub swap_settings : (s t : State) (r : SwapAnswer) → SwapTurn s r t → t.settings ≡ s.settings
-swap_settings s t swaps.Running turn = ap (λ (x : State). x.settings) turn.1
-swap_settings s t swaps.Nothing turn = ap (λ (x : State). x.settings) turn.2
-swap_settings s t (swaps.Swapped n) turn = ap (λ (x : State). x.settings) turn.3
-
-pub swap_failures : (s t : State) (r : SwapAnswer) → SwapTurn s r t → t.failures ≡ s.failures
-swap_failures s t swaps.Running turn = ap (λ (x : State). x.failures) turn.1
-swap_failures s t swaps.Nothing turn = ap (λ (x : State). x.failures) turn.2
-swap_failures s t (swaps.Swapped n) turn = ap (λ (x : State). x.failures) turn.3
+pub fence_logs : (s t : State) (ledger : ℕ) (r : Result Fence FenceFault) → FenceTurn s ledger r t → SameLogs s t
+fence_logs s t ledger (Err fence_faults.Deleted) turn = logs_same s t turn.1
+fence_logs s t ledger (Ok fences.AlreadyFenced) turn = logs_same s t turn.2
+fence_logs s t ledger (Err fence_faults.Memory) turn = logs_same s t turn.2
+fence_logs s t ledger (Ok fences.Fenced) turn = logs_as turn.2 (record { keeper = refl; logs = refl; next = refl })
 
 -- ---- a run goes on
 

@@ -5,7 +5,8 @@ use Rattle.std.specs.FinMap as finite
 use Rattle.bk_record.specs.Files.{Files}
 use Rattle.bk_record.specs.Scan.{Ledgers, scan_of, live}
 use Rattle.bk_store.specs.Entries.{HasEntry}
-use Rattle.bk_store.specs.State.{State, opened_ledgers}
+use Rattle.bk_store.specs.State.{State}
+use Rattle.bk_store.specs.Ledgers.{opened_ledgers}
 use Rattle.bk_store.specs.Turns.{valid_ledgers}
 use Rattle.bk_store.specs.Opening.{IsOpened}
 use Rattle.bk_store.specs.Plain as plain

@@ -1,10 +1,10 @@
 -- The leases that readers hold: each stands open in the store's table, and none is on a log that was answered Closed, or Removed.
-use Rattle.std.specs.Prelude.{◌≡◌, ◌⊎◌, ℕ, ◌<◌, true, List, [], ◌∷◌, Option, None}
-use Rattle.std.specs.FinMap as finite
+use Rattle.std.specs.Prelude.{◌≡◌, ◌⊎◌, ℕ, true, List, [], ◌∷◌, Option}
 use Rattle.bk_lease.specs.declared.slot.Slot.TheVariants.{Open, Closed}
 use Rattle.bk_lease.specs.Leases.{state_at}
 use Rattle.bk_lease.specs.Values.{SlotTable}
 use Rattle.bk_store.specs.State.{State}
+use Rattle.bk_step.specs.Staying.{IsGone}
 use Rattle.bk_drive.specs.Plain.{HasAt}
 use Rattle.bk_drive.specs.Machine.{Hold, LetsGo}
 use Rattle.bk_drive.specs.declared.step.Step.{Step}
@@ -23,10 +23,6 @@ AreOpenLeases keeper readers = (reader : ℕ) (hold : Hold) → HasAt readers re
 -- the log stands closed in a slot
 abbrev pub StandsClosed : SlotTable → ℕ → Type 0
 StandsClosed keeper log = (slot : ℕ) × (state_at keeper.slots slot ≡ Closed log)
-
--- the log is held no more, and its id is never given again
-abbrev pub IsGone : State → ℕ → Type 0
-IsGone s log = (finite.get s.logs log ≡ None) × (log < s.next)
 
 -- no lease of the log is given any more: it is closed to leases, or gone
 abbrev pub IsShut : State → ℕ → Type 0

@@ -4,3 +4,4 @@ pub mod Held
 pub mod Leased
 pub mod Headline
 pub mod Failing
+pub mod Leaving

@@ -12,20 +12,23 @@ use Rattle.bk_lease.specs.Values.{Ticket, with_given}
 use Rattle.bk_store.specs.Logs.{View}
 use Rattle.bk_store.specs.State.{State}
 use Rattle.bk_store.specs.Meaning.{cached_at}
-use Rattle.bk_store.specs.Turns.{is_dead, IsInLog, AddTurn, DeleteTurn, SwapTurn}
+use Rattle.bk_store.specs.Turns.{is_dead, IsInLog, AddTurn, DeleteTurn, FenceTurn, SwapTurn}
 use Rattle.bk_store.specs.Leasing.{IsLeaseOf, IsMet}
-use Rattle.bk_store.specs.Plain.{Plain, PlainAdd, PlainDelete}
+use Rattle.bk_store.specs.Plain.{Plain, PlainAdd, PlainDelete, PlainFence}
+use Rattle.bk_store.specs.declared.adding.AddKind.TheVariants.{Ordinary, Recovery}
 use Rattle.bk_store.specs.declared.answer.Added.{Added}
 use Rattle.bk_store.specs.declared.answer.AddFault.{AddFault}
 use Rattle.bk_store.specs.declared.answer.TakeFault.{TakeFault}
 use Rattle.bk_store.specs.declared.answer.TakeFault.TheVariants as take_faults
 use Rattle.bk_store.specs.declared.answer.DeleteFault.{DeleteFault}
+use Rattle.bk_store.specs.declared.answer.Fence.{Fence}
+use Rattle.bk_store.specs.declared.answer.FenceFault.{FenceFault}
 use Rattle.bk_store.specs.declared.answer.SwapAnswer.{SwapAnswer}
 use Rattle.bk_flush.specs.Flushing.{StepTurn, PublishTurn, RollTurn}
 use Rattle.bk_flush.specs.declared.answer.WriteAnswer.{WriteAnswer}
 use Rattle.bk_flush.specs.declared.answer.PublishAnswer.{PublishAnswer}
 use Rattle.bk_flush.specs.declared.answer.RollAnswer.{RollAnswer}
-use Rattle.bk_flush.specs.declared.answer.FlushFault.{FlushFault}
+use Rattle.bk_step.specs.declared.fault.StepFault.{StepFault}
 use Rattle.bk_collect.specs.Collecting.{RetireTurn, RebuildTurn, CloseTurn, RemoveTurn}
 use Rattle.bk_collect.specs.declared.answer.CloseAnswer.{CloseAnswer}
 use Rattle.bk_collect.specs.declared.answer.CloseAnswer.TheVariants as closes
@@ -41,7 +44,6 @@ use Rattle.bk_compact.specs.declared.answer.EndAnswer.{EndAnswer}
 use Rattle.bk_compact.specs.declared.answer.SwitchAnswer.{SwitchAnswer}
 use Rattle.bk_compact.specs.declared.answer.FinishAnswer.{FinishAnswer}
 use Rattle.bk_compact.specs.declared.answer.GiveUpAnswer.{GiveUpAnswer}
-use Rattle.bk_compact.specs.declared.answer.CompactFault.{CompactFault}
 use Rattle.bk_drive.specs.Plain.{Owed, PlainDesk, HoldsNothing, HasAt, IsBusy, OwedTake, OwedFetch, OwedRelease, after_work}
 use Rattle.bk_drive.specs.declared.step.TakeAnswer.{TakeAnswer}
 use Rattle.bk_drive.specs.declared.step.TakeAnswer.TheVariants as takes
@@ -132,16 +134,16 @@ ReaderRelease readers reader releases.Released readers' = IsBusy readers reader 
 -- One step of the store alone, with its answer.
 abbrev pub WorkTurn : State → Work → Answer → State → Type 0
 WorkTurn s works.Swap a t = (r : SwapAnswer) × (a ≡ answers.Swap r) × SwapTurn s r t
-WorkTurn s works.WriteOne a t = (r : Result WriteAnswer FlushFault) × (a ≡ answers.Write r) × StepTurn s r t
-WorkTurn s works.Publish a t = (r : Result PublishAnswer FlushFault) × (a ≡ answers.Publish r) × PublishTurn s r t
-WorkTurn s works.Roll a t = (r : Result RollAnswer FlushFault) × (a ≡ answers.Roll r) × RollTurn s r t
+WorkTurn s works.WriteOne a t = (r : Result WriteAnswer StepFault) × (a ≡ answers.Write r) × StepTurn s r t
+WorkTurn s works.Publish a t = (r : Result PublishAnswer StepFault) × (a ≡ answers.Publish r) × PublishTurn s r t
+WorkTurn s works.Roll a t = (r : Result RollAnswer StepFault) × (a ≡ answers.Roll r) × RollTurn s r t
 WorkTurn s (works.Retire log) a t = (r : RetireAnswer) × (a ≡ answers.Retire r) × RetireTurn s log r t
 WorkTurn s works.Rebuild a t = (r : Result ℕ CollectFault) × (a ≡ answers.Rebuild r) × RebuildTurn s r t
 WorkTurn s (works.Close log) a t = (r : CloseAnswer) × (a ≡ answers.Close r) × CloseTurn s log r t
 WorkTurn s (works.Remove log) a t = (r : Result RemoveAnswer CollectFault) × (a ≡ answers.Remove r) × RemoveTurn s log r t
-WorkTurn s (works.Begin kind) a t = (r : Result BeginAnswer CompactFault) × (a ≡ answers.Begin r) × BeginTurn s kind r t
-WorkTurn s (works.Copy n) a t = (r : Result CopyAnswer CompactFault) × (a ≡ answers.Copy r) × CopyTurn s n r t
-WorkTurn s works.EndCopy a t = (r : Result EndAnswer CompactFault) × (a ≡ answers.EndCopy r) × EndTurn s r t
+WorkTurn s (works.Begin kind) a t = (r : Result BeginAnswer StepFault) × (a ≡ answers.Begin r) × BeginTurn s kind r t
+WorkTurn s (works.Copy n) a t = (r : Result CopyAnswer StepFault) × (a ≡ answers.Copy r) × CopyTurn s n r t
+WorkTurn s works.EndCopy a t = (r : Result EndAnswer StepFault) × (a ≡ answers.EndCopy r) × EndTurn s r t
 WorkTurn s (works.Switch n) a t = (r : SwitchAnswer) × (a ≡ answers.Switch r) × SwitchTurn s n r t
 WorkTurn s works.Finish a t = (r : FinishAnswer) × (a ≡ answers.Finish r) × FinishTurn s r t
 WorkTurn s works.GiveUp a t = (r : GiveUpAnswer) × (a ≡ answers.GiveUp r) × GiveUpTurn s r t
@@ -166,10 +168,14 @@ IsUnread readers log = (reader : ℕ) (hold : Hold) → HasAt readers reader hol
 pub data Turn : Desk → Step → Answer → Desk → Type 0 where
   worked : {d : Desk} {t : State} {work : Work} {a : Answer} → WorkTurn d.store work a t
       → ((log : ℕ) → LetsGo (steps.Work work) a log → IsUnread d.readers log) → Turn d (steps.Work work) a (record d { store = t })
-  added : {d : Desk} {t : State} {payload : Vec ℕ Global} {r : Result Added AddFault} → AddTurn d.store payload.items r t
+  added : {d : Desk} {t : State} {payload : Vec ℕ Global} {r : Result Added AddFault} → AddTurn d.store Ordinary payload.items r t
       → Turn d (steps.Add payload) (answers.Add r) (record d { store = t })
+  recovered : {d : Desk} {t : State} {payload : Vec ℕ Global} {r : Result Added AddFault} → AddTurn d.store Recovery payload.items r t
+      → Turn d (steps.AddRecovery payload) (answers.Add r) (record d { store = t })
   deleted : {d : Desk} {t : State} {ledger : ℕ} {r : Result ℕ DeleteFault} → DeleteTurn d.store ledger r t
       → Turn d (steps.Delete ledger) (answers.Delete r) (record d { store = t })
+  fenced : {d : Desk} {t : State} {ledger : ℕ} {r : Result Fence FenceFault} → FenceTurn d.store ledger r t
+      → Turn d (steps.Fence ledger) (answers.Fence r) (record d { store = t })
   taken : {d e : Desk} {reader : ℕ} {key : EntryKey} {r : Result TakeAnswer TakeFault} → ReaderTake d reader key r e
       → Turn d (steps.Take reader key) (answers.Take r) e
   fetched : {d : Desk} {reader : ℕ} {r : Result FetchAnswer FetchFault} → ReaderFetch d.readers reader r
@@ -184,10 +190,14 @@ pub data Turn : Desk → Step → Answer → Desk → Type 0 where
 pub data PlainTurn : ℕ → PlainDesk → Step → Answer → PlainDesk → Type 0 where
   worked : {limit : ℕ} {p : PlainDesk} {work : Work} {a : Answer}
       → PlainTurn limit p (steps.Work work) a (record p { store = after_work a p.store })
-  added : {limit : ℕ} {p : PlainDesk} {q : Plain} {payload : Vec ℕ Global} {r : Result Added AddFault} → PlainAdd limit p.store payload.items r q
-      → PlainTurn limit p (steps.Add payload) (answers.Add r) (record p { store = q })
+  added : {limit : ℕ} {p : PlainDesk} {q : Plain} {payload : Vec ℕ Global} {r : Result Added AddFault}
+      → PlainAdd limit Ordinary p.store payload.items r q → PlainTurn limit p (steps.Add payload) (answers.Add r) (record p { store = q })
+  recovered : {limit : ℕ} {p : PlainDesk} {q : Plain} {payload : Vec ℕ Global} {r : Result Added AddFault}
+      → PlainAdd limit Recovery p.store payload.items r q → PlainTurn limit p (steps.AddRecovery payload) (answers.Add r) (record p { store = q })
   deleted : {limit : ℕ} {p : PlainDesk} {q : Plain} {ledger : ℕ} {r : Result ℕ DeleteFault} → PlainDelete p.store ledger r q
       → PlainTurn limit p (steps.Delete ledger) (answers.Delete r) (record p { store = q })
+  fenced : {limit : ℕ} {p : PlainDesk} {q : Plain} {ledger : ℕ} {r : Result Fence FenceFault} → PlainFence p.store ledger r q
+      → PlainTurn limit p (steps.Fence ledger) (answers.Fence r) (record p { store = q })
   taken : {limit : ℕ} {p q : PlainDesk} {reader : ℕ} {key : EntryKey} {r : Result TakeAnswer TakeFault} → OwedTake p reader key r q
       → PlainTurn limit p (steps.Take reader key) (answers.Take r) q
   fetched : {limit : ℕ} {p : PlainDesk} {reader : ℕ} {r : Result FetchAnswer FetchFault} → OwedFetch p.readers reader r

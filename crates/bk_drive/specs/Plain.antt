@@ -8,8 +8,8 @@ use Rattle.bk_store.specs.Plain.{Plain, IsDeleted, IsAlive, after_swap}
 use Rattle.bk_store.specs.declared.answer.TakeFault.{TakeFault}
 use Rattle.bk_store.specs.declared.answer.TakeFault.TheVariants as take_faults
 use Rattle.bk_flush.specs.declared.answer.PublishAnswer.{PublishAnswer}
-use Rattle.bk_flush.specs.declared.answer.PublishAnswer.TheVariants.{NoFlush, NotAllWritten, Published}
-use Rattle.bk_flush.specs.declared.answer.FlushFault.{FlushFault}
+use Rattle.bk_flush.specs.declared.answer.PublishAnswer.TheVariants.{Published}
+use Rattle.bk_step.specs.declared.fault.StepFault.{StepFault}
 use Rattle.bk_drive.specs.declared.step.TakeAnswer.{TakeAnswer}
 use Rattle.bk_drive.specs.declared.step.TakeAnswer.TheVariants as takes
 use Rattle.bk_drive.specs.declared.step.FetchAnswer.{FetchAnswer}
@@ -75,30 +75,12 @@ OwedRelease readers reader releases.NoLease readers' = HoldsNothing readers read
 OwedRelease readers reader releases.Released readers' = IsBusy readers reader × (readers' ≡ slice_set readers reader None)
 
 -- A publish that is answered so ends the flush.
-abbrev pub after_publish : Result PublishAnswer FlushFault → Plain → Plain
+abbrev pub after_publish : Result PublishAnswer StepFault → Plain → Plain
 after_publish (Ok (Published n)) p = record p { flush = None }
-after_publish (Ok NoFlush) p = p
-after_publish (Ok NotAllWritten) p = p
-after_publish (Err fault) p = p
+after_publish _ p = p
 
--- what an answer of a flush's call tells of the plain map: which pairs are only cached, and nothing else
+-- what the answer of a step of the store alone tells of the plain map: which pairs are only cached, and nothing else
 abbrev pub after_work : Answer → Plain → Plain
-after_work (answers.Add r) p = p
-after_work (answers.Take r) p = p
-after_work (answers.Fetch r) p = p
-after_work (answers.Release r) p = p
-after_work (answers.Delete r) p = p
 after_work (answers.Swap r) p = after_swap r p
-after_work (answers.Write r) p = p
 after_work (answers.Publish r) p = after_publish r p
-after_work (answers.Roll r) p = p
-after_work (answers.Retire r) p = p
-after_work (answers.Rebuild r) p = p
-after_work (answers.Close r) p = p
-after_work (answers.Remove r) p = p
-after_work (answers.Begin r) p = p
-after_work (answers.Copy r) p = p
-after_work (answers.EndCopy r) p = p
-after_work (answers.Switch r) p = p
-after_work (answers.Finish r) p = p
-after_work (answers.GiveUp r) p = p
+after_work _ p = p

@@ -15,8 +15,10 @@ pub use bk_compact::{
 };
 pub use bk_flush::{FlushFault, PublishAnswer, RollAnswer, WriteAnswer};
 pub use bk_lease::Lease;
+pub use bk_step::StepFault;
 pub use bk_store::{
-    AddFault, Added, DeleteFault, LogCause, OpenFault, Settings, Store, SwapAnswer, TakeFault,
+    AddFault, AddKind, Added, DeleteFault, Fence, FenceFault, LogCause, Mark, OpenFault, Receipt,
+    Settings, Store, SwapAnswer, TakeFault,
 };
 pub use readers::{Readers, Reading};
 pub use run::{Ran, apply, drive};

@@ -3,6 +3,7 @@
 ghost use Rattle.std.specs.Prelude.{◌≡◌, ◌↔◌, ◌<◌, ◌≤◌, ℕ, Option, IsTrue, IfOk, IfErr, IsErrOf, IfSome, IfNone, length};
 ghost use Rattle.bk_disk.specs.Disk.{AreSound};
 ghost use Rattle.bk_store.specs.Limits.{IsAllowed};
+ghost use Rattle.bk_store.specs.Turns.{AddTurn};
 ghost use Rattle.bk_store.specs.Opening.{OpenFails};
 ghost use Rattle.bk_store.specs.Plain.{Plain, MatchesPlain};
 ghost use Rattle.bk_drive.specs.Plain.{PlainDesk, HasAt, after_work};
@@ -11,6 +12,8 @@ ghost use Rattle.bk_drive.specs.Machine.{Hold, WorkTurn, Turn, PlainTurn, IsUnre
 ghost use Rattle.bk_drive.specs.Headline.{Agrees, Headline};
 ghost use Rattle.bk_drive.specs.Leased.{AreOpenLeases, IsShut};
 ghost use Rattle.bk_drive.specs.Failing.{IsDiskFault, IsTold, NoneIsDiskFault, NeverFails};
+ghost use Rattle.bk_drive.specs.Leaving.{LeavesSlots, LeavesCaches, CountsFailures};
+ghost use Rattle.bk_step.specs.Staying.{Stays};
 
 use crate::taking::{fetch_by, release, take};
 use crate::{Answer, Readers, Step, Work};
@@ -18,7 +21,7 @@ use bk_collect::{CloseAnswer, close, rebuild, remove, retire};
 use bk_compact::{begin, copy, end_copy, finish, give_up, switch};
 use bk_disk::LogDisk;
 use bk_flush::{publish, roll, swap, write_one};
-use bk_store::{OpenFault, Settings, Store};
+use bk_store::{AddFault, AddKind, Added, OpenFault, Settings, Store};
 use std::alloc::Global;
 
 /// What a run left: the store, the answer of each step, and the readers with the leases that they hold.
@@ -36,10 +39,25 @@ pub fn apply<D: LogDisk>(store: &mut Store<D>, work: Work) -> Answer
     ensures cause { IsTold store.old.failures store.new.failures result }
     ensures sound { AreSound D.View.sound → IsDiskFault result → store.old.failures < store.new.failures }
     ensures settings { store.new.settings ≡ store.old.settings }
+    ensures stays { Stays store.old store.new }
+    ensures slots { LeavesSlots store.old result store.new }
     ensures turn { WorkTurn store.old work result store.new }
     ensures plain { IsTrue store.old.honest → (p : Plain) → MatchesPlain store.old p → MatchesPlain store.new (after_work result p) }
 {
     store.promise();
+    call(store, work)
+}
+
+/// The call that a step of the store alone is, and its answer.
+fn call<D: LogDisk>(store: &mut Store<D>, work: Work) -> Answer
+    ensures honest { store.new.honest ≡ store.old.honest }
+    ensures cause { CountsFailures store.old result store.new }
+    ensures sound { AreSound D.View.sound → IsDiskFault result → store.old.failures < store.new.failures }
+    ensures stays { Stays store.old store.new }
+    ensures slots { LeavesSlots store.old result store.new }
+    ensures caches { LeavesCaches store.old result store.new }
+    ensures turn { WorkTurn store.old work result store.new }
+{
     match work {
         Work::Swap => Answer::Swap(swap(store)),
         Work::WriteOne => Answer::Write(write_one(store)),
@@ -125,11 +143,23 @@ fn turn<D: LogDisk>(
     store.promise();
     match step {
         Step::Work(work) => work_on(store, readers, *work),
-        Step::Add(payload) => Answer::Add(store.add(payload)),
+        Step::Add(payload) => Answer::Add(add(store, AddKind::Ordinary, payload)),
+        Step::AddRecovery(payload) => Answer::Add(add(store, AddKind::Recovery, payload)),
         Step::Take(reader, key) => Answer::Take(take(store, readers, *reader, *key)),
         Step::Fetch(reader) => Answer::Fetch(fetch_by(alloc, readers, *reader)),
         Step::Release(reader) => Answer::Release(release(readers, *reader)),
         Step::Delete(ledger) => Answer::Delete(store.delete(*ledger)),
+        Step::Fence(ledger) => Answer::Fence(store.fence(*ledger)),
+    }
+}
+
+/// An add of either kind.
+fn add<D: LogDisk>(store: &mut Store<D>, kind: AddKind, payload: &[u8]) -> Result<Added, AddFault>
+    ensures { AddTurn store.old kind payload.now result store.new }
+{
+    match kind {
+        AddKind::Ordinary => store.add(payload),
+        AddKind::Recovery => store.add_recovery(payload),
     }
 }
 

@@ -2,13 +2,13 @@
 
 use bk_collect::{CloseAnswer, CollectFault, RemoveAnswer, RetireAnswer};
 use bk_compact::{
-    BeginAnswer, CompactFault, CopyAnswer, EndAnswer, FinishAnswer, GiveUpAnswer, Kind,
-    SwitchAnswer,
+    BeginAnswer, CopyAnswer, EndAnswer, FinishAnswer, GiveUpAnswer, Kind, SwitchAnswer,
 };
-use bk_flush::{FlushFault, PublishAnswer, RollAnswer, WriteAnswer};
+use bk_flush::{PublishAnswer, RollAnswer, WriteAnswer};
 use bk_log::FetchFault;
 use bk_record::{Key, Location};
-use bk_store::{AddFault, Added, DeleteFault, SwapAnswer, TakeFault};
+use bk_step::StepFault;
+use bk_store::{AddFault, Added, DeleteFault, Fence, FenceFault, SwapAnswer, TakeFault};
 use std::sync::Arc;
 
 /// A step of the store alone.
@@ -51,6 +51,8 @@ pub enum Step {
     Work(Work),
     /// An add of this payload: the ledger id and the entry id, eight bytes each, then the data.
     Add(Vec<u8>),
+    /// The same by a recovery of the ledger: a fence does not refuse it.
+    AddRecovery(Vec<u8>),
     /// A take of this key by a reader, which then holds the lease if it gets one.
     Take(u32, Key),
     /// A read of the entry that the reader of this number holds a lease on. It keeps the lease.
@@ -59,6 +61,8 @@ pub enum Step {
     Release(u32),
     /// A deletion of this ledger.
     Delete(u64),
+    /// A fence of this ledger: from then on ordinary adds to it are refused.
+    Fence(u64),
 }
 
 /// What a take answered.
@@ -103,24 +107,26 @@ pub enum ReleaseAnswer {
 /// The answer of a step, by the call that it made.
 #[derive(Debug, Drop)]
 pub enum Answer {
+    /// Of an add of either kind.
     Add(Result<Added, AddFault>),
     Take(Result<TakeAnswer, TakeFault>),
     Fetch(Result<FetchAnswer, FetchFault>),
     Release(ReleaseAnswer),
     /// How many keys the deleted ledger had, each counted once.
     Delete(Result<u64, DeleteFault>),
+    Fence(Result<Fence, FenceFault>),
     Swap(SwapAnswer),
-    Write(Result<WriteAnswer, FlushFault>),
-    Publish(Result<PublishAnswer, FlushFault>),
-    Roll(Result<RollAnswer, FlushFault>),
+    Write(Result<WriteAnswer, StepFault>),
+    Publish(Result<PublishAnswer, StepFault>),
+    Roll(Result<RollAnswer, StepFault>),
     Retire(RetireAnswer),
     /// How many keys the new index has.
     Rebuild(Result<u64, CollectFault>),
     Close(CloseAnswer),
     Remove(Result<RemoveAnswer, CollectFault>),
-    Begin(Result<BeginAnswer, CompactFault>),
-    Copy(Result<CopyAnswer, CompactFault>),
-    EndCopy(Result<EndAnswer, CompactFault>),
+    Begin(Result<BeginAnswer, StepFault>),
+    Copy(Result<CopyAnswer, StepFault>),
+    EndCopy(Result<EndAnswer, StepFault>),
     Switch(SwitchAnswer),
     Finish(FinishAnswer),
     GiveUp(GiveUpAnswer),

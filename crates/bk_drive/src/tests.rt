@@ -5,15 +5,16 @@
 
 use crate::{
     AddFault, Added, Answer, BeginAnswer, CloseAnswer, CollectFault, CompactFault, CopyAnswer,
-    DeleteFault, EndAnswer, FetchAnswer, FinishAnswer, FlushFault, GiveUpAnswer, PublishAnswer,
-    ReleaseAnswer, RemoveAnswer, RetireAnswer, RollAnswer, Settings, Step, SwapAnswer,
-    SwitchAnswer, TakeAnswer, TakeFault, Work, WriteAnswer,
+    DeleteFault, EndAnswer, Fence, FenceFault, FetchAnswer, FinishAnswer, FlushFault, GiveUpAnswer,
+    PublishAnswer, ReleaseAnswer, RemoveAnswer, RetireAnswer, RollAnswer, Settings, Step,
+    SwapAnswer, SwitchAnswer, TakeAnswer, TakeFault, Work, WriteAnswer,
 };
 use bk_record::Key;
 use std::alloc::{AllocError, Global};
 
 mod calls;
 mod compaction_series;
+mod fencing;
 mod series;
 mod using;
 
@@ -88,6 +89,9 @@ fn told(answer: &Answer) -> Told {
         Answer::Release(ReleaseAnswer::Released) => ("released", 0),
         Answer::Delete(Ok(dropped)) => ("dropped", *dropped),
         Answer::Delete(Err(DeleteFault::AlreadyDeleted)) => ("already deleted", 0),
+        Answer::Fence(Ok(Fence::Fenced)) => ("fenced", 1),
+        Answer::Fence(Ok(Fence::AlreadyFenced)) => ("already fenced", 0),
+        Answer::Fence(Err(FenceFault::Deleted)) => ("deleted", 0),
         Answer::Swap(SwapAnswer::Running) => ("running", 0),
         Answer::Swap(SwapAnswer::Nothing) => ("nothing", 0),
         Answer::Swap(SwapAnswer::Swapped(entries)) => ("swapped", *entries),
@@ -184,9 +188,10 @@ fn told_of_finish(finished: &FinishAnswer) -> Told {
 
 fn told_of_add(added: &Result<Added, AddFault>) -> Told {
     match added {
-        Ok(Added::Accepted) => ("accepted", 0),
+        Ok(Added::Accepted(_)) => ("accepted", 0),
         Ok(Added::Held) => ("held", 0),
         Err(AddFault::Deleted) => ("deleted", 0),
+        Err(AddFault::Fenced) => ("fenced", 0),
         Err(AddFault::Full { used, .. }) => ("full", *used),
         Err(AddFault::Bad(_) | AddFault::Memory) => ("another fault", 0),
     }

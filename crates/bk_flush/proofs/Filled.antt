@@ -3,6 +3,8 @@ use Rattle.std.proofs.Common.{◌≡◌, ℕ, ◌+◌, ◌<◌, ◌≤◌, ◌^�
 use Rattle.std.specs.Option.{option_and_then}
 use Rattle.std.specs.FinMap as finite
 use Rattle.std.proofs.lemmas.Bool.{lt-ltb, le-ltb, ltb-false}
+use Rattle.bk_record.specs.Limits.{max_added}
+use Rattle.bk_record.proofs.Limits.{ends_short, first_ends_short}
 use Rattle.bk_log.specs.Writing as writers
 use Rattle.bk_store.specs.Logs.{Log, is_written}
 use Rattle.bk_store.specs.Limits.{IsAllowed}
@@ -52,14 +54,15 @@ module _ (s : State) (id : ℕ) (w : writers.Writing) (is : IsIn s id Writing) (
   pub takes_to_limit : (settings : Settings) (end limit size : ℕ) → IsAllowed settings → limit ≡ settings.log_limit → end ≡ w.end
       → length payload ≡ size → nat_lt limit (end + 4 + size) ≡ false → CanTake s id Writing payload
   takes_to_limit settings end limit size allowed limits ends long within =
-      let most = allowed.log_most in
       let below = ltb-false limit (end + 4 + size) within in
-      takes_within (omega (arith, most, limits, ends, long, below))
+      let short = ends_short (end + 4 + size) limit below (rw limits allowed.log_most) in
+      takes_within (omega (arith, short, ends, long))
 
   -- and so can one without a record
   pub takes_first : (records size : ℕ) → records ≡ w.count → nat_lt 0 records ≡ false → (w.count ≡ 0 → w.end ≡ 1024) → length payload ≡ size
-      → size ≤ 1048576 → CanTake s id Writing payload
+      → size ≤ max_added → CanTake s id Writing payload
   takes_first records size count none empty long most =
       let no = ltb-false 0 records none in
       let ends = empty (omega (arith, count, no)) in
-      takes_within (omega (arith, ends, long, most))
+      let short = first_ends_short size most in
+      takes_within (omega (arith, short, ends, long))

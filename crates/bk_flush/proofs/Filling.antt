@@ -2,6 +2,8 @@
 use Rattle.std.proofs.Common.{◌≡◌, ◌⊎◌, inl, inr, ℕ, ◌+◌, ◌<◌, ◌≤◌, ◌^◌, Bool, true, List, length, Option, Some}
 use Rattle.std.proofs.Common.{None, Result, Ok, Err, refl, sym, ap, subst, ◌∙◌, arith}
 use Rattle.std.specs.FinMap as finite
+use Rattle.bk_record.specs.Limits.{max_added}
+use Rattle.bk_record.proofs.Limits.{first_ends_short}
 use Rattle.bk_log.specs.declared.fault.LogFault.{LogFault}
 use Rattle.bk_log.specs.declared.fault.LogFault.TheVariants as log_faults
 use Rattle.bk_log.specs.Writing.{new_writing}
@@ -14,9 +16,10 @@ use Rattle.bk_store.specs.declared.log.LogState.{LogState}
 use Rattle.bk_store.specs.declared.log.LogState.TheVariants.{Writing, Filled}
 use Rattle.bk_store.proofs.LogMaps.{log-inserted, log-insert_cases}
 use Rattle.bk_store.proofs.OneLog.{same_len}
-use Rattle.bk_flush.specs.Flushing.{FillTurn, LeftBy, NeedsLog, NewLog, NoNewLog, ReadyTurn, WritesInto, flush_fault_of, flush_fault_of_make}
-use Rattle.bk_flush.specs.declared.answer.FlushFault.{FlushFault}
-use Rattle.bk_flush.specs.declared.answer.FlushFault.TheVariants as flush_faults
+use Rattle.bk_step.specs.Faults.{step_fault_of, step_fault_of_make}
+use Rattle.bk_flush.specs.Flushing.{FillTurn, LeftBy, NeedsLog, NewLog, NoNewLog, ReadyTurn, WritesInto}
+use Rattle.bk_step.specs.declared.fault.StepFault.{StepFault}
+use Rattle.bk_step.specs.declared.fault.StepFault.TheVariants as step_faults
 
 -- the log that flushes write, if there is one, which is filled for each payload of this length
 pub record IsToFill (s : State) (size : ℕ) (filled : Option ℕ) : Type 0 where
@@ -72,7 +75,7 @@ still_may s mid (Some id) seals may =
     record { room = omega (arith, logs, slots, room); id = omega (arith, next, id) }
 
 -- a log that was just made can take the record
-pub made_takes : (mid t : State) (id : ℕ) (payload : List ℕ) (size : ℕ) → length payload ≡ size → size ≤ 1048576 → MakeTurn mid Writing (Ok id) t
+pub made_takes : (mid t : State) (id : ℕ) (payload : List ℕ) (size : ℕ) → length payload ≡ size → size ≤ max_added → MakeTurn mid Writing (Ok id) t
     → CanTake t id Writing payload
 made_takes mid t id payload size long most made = record {
   log = made_log Writing mid.next made.2.slot;
@@ -83,7 +86,7 @@ made_takes mid t id payload size long most made = record {
     writer = refl;
   };
   state_is = refl;
-  room = omega (arith, long, most);
+  room = let short = first_ends_short size most in omega (arith, long, short);
 }
 
 module _ (s mid : State) (size : ℕ) (filled : Option ℕ) (is : IsToFill s size filled) (may : MayMake s) (payload : List ℕ) (long : length payload ≡ size) where
@@ -92,39 +95,39 @@ module _ (s mid : State) (size : ℕ) (filled : Option ℕ) (is : IsToFill s siz
   ready_made sealed id t made =
       record { filled = filled; needs = is.needs payload long; may = may; mid = mid; sealed = sealed; made = made }
 
-  refused : (cause : FlushFault) (after t : State)
-      → ((fault : LogFault) × (cause ≡ flush_fault_of fault) × FillTurn s filled (Err fault) after)
-      ⊎ ((mid : State) × FillTurn s filled (Ok tt) mid × ((fault : MakeFault) × (cause ≡ flush_fault_of_make fault) × MakeTurn mid Writing (Err fault) after))
+  refused : (cause : StepFault) (after t : State)
+      → ((fault : LogFault) × (cause ≡ step_fault_of fault) × FillTurn s filled (Err fault) after)
+      ⊎ ((mid : State) × FillTurn s filled (Ok tt) mid × ((fault : MakeFault) × (cause ≡ step_fault_of_make fault) × MakeTurn mid Writing (Err fault) after))
       → LeftBy cause after t → NoNewLog s payload cause t
   refused cause after t is_so left =
       record { filled = filled; needs = is.needs payload long; may = may; mid = after; refused = is_so; left = left }
 
   -- it could not be, since the filled one was not sealed
-  pub not_sealed : (fault : LogFault) (cause : FlushFault) (t : State) → FillTurn s filled (Err fault) mid → cause ≡ flush_fault_of fault → LeftBy cause mid t
+  pub not_sealed : (fault : LogFault) (cause : StepFault) (t : State) → FillTurn s filled (Err fault) mid → cause ≡ step_fault_of fault → LeftBy cause mid t
       → ReadyTurn s payload (Err cause) t
   not_sealed fault cause t sealed is_told left =
       subst (λ c. ReadyTurn s payload (Err c) t) (sym is_told) (by_cause fault sealed (subst (λ c. LeftBy c mid t) is_told left))
     where
-      by_cause : (fault : LogFault) → FillTurn s filled (Err fault) mid → LeftBy (flush_fault_of fault) mid t
-          → ReadyTurn s payload (Err (flush_fault_of fault)) t
-      by_cause log_faults.Memory sealed left = refused (flush_faults.Memory 0) mid t (inl (log_faults.Memory, refl, sealed)) left
-      by_cause log_faults.Disk sealed left = refused flush_faults.Disk mid t (inl (log_faults.Disk, refl, sealed)) left
-      by_cause log_faults.Failed sealed left = refused flush_faults.Odd mid t (inl (log_faults.Failed, refl, sealed)) left
-      by_cause log_faults.Odd sealed left = refused flush_faults.Odd mid t (inl (log_faults.Odd, refl, sealed)) left
+      by_cause : (fault : LogFault) → FillTurn s filled (Err fault) mid → LeftBy (step_fault_of fault) mid t
+          → ReadyTurn s payload (Err (step_fault_of fault)) t
+      by_cause log_faults.Memory sealed left = refused (step_faults.Memory 0) mid t (inl (log_faults.Memory, refl, sealed)) left
+      by_cause log_faults.Disk sealed left = refused step_faults.Disk mid t (inl (log_faults.Disk, refl, sealed)) left
+      by_cause log_faults.Failed sealed left = refused step_faults.Odd mid t (inl (log_faults.Failed, refl, sealed)) left
+      by_cause log_faults.Odd sealed left = refused step_faults.Odd mid t (inl (log_faults.Odd, refl, sealed)) left
 
   -- or since the next one was not made
-  pub not_made : FillTurn s filled (Ok tt) mid → (fault : MakeFault) (cause : FlushFault) (after t : State) → MakeTurn mid Writing (Err fault) after
-      → cause ≡ flush_fault_of_make fault → LeftBy cause after t → ReadyTurn s payload (Err cause) t
+  pub not_made : FillTurn s filled (Ok tt) mid → (fault : MakeFault) (cause : StepFault) (after t : State) → MakeTurn mid Writing (Err fault) after
+      → cause ≡ step_fault_of_make fault → LeftBy cause after t → ReadyTurn s payload (Err cause) t
   not_made sealed fault cause after t made is_told left =
       subst (λ c. ReadyTurn s payload (Err c) t) (sym is_told) (by_cause fault made (subst (λ c. LeftBy c after t) is_told left))
     where
       still : MayMake mid
       still = still_may s mid filled sealed may
 
-      by_cause : (fault : MakeFault) → MakeTurn mid Writing (Err fault) after → LeftBy (flush_fault_of_make fault) after t
-          → ReadyTurn s payload (Err (flush_fault_of_make fault)) t
+      by_cause : (fault : MakeFault) → MakeTurn mid Writing (Err fault) after → LeftBy (step_fault_of_make fault) after t
+          → ReadyTurn s payload (Err (step_fault_of_make fault)) t
       by_cause makes.LogsFull made left = let room = still.room in let full = made.0 in absurd (omega (arith, room, full))
       by_cause makes.NoMoreIds made left = let id = still.id in let past = made.1 in absurd (omega (arith, id, past))
-      by_cause makes.Memory made left = refused (flush_faults.Memory 0) after t (inr (mid, sealed, (makes.Memory, refl, made))) left
-      by_cause makes.Disk made left = refused flush_faults.Disk after t (inr (mid, sealed, (makes.Disk, refl, made))) left
-      by_cause makes.Odd made left = refused flush_faults.Odd after t (inr (mid, sealed, (makes.Odd, refl, made))) left
+      by_cause makes.Memory made left = refused (step_faults.Memory 0) after t (inr (mid, sealed, (makes.Memory, refl, made))) left
+      by_cause makes.Disk made left = refused step_faults.Disk after t (inr (mid, sealed, (makes.Disk, refl, made))) left
+      by_cause makes.Odd made left = refused step_faults.Odd after t (inr (mid, sealed, (makes.Odd, refl, made))) left

@@ -7,3 +7,4 @@ mod ShownLogs
 mod SameKeys
 mod NamedEntries
 mod Published
+mod Still

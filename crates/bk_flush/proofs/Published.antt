@@ -15,8 +15,8 @@ use Rattle.bk_store.proofs.Cases.{some_value}
 use Rattle.bk_flush.specs.Flushing.{IsWritten, NamesFirst, Publishes, PublishTurn, ShowsPlaced, first_places}
 use Rattle.bk_flush.specs.Showing.{NamesEntries}
 use Rattle.bk_flush.specs.declared.answer.PublishAnswer.TheVariants as publishes
-use Rattle.bk_flush.specs.declared.answer.FlushFault.{FlushFault}
-use Rattle.bk_flush.specs.declared.answer.FlushFault.TheVariants as flush_faults
+use Rattle.bk_step.specs.declared.fault.StepFault.{StepFault}
+use Rattle.bk_step.specs.declared.fault.StepFault.TheVariants as step_faults
 use Rattle.bk_flush.proofs.SameKeys.{same_number}
 
 -- where there is no next entry, all have a place
@@ -39,15 +39,15 @@ module _ (s : State) (kept : IsKept s) (placed : AllPlaced s) where
     many_shown = ap (λ (x : State). finite.len x.places) shows.all.left ∙ as_many
 
     -- a refusal leaves some entries named
-    pub names_refused : (t : State) (fault : FlushFault) → IsSome s.caches.flush → NamesEntries shown (Err fault) t → PublishTurn s (Err fault) t
-    names_refused t flush_faults.Disk runs never = absurd never
-    names_refused t (flush_faults.Memory done) runs named =
+    pub names_refused : (t : State) (fault : StepFault) → IsSome s.caches.flush → NamesEntries shown (Err fault) t → PublishTurn s (Err fault) t
+    names_refused t step_faults.Disk runs never = absurd never
+    names_refused t (step_faults.Memory done) runs named =
         let less = named.0 in
         let many = many_shown in
         (record { runs = runs; placed = placed }, inr (omega (arith, less, many), record { mid = shown; shown = shows; named = named.1 }))
-    names_refused t flush_faults.Odd runs never = absurd never
-    names_refused t flush_faults.LogsFull runs never = absurd never
-    names_refused t flush_faults.NoMoreIds runs never = absurd never
+    names_refused t step_faults.Odd runs never = absurd never
+    names_refused t step_faults.LogsFull runs never = absurd never
+    names_refused t step_faults.NoMoreIds runs never = absurd never
 
     module _ (named : State) (names : NamesFirst (finite.len shown.places) shown named) where
       -- all entries are named

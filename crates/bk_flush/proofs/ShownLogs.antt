@@ -14,9 +14,10 @@ use Rattle.bk_store.specs.Meaning.{MeansTheSame, KeepsMeaning}
 use Rattle.bk_store.specs.Doors.{MayShow, ShowTurn}
 use Rattle.bk_store.proofs.LogMaps.{log-inserted, log-insert_else}
 use Rattle.bk_store.proofs.KeptJob.{flush_idle}
-use Rattle.bk_flush.specs.Flushing.{HasPlace, IsShown, ShowsThose, ShowsPlaced, StopsShowing, flush_fault_of}
+use Rattle.bk_step.specs.Faults.{step_fault_of}
+use Rattle.bk_flush.specs.Flushing.{HasPlace, IsShown, ShowsThose, ShowsPlaced, StopsShowing}
 use Rattle.bk_flush.specs.Showing.{AllShown, ShowsLogs}
-use Rattle.bk_flush.specs.declared.answer.FlushFault.{FlushFault}
+use Rattle.bk_step.specs.declared.fault.StepFault.{StepFault}
 use Rattle.bk_flush.proofs.NextLogs.{IsNextLog}
 
 -- the logs below this id are shown
@@ -146,11 +147,11 @@ module _ (s t : State) (from : ℕ) (is : IsShowing s from t) where
         let none : t.failures ≡ t.failures + 0 = omega arith in
         stops u 0 files (left ∙ ap (λ n. record t { files = u.files; failures = n }) none)
 
-    pub not_shown : (cause : LogFault) (fault : FlushFault) (u : State) → ShowTurn t log (Err cause) u → fault ≡ flush_fault_of cause
+    pub not_shown : (cause : LogFault) (fault : StepFault) (u : State) → ShowTurn t log (Err cause) u → fault ≡ step_fault_of cause
         → ShowsLogs s (Err fault) u
     not_shown cause fault u turn is_told = subst (λ f. ShowsLogs s (Err f) u) (sym is_told) (by_cause cause turn)
       where
-        by_cause : (cause : LogFault) → ShowTurn t log (Err cause) u → ShowsLogs s (Err (flush_fault_of cause)) u
+        by_cause : (cause : LogFault) → ShowTurn t log (Err cause) u → ShowsLogs s (Err (step_fault_of cause)) u
         by_cause log_faults.Disk turn = stops u 1 turn.0 turn.1
         by_cause log_faults.Memory turn = (refl, stops_even u turn.0 turn.1)
         by_cause log_faults.Odd turn =

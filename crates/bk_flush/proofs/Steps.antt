@@ -10,9 +10,10 @@ use Rattle.bk_store.specs.State.{State}
 use Rattle.bk_store.specs.Meaning.{MeansTheSame, KeepsMeaning}
 use Rattle.bk_store.specs.Doors.{IsNext, WriteTurn}
 use Rattle.bk_store.proofs.SameMeaning.{stays_on}
-use Rattle.bk_flush.specs.Flushing.{LeftBy, ReadyTurn, StepTurn, flush_fault_of}
+use Rattle.bk_step.specs.Faults.{step_fault_of}
+use Rattle.bk_flush.specs.Flushing.{LeftBy, ReadyTurn, StepTurn}
 use Rattle.bk_flush.specs.declared.answer.WriteAnswer.TheVariants as writes
-use Rattle.bk_flush.specs.declared.answer.FlushFault.{FlushFault}
+use Rattle.bk_step.specs.declared.fault.StepFault.{StepFault}
 
 written_honest : (s t : State) (id : ℕ) (key : EntryKey) (payload : List ℕ) (result : Result Place LogFault) → WriteTurn s id key payload result t
     → t.honest ≡ s.honest
@@ -52,9 +53,9 @@ module _ (s mid t : State) (key : EntryKey) (payload : List ℕ) (size id : ℕ)
   )
 
   -- or it was not
-  pub unput_step : (cause : LogFault) (fault : FlushFault) (u : State)
+  pub unput_step : (cause : LogFault) (fault : StepFault) (u : State)
       → ((payload : List ℕ) → finite.get (flush_of mid.caches) key ≡ Some payload → WriteTurn mid id key payload (Err cause) t)
-      → fault ≡ flush_fault_of cause → LeftBy fault t u → StepTurn s (Err fault) u
+      → fault ≡ step_fault_of cause → LeftBy fault t u → StepTurn s (Err fault) u
   unput_step cause fault u wrote told_so left = (
     key,
     (

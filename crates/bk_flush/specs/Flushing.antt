@@ -1,12 +1,11 @@
 -- Turns of a flush: its next entry is written, it is published, its log is rolled.
 use Rattle.std.specs.Prelude.{◌≡◌, ◌⊎◌, ℕ, ◌+◌, ◌≤◌, ◌<◌, ◌^◌, Bool, true, false, ◌&&◌, nat_lt, List, [], ◌∷◌, length}
-use Rattle.std.specs.Prelude.{take, Option, Some, None, IsSome, Result, Ok, Err, IsErrOf, IsTrue}
+use Rattle.std.specs.Prelude.{take, Option, Some, None, IsSome, Result, Ok, Err, IsTrue}
 use Rattle.std.specs.Option.{option_or}
 use Rattle.std.specs.FinMap as finite
 use Rattle.bk_record.specs.Key.{EntryKey, key_cmp}
 use Rattle.bk_record.specs.Location.{Place}
 use Rattle.bk_record.specs.Scan.{Payloads}
-use Rattle.bk_disk.specs.Disk.{IsCaused}
 use Rattle.bk_log.specs.Writing as writers
 use Rattle.bk_log.specs.declared.fault.LogFault.{LogFault}
 use Rattle.bk_log.specs.declared.fault.LogFault.TheVariants as log_faults
@@ -17,44 +16,26 @@ use Rattle.bk_store.specs.State.{State}
 use Rattle.bk_store.specs.Doors.{MayMake, MakeTurn, IsIn, HasNoWriting, IsWriter, WriteTurn, Seals, IsNext, AllPlaced, IsRecentAfter, Restarts, Ends}
 use Rattle.bk_store.specs.declared.log.LogState.TheVariants.{Writing, Filled, Readable}
 use Rattle.bk_store.specs.declared.answer.MakeFault.{MakeFault}
-use Rattle.bk_store.specs.declared.answer.MakeFault.TheVariants as makes
+use Rattle.bk_step.specs.Staying.{CachesStay}
+use Rattle.bk_step.specs.Faults.{step_fault_of, step_fault_of_make}
 use Rattle.bk_flush.specs.declared.answer.WriteAnswer.{WriteAnswer}
 use Rattle.bk_flush.specs.declared.answer.WriteAnswer.TheVariants as writes
 use Rattle.bk_flush.specs.declared.answer.PublishAnswer.{PublishAnswer}
 use Rattle.bk_flush.specs.declared.answer.PublishAnswer.TheVariants as publishes
 use Rattle.bk_flush.specs.declared.answer.RollAnswer.{RollAnswer}
 use Rattle.bk_flush.specs.declared.answer.RollAnswer.TheVariants as rolls
-use Rattle.bk_flush.specs.declared.answer.FlushFault.{FlushFault}
-use Rattle.bk_flush.specs.declared.answer.FlushFault.TheVariants as flush_faults
+use Rattle.bk_step.specs.declared.fault.StepFault.{StepFault}
+use Rattle.bk_step.specs.declared.fault.StepFault.TheVariants as step_faults
 
 -- ---- faults
 
--- the device failed in a call exactly where the call is answered by `Disk`, and then once
-abbrev pub TellsItsCause : {T : Type 0} → State → Result T FlushFault → State → Type 0
-TellsItsCause s result t = IsCaused s.failures t.failures (IsErrOf result flush_faults.Disk)
-
--- a fault of a log, as a flush tells it
-abbrev pub flush_fault_of : LogFault → FlushFault
-flush_fault_of log_faults.Memory = flush_faults.Memory 0
-flush_fault_of log_faults.Disk = flush_faults.Disk
-flush_fault_of log_faults.Failed = flush_faults.Odd
-flush_fault_of log_faults.Odd = flush_faults.Odd
-
--- and a fault of the making of a log
-abbrev pub flush_fault_of_make : MakeFault → FlushFault
-flush_fault_of_make makes.LogsFull = flush_faults.LogsFull
-flush_fault_of_make makes.NoMoreIds = flush_faults.NoMoreIds
-flush_fault_of_make makes.Memory = flush_faults.Memory 0
-flush_fault_of_make makes.Disk = flush_faults.Disk
-flush_fault_of_make makes.Odd = flush_faults.Odd
-
 -- What a fault of a write leaves of the flush: after one of the device it starts again, after any other it stands as it stood.
-abbrev pub LeftBy : FlushFault → State → State → Type 0
-LeftBy flush_faults.Disk s t = Restarts s t
-LeftBy (flush_faults.Memory done) s t = t ≡ s
-LeftBy flush_faults.LogsFull s t = t ≡ s
-LeftBy flush_faults.NoMoreIds s t = t ≡ s
-LeftBy flush_faults.Odd s t = Restarts s t
+abbrev pub LeftBy : StepFault → State → State → Type 0
+LeftBy step_faults.Disk s t = Restarts s t
+LeftBy (step_faults.Memory done) s t = t ≡ s
+LeftBy step_faults.LogsFull s t = t ≡ s
+LeftBy step_faults.NoMoreIds s t = t ≡ s
+LeftBy step_faults.Odd s t = Restarts s t
 
 -- ---- the log that is written
 
@@ -91,12 +72,12 @@ pub record NewLog (s : State) (payload : List ℕ) (id : ℕ) (t : State) : Type
   pub made : MakeTurn mid Writing (Ok id) t
 
 -- the sealing of the one was refused so, or the making of the next
-abbrev pub IsRefused : State → Option ℕ → FlushFault → State → Type 0
-IsRefused s filled fault t = ((cause : LogFault) × (fault ≡ flush_fault_of cause) × FillTurn s filled (Err cause) t)
-    ⊎ ((mid : State) × FillTurn s filled (Ok tt) mid × ((cause : MakeFault) × (fault ≡ flush_fault_of_make cause) × MakeTurn mid Writing (Err cause) t))
+abbrev pub IsRefused : State → Option ℕ → StepFault → State → Type 0
+IsRefused s filled fault t = ((cause : LogFault) × (fault ≡ step_fault_of cause) × FillTurn s filled (Err cause) t)
+    ⊎ ((mid : State) × FillTurn s filled (Ok tt) mid × ((cause : MakeFault) × (fault ≡ step_fault_of_make cause) × MakeTurn mid Writing (Err cause) t))
 
 -- no log was made ready, for this fault
-pub record NoNewLog (s : State) (payload : List ℕ) (fault : FlushFault) (t : State) : Type 0 where
+pub record NoNewLog (s : State) (payload : List ℕ) (fault : StepFault) (t : State) : Type 0 where
   pub filled : Option ℕ
   pub needs : NeedsLog s payload filled
   pub may : MayMake s
@@ -106,14 +87,14 @@ pub record NoNewLog (s : State) (payload : List ℕ) (fault : FlushFault) (t : S
 
 -- A log that takes this payload is found or made; a full table of logs is told before used-up ids, and both before
 -- anything is done.
-abbrev pub ReadyTurn : State → List ℕ → Result ℕ FlushFault → State → Type 0
+abbrev pub ReadyTurn : State → List ℕ → Result ℕ StepFault → State → Type 0
 ReadyTurn s payload (Ok id) t = (WritesInto s id payload false × (t ≡ s)) ⊎ NewLog s payload id t
-ReadyTurn s payload (Err flush_faults.LogsFull) t = (filled : Option ℕ) × NeedsLog s payload filled × (s.settings.slots ≤ finite.len s.logs) × (t ≡ s)
-ReadyTurn s payload (Err flush_faults.NoMoreIds) t = (filled : Option ℕ) × NeedsLog s payload filled
+ReadyTurn s payload (Err step_faults.LogsFull) t = (filled : Option ℕ) × NeedsLog s payload filled × (s.settings.slots ≤ finite.len s.logs) × (t ≡ s)
+ReadyTurn s payload (Err step_faults.NoMoreIds) t = (filled : Option ℕ) × NeedsLog s payload filled
     × (finite.len s.logs < s.settings.slots) × (2 ^ 31 ≤ s.next) × (t ≡ s)
-ReadyTurn s payload (Err flush_faults.Disk) t = NoNewLog s payload flush_faults.Disk t
-ReadyTurn s payload (Err (flush_faults.Memory done)) t = NoNewLog s payload (flush_faults.Memory done) t
-ReadyTurn s payload (Err flush_faults.Odd) t = NoNewLog s payload flush_faults.Odd t
+ReadyTurn s payload (Err step_faults.Disk) t = NoNewLog s payload step_faults.Disk t
+ReadyTurn s payload (Err (step_faults.Memory done)) t = NoNewLog s payload (step_faults.Memory done) t
+ReadyTurn s payload (Err step_faults.Odd) t = NoNewLog s payload step_faults.Odd t
 
 -- ---- writing the next entry
 
@@ -125,18 +106,18 @@ pub record PutsNext (s : State) (payload : List ℕ) (key : EntryKey) (place : P
   pub put : WriteTurn mid log key payload (Ok place) t
 
 -- the log was made ready, and the entry could not be put there
-pub record NotPut (s : State) (payload : List ℕ) (key : EntryKey) (fault : FlushFault) (t : State) : Type 0 where
+pub record NotPut (s : State) (payload : List ℕ) (key : EntryKey) (fault : StepFault) (t : State) : Type 0 where
   pub log : ℕ
   pub mid : State
   pub ready : ReadyTurn s payload (Ok log) mid
   pub cause : LogFault
-  pub told_so : fault ≡ flush_fault_of cause
+  pub told_so : fault ≡ step_fault_of cause
   pub refused : State
   pub put : WriteTurn mid log key payload (Err cause) refused
   pub left : LeftBy fault refused t
 
 -- One step of a flush writes its first entry without a place.
-abbrev pub StepTurn : State → Result WriteAnswer FlushFault → State → Type 0
+abbrev pub StepTurn : State → Result WriteAnswer StepFault → State → Type 0
 StepTurn s (Ok writes.NoFlush) t = (s.caches.flush ≡ None) × (t ≡ s)
 StepTurn s (Ok writes.AllWritten) t = IsSome s.caches.flush × AllPlaced s × (t ≡ s)
 StepTurn s (Ok (writes.Wrote place)) t = (key : EntryKey) × ((payload : List ℕ) × IsNext s key payload × PutsNext s payload key place t)
@@ -208,23 +189,28 @@ pub record IsWritten (s : State) : Type 0 where
 
 -- A publish shows each log that has a place, and names each entry; then the flush is over. What a refusal leaves goes on
 -- with the next publish: the flush runs, with all its entries, and an entry that was named is named again.
-abbrev pub PublishTurn : State → Result PublishAnswer FlushFault → State → Type 0
+abbrev pub PublishTurn : State → Result PublishAnswer StepFault → State → Type 0
 PublishTurn s (Ok publishes.NoFlush) t = (s.caches.flush ≡ None) × (t ≡ s)
 PublishTurn s (Ok publishes.NotAllWritten) t = (key : EntryKey) × ((payload : List ℕ) × IsNext s key payload × (t ≡ s))
 PublishTurn s (Ok (publishes.Published n)) t = IsWritten s × (n ≡ finite.len (flush_of s.caches)) × ((mid : State) × Publishes s n mid × Ends mid t)
-PublishTurn s (Err flush_faults.Disk) t = IsWritten s × StopsShowing s 1 t
-PublishTurn s (Err (flush_faults.Memory done)) t = IsWritten s
+PublishTurn s (Err step_faults.Disk) t = IsWritten s × StopsShowing s 1 t
+PublishTurn s (Err (step_faults.Memory done)) t = IsWritten s
     × (((done ≡ 0) × StopsShowing s 0 t) ⊎ ((done < finite.len (flush_of s.caches)) × Publishes s done t))
-PublishTurn s (Err flush_faults.Odd) t = IsWritten s × (s.honest ≡ false) × StopsShowing s 0 t
-PublishTurn s (Err flush_faults.LogsFull) t = ⊥
-PublishTurn s (Err flush_faults.NoMoreIds) t = ⊥
+PublishTurn s (Err step_faults.Odd) t = IsWritten s × (s.honest ≡ false) × StopsShowing s 0 t
+PublishTurn s (Err step_faults.LogsFull) t = ⊥
+PublishTurn s (Err step_faults.NoMoreIds) t = ⊥
+
+-- A publish that is answered so lets the flushing cache go; any other leaves the write caches.
+abbrev pub PublishCaches : State → Result PublishAnswer StepFault → State → Type 0
+PublishCaches s (Ok (publishes.Published n)) t = (t.caches.active ≡ s.caches.active) × (t.caches.flush ≡ None)
+PublishCaches s _ t = CachesStay s t
 
 -- ---- rolling
 
 -- A roll seals the log that flushes write, unless a flush runs; it is read on, also after a fault.
-abbrev pub RollTurn : State → Result RollAnswer FlushFault → State → Type 0
+abbrev pub RollTurn : State → Result RollAnswer StepFault → State → Type 0
 RollTurn s (Ok rolls.FlushRunning) t = IsSome s.caches.flush × (t ≡ s)
 RollTurn s (Ok rolls.NothingOpen) t = (s.caches.flush ≡ None) × HasNoWriting s × (t ≡ s)
 RollTurn s (Ok (rolls.Sealed id)) t = (s.caches.flush ≡ None) × IsIn s id Writing × Seals s id Readable (Ok tt) t
 RollTurn s (Err fault) t = (s.caches.flush ≡ None) × ((id : ℕ) × ((cause : LogFault) × IsIn s id Writing
-    × (fault ≡ flush_fault_of cause) × Seals s id Readable (Err cause) t))
+    × (fault ≡ step_fault_of cause) × Seals s id Readable (Err cause) t))

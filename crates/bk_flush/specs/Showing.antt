@@ -6,27 +6,27 @@ use Rattle.bk_record.specs.Location.{Place}
 use Rattle.bk_store.specs.State.{State}
 use Rattle.bk_store.specs.Doors.{ShowsAll}
 use Rattle.bk_flush.specs.Flushing.{NamesFirst, ShowsPlaced, StopsShowing}
-use Rattle.bk_flush.specs.declared.answer.FlushFault.{FlushFault}
-use Rattle.bk_flush.specs.declared.answer.FlushFault.TheVariants as flush_faults
+use Rattle.bk_step.specs.declared.fault.StepFault.{StepFault}
+use Rattle.bk_step.specs.declared.fault.StepFault.TheVariants as step_faults
 
 -- Each log that has a place is shown; a refusal leaves those of lower ids shown.
-abbrev pub ShowsLogs : State → Result (Unit {0}) FlushFault → State → Type 0
+abbrev pub ShowsLogs : State → Result (Unit {0}) StepFault → State → Type 0
 ShowsLogs s (Ok _) t = ShowsPlaced s t
-ShowsLogs s (Err flush_faults.Disk) t = StopsShowing s 1 t
-ShowsLogs s (Err (flush_faults.Memory done)) t = (done ≡ 0) × StopsShowing s 0 t
-ShowsLogs s (Err flush_faults.Odd) t = (s.honest ≡ false) × StopsShowing s 0 t
-ShowsLogs s (Err flush_faults.LogsFull) t = ⊥
-ShowsLogs s (Err flush_faults.NoMoreIds) t = ⊥
+ShowsLogs s (Err step_faults.Disk) t = StopsShowing s 1 t
+ShowsLogs s (Err (step_faults.Memory done)) t = (done ≡ 0) × StopsShowing s 0 t
+ShowsLogs s (Err step_faults.Odd) t = (s.honest ≡ false) × StopsShowing s 0 t
+ShowsLogs s (Err step_faults.LogsFull) t = ⊥
+ShowsLogs s (Err step_faults.NoMoreIds) t = ⊥
 
 -- each place is in a log that shows its whole file
 abbrev pub AllShown : State → Type 0
 AllShown s = (key : EntryKey) (place : Place) → finite.get s.places key ≡ Some place → ShowsAll s place.log
 
 -- Each entry is named; want of memory leaves the first ones named.
-abbrev pub NamesEntries : State → Result (Unit {0}) FlushFault → State → Type 0
+abbrev pub NamesEntries : State → Result (Unit {0}) StepFault → State → Type 0
 NamesEntries s (Ok _) t = NamesFirst (finite.len s.places) s t
-NamesEntries s (Err flush_faults.Disk) t = ⊥
-NamesEntries s (Err (flush_faults.Memory done)) t = (done < finite.len s.places) × NamesFirst done s t
-NamesEntries s (Err flush_faults.Odd) t = ⊥
-NamesEntries s (Err flush_faults.LogsFull) t = ⊥
-NamesEntries s (Err flush_faults.NoMoreIds) t = ⊥
+NamesEntries s (Err step_faults.Disk) t = ⊥
+NamesEntries s (Err (step_faults.Memory done)) t = (done < finite.len s.places) × NamesFirst done s t
+NamesEntries s (Err step_faults.Odd) t = ⊥
+NamesEntries s (Err step_faults.LogsFull) t = ⊥
+NamesEntries s (Err step_faults.NoMoreIds) t = ⊥

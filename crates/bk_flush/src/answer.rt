@@ -1,7 +1,6 @@
-//! What the calls of a flush answer: an enum for each call, and why a call is refused.
+//! What the calls of a flush answer: an enum for each call.
 
 use bk_record::Location;
-use thiserror::Error;
 
 /// What one step of a flush did.
 #[derive(Clone, Copy, Debug, PartialEq, Eq)]
@@ -34,24 +33,4 @@ pub enum RollAnswer {
     NothingOpen,
     /// The log of this id was the one that is written. It is sealed now, and written no more.
     Sealed(u32),
-}
-
-/// Why a call of a flush, or a roll, was refused.
-#[derive(Clone, Copy, Debug, PartialEq, Eq, Error)]
-pub enum FlushFault {
-    /// The device failed.
-    #[error("disk")]
-    Disk,
-    /// No memory was to be had; `done` entries of the call were done before.
-    #[error("memory after {done}")]
-    Memory { done: u64 },
-    /// A new log is needed, and as many logs as there are slots are held.
-    #[error("logs full")]
-    LogsFull,
-    /// A new log is needed, and the next id is past 2^31 - 1.
-    #[error("no more ids")]
-    NoMoreIds,
-    /// The disk answered what an honest disk cannot.
-    #[error("odd disk")]
-    Odd,
 }

@@ -9,7 +9,8 @@ mod ready;
 mod sealing;
 mod writing;
 
-pub use answer::{FlushFault, PublishAnswer, RollAnswer, WriteAnswer};
+pub use answer::{PublishAnswer, RollAnswer, WriteAnswer};
+pub use bk_step::StepFault as FlushFault;
 pub use publication::publish;
 pub use sealing::roll;
 pub use writing::{swap, write_one};

@@ -6,12 +6,14 @@
 
 ghost use Rattle.std.specs.Prelude.{◌≡◌, IsTrue, OnOk};
 ghost use Rattle.bk_store.specs.Meaning.{MeansTheSame, KeepsMeaning};
-ghost use Rattle.bk_flush.specs.Flushing.{TellsItsCause, PublishTurn};
+ghost use Rattle.bk_step.specs.Staying.{Stays, SlotsStay};
+ghost use Rattle.bk_step.specs.Faults.{TellsItsCause};
+ghost use Rattle.bk_flush.specs.Flushing.{PublishCaches, PublishTurn};
 ghost use Rattle.bk_flush.specs.Showing.{AllShown, NamesEntries, ShowsLogs};
 
-use crate::faults::fault_of_log;
-use crate::{FlushFault, PublishAnswer};
+use crate::PublishAnswer;
 use bk_disk::LogDisk;
+use bk_step::StepFault;
 use bk_store::Store;
 
 /// Ends the flush, once every entry of it has a place: its entries are read from their logs from now on.
@@ -20,9 +22,11 @@ use bk_store::Store;
 /// `Disk` where a log could not be synced or shown, `Memory` where an allocation was refused, and then `done` says how
 /// many entries the index has learnt, and `Odd` where the disk behaved as no honest one does. After each the flush still
 /// runs, with all its entries, and a later publish may end it.
-pub fn publish<D: LogDisk>(store: &mut Store<D>) -> Result<PublishAnswer, FlushFault>
+pub fn publish<D: LogDisk>(store: &mut Store<D>) -> Result<PublishAnswer, StepFault>
     ensures turn { PublishTurn store.old result store.new }
     ensures cause { TellsItsCause store.old result store.new }
+    ensures stays { Stays store.old store.new × PublishCaches store.old result store.new
+        × SlotsStay store.old.keeper store.new.keeper }
     ensures honest { store.new.honest ≡ store.old.honest }
     ensures meaning { IsTrue store.old.honest → MeansTheSame store.old store.new }
 {
@@ -42,7 +46,7 @@ pub fn publish<D: LogDisk>(store: &mut Store<D>) -> Result<PublishAnswer, FlushF
 
 /// Shows each log that has a place of the flush, once, by rising ids: the logs rise with the keys, so one is shown when its
 /// first place comes.
-fn show_logs<D: LogDisk>(store: &mut Store<D>) -> Result<(), FlushFault>
+fn show_logs<D: LogDisk>(store: &mut Store<D>) -> Result<(), StepFault>
     ensures turn { ShowsLogs store.old result store.new }
     ensures shown { OnOk result (AllShown store.new) }
     ensures stays { KeepsMeaning store.old store.new }
@@ -59,7 +63,7 @@ fn show_logs<D: LogDisk>(store: &mut Store<D>) -> Result<(), FlushFault>
         }
         store.promise();
         if let Err(fault) = store.show(log) {
-            return Err(fault_of_log(fault));
+            return Err(StepFault::of_log(fault));
         }
         from = log + 1;
     }
@@ -67,7 +71,7 @@ fn show_logs<D: LogDisk>(store: &mut Store<D>) -> Result<(), FlushFault>
 }
 
 /// Names each entry of the flush, in the order of their keys. The only fault is `Memory`.
-fn name_entries<D: LogDisk>(store: &mut Store<D>) -> Result<(), FlushFault>
+fn name_entries<D: LogDisk>(store: &mut Store<D>) -> Result<(), StepFault>
     requires { AllShown store.old }
     ensures turn { NamesEntries store.old result store.new }
     ensures stays { KeepsMeaning store.old store.new }
@@ -77,7 +81,7 @@ fn name_entries<D: LogDisk>(store: &mut Store<D>) -> Result<(), FlushFault>
             unreachable!();
         };
         let Ok(()) = store.name(key, place) else {
-            return Err(FlushFault::Memory {
+            return Err(StepFault::Memory {
                 done: number as u64,
             });
         };

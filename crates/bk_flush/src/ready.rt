@@ -1,20 +1,21 @@
 //! The log that a flush writes is made ready for the next record.
 
 ghost use Rattle.std.specs.Prelude.{◌≡◌, ◌≤◌, ℕ, List, length, false, IfOk, OnOk};
+ghost use Rattle.bk_record.specs.Limits.{max_added};
 ghost use Rattle.bk_store.specs.Doors.{CanTake, IsIn};
 ghost use Rattle.bk_store.specs.declared.log.LogState.TheVariants.{Writing};
 ghost use Rattle.bk_flush.specs.Flushing.{ReadyTurn, WritesInto};
 ghost use Rattle.bk_store.specs.Meaning.{KeepsMeaning};
 
-use crate::FlushFault;
 use crate::faults::{flush_fault, making_fault};
 use bk_disk::LogDisk;
+use bk_step::StepFault;
 use bk_store::{LogState, Store};
 
 /// Makes ready a log that can take the record of a payload of this many bytes, where the one that is written can't, and
 /// answers its id. What it may answer else is what `write_one` does.
-pub(crate) fn ready<D: LogDisk>(store: &mut Store<D>, size: usize) -> Result<u32, FlushFault>
-    requires { size ≤ 1048576 }
+pub(crate) fn ready<D: LogDisk>(store: &mut Store<D>, size: usize) -> Result<u32, StepFault>
+    requires { size ≤ max_added }
     ensures turn { (payload : List ℕ) → length payload ≡ size → ReadyTurn store.old payload result store.new }
     ensures takes { (payload : List ℕ) → length payload ≡ size → IfOk result (λ log. CanTake store.new log Writing payload) }
     ensures caches { OnOk result (store.new.caches ≡ store.old.caches) }
@@ -43,7 +44,7 @@ pub(crate) fn ready<D: LogDisk>(store: &mut Store<D>, size: usize) -> Result<u32
 /// limit.
 fn is_filled<D: LogDisk>(store: &Store<D>, log: u32, size: usize) -> bool
     requires writing { IsIn store.now log Writing }
-    requires size { size ≤ 1048576 }
+    requires size { size ≤ max_added }
     ensures writes { (payload : List ℕ) → length payload ≡ size → WritesInto store.now log payload result }
     ensures takes { result ≡ false → (payload : List ℕ) → length payload ≡ size → CanTake store.now log Writing payload }
 {

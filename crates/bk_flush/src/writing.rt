@@ -6,17 +6,22 @@
 ghost use Rattle.std.specs.Prelude.{◌≡◌, IsTrue};
 ghost use Rattle.bk_store.specs.Meaning.{MeansTheSame};
 ghost use Rattle.bk_store.specs.Turns.{SwapTurn};
-ghost use Rattle.bk_flush.specs.Flushing.{TellsItsCause, StepTurn};
+ghost use Rattle.bk_step.specs.Staying.{Stays, SlotsStay, StandsStill};
+ghost use Rattle.bk_step.specs.Faults.{TellsItsCause};
+ghost use Rattle.bk_flush.specs.Flushing.{StepTurn};
 
+use crate::WriteAnswer;
 use crate::faults::flush_fault;
 use crate::ready::ready;
-use crate::{FlushFault, WriteAnswer};
 use bk_disk::LogDisk;
+use bk_step::StepFault;
 use bk_store::{Store, SwapAnswer};
 
 /// Begins a flush: makes the active cache the flushing one, unless a flush runs or there is nothing to flush.
 pub fn swap<D: LogDisk>(store: &mut Store<D>) -> SwapAnswer
-    ensures { SwapTurn store.old result store.new }
+    ensures turn { SwapTurn store.old result store.new }
+    ensures stays { Stays store.old store.new × SlotsStay store.old.keeper store.new.keeper
+        × (store.new.failures ≡ store.old.failures) }
 {
     store.swap()
 }
@@ -29,9 +34,10 @@ pub fn swap<D: LogDisk>(store: &mut Store<D>) -> SwapAnswer
 /// changed. `Memory` where an allocation was refused: the step may be taken again, and a log that was sealed for it, or
 /// made, stays so. `Disk` where the device failed, and `Odd` where it behaved as no honest one does: the flush starts
 /// again in another log.
-pub fn write_one<D: LogDisk>(store: &mut Store<D>) -> Result<WriteAnswer, FlushFault>
+pub fn write_one<D: LogDisk>(store: &mut Store<D>) -> Result<WriteAnswer, StepFault>
     ensures turn { StepTurn store.old result store.new }
     ensures cause { TellsItsCause store.old result store.new }
+    ensures stays { StandsStill store.old store.new }
     ensures honest { store.new.honest ≡ store.old.honest }
     ensures meaning { IsTrue store.old.honest → MeansTheSame store.old store.new }
 {

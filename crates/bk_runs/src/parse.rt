@@ -1,10 +1,12 @@
 //! Reading a worked run: sections, each begun by a line `== NAME`, in their order.
 
 mod lines;
+mod repeat;
 
 use crate::RunFault;
 use crate::worked::Worked;
 use lines::read_line;
+use repeat::{line_at, repeated};
 use std::alloc::Global;
 
 /// A part of a run's file.
@@ -67,11 +69,30 @@ pub(crate) fn parse(alloc: Global, text: &str) -> Result<Worked, RunFault> {
         let Some(section) = section else {
             return Err(RunFault::Section(number));
         };
-        if !read_line(alloc, &mut worked, section, line)? {
+        if !read_lines(alloc, &mut worked, section, line)? {
             return Err(RunFault::Line(number));
         }
     }
     Ok(worked)
+}
+
+/// Puts what a line of a section says into the run, once for each line that it stands for. Whether all of them say something
+/// there.
+fn read_lines(
+    alloc: Global,
+    worked: &mut Worked,
+    section: Section,
+    line: &str,
+) -> Result<bool, RunFault> {
+    let Some((count, line)) = repeated(line) else {
+        return Ok(read_line(alloc, worked, section, line)?);
+    };
+    for index in 0..count {
+        if !read_line(alloc, worked, section, &line_at(alloc, line, index)?)? {
+            return Ok(false);
+        }
+    }
+    Ok(true)
 }
 
 /// The section of this name, where it may stand behind the one above it.

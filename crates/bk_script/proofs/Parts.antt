@@ -4,14 +4,17 @@ use Rattle.std.proofs.Common.{None, All, arith, refl, sym, ◌∙◌, ap, subst}
 use Rattle.std.specs.Fmt.{decimal}
 use Rattle.std.proofs.lemmas.List.Elements.{All-cons}
 use Rattle.std.specs.Option.{MatchOption}
+use Rattle.bk_record.specs.Limits.{max_pad}
 use Rattle.bk_drive.specs.declared.step.Step.{Step}
-use Rattle.bk_script.specs.Line.{IsWord, IsPrintable, followed, numbered, formed, IsFormed, Spells, form, add, add_text, pad}
+use Rattle.bk_store.specs.declared.adding.AddKind.{AddKind}
+use Rattle.bk_store.specs.declared.adding.AddKind.TheVariants.{Ordinary, Recovery}
+use Rattle.bk_script.specs.Line.{IsWord, IsPrintable, followed, numbered, formed, IsFormed, add_word, Spells, form, add, add_text, pad}
 use Rattle.bk_script.proofs.Words.{IsWord-from_test, followed-injective}
 use Rattle.bk_script.proofs.Printable.{printable_test, printable_decimal, followed_by}
 use Rattle.bk_script.proofs.Numbered.{first_small, others_small, numbered-injective}
 use Rattle.bk_script.proofs.Forms.{HasForm, formed_has}
 
--- what stands behind `add` and a space
+-- what stands behind the word of an add and a space
 pub record IsAddText (text : List ℕ) : Type 0 where
   pub ledger : ℕ
   pub entry : ℕ
@@ -28,26 +31,44 @@ pub record IsPadText (text : List ℕ) : Type 0 where
   pub size : ℕ
   pub ledger_fits : ledger < 2 ^ 63
   pub entry_fits : entry < 2 ^ 63
-  pub size_fits : size ≤ 2097152
+  pub size_fits : size ≤ max_pad
   pub is : Some text ≡ numbered (ledger ∷ entry ∷ size ∷ [])
 
 -- the kinds of line
 data Kinds (readers : ℕ) (line : List ℕ) (step : Step) : Type 0 where
   is_form : IsFormed readers line step → Kinds readers line step
-  is_add : (text : List ℕ) → line ≡ followed (codes "add") (Some text) → IsAddText text → Kinds readers line step
+  is_add : (kind : AddKind) (text : List ℕ) → line ≡ followed (add_word kind) (Some text) → IsAddText text → Kinds readers line step
   is_pad : (text : List ℕ) → line ≡ followed (codes "pad") (Some text) → IsPadText text → Kinds readers line step
 
 parted : {readers : ℕ} {line : List ℕ} {step : Step} → Spells readers line step → Kinds readers line step
 parted (form is) = is_form is
-parted (add {ledger = ledger} {entry = entry} low high is) =
-    is_add _ refl (record { ledger = ledger; entry = entry; rest = None; ledger_fits = low; entry_fits = high; some = λ e. cc; is = refl })
-parted (add_text {ledger = ledger} {entry = entry} {text = text} low high some all is) =
-    is_add _ refl (record { ledger = ledger; entry = entry; rest = Some text; ledger_fits = low; entry_fits = high; some = λ e. some cc; is = refl })
+parted (add kind {ledger = ledger} {entry = entry} low high is) =
+    is_add kind _ refl (record { ledger = ledger; entry = entry; rest = None; ledger_fits = low; entry_fits = high; some = λ e. cc; is = refl })
+parted (add_text kind {ledger = ledger} {entry = entry} {text = text} low high some all is) =
+    is_add kind _ refl (record { ledger = ledger; entry = entry; rest = Some text; ledger_fits = low; entry_fits = high; some = λ e. some cc; is = refl })
 parted (pad {ledger = ledger} {entry = entry} {size = size} low high small is) =
     is_pad _ refl (record { ledger = ledger; entry = entry; size = size; ledger_fits = low; entry_fits = high; size_fits = small; is = refl })
 
-IsWord-add : IsWord (codes "add")
-IsWord-add = IsWord-from_test (codes "add") refl
+IsWord-add : (kind : AddKind) → IsWord (add_word kind)
+IsWord-add Ordinary = IsWord-from_test (codes "add") refl
+IsWord-add Recovery = IsWord-from_test (codes "radd") refl
+
+printable_add : (kind : AddKind) → All IsPrintable (add_word kind)
+printable_add Ordinary = printable_test (codes "add") refl
+printable_add Recovery = printable_test (codes "radd") refl
+
+-- the word of an add is of no form, and not that of a pad
+add_unformed : (readers : ℕ) (kind : AddKind) (numbers : List ℕ) (step : Step) → ¬ (formed readers (add_word kind) numbers ≡ Some step)
+add_unformed readers Ordinary numbers step is = let none : None ≡ Some step = is in cc
+add_unformed readers Recovery numbers step is = let none : None ≡ Some step = is in cc
+
+add-pad : (kind : AddKind) → add_word kind ≢ codes "pad"
+add-pad Ordinary same = let first = ap (λ (w : List ℕ). slice_index w 0) same in absurd (omega (arith, first))
+add-pad Recovery same = let first = ap (λ (w : List ℕ). slice_index w 0) same in absurd (omega (arith, first))
+
+pub no_add : (name : List ℕ) → name ≢ codes "add" → name ≢ codes "radd" → (kind : AddKind) → name ≢ add_word kind
+no_add name not_add not_radd Ordinary = not_add
+no_add name not_add not_radd Recovery = not_radd
 
 IsWord-pad : IsWord (codes "pad")
 IsWord-pad = IsWord-from_test (codes "pad") refl
@@ -80,40 +101,40 @@ told readers name rest numbers None few word behind small is = λ step formed_li
     let made : formed readers name numbers ≡ Some step = rw same n.made in
     let none : None ≡ Some step = is ∙ made in cc
 
--- what stands behind `add` and a space, and behind `pad` and a space
-pub add_text_of : (readers : ℕ) (text : List ℕ) (step : Step) → readers < 2 ^ 32 → Spells readers (codes "add" ++ 32 ∷ text) step → IsAddText text
-add_text_of readers text step few spells = elim (parted spells) [
-  | is_form is ↦ let n = numbered_of readers (codes "add") (Some text) step few IsWord-add is in
-      let none : None ≡ Some step = n.made in cc
-  | is_add t e h ↦ let same = (followed-injective (codes "add") (codes "add") (Some text) (Some t) IsWord-add IsWord-add e).1 in
+-- what stands behind the word of an add and a space, and behind `pad` and a space
+pub add_text_of : (readers : ℕ) (kind : AddKind) (text : List ℕ) (step : Step) → readers < 2 ^ 32 → Spells readers (add_word kind ++ 32 ∷ text) step
+    → IsAddText text
+add_text_of readers kind text step few spells = elim (parted spells) [
+  | is_form is ↦ let n = numbered_of readers (add_word kind) (Some text) step few (IsWord-add kind) is in
+      absurd (add_unformed readers kind n.numbers step n.made)
+  | is_add other t e h ↦
+      let same = (followed-injective (add_word kind) (add_word other) (Some text) (Some t) (IsWord-add kind) (IsWord-add other) e).1 in
       let is : t ≡ text = cc in subst IsAddText is h
-  | is_pad t e h ↦ let same = (followed-injective (codes "add") (codes "pad") (Some text) (Some t) IsWord-add IsWord-pad e).0 in
-      let first = ap (λ (w : List ℕ). slice_index w 0) same in absurd (omega (arith, first))
+  | is_pad t e h ↦ absurd (add-pad kind (followed-injective (add_word kind) (codes "pad") (Some text) (Some t) (IsWord-add kind) IsWord-pad e).0)
 ]
 
 pub pad_text_of : (readers : ℕ) (text : List ℕ) (step : Step) → readers < 2 ^ 32 → Spells readers (codes "pad" ++ 32 ∷ text) step → IsPadText text
 pad_text_of readers text step few spells = elim (parted spells) [
   | is_form is ↦ let n = numbered_of readers (codes "pad") (Some text) step few IsWord-pad is in
       let none : None ≡ Some step = n.made in cc
-  | is_add t e h ↦ let same = (followed-injective (codes "pad") (codes "add") (Some text) (Some t) IsWord-pad IsWord-add e).0 in
-      let first = ap (λ (w : List ℕ). slice_index w 0) same in absurd (omega (arith, first))
+  | is_add kind t e h ↦ absurd (add-pad kind (sym (followed-injective (codes "pad") (add_word kind) (Some text) (Some t) IsWord-pad (IsWord-add kind) e).0))
   | is_pad t e h ↦ let same = (followed-injective (codes "pad") (codes "pad") (Some text) (Some t) IsWord-pad IsWord-pad e).1 in
       let is : t ≡ text = cc in subst IsPadText is h
 ]
 
 -- a line that begins with neither is of a form, and so is a line without a space
-pub form_with : (readers : ℕ) (name text : List ℕ) (step : Step) → IsWord name → name ≢ codes "add" → name ≢ codes "pad"
+pub form_with : (readers : ℕ) (name text : List ℕ) (step : Step) → IsWord name → ((kind : AddKind) → name ≢ add_word kind) → name ≢ codes "pad"
     → Spells readers (name ++ 32 ∷ text) step → IsFormed readers (name ++ 32 ∷ text) step
-form_with readers name text step word no_add no_pad spells = elim (parted spells) [
+form_with readers name text step word none no_pad spells = elim (parted spells) [
   | is_form is ↦ is
-  | is_add t e h ↦ absurd (no_add (followed-injective name (codes "add") (Some text) (Some t) word IsWord-add e).0)
+  | is_add kind t e h ↦ absurd (none kind (followed-injective name (add_word kind) (Some text) (Some t) word (IsWord-add kind) e).0)
   | is_pad t e h ↦ absurd (no_pad (followed-injective name (codes "pad") (Some text) (Some t) word IsWord-pad e).0)
 ]
 
 pub form_alone : (readers : ℕ) (name : List ℕ) (step : Step) → IsWord name → Spells readers name step → IsFormed readers name step
 form_alone readers name step word spells = elim (parted spells) [
   | is_form is ↦ is
-  | is_add t e h ↦ let none : None ≡ Some t = (followed-injective name (codes "add") None (Some t) word IsWord-add e).1 in cc
+  | is_add kind t e h ↦ let none : None ≡ Some t = (followed-injective name (add_word kind) None (Some t) word (IsWord-add kind) e).1 in cc
   | is_pad t e h ↦ let none : None ≡ Some t = (followed-injective name (codes "pad") None (Some t) word IsWord-pad e).1 in cc
 ]
 
@@ -135,11 +156,11 @@ pub printable_line : {readers : ℕ} {line : List ℕ} {step : Step} → readers
 printable_line {readers = readers} {step = step} few (form is) =
     let has = formed_has readers is.word is.numbers step few is.made in
     rw is.spelled (printable_numbered is.word is.numbers has.shown has.small)
-printable_line few (add {ledger = ledger} {entry = entry} low high is) =
-    printable_numbered (codes "add") (ledger ∷ entry ∷ []) (printable_test (codes "add") refl)
+printable_line few (add kind {ledger = ledger} {entry = entry} low high is) =
+    printable_numbered (add_word kind) (ledger ∷ entry ∷ []) (printable_add kind)
     (small_two ledger entry (omega (arith, low)) (omega (arith, high)))
-printable_line few (add_text {ledger = ledger} {entry = entry} {text = text} low high some all is) =
-    followed_by (codes "add") _ (printable_test (codes "add") refl)
+printable_line few (add_text kind {ledger = ledger} {entry = entry} {text = text} low high some all is) =
+    followed_by (add_word kind) _ (printable_add kind)
     (followed_by (decimal ledger) _ (printable_decimal ledger (omega (arith, low)))
     (followed_by (decimal entry) text (printable_decimal entry (omega (arith, high))) all))
 printable_line few (pad {ledger = ledger} {entry = entry} {size = size} low high small is) =

@@ -5,8 +5,11 @@ use Rattle.std.specs.List.{join_with_byte}
 use Rattle.std.specs.Fmt.{decimal}
 use Rattle.std.specs.Int.{w64, to_be_bytes, IsInRange}
 use Rattle.std.specs.Global.{Vec}
+use Rattle.bk_record.specs.Limits.{max_pad}
 use Rattle.bk_drive.specs.declared.step.Step.{Step}
 use Rattle.bk_drive.specs.declared.step.Step.TheVariants as steps
+use Rattle.bk_store.specs.declared.adding.AddKind.{AddKind}
+use Rattle.bk_store.specs.declared.adding.AddKind.TheVariants.{Ordinary, Recovery}
 use Rattle.bk_drive.specs.declared.step.Work.{Work}
 use Rattle.bk_drive.specs.declared.step.Work.TheVariants.{Swap, WriteOne, Publish, Roll, Retire, Rebuild, Close, Remove}
 use Rattle.bk_drive.specs.declared.step.Work.TheVariants.{Begin, Copy, EndCopy, Switch, Finish, GiveUp}
@@ -33,9 +36,18 @@ IsPrintable = IsInRange 32 126
 unfoldable pub payload_of : ℕ → ℕ → List ℕ → List ℕ
 payload_of ledger entry bytes = to_be_bytes w64 ledger ++ to_be_bytes w64 entry ++ bytes
 
+-- the word of an add, by its kind, and the step
+abbrev pub add_word : AddKind → List ℕ
+add_word Ordinary = codes "add"
+add_word Recovery = codes "radd"
+
+abbrev pub add_step : AddKind → Vec ℕ → Step
+add_step Ordinary payload = steps.Add payload
+add_step Recovery payload = steps.AddRecovery payload
+
 -- the step adds that payload
-abbrev pub IsAdd : ℕ → ℕ → List ℕ → Step → Type 0
-IsAdd ledger entry bytes step = (payload : Vec ℕ) × (step ≡ steps.Add payload) × (payload.items ≡ payload_of ledger entry bytes)
+abbrev pub IsAdd : AddKind → ℕ → ℕ → List ℕ → Step → Type 0
+IsAdd kind ledger entry bytes step = (payload : Vec ℕ) × (step ≡ add_step kind payload) × (payload.items ≡ payload_of ledger entry bytes)
 
 -- numbers with one space between, where there are some
 abbrev pub numbered : List ℕ → Option (List ℕ)
@@ -98,6 +110,7 @@ forms =
     ∷ with_one (codes "fetch") reader steps.Fetch
     ∷ with_one (codes "release") reader steps.Release
     ∷ with_one (codes "delete") id steps.Delete
+    ∷ with_one (codes "fence") id steps.Fence
     ∷ with_three (codes "take") reader id id (λ n ledger entry. steps.Take n (record { ledger = ledger; entry = entry }))
     ∷ []
 
@@ -124,14 +137,14 @@ pub record IsFormed (readers : ℕ) (line : List ℕ) (step : Step) : Type 0 whe
   pub spelled : line ≡ followed word (numbered numbers)
 
 -- The line spells the step (this project's rule), where readers are numbered from 0 to `readers`: it is of a form, or adds
--- an entry with a text or with up to 2097152 zero bytes. Ids are below 2 ^ 63.
+-- an entry, as the ledger's writer or as its recovery, with a text or with up to `max_pad` zero bytes. Ids are below 2 ^ 63.
 pub data Spells (readers : ℕ) : List ℕ → Step → Type 0 where
   form : {line : List ℕ} {step : Step} → IsFormed readers line step → Spells readers line step
-  add : {ledger entry : ℕ} {step : Step} → ledger < 2 ^ 63 → entry < 2 ^ 63 → IsAdd ledger entry [] step
-      → Spells readers (words (codes "add" ∷ decimal ledger ∷ decimal entry ∷ [])) step
-  add_text : {ledger entry : ℕ} {text : List ℕ} {step : Step} → ledger < 2 ^ 63 → entry < 2 ^ 63
-      → text ≢ [] → All IsPrintable text → IsAdd ledger entry text step
-      → Spells readers (words (codes "add" ∷ decimal ledger ∷ decimal entry ∷ text ∷ [])) step
-  pad : {ledger entry size : ℕ} {step : Step} → ledger < 2 ^ 63 → entry < 2 ^ 63 → size ≤ 2097152
-      → IsAdd ledger entry (replicate size 0) step
+  add : (kind : AddKind) {ledger entry : ℕ} {step : Step} → ledger < 2 ^ 63 → entry < 2 ^ 63 → IsAdd kind ledger entry [] step
+      → Spells readers (words (add_word kind ∷ decimal ledger ∷ decimal entry ∷ [])) step
+  add_text : (kind : AddKind) {ledger entry : ℕ} {text : List ℕ} {step : Step} → ledger < 2 ^ 63 → entry < 2 ^ 63
+      → text ≢ [] → All IsPrintable text → IsAdd kind ledger entry text step
+      → Spells readers (words (add_word kind ∷ decimal ledger ∷ decimal entry ∷ text ∷ [])) step
+  pad : {ledger entry size : ℕ} {step : Step} → ledger < 2 ^ 63 → entry < 2 ^ 63 → size ≤ max_pad
+      → IsAdd Ordinary ledger entry (replicate size 0) step
       → Spells readers (words (codes "pad" ∷ decimal ledger ∷ decimal entry ∷ decimal size ∷ [])) step

@@ -17,6 +17,10 @@ use Rattle.bk_store.specs.declared.answer.TakeFault.{TakeFault}
 use Rattle.bk_store.specs.declared.answer.TakeFault.TheVariants as take_faults
 use Rattle.bk_store.specs.declared.answer.DeleteFault.{DeleteFault}
 use Rattle.bk_store.specs.declared.answer.DeleteFault.TheVariants as delete_faults
+use Rattle.bk_store.specs.declared.answer.Fence.{Fence}
+use Rattle.bk_store.specs.declared.answer.Fence.TheVariants as fences
+use Rattle.bk_store.specs.declared.answer.FenceFault.{FenceFault}
+use Rattle.bk_store.specs.declared.answer.FenceFault.TheVariants as fence_faults
 use Rattle.bk_store.specs.declared.answer.SwapAnswer.{SwapAnswer}
 use Rattle.bk_store.specs.declared.answer.SwapAnswer.TheVariants as swaps
 use Rattle.bk_store.specs.declared.answer.LogCause.{LogCause}
@@ -27,8 +31,8 @@ use Rattle.bk_flush.specs.declared.answer.PublishAnswer.{PublishAnswer}
 use Rattle.bk_flush.specs.declared.answer.PublishAnswer.TheVariants as publishes
 use Rattle.bk_flush.specs.declared.answer.RollAnswer.{RollAnswer}
 use Rattle.bk_flush.specs.declared.answer.RollAnswer.TheVariants as rolls
-use Rattle.bk_flush.specs.declared.answer.FlushFault.{FlushFault}
-use Rattle.bk_flush.specs.declared.answer.FlushFault.TheVariants as flush_faults
+use Rattle.bk_step.specs.declared.fault.StepFault.{StepFault}
+use Rattle.bk_step.specs.declared.fault.StepFault.TheVariants as step_faults
 use Rattle.bk_collect.specs.declared.answer.RetireAnswer.{RetireAnswer}
 use Rattle.bk_collect.specs.declared.answer.RetireAnswer.TheVariants as retires
 use Rattle.bk_collect.specs.declared.answer.CloseAnswer.{CloseAnswer}
@@ -49,8 +53,6 @@ use Rattle.bk_compact.specs.declared.answer.FinishAnswer.{FinishAnswer}
 use Rattle.bk_compact.specs.declared.answer.FinishAnswer.TheVariants as finishes
 use Rattle.bk_compact.specs.declared.answer.GiveUpAnswer.{GiveUpAnswer}
 use Rattle.bk_compact.specs.declared.answer.GiveUpAnswer.TheVariants as give_ups
-use Rattle.bk_compact.specs.declared.answer.CompactFault.{CompactFault}
-use Rattle.bk_compact.specs.declared.answer.CompactFault.TheVariants as compact_faults
 use Rattle.bk_drive.specs.declared.step.TakeAnswer.{TakeAnswer}
 use Rattle.bk_drive.specs.declared.step.TakeAnswer.TheVariants as takes
 use Rattle.bk_drive.specs.declared.step.FetchAnswer.{FetchAnswer}
@@ -85,11 +87,12 @@ record_fault_text record_faults.Memory = codes "memory"
 abbrev pub add_fault_text : AddFault → List ℕ
 add_fault_text (add_faults.Bad fault) = record_fault_text fault
 add_fault_text add_faults.Deleted = codes "deleted"
+add_fault_text add_faults.Fenced = codes "fenced"
 add_fault_text (add_faults.Full used limit) = codes "full " ++ decimal used ++ codes " " ++ decimal limit
 add_fault_text add_faults.Memory = codes "memory"
 
 abbrev pub add_text : Result Added AddFault → List ℕ
-add_text (Ok Accepted) = codes "accepted"
+add_text (Ok (Accepted receipt)) = codes "accepted"
 add_text (Ok Held) = codes "held"
 add_text (Err fault) = codes "fault " ++ add_fault_text fault
 
@@ -129,35 +132,44 @@ abbrev pub delete_text : Result ℕ DeleteFault → List ℕ
 delete_text (Ok n) = codes "dropped " ++ decimal n
 delete_text (Err fault) = codes "fault " ++ delete_fault_text fault
 
+abbrev pub fence_fault_text : FenceFault → List ℕ
+fence_fault_text fence_faults.Deleted = codes "deleted"
+fence_fault_text fence_faults.Memory = codes "memory"
+
+abbrev pub fence_text : Result Fence FenceFault → List ℕ
+fence_text (Ok fences.Fenced) = codes "fenced"
+fence_text (Ok fences.AlreadyFenced) = codes "already fenced"
+fence_text (Err fault) = codes "fault " ++ fence_fault_text fault
+
 abbrev pub swap_text : SwapAnswer → List ℕ
 swap_text swaps.Running = codes "running"
 swap_text swaps.Nothing = codes "nothing"
 swap_text (swaps.Swapped n) = codes "swapped " ++ decimal n
 
-abbrev pub flush_fault_text : FlushFault → List ℕ
-flush_fault_text flush_faults.Disk = codes "disk"
-flush_fault_text (flush_faults.Memory n) = codes "memory after " ++ decimal n
-flush_fault_text flush_faults.LogsFull = codes "logs full"
-flush_fault_text flush_faults.NoMoreIds = codes "no more ids"
-flush_fault_text flush_faults.Odd = codes "odd disk"
+abbrev pub step_fault_text : StepFault → List ℕ
+step_fault_text step_faults.Disk = codes "disk"
+step_fault_text (step_faults.Memory n) = codes "memory after " ++ decimal n
+step_fault_text step_faults.LogsFull = codes "logs full"
+step_fault_text step_faults.NoMoreIds = codes "no more ids"
+step_fault_text step_faults.Odd = codes "odd disk"
 
-abbrev pub write_text : Result WriteAnswer FlushFault → List ℕ
+abbrev pub write_text : Result WriteAnswer StepFault → List ℕ
 write_text (Ok writes.NoFlush) = codes "no flush"
 write_text (Ok writes.AllWritten) = codes "all written"
 write_text (Ok (writes.Wrote place)) = codes "wrote " ++ decimal (packed place)
-write_text (Err fault) = codes "fault " ++ flush_fault_text fault
+write_text (Err fault) = codes "fault " ++ step_fault_text fault
 
-abbrev pub publish_text : Result PublishAnswer FlushFault → List ℕ
+abbrev pub publish_text : Result PublishAnswer StepFault → List ℕ
 publish_text (Ok publishes.NoFlush) = codes "no flush"
 publish_text (Ok publishes.NotAllWritten) = codes "not all written"
 publish_text (Ok (publishes.Published n)) = codes "published " ++ decimal n
-publish_text (Err fault) = codes "fault " ++ flush_fault_text fault
+publish_text (Err fault) = codes "fault " ++ step_fault_text fault
 
-abbrev pub roll_text : Result RollAnswer FlushFault → List ℕ
+abbrev pub roll_text : Result RollAnswer StepFault → List ℕ
 roll_text (Ok rolls.FlushRunning) = codes "flush running"
 roll_text (Ok rolls.NothingOpen) = codes "nothing open"
 roll_text (Ok (rolls.Sealed log)) = codes "sealed " ++ decimal log
-roll_text (Err fault) = codes "fault " ++ flush_fault_text fault
+roll_text (Err fault) = codes "fault " ++ step_fault_text fault
 
 abbrev pub retire_text : RetireAnswer → List ℕ
 retire_text retires.NoLog = codes "no log"
@@ -201,32 +213,25 @@ remove_text (Ok removals.NotClosed) = codes "not closed"
 remove_text (Ok removals.Removed) = codes "removed"
 remove_text (Err fault) = codes "fault " ++ collect_fault_text fault
 
-abbrev pub compact_fault_text : CompactFault → List ℕ
-compact_fault_text compact_faults.Disk = codes "disk"
-compact_fault_text (compact_faults.Memory n) = codes "memory after " ++ decimal n
-compact_fault_text compact_faults.LogsFull = codes "logs full"
-compact_fault_text compact_faults.NoMoreIds = codes "no more ids"
-compact_fault_text compact_faults.Odd = codes "odd disk"
-
-abbrev pub begin_text : Result BeginAnswer CompactFault → List ℕ
+abbrev pub begin_text : Result BeginAnswer StepFault → List ℕ
 begin_text (Ok begins.JobRunning) = codes "job running"
 begin_text (Ok begins.NothingToDo) = codes "nothing to do"
 begin_text (Ok (begins.Chosen log)) = codes "chosen " ++ decimal log
-begin_text (Err fault) = codes "fault " ++ compact_fault_text fault
+begin_text (Err fault) = codes "fault " ++ step_fault_text fault
 
-abbrev pub copy_text : Result CopyAnswer CompactFault → List ℕ
+abbrev pub copy_text : Result CopyAnswer StepFault → List ℕ
 copy_text (Ok copies.NoJob) = codes "no job"
 copy_text (Ok copies.NotNow) = codes "not now"
 copy_text (Ok copies.AtEnd) = codes "at end"
 copy_text (Ok (copies.Copied n)) = codes "copied " ++ decimal n
-copy_text (Err fault) = codes "fault " ++ compact_fault_text fault
+copy_text (Err fault) = codes "fault " ++ step_fault_text fault
 
-abbrev pub end_text : Result EndAnswer CompactFault → List ℕ
+abbrev pub end_text : Result EndAnswer StepFault → List ℕ
 end_text (Ok ends.NoJob) = codes "no job"
 end_text (Ok ends.NotNow) = codes "not now"
 end_text (Ok ends.NotAtEnd) = codes "not at end"
 end_text (Ok (ends.Ended n)) = codes "ended " ++ decimal n
-end_text (Err fault) = codes "fault " ++ compact_fault_text fault
+end_text (Err fault) = codes "fault " ++ step_fault_text fault
 
 abbrev pub switch_text : SwitchAnswer → List ℕ
 switch_text switches.NoJob = codes "no job"
@@ -251,6 +256,7 @@ text_of (answers.Take answer) = take_text answer
 text_of (answers.Fetch answer) = fetch_text answer
 text_of (answers.Release answer) = release_text answer
 text_of (answers.Delete answer) = delete_text answer
+text_of (answers.Fence answer) = fence_text answer
 text_of (answers.Swap answer) = swap_text answer
 text_of (answers.Write answer) = write_text answer
 text_of (answers.Publish answer) = publish_text answer

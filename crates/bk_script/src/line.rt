@@ -9,7 +9,7 @@ mod numbers;
 mod payload;
 mod words;
 
-use bk_drive::Step;
+use bk_drive::{AddKind, Step};
 use calls::{read_add, read_pad};
 use forms::step_of;
 use numbers::Numbers;
@@ -55,7 +55,8 @@ fn read_call(alloc: Global, name: &str, rest: &str, last_reader: u32) -> Result<
     ensures bad { result ≡ Err LineFault.Bad → (step : _) → ¬ (Spells last_reader (name.now ++ 32 ∷ rest.now) step) }
 {
     match name {
-        "add" => read_add(alloc, rest, last_reader),
+        "add" => read_add(alloc, AddKind::Ordinary, rest, last_reader),
+        "radd" => read_add(alloc, AddKind::Recovery, rest, last_reader),
         "pad" => read_pad(alloc, rest, last_reader),
         _ => match read_form(name, Some(rest), last_reader) {
             Some(step) => Ok(step),

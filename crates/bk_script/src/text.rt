@@ -2,7 +2,7 @@
 
 ghost use Rattle.std.specs.Prelude.{◌≡◌, ◌<◌, false, [], ◌∷◌, Some, drop};
 ghost use Rattle.std.specs.Fmt.{WritesOnOk, digit_glyph};
-ghost use Rattle.bk_script.specs.Text.{add_text, data_text, delete_text, digit_pair, fetch_text, publish_text};
+ghost use Rattle.bk_script.specs.Text.{add_text, data_text, delete_text, digit_pair, fence_text, fetch_text, publish_text};
 ghost use Rattle.bk_script.specs.Text.{release_text, roll_text, swap_text, take_text, text_of, write_text};
 
 mod collecting;
@@ -10,8 +10,8 @@ mod compacting;
 mod faults;
 
 use bk_drive::{
-    AddFault, Added, Answer, DeleteFault, FetchAnswer, FlushFault, PublishAnswer, ReleaseAnswer,
-    RollAnswer, SwapAnswer, TakeAnswer, TakeFault, WriteAnswer,
+    AddFault, Added, Answer, DeleteFault, Fence, FenceFault, FetchAnswer, PublishAnswer,
+    ReleaseAnswer, RollAnswer, StepFault, SwapAnswer, TakeAnswer, TakeFault, WriteAnswer,
 };
 use bk_log::FetchFault;
 use std::fmt;
@@ -31,6 +31,7 @@ impl Display for Text<'_, Answer> {
             Answer::Fetch(answer) => write!(f, "{}", Text(answer)),
             Answer::Release(answer) => write!(f, "{}", Text(answer)),
             Answer::Delete(answer) => write!(f, "{}", Text(answer)),
+            Answer::Fence(answer) => write!(f, "{}", Text(answer)),
             Answer::Swap(answer) => write!(f, "{}", Text(answer)),
             Answer::Write(answer) => write!(f, "{}", Text(answer)),
             Answer::Publish(answer) => write!(f, "{}", Text(answer)),
@@ -54,7 +55,7 @@ impl Display for Text<'_, Result<Added, AddFault>> {
 
     fn fmt<W: fmt::Write>(&self, f: &mut Formatter<W>) -> fmt::Result {
         match self.0 {
-            Ok(Added::Accepted) => write!(f, "accepted"),
+            Ok(Added::Accepted(_)) => write!(f, "accepted"),
             Ok(Added::Held) => write!(f, "held"),
             Err(fault) => write!(f, "fault {}", Text(fault)),
         }
@@ -121,6 +122,18 @@ impl Display for Text<'_, Result<u64, DeleteFault>> {
     }
 }
 
+impl Display for Text<'_, Result<Fence, FenceFault>> {
+    ghost output = { λ text. Some (fence_text text.0.now) };
+
+    fn fmt<W: fmt::Write>(&self, f: &mut Formatter<W>) -> fmt::Result {
+        match self.0 {
+            Ok(Fence::Fenced) => write!(f, "fenced"),
+            Ok(Fence::AlreadyFenced) => write!(f, "already fenced"),
+            Err(fault) => write!(f, "fault {}", Text(fault)),
+        }
+    }
+}
+
 impl Display for Text<'_, SwapAnswer> {
     ghost output = { λ text. Some (swap_text text.0.now) };
 
@@ -133,7 +146,7 @@ impl Display for Text<'_, SwapAnswer> {
     }
 }
 
-impl Display for Text<'_, Result<WriteAnswer, FlushFault>> {
+impl Display for Text<'_, Result<WriteAnswer, StepFault>> {
     ghost output = { λ text. Some (write_text text.0.now) };
 
     fn fmt<W: fmt::Write>(&self, f: &mut Formatter<W>) -> fmt::Result {
@@ -146,7 +159,7 @@ impl Display for Text<'_, Result<WriteAnswer, FlushFault>> {
     }
 }
 
-impl Display for Text<'_, Result<PublishAnswer, FlushFault>> {
+impl Display for Text<'_, Result<PublishAnswer, StepFault>> {
     ghost output = { λ text. Some (publish_text text.0.now) };
 
     fn fmt<W: fmt::Write>(&self, f: &mut Formatter<W>) -> fmt::Result {
@@ -159,7 +172,7 @@ impl Display for Text<'_, Result<PublishAnswer, FlushFault>> {
     }
 }
 
-impl Display for Text<'_, Result<RollAnswer, FlushFault>> {
+impl Display for Text<'_, Result<RollAnswer, StepFault>> {
     ghost output = { λ text. Some (roll_text text.0.now) };
 
     fn fmt<W: fmt::Write>(&self, f: &mut Formatter<W>) -> fmt::Result {

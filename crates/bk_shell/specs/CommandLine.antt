@@ -7,6 +7,7 @@ use Rattle.clap.specs.Faults.{fault_of}
 use Rattle.clap.specs.Walk.{Row, Rule, Text, all_of, first_of}
 use Rattle.clap.specs.Simple.{App, new_app, new_rule, on_top, subcommand_of, with_rule, with_subcommand}
 use Rattle.clap.specs.declared.builder.action.ArgAction.TheVariants.{Append}
+use Rattle.bk_record.specs.Limits.{max_log_limit, max_cache_limit}
 use Rattle.bk_store.specs.declared.settings.Settings.{Settings}
 
 -- an option with one value, `--NAME NUMBER` or `--NAME=NUMBER`
@@ -47,8 +48,8 @@ AsksLedgers (Some words) dead = AllZip (IsNumberIn 0 last_ledger) words dead
 
 -- What the options of `script` ask for.
 pub record AsksSettings (rows : List Row) (settings : Settings) : Type 0 where
-  pub log_limit : AsksNumber (2 ^ 30) 2048 (2 ^ 30) (first_of (codes "log-limit") rows) settings.log_limit
-  pub cache_limit : AsksNumber (2 ^ 24) 16 (2 ^ 30) (first_of (codes "cache-limit") rows) settings.cache_limit
+  pub log_limit : AsksNumber (2 ^ 30) 2048 max_log_limit (first_of (codes "log-limit") rows) settings.log_limit
+  pub cache_limit : AsksNumber (2 ^ 24) 16 max_cache_limit (first_of (codes "cache-limit") rows) settings.cache_limit
   pub recent : AsksNumber 0 0 65536 (first_of (codes "recent") rows) settings.recent
   pub slots : AsksNumber 1024 1 65536 (first_of (codes "slots") rows) settings.slots
   pub leases : AsksNumber 1024 1 65535 (first_of (codes "leases") rows) settings.leases

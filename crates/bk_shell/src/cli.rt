@@ -17,6 +17,7 @@ mod number_option;
 mod tests;
 
 use bk_drive::Settings;
+use bk_record::{MAX_CACHE_LIMIT, MAX_LOG_LIMIT};
 use clap::error::ErrorKind;
 use clap::{ArgMatches, Command, Error};
 pub(crate) use folder::{FolderAsk, FolderCall, folder_call, is_folder_call};
@@ -50,16 +51,16 @@ pub(crate) const DEFAULTS: Settings = Settings {
 const LOG_LIMIT: NumberOption = NumberOption {
     name: "log-limit",
     least: 2048,
-    most: 1_073_741_824,
+    most: MAX_LOG_LIMIT,
     default: DEFAULTS.log_limit,
-    help: "Seals a log before a record would take it past this many bytes: 2048 to 1073741824 [default: 1073741824]",
+    help: "Seals a log before a record would take it past this many bytes: 2048 to 4000000000 [default: 1073741824]",
 };
 
 /// How many payload bytes the active cache has at most.
 const CACHE_LIMIT: NumberOption = NumberOption {
     name: "cache-limit",
     least: 16,
-    most: 1_073_741_824,
+    most: MAX_CACHE_LIMIT,
     default: DEFAULTS.cache_limit,
     help: "Refuses an entry that would take the cache past this many bytes: 16 to 1073741824 [default: 16777216]",
 };

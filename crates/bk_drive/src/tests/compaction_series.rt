@@ -133,7 +133,9 @@ impl Trial {
     fn add(&mut self, payload: &[u8]) {
         for _ in 0..2 {
             match self.store.add(payload) {
-                Ok(added) => return self.check("add", added == Added::Accepted),
+                Ok(added) => {
+                    return self.check("add", matches!(added, Added::Accepted(_)));
+                }
                 Err(_) => self.note_refusal(),
             }
         }

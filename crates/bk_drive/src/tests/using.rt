@@ -42,7 +42,7 @@ fn payload(alloc: Global, ledger: u64, entry: u64, data: &[u8]) -> Result<Vec<u8
 
 /// Adds an entry. Where the cache is full, what it has goes to the logs first.
 ///
-/// `Bad` and `Deleted` say that this entry can never be added; after `Full` and `Memory` it can be tried again.
+/// `Bad`, `Deleted` and `Fenced` say that this entry can never be added; after `Full` and `Memory` it can be tried again.
 fn add<D: LogDisk>(store: &mut Store<D>, payload: &[u8]) -> Result<Added, AddFault> {
     match store.add(payload) {
         Err(AddFault::Full { used, limit }) => match flush(store) {
@@ -135,7 +135,7 @@ fn an_entry_goes_from_an_add_to_the_end_of_its_ledger(rt: HostRuntime) -> Result
     let alloc = rt.alloc();
     let mut store = open(alloc, MemDisk::new(alloc))?;
     let hello = payload(alloc, 1, 0, b"hello")?;
-    assert!(rt; matches!(add(&mut store, &hello), Ok(Added::Accepted)));
+    assert!(rt; matches!(add(&mut store, &hello), Ok(Added::Accepted(_))));
     assert!(rt; matches!(add(&mut store, &hello), Ok(Added::Held)));
     assert!(rt; matches!(flush(&mut store), Ok(1)));
     // From the log now, by a lease.

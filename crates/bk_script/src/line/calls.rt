@@ -1,26 +1,27 @@
 //! The lines that add an entry: what stands behind their first word and a space.
 
 ghost use Rattle.std.specs.Prelude.{◌≡◌, ◌∷◌, ◌++◌, codes, All, IfOk, OnErr};
-ghost use Rattle.bk_script.specs.Line.{IsPrintable, Spells};
+ghost use Rattle.bk_script.specs.Line.{IsPrintable, Spells, add_word};
 
 use crate::line::LineFault;
 use crate::line::numbers::Numbers;
 use crate::line::payload::{add, pad};
 use crate::line::words::{split_number, split_word};
 use crate::number;
-use bk_drive::Step;
-use bk_record::LAST_ID;
+use bk_drive::{AddKind, Step};
+use bk_record::{LAST_ID, MAX_PAD};
 use std::alloc::Global;
 
-/// The most zero bytes that a pad asks for (this project's rule): more than an entry may have, so that a script can
-/// show the refusal.
-const MAX_PAD: u64 = 2_097_152;
-
-/// The add of what follows `add` and a space.
-pub(crate) fn read_add(alloc: Global, text: &str, last_reader: u32) -> Result<Step, LineFault>
+/// The add of what follows the word of its kind and a space.
+pub(crate) fn read_add(
+    alloc: Global,
+    kind: AddKind,
+    text: &str,
+    last_reader: u32,
+) -> Result<Step, LineFault>
     requires { All IsPrintable text.now }
-    ensures ok { IfOk result (Spells last_reader (codes "add" ++ 32 ∷ text.now)) }
-    ensures bad { result ≡ Err LineFault.Bad → (step : _) → ¬ (Spells last_reader (codes "add" ++ 32 ∷ text.now) step) }
+    ensures ok { IfOk result (Spells last_reader (add_word kind ++ 32 ∷ text.now)) }
+    ensures bad { result ≡ Err LineFault.Bad → (step : _) → ¬ (Spells last_reader (add_word kind ++ 32 ∷ text.now) step) }
 {
     let Some((ledger, text)) = split_number(text, LAST_ID) else {
         return Err(LineFault::Bad);
@@ -30,9 +31,9 @@ pub(crate) fn read_add(alloc: Global, text: &str, last_reader: u32) -> Result<St
         return Err(LineFault::Bad);
     };
     match data {
-        None => add(alloc, ledger, entry, ""),
+        None => add(alloc, kind, ledger, entry, ""),
         Some(text) if text.is_empty() => Err(LineFault::Bad),
-        Some(text) => add(alloc, ledger, entry, text),
+        Some(text) => add(alloc, kind, ledger, entry, text),
     }
 }
 

@@ -37,6 +37,7 @@ pub(crate) fn step_of(name: &str, numbers: Numbers, last_reader: u32) -> Option<
         "fetch" => Some(Step::Fetch(reader(numbers, last_reader)?)),
         "release" => Some(Step::Release(reader(numbers, last_reader)?)),
         "delete" => Some(Step::Delete(ledger(numbers)?)),
+        "fence" => Some(Step::Fence(ledger(numbers)?)),
         "take" => take(numbers, last_reader),
         _ => None,
     }

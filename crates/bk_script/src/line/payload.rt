@@ -2,29 +2,39 @@
 
 ghost use Rattle.std.specs.Prelude.{◌≡◌, ◌+◌, ◌≤◌, ◌++◌, ◌^◌, replicate, IfOk, MatchResult};
 ghost use Rattle.std.specs.Int.{w64, to_be_bytes};
+ghost use Rattle.bk_store.specs.declared.adding.AddKind.TheVariants.{Ordinary};
 ghost use Rattle.bk_script.specs.Line.{IsAdd, payload_of};
 
 use crate::line::LineFault;
-use bk_drive::Step;
+use bk_drive::{AddKind, Step};
 use std::alloc::{AllocError, Global};
 
 /// How many bytes the two ids at the front of a payload take.
 const IDS: usize = 16;
 
 /// The add of an entry with these ids and this text as its data.
-pub(crate) fn add(alloc: Global, ledger: u64, entry: u64, text: &str) -> Result<Step, LineFault>
-    ensures { MatchResult result (IsAdd ledger entry text.now) (λ fault. fault ≡ LineFault.Memory) }
+pub(crate) fn add(
+    alloc: Global,
+    kind: AddKind,
+    ledger: u64,
+    entry: u64,
+    text: &str,
+) -> Result<Step, LineFault>
+    ensures { MatchResult result (IsAdd kind ledger entry text.now) (λ fault. fault ≡ LineFault.Memory) }
 {
-    match text_payload(alloc, ledger, entry, text.as_bytes()) {
-        Ok(payload) => Ok(Step::Add(payload)),
-        Err(_) => Err(LineFault::Memory),
+    let Ok(payload) = text_payload(alloc, ledger, entry, text.as_bytes()) else {
+        return Err(LineFault::Memory);
+    };
+    match kind {
+        AddKind::Ordinary => Ok(Step::Add(payload)),
+        AddKind::Recovery => Ok(Step::AddRecovery(payload)),
     }
 }
 
 /// The add of an entry with these ids and `size` zero bytes as its data. At most 2^32 is the caller's condition.
 pub(crate) fn pad(alloc: Global, ledger: u64, entry: u64, size: usize) -> Result<Step, LineFault>
     requires { size ≤ 2 ^ 32 }
-    ensures { MatchResult result (IsAdd ledger entry (replicate size 0)) (λ fault. fault ≡ LineFault.Memory) }
+    ensures { MatchResult result (IsAdd Ordinary ledger entry (replicate size 0)) (λ fault. fault ≡ LineFault.Memory) }
 {
     match zero_payload(alloc, ledger, entry, size) {
         Ok(payload) => Ok(Step::Add(payload)),

@@ -5,12 +5,12 @@ ghost use Rattle.bk_script.specs.Text.{begin_text, copy_text, end_text, finish_t
 
 use super::Text;
 use bk_drive::{
-    BeginAnswer, CompactFault, CopyAnswer, EndAnswer, FinishAnswer, GiveUpAnswer, SwitchAnswer,
+    BeginAnswer, CopyAnswer, EndAnswer, FinishAnswer, GiveUpAnswer, StepFault, SwitchAnswer,
 };
 use std::fmt;
 use std::fmt::{Display, Formatter};
 
-impl Display for Text<'_, Result<BeginAnswer, CompactFault>> {
+impl Display for Text<'_, Result<BeginAnswer, StepFault>> {
     ghost output = { λ text. Some (begin_text text.0.now) };
 
     fn fmt<W: fmt::Write>(&self, f: &mut Formatter<W>) -> fmt::Result {
@@ -23,7 +23,7 @@ impl Display for Text<'_, Result<BeginAnswer, CompactFault>> {
     }
 }
 
-impl Display for Text<'_, Result<CopyAnswer, CompactFault>> {
+impl Display for Text<'_, Result<CopyAnswer, StepFault>> {
     ghost output = { λ text. Some (copy_text text.0.now) };
 
     fn fmt<W: fmt::Write>(&self, f: &mut Formatter<W>) -> fmt::Result {
@@ -37,7 +37,7 @@ impl Display for Text<'_, Result<CopyAnswer, CompactFault>> {
     }
 }
 
-impl Display for Text<'_, Result<EndAnswer, CompactFault>> {
+impl Display for Text<'_, Result<EndAnswer, StepFault>> {
     ghost output = { λ text. Some (end_text text.0.now) };
 
     fn fmt<W: fmt::Write>(&self, f: &mut Formatter<W>) -> fmt::Result {

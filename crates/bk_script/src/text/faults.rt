@@ -1,11 +1,11 @@
 //! The texts of faults.
 
 ghost use Rattle.std.specs.Prelude.{Some};
-ghost use Rattle.bk_script.specs.Text.{add_fault_text, cause_text, collect_fault_text, compact_fault_text, delete_fault_text};
-ghost use Rattle.bk_script.specs.Text.{fetch_fault_text, flush_fault_text, head_fault_text, record_fault_text};
+ghost use Rattle.bk_script.specs.Text.{add_fault_text, cause_text, collect_fault_text, delete_fault_text};
+ghost use Rattle.bk_script.specs.Text.{fence_fault_text, fetch_fault_text, head_fault_text, record_fault_text, step_fault_text};
 
 use super::Text;
-use bk_drive::{AddFault, CollectFault, CompactFault, DeleteFault, FlushFault, LogCause};
+use bk_drive::{AddFault, CollectFault, DeleteFault, FenceFault, LogCause, StepFault};
 use bk_head::HeadFault;
 use bk_log::FetchFault;
 use bk_record::RecordFault;
@@ -19,6 +19,7 @@ impl Display for Text<'_, AddFault> {
         match self.0 {
             AddFault::Bad(fault) => write!(f, "{}", Text(fault)),
             AddFault::Deleted => write!(f, "deleted"),
+            AddFault::Fenced => write!(f, "fenced"),
             AddFault::Full { used, limit } => write!(f, "full {used} {limit}"),
             AddFault::Memory => write!(f, "memory"),
         }
@@ -62,30 +63,27 @@ impl Display for Text<'_, DeleteFault> {
     }
 }
 
-impl Display for Text<'_, FlushFault> {
-    ghost output = { λ text. Some (flush_fault_text text.0.now) };
+impl Display for Text<'_, FenceFault> {
+    ghost output = { λ text. Some (fence_fault_text text.0.now) };
 
     fn fmt<W: fmt::Write>(&self, f: &mut Formatter<W>) -> fmt::Result {
         match self.0 {
-            FlushFault::Disk => write!(f, "disk"),
-            FlushFault::Memory { done } => write!(f, "memory after {done}"),
-            FlushFault::LogsFull => write!(f, "logs full"),
-            FlushFault::NoMoreIds => write!(f, "no more ids"),
-            FlushFault::Odd => write!(f, "odd disk"),
+            FenceFault::Deleted => write!(f, "deleted"),
+            FenceFault::Memory => write!(f, "memory"),
         }
     }
 }
 
-impl Display for Text<'_, CompactFault> {
-    ghost output = { λ text. Some (compact_fault_text text.0.now) };
+impl Display for Text<'_, StepFault> {
+    ghost output = { λ text. Some (step_fault_text text.0.now) };
 
     fn fmt<W: fmt::Write>(&self, f: &mut Formatter<W>) -> fmt::Result {
         match self.0 {
-            CompactFault::Disk => write!(f, "disk"),
-            CompactFault::Memory { done } => write!(f, "memory after {done}"),
-            CompactFault::LogsFull => write!(f, "logs full"),
-            CompactFault::NoMoreIds => write!(f, "no more ids"),
-            CompactFault::Odd => write!(f, "odd disk"),
+            StepFault::Disk => write!(f, "disk"),
+            StepFault::Memory { done } => write!(f, "memory after {done}"),
+            StepFault::LogsFull => write!(f, "logs full"),
+            StepFault::NoMoreIds => write!(f, "no more ids"),
+            StepFault::Odd => write!(f, "odd disk"),
         }
     }
 }

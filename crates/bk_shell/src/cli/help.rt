@@ -56,8 +56,10 @@ pub(crate) const SCRIPT_HELP: &str = "\
   add LEDGER ENTRY [TEXT]   accepted | held
                             adds an entry; the rest of the line is its data
   pad LEDGER ENTRY SIZE     accepted | held
-                            adds an entry of SIZE zero bytes: up to 1048560 are
-                            accepted, and 2097152 may be asked for
+                            adds an entry of SIZE zero bytes: up to 4999984 are
+                            accepted, and 8388608 may be asked for
+  radd LEDGER ENTRY [TEXT]  accepted | held
+                            adds an entry as the ledger's recovery: behind a fence too
   take READER LEDGER ENTRY  cached DATA | leased LOCATION | not held | deleted | reader busy
                             reads an entry, from memory or by a lease on its log
   fetch READER              bytes DATA | no lease
@@ -66,6 +68,8 @@ pub(crate) const SCRIPT_HELP: &str = "\
                             gives the reader's lease back
   delete LEDGER             dropped N
                             deletes a ledger for good, and its N entries with it
+  fence LEDGER              fenced | already fenced
+                            keeps later adds out of a ledger, but for radd
   swap                      swapped N | nothing | running
                             begins a flush of the N cached entries
   write                     wrote LOCATION | all written | no flush

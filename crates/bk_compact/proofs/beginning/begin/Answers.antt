@@ -1,8 +1,12 @@
-use Rattle.std.proofs.Common.{rules, ◌≡◌, Some, None, IsTrue, sym, ap, subst, ◌∙◌}
+use Rattle.std.proofs.Common.{rules, ◌≡◌, Some, None, Ok, Err, IsTrue, sym, ap, subst, ◌∙◌}
 use Rattle.bk_store.specs.State.{State}
 use Rattle.bk_store.specs.Jobs.{new_job}
 use Rattle.bk_store.specs.JobKept.{IsJob}
 use Rattle.bk_compact.specs.Compacting.{Chooses}
+use Rattle.bk_store.specs.declared.log.LogState.TheVariants.{Copying}
+use Rattle.bk_step.proofs.Doors.{make_still}
+use Rattle.bk_compact.specs.declared.answer.BeginAnswer.TheVariants.{Chosen}
+use Rattle.bk_compact.proofs.Still.{begin_still}
 use Rattle.bk_compact.proofs.Begun.{begun}
 use Rattle.bk_compact.proofs.beginning.begin.Goals as goal
 
@@ -27,3 +31,10 @@ returns-in-Ok-clause-turn g c =
         (c.make_log.new.self, made, c.set_job.ensures ∙ ap (λ j. record c.make_log.new.self { job = Some j }) c.new-job.ensures),
       ),
     )
+
+pub returns-in-Ok-clause-stays : goal.returns-in-Ok-clause-stays
+returns-in-Ok-clause-stays g c =
+    begin_still c.args.store.now c.set_job.new.self c.args.kind (Ok (Chosen c.in-Some.source)) (returns-in-Ok-clause-turn g c)
+
+pub returns-in-Err-clause-stays : goal.returns-in-Err-clause-stays
+returns-in-Err-clause-stays g c = make_still c.args.store.now c.make_log.new.self Copying (Err c.in-Err.fault) c.in-Err.ensures.turn

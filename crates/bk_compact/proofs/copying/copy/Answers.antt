@@ -1,10 +1,11 @@
 use Rattle.std.proofs.Common.{◌≡◌, ℕ, IsTrue, Some, None, Result, Ok, Err, refl, sym, ap, subst, ◌∙◌}
 use Rattle.bk_store.specs.declared.job.Phase.TheVariants.{Copy}
-use Rattle.bk_compact.specs.declared.answer.CompactFault.TheVariants as faults
+use Rattle.bk_step.specs.declared.fault.StepFault.TheVariants as step_faults
 use Rattle.bk_compact.specs.declared.scanning.Unread.{Unread}
 use Rattle.bk_compact.specs.Compacting.{IsRunning, SourceFails}
 use Rattle.bk_compact.specs.Going.{told_unread}
 use Rattle.bk_compact.proofs.Stored.{kept_job}
+use Rattle.bk_compact.proofs.Still.{copy_still}
 use Rattle.bk_compact.proofs.Turns.{copy_tells, copy_caused, refused_turn, unsound_turn, abandoned_turn}
 use Rattle.bk_compact.proofs.copying.copy.Goals as goal
 
@@ -44,7 +45,7 @@ returns-in-Err-Odd-clause-cause g c =
     let running : IsRunning s Copy job = record { runs = sym c.in-Some.ensures; phase_is = sym c.phase.ensures ∙ c.in-Copy.is } in
     let odd = subst (λ (r : Unread). SourceFails s job (told_unread r)) c.in-Err-Odd.field-0-is c.in-Err-Odd.ensures.fails in
     let turn = abandoned_turn s job running c.args.count c.abandon.new.store odd (c.abandon.ensures.turn job running) in
-    copy_tells s c.args.count (Err faults.Odd) c.abandon.new.store turn
+    copy_tells s c.args.count (Err step_faults.Odd) c.abandon.new.store turn
 
 pub returns-in-Err-Odd-clause-sound : goal.returns-in-Err-Odd-clause-sound
 returns-in-Err-Odd-clause-sound g c = λ _.
@@ -53,4 +54,11 @@ returns-in-Err-Odd-clause-sound g c = λ _.
     let running : IsRunning s Copy job = record { runs = sym c.in-Some.ensures; phase_is = sym c.phase.ensures ∙ c.in-Copy.is } in
     let odd = subst (λ (r : Unread). SourceFails s job (told_unread r)) c.in-Err-Odd.field-0-is c.in-Err-Odd.ensures.fails in
     let turn = abandoned_turn s job running c.args.count c.abandon.new.store odd (c.abandon.ensures.turn job running) in
-    copy_caused s c.args.count (Err faults.Odd) c.abandon.new.store turn (λ wrong. cc)
+    copy_caused s c.args.count (Err step_faults.Odd) c.abandon.new.store turn (λ wrong. cc)
+
+pub returns-in-Ok-false-clause-stays : goal.returns-in-Ok-false-clause-stays
+returns-in-Ok-false-clause-stays g c = copy_still c.args.store.now c.go_on.new.store c.args.count c.go_on.result c.go_on.ensures.turn
+
+pub returns-in-Err-Odd-clause-stays : goal.returns-in-Err-Odd-clause-stays
+returns-in-Err-Odd-clause-stays g c =
+    copy_still c.args.store.now c.abandon.new.store c.args.count (Err step_faults.Odd) (returns-in-Err-Odd-clause-turn g c)

@@ -5,8 +5,8 @@ use Rattle.bk_store.specs.Logs.{last_view, view_of}
 use Rattle.bk_store.specs.Jobs.{Job}
 use Rattle.bk_compact.specs.declared.answer.CopyAnswer.{CopyAnswer}
 use Rattle.bk_compact.specs.declared.answer.CopyAnswer.TheVariants as copies
-use Rattle.bk_compact.specs.declared.answer.CompactFault.{CompactFault}
-use Rattle.bk_compact.specs.declared.answer.CompactFault.TheVariants as faults
+use Rattle.bk_step.specs.declared.fault.StepFault.{StepFault}
+use Rattle.bk_step.specs.declared.fault.StepFault.TheVariants as step_faults
 use Rattle.bk_compact.specs.declared.entries.Stopped.{Stopped}
 use Rattle.bk_compact.specs.declared.entries.Stopped.TheVariants as stops
 use Rattle.bk_compact.specs.Compacting.{CopyTurn, with_job}
@@ -86,7 +86,7 @@ returns-in-Err-Memory-clause-sound g c = λ _.
     (Err r) c.copy_entries.new.store c.copy_entries.new.job) c.in-Err-Memory.field-0-is c.in-Err-Memory.ensures.turn)) in
     let turn = memory_turn s job c.requires.1 c.args.count c.copy_entries.new.store c.copy_entries.new.job c.set_job-in-Err-Memory.new.self
     c.in-Err-Memory.done all c.set_job-in-Err-Memory.ensures in
-    copy_caused s c.args.count (Err (faults.Memory c.in-Err-Memory.done)) c.set_job-in-Err-Memory.new.self turn (λ wrong. cc)
+    copy_caused s c.args.count (Err (step_faults.Memory c.in-Err-Memory.done)) c.set_job-in-Err-Memory.new.self turn (λ wrong. cc)
 
 pub returns-in-Err-Unread-clause-turn : goal.returns-in-Err-Unread-clause-turn
 returns-in-Err-Unread-clause-turn g c =
@@ -174,4 +174,4 @@ returns-clause-sound g c = λ _.
     (subst (λ (r : Stopped). CopiesAll c.take_job.new.self c.in-Some-take_job.job c.args.count
     (Err r) c.copy_entries.new.store c.copy_entries.new.job) c.in-Err-Odd.field-0-is c.in-Err-Odd.ensures.turn)) in
     let turn = odd_turn s job c.requires.1 c.args.count c.copy_entries.new.store c.copy_entries.new.job c.copy_entries.new.store all in
-    copy_caused s c.args.count (Err faults.Odd) c.copy_entries.new.store turn (λ wrong. cc)
+    copy_caused s c.args.count (Err step_faults.Odd) c.copy_entries.new.store turn (λ wrong. cc)

@@ -14,8 +14,8 @@ returns-in-Err-show-clause-turn g c =
     let both : Some c.in-Some.job ≡ Some job = sym c.in-Some.is ∙ c.take_job.ensures.job ∙ c.requires.1.runs in
     let same : c.in-Some.job ≡ job = cc in
     not_shown c.args.store.now c.take_job.new.self c.promise.ensures job c.in-Some.job c.requires.1 same c.take_job.ensures.left c.requires.2
-    c.copy-copy.result c.copy-copy.ensures c.in-Err-show.fault c.fault_of_log-in-Err-show.result c.seal.new.self c.show.new.self
-    c.fault_of_log-in-Err-show.ensures c.in_default-seal.ensures.turn c.in-Err-show.ensures.turn
+    c.copy-copy.result c.copy-copy.ensures c.in-Err-show.fault c.of_log-in-Err-show.result c.seal.new.self c.show.new.self
+    c.of_log-in-Err-show.ensures c.in_default-seal.ensures.turn c.in-Err-show.ensures.turn
 
 pub set_job-requires-clause-keeps : goal.set_job-requires-clause-keeps
 set_job-requires-clause-keeps g c = λ κs within.

@@ -3,6 +3,8 @@ use Rattle.bk_store.specs.Jobs.{Job}
 use Rattle.bk_store.specs.State.{State}
 use Rattle.bk_compact.specs.Compacting.{TakesMoves}
 use Rattle.bk_compact.proofs.Finished.{taken_out}
+use Rattle.bk_compact.proofs.Still.{switch_still}
+use Rattle.bk_compact.specs.declared.answer.SwitchAnswer.TheVariants.{Moved}
 use Rattle.bk_compact.proofs.switching.switch.Goals as goal
 
 pub take_moves-moved-requires-clause-out : goal.take_moves-moved-requires-clause-out
@@ -24,3 +26,7 @@ returns-clause-turn g c =
         c.set_job.ensures ∙ ap (λ (j : Job). record c.take_moves-moved.new.store { job = Some j }) turn.left,
       ),
     )
+
+pub returns-clause-stays : goal.returns-clause-stays
+returns-clause-stays g c =
+    switch_still c.args.store.now c.set_job.new.self c.args.count (Moved c.take_moves-moved.result c.left-left.result) (returns-clause-turn g c)

@@ -1,7 +1,9 @@
-use Rattle.std.proofs.Common.{Err, sym, ap, subst, ◌∙◌}
+use Rattle.std.proofs.Common.{Ok, Err, sym, ap, subst, ◌∙◌}
 use Rattle.std.proofs.lemmas.Result.{err_from_is_err_and}
 use Rattle.bk_store.specs.Doors.{AllPlaced}
 use Rattle.bk_flush.specs.Flushing.{PublishTurn}
+use Rattle.bk_flush.specs.declared.answer.PublishAnswer.TheVariants.{Published}
+use Rattle.bk_flush.proofs.Still.{PublishStays, unshown_stays, publish_stays}
 use Rattle.bk_flush.proofs.Published.{none_next, names_refused, all_named, published}
 use Rattle.bk_flush.proofs.publication.publish.Goals as goal
 
@@ -30,3 +32,17 @@ returns-clause-turn g c =
     published c.args.store.now c.promise.ensures placed c.show_logs.new.store c.in_ok-show_logs.ensures.turn c.name_entries.new.store
     c.in_ok-name_entries.ensures.turn
     c.end_flush.new.self c.flush_len-entries.result runs c.flush_len-entries.ensures c.end_flush.ensures.turn
+
+pub returns-in_err-show_logs-clause-stays : goal.returns-in_err-show_logs-clause-stays
+returns-in_err-show_logs-clause-stays g c =
+    let told = err_from_is_err_and c.from_residual.result c.from_residual.ensures.1 in
+    subst (λ r. PublishStays c.args.store.now r c.show_logs.new.store) (sym (told.1 ∙ ap Err told.2))
+    (unshown_stays c.args.store.now c.show_logs.new.store _ c.in_err-show_logs.ensures.turn)
+
+pub returns-in_err-name_entries-clause-stays : goal.returns-in_err-name_entries-clause-stays
+returns-in_err-name_entries-clause-stays g c =
+    publish_stays c.args.store.now c.name_entries.new.store _ (returns-in_err-name_entries-clause-turn g c)
+
+pub returns-clause-stays : goal.returns-clause-stays
+returns-clause-stays g c =
+    publish_stays c.args.store.now c.end_flush.new.self (Ok (Published c.flush_len-entries.result)) (returns-clause-turn g c)

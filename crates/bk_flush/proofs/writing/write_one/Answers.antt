@@ -1,7 +1,9 @@
-use Rattle.std.proofs.Common.{◌≡◌, length, Err, ap, ◌∙◌}
+use Rattle.std.proofs.Common.{◌≡◌, length, Ok, Err, sym, ap, ◌∙◌}
 use Rattle.bk_store.proofs.SameMeaning.{stays_on}
 use Rattle.bk_flush.proofs.Failures.{step_caused}
 use Rattle.bk_flush.proofs.Steps.{put_step, unput_step, write_stays}
+use Rattle.bk_flush.proofs.Still.{ready_still, step_still}
+use Rattle.bk_flush.specs.declared.answer.WriteAnswer.TheVariants.{Wrote}
 use Rattle.bk_flush.proofs.writing.write_one.Goals as goal
 
 pub returns-in-Ok-clause-turn : goal.returns-in-Ok-clause-turn
@@ -47,3 +49,18 @@ returns-in-Err-clause-meaning g c =
     c.in-Some.ensures.next size c.in_ok-log.ensures.turn c.in_ok-log.ensures.caches (Err c.in-Err.fault) c.in-Err.ensures.turn
     c.in_ok-log.ensures.stays c.in-Err.ensures.meaning in
     (stays_on _ _ _ wrote c.flush_fault.ensures.stays).meaning
+
+pub returns-in_err-log-clause-stays : goal.returns-in_err-log-clause-stays
+returns-in_err-log-clause-stays g c =
+    let size : c.len-size.result ≡ length c.in-Some.next.1.now.value.items =
+    c.len-size.ensures ∙ c.deref.result.now.ok.0 ∙ ap (λ v. length v.items) c.deref.ensures in
+    ready_still c.args.store.now c.ready.new.store c.in-Some.next.1.now.value.items (Err c.in_err-log.field-0.0)
+    (c.in_err-log.ensures.turn c.in-Some.next.1.now.value.items (sym size))
+
+pub returns-in-Ok-clause-stays : goal.returns-in-Ok-clause-stays
+returns-in-Ok-clause-stays g c =
+    step_still c.args.store.now c.write.new.self (Ok (Wrote c.in-Ok.location)) (returns-in-Ok-clause-turn g c)
+
+pub returns-in-Err-clause-stays : goal.returns-in-Err-clause-stays
+returns-in-Err-clause-stays g c =
+    step_still c.args.store.now c.flush_fault.new.store (Err c.flush_fault.result) (returns-in-Err-clause-turn g c)

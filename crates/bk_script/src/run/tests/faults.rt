@@ -3,7 +3,7 @@
 use crate::ScriptFault;
 use crate::run::tell;
 use crate::text::Text;
-use bk_drive::{AddFault, CollectFault, CompactFault, DeleteFault, FlushFault, OpenFault};
+use bk_drive::{AddFault, CollectFault, DeleteFault, OpenFault, StepFault};
 use bk_log::FetchFault;
 use bk_record::RecordFault;
 use std::alloc::Global;
@@ -47,7 +47,7 @@ fn faults_of_steps_print_their_own_texts(rt: HostRuntime) {
     let records = [
         (RecordFault::Short(15), "short 15"),
         (RecordFault::Negative, "negative number"),
-        (RecordFault::TooLong(1_048_577), "too long 1048577"),
+        (RecordFault::TooLong(5_000_001), "too long 5000001"),
         (RecordFault::Memory, "memory"),
     ];
     for (fault, text) in records {
@@ -84,24 +84,14 @@ fn faults_of_steps_print_their_own_texts(rt: HostRuntime) {
     for (fault, text) in fetches {
         assert_text(&rt, rt.alloc(), Text(&fault), fault, text);
     }
-    let flushes = [
-        (FlushFault::Disk, "disk"),
-        (FlushFault::Memory { done: 7 }, "memory after 7"),
-        (FlushFault::LogsFull, "logs full"),
-        (FlushFault::NoMoreIds, "no more ids"),
-        (FlushFault::Odd, "odd disk"),
+    let steps = [
+        (StepFault::Disk, "disk"),
+        (StepFault::Memory { done: 7 }, "memory after 7"),
+        (StepFault::LogsFull, "logs full"),
+        (StepFault::NoMoreIds, "no more ids"),
+        (StepFault::Odd, "odd disk"),
     ];
-    for (fault, text) in flushes {
-        assert_text(&rt, rt.alloc(), Text(&fault), fault, text);
-    }
-    let compactions = [
-        (CompactFault::Disk, "disk"),
-        (CompactFault::Memory { done: 7 }, "memory after 7"),
-        (CompactFault::LogsFull, "logs full"),
-        (CompactFault::NoMoreIds, "no more ids"),
-        (CompactFault::Odd, "odd disk"),
-    ];
-    for (fault, text) in compactions {
+    for (fault, text) in steps {
         assert_text(&rt, rt.alloc(), Text(&fault), fault, text);
     }
     let collections = [

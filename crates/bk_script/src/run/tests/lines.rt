@@ -18,7 +18,7 @@ const SCRIPTS: [(&str, &str); 15] = [
         "pad 9223372036854775807 9223372036854775807 1\ntake 3 9223372036854775807 9223372036854775807",
         "accepted\ncached 00\n",
     ),
-    ("pad 1 0 2097152", "fault too long 2097168\n"),
+    ("pad 1 0 8388608", "fault too long 8388624\n"),
     (
         "fetch 3\nrelease 3\nroll\nretire 2147483647\nrebuild",
         "no lease\nno lease\nnothing open\nno log\nrebuilt 0\n",
@@ -74,7 +74,7 @@ const NO_STEPS: [&str; 105] = [
     "pad 1 0 03",
     "pad 1 0 +3",
     "pad 1 0 -3",
-    "pad 1 0 2097153",
+    "pad 1 0 8388609",
     "pad 1 0 18446744073709551619",
     "pad 9223372036854775808 0 1",
     "pad 1 9223372036854775808 1",

@@ -55,12 +55,14 @@ const FLUSHING: Worked = &[
     ("take 0 9 9", "not held"),
 ];
 
-/// A payload has at most 1048576 bytes.
+/// A payload has at most 5000000 bytes.
 const LONGEST: Worked = &[
     ("pad 1 0 1048560", "accepted"),
-    ("pad 1 1 1048561", "fault too long 1048577"),
-    ("take 0 1 1", "not held"),
-    ("pad 1 1 0", "accepted"),
+    ("pad 1 1 1048561", "accepted"),
+    ("pad 1 2 4999984", "accepted"),
+    ("pad 1 3 4999985", "fault too long 5000001"),
+    ("take 0 1 3", "not held"),
+    ("pad 1 3 0", "accepted"),
 ];
 
 /// Each reader holds a lease of its own.

@@ -50,7 +50,7 @@ fn a_wrong_command_line_has_status_2_and_help_has_0(rt: HostRuntime) {
         (&["bk_shell", "script", "--recent", "00"], 2),
         (&["bk_shell", "script", "--recent", "1", "--recent", "1"], 2),
         (&["bk_shell", "script", "--log-limit", "2047"], 2),
-        (&["bk_shell", "script", "--log-limit", "1073741825"], 2),
+        (&["bk_shell", "script", "--log-limit", "4000000001"], 2),
         (
             &["bk_shell", "script", "--log-limit=2048", "--log-limit=2048"],
             2,

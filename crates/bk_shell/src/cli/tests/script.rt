@@ -43,10 +43,11 @@ const CALLS: [(&[&str], Settings, &[u64]); 12] = [
         &[
             "script",
             "--cache-limit=1073741824",
-            "--log-limit=1073741824",
+            "--log-limit=4000000000",
         ],
         Settings {
             cache_limit: 1_073_741_824,
+            log_limit: 4_000_000_000,
             ..DEFAULTS
         },
         &[],

@@ -69,7 +69,7 @@ fn a_wrong_word_is_told_and_no_other_option_is_named(rt: HostRuntime) {
 const SHOWN: [&str; 35] = [
     "add LEDGER ENTRY [TEXT]",
     "pad LEDGER ENTRY SIZE",
-    "1048560",
+    "4999984",
     "take READER LEDGER ENTRY",
     "fetch READER",
     "release READER",
