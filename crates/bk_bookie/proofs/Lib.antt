@@ -1,0 +1,5 @@
+pub mod Keyed
+pub mod Counts
+pub mod Told
+pub mod Gives
+pub mod Works
