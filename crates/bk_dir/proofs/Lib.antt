@@ -8,3 +8,4 @@ pub mod Maps
 pub mod LedgerLines
 pub mod Fits
 pub mod Listed
+pub mod Seals

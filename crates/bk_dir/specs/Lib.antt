@@ -1,7 +1,9 @@
 pub mod Heads
 pub mod Reading
+pub mod Forms
 pub mod Texts
 pub mod Maps
 pub mod Digests
 pub mod Parts
 pub mod Shown
+pub mod Sealing

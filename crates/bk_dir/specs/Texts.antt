@@ -13,25 +13,41 @@ state_text Bad = codes "bad"
 state_text Open = codes "open"
 state_text Sealed = codes "sealed"
 
+-- a row, and the end of its line
+abbrev pub line : List ℕ → List ℕ
+line row = row ++ 10 ∷ []
+
 -- a log in the list of all: its id, its length and its state
+abbrev pub log_text : ℕ → ℕ → LogStanding → List ℕ
+log_text log size state = decimal log ++ codes " " ++ decimal size ++ codes " " ++ state_text state
+
 abbrev pub log_line : ℕ → ℕ → LogStanding → List ℕ
-log_line log size state = decimal log ++ codes " " ++ decimal size ++ codes " " ++ state_text state ++ 10 ∷ []
+log_line log size state = line (log_text log size state)
+
+abbrev pub header_text : Header → List ℕ
+header_text header = codes "version " ++ decimal header.version ++ codes " map " ++ signed_decimal header.map_offset
+    ++ codes " count " ++ signed_decimal header.count
 
 abbrev pub header_line : Header → List ℕ
-header_line header = codes "version " ++ decimal header.version ++ codes " map " ++ signed_decimal header.map_offset
-    ++ codes " count " ++ signed_decimal header.count ++ 10 ∷ []
+header_line header = line (header_text header)
 
 -- an entry: where its payload begins, its ledger, its number there, and the size of its record
+abbrev pub found_text : ℕ → ℕ → ℕ → ℕ → List ℕ
+found_text at ledger entry size = decimal at ++ codes " " ++ decimal ledger ++ codes " " ++ decimal entry ++ codes " " ++ decimal size
+
 abbrev pub found_line : ℕ → ℕ → ℕ → ℕ → List ℕ
-found_line at ledger entry size = decimal at ++ codes " " ++ decimal ledger ++ codes " " ++ decimal entry ++ codes " " ++ decimal size ++ 10 ∷ []
+found_line at ledger entry size = line (found_text at ledger entry size)
 
 abbrev pub entry_line : ℕ × List ℕ → List ℕ
 entry_line entry = found_line entry.0 (ledger_field entry.1) (entry_field entry.1) (4 + length entry.1)
 
 -- how many entries there are, how many foreign records, and how many bytes behind them are torn
+abbrev pub counts_text : ℕ → ℕ → ℕ → List ℕ
+counts_text entries foreign torn =
+    codes "entries " ++ decimal entries ++ codes " foreign " ++ decimal foreign ++ codes " torn " ++ decimal torn
+
 abbrev pub counts_line : ℕ → ℕ → ℕ → List ℕ
-counts_line entries foreign torn =
-    codes "entries " ++ decimal entries ++ codes " foreign " ++ decimal foreign ++ codes " torn " ++ decimal torn ++ 10 ∷ []
+counts_line entries foreign torn = line (counts_text entries foreign torn)
 
 -- a line for each entry of a log, in order, and then the counts
 abbrev pub scan_lines : List ℕ → List ℕ

@@ -4,16 +4,19 @@ ghost use Rattle.std.specs.Prelude.{◌≤◌, IfOk};
 ghost use Rattle.bk_dir.specs.Reading.{OnlyReads};
 
 use crate::calls::{list_logs, view_of};
+use crate::fault::FaultMembers;
+use crate::form::write_row;
 use crate::header::{Head, read_head};
 use crate::ledgers::counted_ledgers;
 use crate::written::written_ledgers;
-use crate::{BytesFault, DirFault};
+use crate::{BytesFault, DirFault, Form};
 use bk_disk::{LogDisk, LogView};
 use bk_head::Header;
+use serde::Serialize;
 use std::alloc::Global;
+use std::fmt;
 use std::fmt::{Display, Formatter};
 use std::io::Write;
-use std::{fmt, io};
 
 /// What `check` tells of a log.
 #[derive(Clone, Copy, Debug, PartialEq, Eq)]
@@ -35,16 +38,24 @@ impl Health {
     pub(crate) fn is_bad(self) -> bool {
         matches!(self, Health::Faulty(_) | Health::MapDiffers)
     }
+
+    /// Its word.
+    fn word(self) -> &'static str {
+        match self {
+            Health::Short => "short",
+            Health::Faulty(_) => "fault",
+            Health::Unsealed => "unsealed",
+            Health::MapDiffers => "map differs",
+            Health::Sound => "ok",
+        }
+    }
 }
 
 impl Display for Health {
     fn fmt<W: fmt::Write>(&self, f: &mut Formatter<W>) -> fmt::Result {
         match self {
-            Health::Short => write!(f, "short"),
             Health::Faulty(fault) => write!(f, "fault {fault}"),
-            Health::Unsealed => write!(f, "unsealed"),
-            Health::MapDiffers => write!(f, "map differs"),
-            Health::Sound => write!(f, "ok"),
+            health => write!(f, "{}", health.word()),
         }
     }
 }
@@ -54,6 +65,7 @@ impl Display for Health {
 pub(crate) fn show_check<D: LogDisk, W: Write>(
     alloc: Global,
     disk: &mut D,
+    form: Form,
     writer: &mut W,
 ) -> Result<u8, DirFault>
     ensures status { IfOk result (λ status. status ≤ 1) }
@@ -63,7 +75,7 @@ pub(crate) fn show_check<D: LogDisk, W: Write>(
     let mut status = 0;
     for log in ids.as_slice() {
         if let Some(health) = health_of(alloc, disk, *log)? {
-            write_health(*log, health, writer)?;
+            write_health(alloc, *log, health, form, writer)?;
             if health.is_bad() {
                 status = 1;
             }
@@ -72,10 +84,50 @@ pub(crate) fn show_check<D: LogDisk, W: Write>(
     Ok(status)
 }
 
-/// Writes the line of a log, and hands it on, so that it is seen while the next log is read.
-pub(crate) fn write_health<W: Write>(log: u32, health: Health, writer: &mut W) -> io::Result<()> {
-    writeln!(writer, "{log} {health}")?;
-    writer.flush()
+/// The row of a log.
+#[derive(Clone, Copy, Serialize)]
+struct HealthRow {
+    log: u32,
+    health: &'static str,
+    #[serde(flatten)]
+    fault: FaultMembers,
+    #[serde(skip)]
+    text: Health,
+}
+
+impl HealthRow {
+    /// That of a log of this health.
+    fn of(log: u32, health: Health) -> HealthRow {
+        let fault = match health {
+            Health::Faulty(fault) => fault.members(),
+            _ => FaultMembers::NONE,
+        };
+        HealthRow {
+            log,
+            health: health.word(),
+            fault,
+            text: health,
+        }
+    }
+}
+
+impl Display for HealthRow {
+    fn fmt<W: fmt::Write>(&self, f: &mut Formatter<W>) -> fmt::Result {
+        write!(f, "{} {}", self.log, self.text)
+    }
+}
+
+/// Writes the row of a log, and hands it on, so that it is seen while the next log is read.
+pub(crate) fn write_health<W: Write>(
+    alloc: Global,
+    log: u32,
+    health: Health,
+    form: Form,
+    writer: &mut W,
+) -> Result<(), DirFault> {
+    write_row(alloc, form, &HealthRow::of(log, health), writer)?;
+    writer.flush()?;
+    Ok(())
 }
 
 /// What is to be told of a log that the disk has listed; `None` where it has gone since.

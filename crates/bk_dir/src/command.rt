@@ -28,6 +28,24 @@ pub enum DirCommand {
     Entries(EntryRange),
 }
 
+impl DirCommand {
+    /// The log that is asked for, where it is one.
+    pub(crate) fn log(&self) -> Option<u32> {
+        match self {
+            DirCommand::Header(log)
+            | DirCommand::Map(log)
+            | DirCommand::Scan(log)
+            | DirCommand::ScanPart(log, _) => Some(*log),
+            DirCommand::Logs
+            | DirCommand::Find(_)
+            | DirCommand::Check
+            | DirCommand::CheckDigests(_)
+            | DirCommand::Ledgers
+            | DirCommand::Entries(_) => None,
+        }
+    }
+}
+
 /// Which entries of a log a scan shows, and whether with their data.
 #[derive(Clone, Copy, Debug, PartialEq, Eq)]
 pub struct ScanChoice {

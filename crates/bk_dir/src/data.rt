@@ -1,5 +1,5 @@
-//! The data of an entry, in hexadecimal: read and written piece by piece, so that an entry of any length takes little
-//! memory.
+//! The data of an entry, in hexadecimal: read piece by piece, and as text written piece by piece, so that an entry of any
+//! length takes little memory.
 
 use crate::DirFault;
 use crate::calls::read_view;
@@ -19,11 +19,36 @@ pub(crate) fn show_data<V: LogView, W: Write>(
     found: Found,
     writer: &mut W,
 ) -> Result<(), DirFault> {
-    let size = u64::from(found.size);
-    let mut left = size.saturating_sub(RECORD_HEAD as u64);
-    if left == 0 {
+    if found.size as usize <= RECORD_HEAD {
         return Ok(write!(writer, "-")?);
     }
+    show_digits(alloc, view, found, writer)
+}
+
+/// The data of an entry of a view as one text, which a row of JSON wants whole; empty where there is none.
+pub(crate) fn data_text<V: LogView>(
+    alloc: Global,
+    view: &V,
+    found: Found,
+) -> Result<String, DirFault> {
+    let mut digits = Vec::new(alloc);
+    match show_digits(alloc, view, found, &mut digits) {
+        Ok(()) => {}
+        Err(DirFault::Output) => return Err(DirFault::Memory),
+        Err(fault) => return Err(fault),
+    }
+    String::from_utf8(digits).map_err(|_| DirFault::Memory)
+}
+
+/// Writes the digits of an entry's data.
+fn show_digits<V: LogView, W: Write>(
+    alloc: Global,
+    view: &V,
+    found: Found,
+    writer: &mut W,
+) -> Result<(), DirFault> {
+    let size = u64::from(found.size);
+    let mut left = size.saturating_sub(RECORD_HEAD as u64);
     let mut at = found.at.saturating_add(IDS_LENGTH as u64);
     while left > 0 {
         let n = left.min(WINDOW);

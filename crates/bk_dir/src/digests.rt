@@ -3,16 +3,20 @@
 ghost use Rattle.std.specs.Prelude.{◌≤◌, IfOk};
 ghost use Rattle.bk_dir.specs.Reading.{OnlyReads};
 
-use crate::DirFault;
 use crate::calls::{list_logs, view_of};
 use crate::check::{health_of, write_health};
 use crate::digest::{Digest, DigestChoice};
 use crate::fitting::fits;
+use crate::form::write_row;
 use crate::header::HEADER;
+use crate::{DirFault, Form};
 use bk_disk::{LogDisk, LogView};
 use bk_log::{Found, Scanner};
+use serde::Serialize;
 use std::alloc::Global;
 use std::collections::BTreeMap;
+use std::fmt;
+use std::fmt::{Display, Formatter};
 use std::io::Write;
 
 /// The digest of each ledger that was met, as its first entry has it; `None` of one whose first entry fits none.
@@ -86,6 +90,7 @@ pub(crate) fn show_digests<D: LogDisk, W: Write>(
     alloc: Global,
     disk: &mut D,
     choice: DigestChoice,
+    form: Form,
     writer: &mut W,
 ) -> Result<u8, DirFault>
     ensures status { IfOk result (λ status. status ≤ 1) }
@@ -98,19 +103,22 @@ pub(crate) fn show_digests<D: LogDisk, W: Write>(
     };
     let mut status = 0;
     for log in ids.as_slice() {
-        let fitting = show_broken(alloc, disk, *log, &mut ledgers, writer)?;
+        let fitting = show_broken(alloc, disk, *log, &mut ledgers, form, writer)?;
         if !fitting {
             status = 1;
         }
         if let Some(health) = health_of(alloc, disk, *log)? {
-            write_health(*log, health, writer)?;
+            write_health(alloc, *log, health, form, writer)?;
             if health.is_bad() {
                 status = 1;
             }
         }
     }
     if choice == DigestChoice::Auto {
-        writeln!(writer, "unknown {}", ledgers.unknown())?;
+        let row = UnknownRow {
+            unknown: ledgers.unknown(),
+        };
+        write_row(alloc, form, &row, writer)?;
     }
     Ok(status)
 }
@@ -122,6 +130,7 @@ fn show_broken<D: LogDisk, W: Write>(
     disk: &mut D,
     log: u32,
     ledgers: &mut Ledgers,
+    form: Form,
     writer: &mut W,
 ) -> Result<bool, DirFault>
     ensures reads { OnlyReads (D.honest disk.old) (D.files disk.old) (D.honest disk.new) (D.files disk.new) }
@@ -131,7 +140,7 @@ fn show_broken<D: LogDisk, W: Write>(
         Err(DirFault::NoLog) => return Ok(true),
         Err(fault) => return Err(fault),
     };
-    match show_broken_in(alloc, &view, ledgers, writer) {
+    match show_broken_in(alloc, log, &view, ledgers, form, writer) {
         Err(DirFault::Log(_)) => Ok(false),
         outcome => outcome,
     }
@@ -140,8 +149,10 @@ fn show_broken<D: LogDisk, W: Write>(
 /// Shows the entries of a view that don't fit. Whether there is none.
 fn show_broken_in<V: LogView, W: Write>(
     alloc: Global,
+    log: u32,
     view: &V,
     ledgers: &mut Ledgers,
+    form: Form,
     writer: &mut W,
 ) -> Result<bool, DirFault> {
     let end = view.end().max(HEADER);
@@ -149,22 +160,50 @@ fn show_broken_in<V: LogView, W: Write>(
     let mut fitting = true;
     while let Some(found) = scanner.next()? {
         if ledgers.is_broken(alloc, view, &found)? {
-            write_broken(found, writer)?;
+            write_row(alloc, form, &BrokenRow::of(log, found), writer)?;
             fitting = false;
         }
     }
     Ok(fitting)
 }
 
-/// Writes the line of an entry that doesn't fit.
-fn write_broken<W: Write>(found: Found, writer: &mut W) -> Result<(), DirFault> {
-    let key = found.key;
-    writeln!(
-        writer,
-        "digest {} {} {}",
-        found.at,
-        key.ledger(),
-        key.entry()
-    )?;
-    Ok(())
+/// The row of an entry that doesn't fit.
+#[derive(Clone, Copy, Serialize)]
+struct BrokenRow {
+    log: u32,
+    digest: &'static str,
+    at: u64,
+    ledger: u64,
+    entry: u64,
+}
+
+impl BrokenRow {
+    /// That of an entry that was found in a log.
+    fn of(log: u32, found: Found) -> BrokenRow {
+        BrokenRow {
+            log,
+            digest: "differs",
+            at: found.at,
+            ledger: found.key.ledger(),
+            entry: found.key.entry(),
+        }
+    }
+}
+
+impl Display for BrokenRow {
+    fn fmt<W: fmt::Write>(&self, f: &mut Formatter<W>) -> fmt::Result {
+        write!(f, "digest {} {} {}", self.at, self.ledger, self.entry)
+    }
+}
+
+/// The row of the ledgers whose digest isn't known.
+#[derive(Clone, Copy, Serialize)]
+struct UnknownRow {
+    unknown: u64,
+}
+
+impl Display for UnknownRow {
+    fn fmt<W: fmt::Write>(&self, f: &mut Formatter<W>) -> fmt::Result {
+        write!(f, "unknown {}", self.unknown)
+    }
 }

@@ -3,13 +3,16 @@
 ghost use Rattle.std.specs.Prelude.{◌≤◌, IfOk};
 ghost use Rattle.bk_dir.specs.Reading.{OnlyReads};
 
+use crate::form::write_row;
 use crate::walk::{TakesEntries, take_in_logs};
-use crate::{DirFault, EntryRange};
+use crate::{DirFault, EntryRange, Form};
 use bk_disk::LogDisk;
 use bk_log::Found;
+use serde::Serialize;
 use std::alloc::{AllocError, Global};
 use std::collections::BTreeMap;
-use std::io;
+use std::fmt;
+use std::fmt::{Display, Formatter};
 use std::io::Write;
 
 /// Where a record stands, and its size in bytes, the four of its length field included.
@@ -48,6 +51,7 @@ pub(crate) fn show_range<D: LogDisk, W: Write, E: Write>(
     alloc: Global,
     disk: &mut D,
     range: EntryRange,
+    form: Form,
     writer: &mut W,
     errors: &mut E,
 ) -> Result<u8, DirFault>
@@ -58,18 +62,37 @@ pub(crate) fn show_range<D: LogDisk, W: Write, E: Write>(
         range,
         records: BTreeMap::new(alloc),
     };
-    let status = take_in_logs(alloc, disk, &mut last, errors)?;
+    let status = take_in_logs(alloc, disk, &mut last, form, errors)?;
     for (entry, standing) in &last.records {
-        write_standing(*entry, *standing, writer)?;
+        let row = StandingRow::of(*entry, *standing);
+        write_row(alloc, form, &row, writer)?;
     }
     Ok(status)
 }
 
-/// Writes the line of an entry.
-fn write_standing<W: Write>(entry: u64, standing: Standing, writer: &mut W) -> io::Result<()> {
-    writeln!(
-        writer,
-        "{entry} {} {} {}",
-        standing.log, standing.at, standing.size
-    )
+/// The row of an entry.
+#[derive(Clone, Copy, Serialize)]
+struct StandingRow {
+    entry: u64,
+    log: u32,
+    at: u64,
+    size: u32,
+}
+
+impl StandingRow {
+    /// That of an entry whose last record stands there.
+    fn of(entry: u64, standing: Standing) -> StandingRow {
+        StandingRow {
+            entry,
+            log: standing.log,
+            at: standing.at,
+            size: standing.size,
+        }
+    }
+}
+
+impl Display for StandingRow {
+    fn fmt<W: fmt::Write>(&self, f: &mut Formatter<W>) -> fmt::Result {
+        write!(f, "{} {} {} {}", self.entry, self.log, self.at, self.size)
+    }
 }

@@ -3,10 +3,15 @@
 ghost use Rattle.std.specs.Prelude.{◌≡◌};
 ghost use Rattle.bk_dir.specs.declared.fault.DirFault.TheVariants as faults;
 
+use crate::Form;
+use crate::form::write_row;
 use bk_disk::DiskFault;
 use bk_head::HeadFault;
 use bk_log::ScanFault;
+use serde::Serialize;
+use std::alloc::Global;
 use std::fmt::{Display, Formatter};
+use std::io::Write;
 use std::{fmt, io};
 
 /// What is wrong with a log's bytes.
@@ -118,4 +123,164 @@ impl Display for DirFault {
             DirFault::Output | DirFault::Closed => write!(f, "output"),
         }
     }
+}
+
+/// The members of an object that tell a fault: its name, and the numbers that it has.
+#[derive(Clone, Copy, Debug, Serialize)]
+pub(crate) struct FaultMembers {
+    /// The words of the fault's text without its numbers.
+    #[serde(skip_serializing_if = "Option::is_none")]
+    fault: Option<&'static str>,
+    /// The position in the log at which it stands.
+    #[serde(skip_serializing_if = "Option::is_none")]
+    at: Option<u64>,
+    /// The length that stands there, read as a signed number.
+    #[serde(skip_serializing_if = "Option::is_none")]
+    length: Option<i32>,
+    #[serde(skip_serializing_if = "Option::is_none")]
+    version: Option<u32>,
+    #[serde(skip_serializing_if = "Option::is_none")]
+    ledger: Option<u64>,
+    /// How many ledgers the map has.
+    #[serde(skip_serializing_if = "Option::is_none")]
+    found: Option<u64>,
+}
+
+impl FaultMembers {
+    /// None, where there is no fault.
+    pub(crate) const NONE: FaultMembers = FaultMembers {
+        fault: None,
+        at: None,
+        length: None,
+        version: None,
+        ledger: None,
+        found: None,
+    };
+
+    /// Those of a fault without numbers.
+    pub(crate) fn named(fault: &'static str) -> FaultMembers {
+        FaultMembers {
+            fault: Some(fault),
+            ..FaultMembers::NONE
+        }
+    }
+
+    /// Those of a fault that stands at a position.
+    fn at(fault: &'static str, at: u64) -> FaultMembers {
+        FaultMembers {
+            at: Some(at),
+            ..FaultMembers::named(fault)
+        }
+    }
+}
+
+impl BytesFault {
+    /// What an object tells of it.
+    pub(crate) fn members(self) -> FaultMembers {
+        match self {
+            BytesFault::Head(HeadFault::BadMagic) => FaultMembers::named("bad magic"),
+            BytesFault::Head(HeadFault::Version(version)) => FaultMembers {
+                version: Some(version),
+                ..FaultMembers::named("version")
+            },
+            BytesFault::Head(HeadFault::Negative) => FaultMembers::named("negative number"),
+            BytesFault::Head(HeadFault::NotAMap(at)) => FaultMembers::at("not a map", at),
+            BytesFault::Head(HeadFault::MapLength(at)) => FaultMembers::at("map length", at),
+            BytesFault::Head(HeadFault::Repeated(ledger)) => FaultMembers {
+                ledger: Some(ledger),
+                ..FaultMembers::named("repeated")
+            },
+            BytesFault::Head(HeadFault::CountDiffers(found)) => FaultMembers {
+                found: Some(found),
+                ..FaultMembers::named("count differs")
+            },
+            BytesFault::Head(HeadFault::Memory) => FaultMembers::named("memory"),
+            BytesFault::BadLength { at, length } => FaultMembers {
+                length: Some(length),
+                ..FaultMembers::at("bad length", at)
+            },
+        }
+    }
+}
+
+impl DirFault {
+    /// What an object tells of it.
+    fn members(self) -> FaultMembers {
+        match self {
+            DirFault::Log(fault) => fault.members(),
+            DirFault::NoLog => FaultMembers::named("no log"),
+            DirFault::Disk => FaultMembers::named("disk"),
+            DirFault::Memory => FaultMembers::named("memory"),
+            DirFault::Odd => FaultMembers::named("odd disk"),
+            DirFault::Output | DirFault::Closed => FaultMembers::named("output"),
+        }
+    }
+}
+
+/// The row of a fault that ends a command, and the log that it was about.
+#[derive(Clone, Copy, Serialize)]
+struct EndRow {
+    #[serde(flatten)]
+    fault: FaultMembers,
+    #[serde(skip_serializing_if = "Option::is_none")]
+    log: Option<u32>,
+    #[serde(skip)]
+    text: DirFault,
+}
+
+impl Display for EndRow {
+    fn fmt<W: fmt::Write>(&self, f: &mut Formatter<W>) -> fmt::Result {
+        write!(f, "fault {}", self.text)
+    }
+}
+
+/// Tells on the error stream why a command ended early, and the log that it was about; nothing where nobody reads the
+/// output any more.
+pub(crate) fn tell_fault<E: Write>(
+    alloc: Global,
+    form: Form,
+    log: Option<u32>,
+    fault: DirFault,
+    errors: &mut E,
+) {
+    if fault != DirFault::Closed {
+        let row = EndRow {
+            fault: fault.members(),
+            log,
+            text: fault,
+        };
+        let _ = write_row(alloc, form, &row, errors);
+    }
+}
+
+/// The row of a log that can't be read to its end.
+#[derive(Clone, Copy, Serialize)]
+struct DamageRow {
+    #[serde(flatten)]
+    fault: FaultMembers,
+    log: u32,
+    #[serde(skip)]
+    text: BytesFault,
+}
+
+impl Display for DamageRow {
+    fn fmt<W: fmt::Write>(&self, f: &mut Formatter<W>) -> fmt::Result {
+        write!(f, "fault log {}: {}", self.log, self.text)
+    }
+}
+
+/// Tells a log that can't be read to its end. Whether the line comes through changes nothing.
+pub(crate) fn tell_damage<E: Write>(
+    alloc: Global,
+    form: Form,
+    log: u32,
+    fault: BytesFault,
+    errors: &mut E,
+) {
+    let row = DamageRow {
+        fault: fault.members(),
+        log,
+        text: fault,
+    };
+    let _ = write_row(alloc, form, &row, errors);
 }

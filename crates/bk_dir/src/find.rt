@@ -3,15 +3,19 @@
 ghost use Rattle.std.specs.Prelude.{◌≤◌, IfOk};
 ghost use Rattle.bk_dir.specs.Reading.{OnlyReads};
 
-use crate::DirFault;
 use crate::calls::{list_logs, view_of};
-use crate::data::show_data;
+use crate::data::{data_text, show_data};
+use crate::fault::tell_damage;
+use crate::form::{write_object, write_row};
 use crate::header::HEADER;
-use crate::walk::tell_damage;
+use crate::{DirFault, Form};
 use bk_disk::{LogDisk, LogView};
 use bk_log::{Found, Scanner};
 use bk_record::Key;
+use serde::Serialize;
 use std::alloc::Global;
+use std::fmt;
+use std::fmt::{Display, Formatter};
 use std::io::Write;
 
 /// Shows the last record of a key in order of log, then position, `LOG AT DATA`. Headers aren't read. Gives the status.
@@ -23,6 +27,7 @@ pub(crate) fn show_last<D: LogDisk, W: Write, E: Write>(
     alloc: Global,
     disk: &mut D,
     key: Key,
+    form: Form,
     writer: &mut W,
     errors: &mut E,
 ) -> Result<u8, DirFault>
@@ -42,7 +47,7 @@ pub(crate) fn show_last<D: LogDisk, W: Write, E: Write>(
         match last_in(alloc, &view, key, &mut found) {
             Ok(()) => {}
             Err(DirFault::Log(fault)) => {
-                tell_damage(*log, fault, errors);
+                tell_damage(alloc, form, *log, fault, errors);
                 status = 1;
             }
             Err(fault) => return Err(fault),
@@ -52,8 +57,8 @@ pub(crate) fn show_last<D: LogDisk, W: Write, E: Write>(
         }
     }
     match last {
-        Some((log, view, found)) => show_record(alloc, log, &view, found, writer)?,
-        None if status == 0 => writeln!(writer, "not found")?,
+        Some((log, view, found)) => show_record(alloc, log, &view, found, form, writer)?,
+        None if status == 0 => write_row(alloc, form, &AbsentRow { found: false }, writer)?,
         None => {}
     }
     Ok(status)
@@ -76,16 +81,51 @@ fn last_in<V: LogView>(
     Ok(())
 }
 
-/// Shows an entry that was found in a log.
+/// The row of a key that no log has.
+#[derive(Clone, Copy, Serialize)]
+struct AbsentRow {
+    found: bool,
+}
+
+impl Display for AbsentRow {
+    fn fmt<W: fmt::Write>(&self, f: &mut Formatter<W>) -> fmt::Result {
+        write!(f, "not found")
+    }
+}
+
+/// The row of a key's last record.
+#[derive(Drop, Serialize)]
+struct FoundRow {
+    found: bool,
+    log: u32,
+    at: u64,
+    data: String,
+}
+
+/// Shows an entry that was found in a log. As text its data is written piece by piece.
 fn show_record<V: LogView, W: Write>(
     alloc: Global,
     log: u32,
     view: &V,
     found: Found,
+    form: Form,
     writer: &mut W,
 ) -> Result<(), DirFault> {
-    write!(writer, "{log} {} ", found.at)?;
-    show_data(alloc, view, found, writer)?;
-    writeln!(writer, "")?;
-    Ok(())
+    match form {
+        Form::Text => {
+            write!(writer, "{log} {} ", found.at)?;
+            show_data(alloc, view, found, writer)?;
+            writeln!(writer, "")?;
+            Ok(())
+        }
+        Form::Json => {
+            let row = FoundRow {
+                found: true,
+                log,
+                at: found.at,
+                data: data_text(alloc, view, found)?,
+            };
+            write_object(alloc, &row, writer)
+        }
+    }
 }

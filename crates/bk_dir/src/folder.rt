@@ -6,9 +6,14 @@
 ghost use Rattle.std.specs.Prelude.{◌≤◌, false};
 ghost use Rattle.std.specs.FinMap as map;
 
-use crate::{DirCommand, run_dir, run_stat};
+use crate::fault::tell_fault;
+use crate::form::{write_object, write_row};
+use crate::{DirCommand, DirFault, Form, run_dir_as, run_stat_as};
 use bk_disk::{DirDisk, DiskFault, LogDisk, log_of};
+use serde::Serialize;
 use std::alloc::{AllocError, Global};
+use std::fmt;
+use std::fmt::{Display, Formatter};
 use std::fs::{self, DirEntry, File};
 use std::io::{self, Write};
 
@@ -36,10 +41,25 @@ pub fn run_folder<W: Write, E: Write>(
 ) -> u8
     ensures { result ≤ 1 }
 {
+    run_folder_as(rt, Form::Text, path, command, writer, errors)
+}
+
+/// Runs a command as `run_folder` does, and writes what it shows in a form of the caller's choice: each line is then a row
+/// of that form, and so is each line on the error stream.
+pub fn run_folder_as<W: Write, E: Write>(
+    rt: &HostRuntime,
+    form: Form,
+    path: &str,
+    command: &FolderCommand<'_>,
+    writer: &mut W,
+    errors: &mut E,
+) -> u8
+    ensures { result ≤ 1 }
+{
     let disk = match DirDisk::open(rt, path) {
         Ok(disk) => disk,
         Err(fault) => {
-            let _ = writeln!(errors, "fault {fault}");
+            tell_fault(rt.alloc(), form, None, DirFault::from(fault), errors);
             return 1;
         }
     };
@@ -51,10 +71,14 @@ pub fn run_folder<W: Write, E: Write>(
         is_empty: false,
     };
     let status = match command {
-        FolderCommand::Dir(command) => run_dir(rt.alloc(), &mut folder, *command, writer, errors),
-        FolderCommand::Stat(dead) => run_stat(rt.alloc(), &mut folder, dead, writer, errors),
+        FolderCommand::Dir(command) => {
+            run_dir_as(rt.alloc(), form, &mut folder, *command, writer, errors)
+        }
+        FolderCommand::Stat(dead) => {
+            run_stat_as(rt.alloc(), form, &mut folder, dead, writer, errors)
+        }
     };
-    if folder.tell(errors) { 1 } else { status }
+    if folder.tell(form, errors) { 1 } else { status }
 }
 
 /// A log of a folder that can't be opened.
@@ -95,18 +119,66 @@ struct Folder<'a, D: LogDisk> {
 
 impl<'a, D: LogDisk> Folder<'a, D> {
     /// Tells each log that can't be opened, or that there is none at all. Whether one can't be opened.
-    fn tell<E: Write>(&self, errors: &mut E) -> bool {
+    fn tell<E: Write>(&self, form: Form, errors: &mut E) -> bool {
+        let alloc = self.rt.alloc();
         for unread in self.unread.as_slice() {
-            let _ = writeln!(errors, "fault log {}: disk: {}", unread.log, unread.reason);
+            let _ = tell_unread(alloc, form, unread, errors);
         }
         if self.is_empty {
-            let _ = writeln!(
-                errors,
-                "no log found in {}: a log is a file named by its id in hexadecimal, such as 1f.log",
-                self.path
-            );
+            let row = EmptyRow {
+                note: "no log found",
+                folder: self.path,
+            };
+            let _ = write_row(alloc, form, &row, errors);
         }
         !self.unread.is_empty()
+    }
+}
+
+/// The object of a log that can't be opened.
+#[derive(Drop, Serialize)]
+struct UnreadRow {
+    fault: &'static str,
+    log: u32,
+    reason: String,
+}
+
+/// Tells a log that can't be opened, and the system's reason.
+fn tell_unread<E: Write>(
+    alloc: Global,
+    form: Form,
+    unread: &Unread,
+    errors: &mut E,
+) -> Result<(), DirFault> {
+    let Unread { log, reason } = unread;
+    match form {
+        Form::Text => writeln!(errors, "fault log {log}: disk: {reason}")?,
+        Form::Json => {
+            let row = UnreadRow {
+                fault: "disk",
+                log: *log,
+                reason: reason.to_string(alloc).map_err(|_| DirFault::Memory)?,
+            };
+            write_object(alloc, &row, errors)?;
+        }
+    }
+    Ok(())
+}
+
+/// The row of a folder without logs.
+#[derive(Clone, Copy, Serialize)]
+struct EmptyRow<'a> {
+    note: &'static str,
+    folder: &'a str,
+}
+
+impl Display for EmptyRow<'_> {
+    fn fmt<W: fmt::Write>(&self, f: &mut Formatter<W>) -> fmt::Result {
+        write!(
+            f,
+            "{} in {}: a log is a file named by its id in hexadecimal, such as 1f.log",
+            self.note, self.folder
+        )
     }
 }
 

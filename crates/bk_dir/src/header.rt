@@ -1,18 +1,25 @@
 //! The header of a log, read from a disk.
 
-ghost use Rattle.std.specs.Prelude.{IsTrue, IfOk, IfSome, IsErrOf, IsNone, OnOk};
+ghost use Rattle.std.specs.Prelude.{IsTrue, IfOk, IfSome, IsErrOf, IsNone, OnOk, Some};
 ghost use Rattle.std.specs.FinMap as map;
+ghost use Rattle.std.specs.Io.KnownBytes.{Appends};
+ghost use Rattle.bk_dir.specs.Forms.{followed};
 ghost use Rattle.bk_dir.specs.Heads.{IsHeadOf, StartsWith};
 ghost use Rattle.bk_dir.specs.Reading.{OfFile, OnlyReads};
 ghost use Rattle.bk_dir.specs.Shown.{HeadText, Prints, WritesText};
+ghost use Rattle.bk_dir.specs.Texts.{header_text, line};
 ghost use Rattle.bk_dir.specs.declared.command.DirCommand.TheVariants as commands;
 ghost use Rattle.bk_dir.specs.declared.fault.DirFault.TheVariants as faults;
 
-use crate::{BytesFault, DirFault};
+use crate::form::write_row;
+use crate::{BytesFault, DirFault, Form};
 use bk_disk::{DiskFault, LogDisk};
 use bk_head::{HeadFault, Header, read_header};
 use bk_record::HEADER_LENGTH;
+use serde::Serialize;
 use std::alloc::Global;
+use std::fmt;
+use std::fmt::{Display, Formatter};
 use std::io::Write;
 
 /// The length of a header, as positions in a log are counted.
@@ -84,28 +91,89 @@ pub(crate) fn show_header<D: LogDisk, W: Write>(
     alloc: Global,
     disk: &mut D,
     log: u32,
+    form: Form,
     writer: &mut W,
 ) -> Result<(), DirFault>
     ensures reads { OnlyReads (D.honest disk.old) (D.files disk.old) (D.honest disk.new) (D.files disk.new) }
     ensures ok { IsTrue (D.honest disk.old) → OnOk result (Prints (commands.Header log) (D.files disk.old)
-        (W.contents writer.old) (W.contents writer.new)) }
+        (followed form (W.contents writer.old)) (followed form (W.contents writer.new))) }
 {
     let found = read_head(alloc, disk, log)?;
-    write_head(found.head, writer)
+    write_head(alloc, log, found.head, form, writer)
+}
+
+/// The row of a log's header.
+#[derive(Clone, Copy, Serialize)]
+struct HeaderRow {
+    log: u32,
+    version: u32,
+    map: i64,
+    count: i32,
+}
+
+impl Display for HeaderRow {
+    ghost output = { λ row. Some (header_text (record { version = row.version; map_offset = row.map; count = row.count })) };
+
+    fn fmt<W: fmt::Write>(&self, f: &mut Formatter<W>) -> fmt::Result {
+        write!(
+            f,
+            "version {} map {} count {}",
+            self.version, self.map, self.count
+        )
+    }
+}
+
+/// The row of a log that has not what was asked for: the word for how it stands.
+#[derive(Clone, Copy, Serialize)]
+struct WordRow {
+    log: u32,
+    state: &'static str,
+}
+
+impl Display for WordRow {
+    ghost output = { λ row. Some row.state.now };
+
+    fn fmt<W: fmt::Write>(&self, f: &mut Formatter<W>) -> fmt::Result {
+        write!(f, "{}", self.state)
+    }
 }
 
 /// Writes a header; a bad one is a fault.
-fn write_head<W: Write>(head: Head, writer: &mut W) -> Result<(), DirFault>
-    ensures { OnOk result (WritesText (HeadText head) (W.contents writer.old) (W.contents writer.new)) }
+fn write_head<W: Write>(
+    alloc: Global,
+    log: u32,
+    head: Head,
+    form: Form,
+    writer: &mut W,
+) -> Result<(), DirFault>
+    ensures { OnOk result (WritesText (HeadText head)
+        (followed form (W.contents writer.old)) (followed form (W.contents writer.new))) }
 {
     match head {
-        Head::Short => writeln!(writer, "short")?,
-        Head::Bad(fault) => return Err(DirFault::Log(BytesFault::Head(fault))),
-        Head::Whole(header) => writeln!(
-            writer,
-            "version {} map {} count {}",
-            header.version, header.map_offset, header.count
-        )?,
+        Head::Short => write_word(alloc, log, "short", form, writer),
+        Head::Bad(fault) => Err(DirFault::Log(BytesFault::Head(fault))),
+        Head::Whole(header) => {
+            let row = HeaderRow {
+                log,
+                version: header.version,
+                map: header.map_offset,
+                count: header.count,
+            };
+            write_row(alloc, form, &row, writer)
+        }
     }
-    Ok(())
+}
+
+/// Writes that a log has not what was asked for.
+pub(crate) fn write_word<W: Write>(
+    alloc: Global,
+    log: u32,
+    state: &'static str,
+    form: Form,
+    writer: &mut W,
+) -> Result<(), DirFault>
+    ensures { OnOk result (Appends (followed form (W.contents writer.old)) (followed form (W.contents writer.new))
+        (line state.now)) }
+{
+    write_row(alloc, form, &WordRow { log, state }, writer)
 }

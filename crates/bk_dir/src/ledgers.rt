@@ -1,23 +1,27 @@
 //! The ledgers map of a log, as it stands in the log, and as the log's entries want it.
 
-ghost use Rattle.std.specs.Prelude.{IsTrue, OnOk, flat_map};
+ghost use Rattle.std.specs.Prelude.{IsTrue, OnOk, Some, flat_map};
 ghost use Rattle.std.specs.Io.KnownBytes.{Appends};
-ghost use Rattle.bk_dir.specs.Maps.{ledger_line};
+ghost use Rattle.bk_dir.specs.Forms.{followed};
+ghost use Rattle.bk_dir.specs.Maps.{ledger_line, ledger_text};
 ghost use Rattle.bk_dir.specs.Reading.{OnlyReads};
 ghost use Rattle.bk_dir.specs.Shown.{MapText, Prints, WritesText};
 ghost use Rattle.bk_dir.specs.declared.command.DirCommand.TheVariants as commands;
 ghost use Rattle.bk_dir.specs.declared.header.Head.TheVariants as heads;
 
 use crate::calls::view_of;
-use crate::header::{HEADER, Head, read_head};
+use crate::form::write_row;
+use crate::header::{HEADER, Head, read_head, write_word};
 use crate::written::written_ledgers;
-use crate::{BytesFault, DirFault};
+use crate::{BytesFault, DirFault, Form};
 use bk_disk::{LogDisk, LogView};
 use bk_head::Header;
 use bk_log::{LedgerSizes, Scanner};
+use serde::Serialize;
 use std::alloc::Global;
 use std::collections::BTreeMap;
-use std::io;
+use std::fmt;
+use std::fmt::{Display, Formatter};
 use std::io::Write;
 
 /// The bytes of the log's entries by ledger.
@@ -43,19 +47,20 @@ pub(crate) fn show_map<D: LogDisk, W: Write>(
     alloc: Global,
     disk: &mut D,
     log: u32,
+    form: Form,
     writer: &mut W,
 ) -> Result<(), DirFault>
     ensures reads { OnlyReads (D.honest disk.old) (D.files disk.old) (D.honest disk.new) (D.files disk.new) }
     ensures ok { IsTrue (D.honest disk.old) → OnOk result (Prints (commands.Map log) (D.files disk.old)
-        (W.contents writer.old) (W.contents writer.new)) }
+        (followed form (W.contents writer.old)) (followed form (W.contents writer.new))) }
 {
     let header = match read_head(alloc, disk, log)?.head {
-        Head::Short => return Ok(writeln!(writer, "short")?),
+        Head::Short => return write_word(alloc, log, "short", form, writer),
         Head::Bad(fault) => return Err(DirFault::Log(BytesFault::Head(fault))),
         Head::Whole(header) => header,
     };
     match view_of(alloc, disk, log) {
-        Ok(view) => show_view(alloc, &view, &header, writer),
+        Ok(view) => show_view(alloc, log, &view, &header, form, writer),
         Err(fault) => Err(fault.of_known()),
     }
 }
@@ -63,33 +68,63 @@ pub(crate) fn show_map<D: LogDisk, W: Write>(
 /// Shows the ledgers map that stands in a view, whose header was read.
 fn show_view<V: LogView, W: Write>(
     alloc: Global,
+    log: u32,
     view: &V,
     header: &Header,
+    form: Form,
     writer: &mut W,
 ) -> Result<(), DirFault>
     ensures { IsTrue (V.honest view.now) → OnOk result (WritesText (MapText (V.bytes view.now) (heads.Whole header.now))
-        (W.contents writer.old) (W.contents writer.new)) }
+        (followed form (W.contents writer.old)) (followed form (W.contents writer.new))) }
 {
     match written_ledgers(alloc, view, header)? {
-        Some(map) => show_ledgers(&map, writer)?,
-        None => writeln!(writer, "no map")?,
+        Some(map) => show_ledgers(alloc, &map, form, writer)?,
+        None => write_word(alloc, log, "no map", form, writer)?,
     }
     Ok(())
 }
 
 /// Shows a line for each ledger of a map.
-fn show_ledgers<W: Write>(map: &BTreeMap<u64, u64>, writer: &mut W) -> io::Result<()>
-    ensures { OnOk result (Appends (W.contents writer.old) (W.contents writer.new) (flat_map ledger_line map.now.entries)) }
+fn show_ledgers<W: Write>(
+    alloc: Global,
+    map: &BTreeMap<u64, u64>,
+    form: Form,
+    writer: &mut W,
+) -> Result<(), DirFault>
+    ensures { OnOk result (Appends (followed form (W.contents writer.old)) (followed form (W.contents writer.new))
+        (flat_map ledger_line map.now.entries)) }
 {
     for (ledger, size) in map {
-        write_ledger(*ledger, *size, writer)?;
+        write_ledger(alloc, *ledger, *size, form, writer)?;
     }
     Ok(())
 }
 
-/// Writes the line of a ledger.
-fn write_ledger<W: Write>(ledger: u64, size: u64, writer: &mut W) -> io::Result<()>
-    ensures { OnOk result (Appends (W.contents writer.old) (W.contents writer.new) (ledger_line (ledger, size))) }
+/// The row of a ledger in a map.
+#[derive(Clone, Copy, Serialize)]
+struct LedgerRow {
+    ledger: u64,
+    size: u64,
+}
+
+impl Display for LedgerRow {
+    ghost output = { λ row. Some (ledger_text row.ledger row.size) };
+
+    fn fmt<W: fmt::Write>(&self, f: &mut Formatter<W>) -> fmt::Result {
+        write!(f, "{} {}", self.ledger, self.size)
+    }
+}
+
+/// Writes the row of a ledger.
+fn write_ledger<W: Write>(
+    alloc: Global,
+    ledger: u64,
+    size: u64,
+    form: Form,
+    writer: &mut W,
+) -> Result<(), DirFault>
+    ensures { OnOk result (Appends (followed form (W.contents writer.old)) (followed form (W.contents writer.new))
+        (ledger_line (ledger, size))) }
 {
-    writeln!(writer, "{ledger} {size}")
+    write_row(alloc, form, &LedgerRow { ledger, size }, writer)
 }

@@ -3,23 +3,27 @@
 ghost use Rattle.std.specs.Prelude.{IsSome, IsTrue, OnOk, Some};
 ghost use Rattle.std.specs.FinMap as map;
 ghost use Rattle.std.specs.Io.KnownBytes.{Appends};
+ghost use Rattle.bk_dir.specs.Forms.{followed};
 ghost use Rattle.bk_dir.specs.Heads.{HeadState};
 ghost use Rattle.bk_dir.specs.Reading.{OnlyReads};
 ghost use Rattle.bk_dir.specs.Shown.{IsLogLine, Prints, WritesText};
-ghost use Rattle.bk_dir.specs.Texts.{log_line, state_text};
+ghost use Rattle.bk_dir.specs.Texts.{log_line, log_text, state_text};
 ghost use Rattle.bk_dir.specs.declared.command.DirCommand.TheVariants as commands;
 
-use crate::DirFault;
 use crate::calls::list_logs;
+use crate::form::write_row;
 use crate::header::{Head, read_head};
+use crate::{DirFault, Form};
 use bk_disk::LogDisk;
+use serde::Serialize;
 use std::alloc::Global;
+use std::fmt;
 use std::fmt::{Display, Formatter};
 use std::io::Write;
-use std::{fmt, io};
 
 /// How a log stands, by its length and its header alone.
-#[derive(Clone, Copy, Debug, PartialEq, Eq)]
+#[derive(Clone, Copy, Debug, PartialEq, Eq, Serialize)]
+#[serde(rename_all = "lowercase")]
 pub(crate) enum LogStanding {
     /// It is shorter than a header.
     Short,
@@ -44,6 +48,22 @@ impl Display for LogStanding {
     }
 }
 
+/// The row of a log.
+#[derive(Clone, Copy, Serialize)]
+struct LogRow {
+    log: u32,
+    length: u64,
+    state: LogStanding,
+}
+
+impl Display for LogRow {
+    ghost output = { λ row. Some (log_text row.log row.length row.state) };
+
+    fn fmt<W: fmt::Write>(&self, f: &mut Formatter<W>) -> fmt::Result {
+        write!(f, "{} {} {}", self.log, self.length, self.state)
+    }
+}
+
 /// What a log's header says of its state.
 pub(crate) fn state_of(head: Head) -> LogStanding
     ensures { HeadState head result }
@@ -60,15 +80,16 @@ pub(crate) fn state_of(head: Head) -> LogStanding
 pub(crate) fn show_logs<D: LogDisk, W: Write>(
     alloc: Global,
     disk: &mut D,
+    form: Form,
     writer: &mut W,
 ) -> Result<(), DirFault>
     ensures reads { OnlyReads (D.honest disk.old) (D.files disk.old) (D.honest disk.new) (D.files disk.new) }
     ensures ok { IsTrue (D.honest disk.old) → OnOk result (Prints commands.Logs (D.files disk.old)
-        (W.contents writer.old) (W.contents writer.new)) }
+        (followed form (W.contents writer.old)) (followed form (W.contents writer.new))) }
 {
     let ids = list_logs(alloc, disk)?;
     for log in ids.as_slice() {
-        show_log(alloc, disk, *log, writer)?;
+        show_log(alloc, disk, *log, form, writer)?;
     }
     Ok(())
 }
@@ -78,23 +99,37 @@ fn show_log<D: LogDisk, W: Write>(
     alloc: Global,
     disk: &mut D,
     log: u32,
+    form: Form,
     writer: &mut W,
 ) -> Result<(), DirFault>
     ensures reads { OnlyReads (D.honest disk.old) (D.files disk.old) (D.honest disk.new) (D.files disk.new) }
     ensures ok { IsTrue (D.honest disk.old) → IsSome (map.get (D.files disk.old) log)
         → OnOk result (WritesText (IsLogLine (D.files disk.old) log)
-        (W.contents writer.old) (W.contents writer.new)) }
+        (followed form (W.contents writer.old)) (followed form (W.contents writer.new))) }
 {
     match read_head(alloc, disk, log) {
-        Ok(found) => Ok(write_line(log, found.length, state_of(found.head), writer)?),
+        Ok(found) => {
+            let row = LogRow {
+                log,
+                length: found.length,
+                state: state_of(found.head),
+            };
+            write_log(alloc, form, &row, writer)
+        }
         Err(DirFault::NoLog) => Ok(()),
         Err(fault) => Err(fault),
     }
 }
 
-/// Writes the line of a log.
-fn write_line<W: Write>(log: u32, length: u64, state: LogStanding, writer: &mut W) -> io::Result<()>
-    ensures { OnOk result (Appends (W.contents writer.old) (W.contents writer.new) (log_line log length state)) }
+/// Writes the row of a log.
+fn write_log<W: Write>(
+    alloc: Global,
+    form: Form,
+    row: &LogRow,
+    writer: &mut W,
+) -> Result<(), DirFault>
+    ensures { OnOk result (Appends (followed form (W.contents writer.old)) (followed form (W.contents writer.new))
+        (log_line row.now.log row.now.length row.now.state)) }
 {
-    writeln!(writer, "{log} {length} {state}")
+    write_row(alloc, form, row, writer)
 }

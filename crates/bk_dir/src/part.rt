@@ -1,18 +1,21 @@
 //! `scan` of those entries of a log that are asked for.
 
 ghost use Rattle.std.specs.Prelude.{◌≡◌, IsTrue, OnOk};
+ghost use Rattle.bk_dir.specs.Forms.{followed};
 ghost use Rattle.bk_dir.specs.Parts.{is_taken, IsPartText};
 ghost use Rattle.bk_dir.specs.Reading.{OnlyReads};
 ghost use Rattle.bk_dir.specs.Shown.{Prints, WritesText};
 ghost use Rattle.bk_dir.specs.declared.command.DirCommand.TheVariants as commands;
 
 use crate::calls::view_of;
-use crate::data::show_data;
+use crate::data::{data_text, show_data};
+use crate::form::write_object;
 use crate::header::HEADER;
 use crate::scan::{write_counts, write_entry};
-use crate::{DirFault, ScanChoice};
+use crate::{DirFault, Form, ScanChoice};
 use bk_disk::{LogDisk, LogView};
 use bk_log::{Found, Scanner};
+use serde::Serialize;
 use std::alloc::Global;
 use std::io::Write;
 
@@ -24,17 +27,18 @@ pub(crate) fn show_part<D: LogDisk, W: Write>(
     disk: &mut D,
     log: u32,
     choice: ScanChoice,
+    form: Form,
     writer: &mut W,
 ) -> Result<(), DirFault>
     ensures reads { OnlyReads (D.honest disk.old) (D.files disk.old) (D.honest disk.new) (D.files disk.new) }
     ensures ok { IsTrue (D.honest disk.old) → OnOk result (Prints (commands.ScanPart log choice) (D.files disk.old)
-        (W.contents writer.old) (W.contents writer.new)) }
+        (followed form (W.contents writer.old)) (followed form (W.contents writer.new))) }
 {
     let view = view_of(alloc, disk, log)?;
     if choice.data {
-        show_with_data(alloc, &view, choice, writer)
+        show_with_data(alloc, &view, choice, form, writer)
     } else {
-        show_chosen(alloc, &view, choice, writer)
+        show_chosen(alloc, &view, choice, form, writer)
     }
 }
 
@@ -53,21 +57,29 @@ fn show_chosen<V: LogView, W: Write>(
     alloc: Global,
     view: &V,
     choice: ScanChoice,
+    form: Form,
     writer: &mut W,
 ) -> Result<(), DirFault>
     ensures { IsTrue (V.honest view.now) → OnOk result (WritesText (IsPartText choice (V.bytes view.now))
-        (W.contents writer.old) (W.contents writer.new)) }
+        (followed form (W.contents writer.old)) (followed form (W.contents writer.new))) }
 {
     let end = view.end().max(HEADER);
     let mut scanner = Scanner::new(view, alloc, HEADER, end);
     let mut entries: u64 = 0;
     while let Some(found) = scanner.next()? {
         if is_chosen(&choice, &found) {
-            write_entry(found, writer)?;
+            write_entry(alloc, found, form, writer)?;
             entries += 1;
         }
     }
-    write_counts(entries, scanner.foreign(), scanner.torn(), writer)?;
+    write_counts(
+        alloc,
+        entries,
+        scanner.foreign(),
+        scanner.torn(),
+        form,
+        writer,
+    )?;
     Ok(())
 }
 
@@ -76,6 +88,7 @@ fn show_with_data<V: LogView, W: Write>(
     alloc: Global,
     view: &V,
     choice: ScanChoice,
+    form: Form,
     writer: &mut W,
 ) -> Result<(), DirFault> {
     let end = view.end().max(HEADER);
@@ -83,20 +96,56 @@ fn show_with_data<V: LogView, W: Write>(
     let mut entries: u64 = 0;
     while let Some(found) = scanner.next()? {
         if is_chosen(&choice, &found) {
-            let key = found.key;
-            write!(
-                writer,
-                "{} {} {} {} ",
-                found.at,
-                key.ledger(),
-                key.entry(),
-                found.size
-            )?;
-            show_data(alloc, view, found, writer)?;
-            writeln!(writer, "")?;
+            write_with_data(alloc, view, found, form, writer)?;
             entries = entries.saturating_add(1);
         }
     }
-    write_counts(entries, scanner.foreign(), scanner.torn(), writer)?;
-    Ok(())
+    write_counts(
+        alloc,
+        entries,
+        scanner.foreign(),
+        scanner.torn(),
+        form,
+        writer,
+    )
+}
+
+/// The row of an entry with its data.
+#[derive(Drop, Serialize)]
+struct DataRow {
+    at: u64,
+    ledger: u64,
+    entry: u64,
+    size: u32,
+    data: String,
+}
+
+/// Writes the row of an entry with its data. As text it is written piece by piece.
+fn write_with_data<V: LogView, W: Write>(
+    alloc: Global,
+    view: &V,
+    found: Found,
+    form: Form,
+    writer: &mut W,
+) -> Result<(), DirFault> {
+    let (at, size) = (found.at, found.size);
+    let (ledger, entry) = (found.key.ledger(), found.key.entry());
+    match form {
+        Form::Text => {
+            write!(writer, "{at} {ledger} {entry} {size} ")?;
+            show_data(alloc, view, found, writer)?;
+            writeln!(writer, "")?;
+            Ok(())
+        }
+        Form::Json => {
+            let row = DataRow {
+                at,
+                ledger,
+                entry,
+                size,
+                data: data_text(alloc, view, found)?,
+            };
+            write_object(alloc, &row, writer)
+        }
+    }
 }

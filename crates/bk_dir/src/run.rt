@@ -1,12 +1,14 @@
 //! Running a command on the disk of a folder.
 
 ghost use Rattle.std.specs.Prelude.{◌≡◌, ◌≤◌, IsTrue, IfOk};
+ghost use Rattle.bk_dir.specs.Forms.{followed};
 ghost use Rattle.bk_dir.specs.Reading.{OnlyReads};
 ghost use Rattle.bk_dir.specs.Shown.{Prints};
 
 use crate::check::show_check;
 use crate::digests::show_digests;
 use crate::entries::show_range;
+use crate::fault::tell_fault;
 use crate::find::show_last;
 use crate::header::show_header;
 use crate::ledgers::show_map;
@@ -14,7 +16,7 @@ use crate::listing::show_logs;
 use crate::part::show_part;
 use crate::scan::show_scan;
 use crate::totals::show_totals;
-use crate::{DirCommand, DirFault};
+use crate::{DirCommand, DirFault, Form};
 use bk_disk::LogDisk;
 use std::alloc::Global;
 use std::io::Write;
@@ -42,19 +44,31 @@ pub fn run_dir<D: LogDisk, W: Write, E: Write>(
     ensures done { IsTrue (D.honest disk.old) → result ≡ 0 → Prints command (D.files disk.old)
         (W.contents writer.old) (W.contents writer.new) }
 {
-    match show_all(alloc, disk, command, writer, errors) {
-        Ok(status) => status,
-        Err(fault) => {
-            tell_fault(fault, errors);
-            1
-        }
-    }
+    run_dir_as(alloc, Form::Text, disk, command, writer, errors)
 }
 
-/// Tells on the error stream why a command ended early; nothing where nobody reads the output any more.
-pub(crate) fn tell_fault<E: Write>(fault: DirFault, errors: &mut E) {
-    if fault != DirFault::Closed {
-        let _ = writeln!(errors, "fault {fault}");
+/// Runs a command as `run_dir` does, and writes what it shows in a form of the caller's choice: each line is then a row of
+/// that form, and so is each line on the error stream.
+pub fn run_dir_as<D: LogDisk, W: Write, E: Write>(
+    alloc: Global,
+    form: Form,
+    disk: &mut D,
+    command: DirCommand,
+    writer: &mut W,
+    errors: &mut E,
+) -> u8
+    ensures status { result ≤ 1 }
+    ensures reads { OnlyReads (D.honest disk.old) (D.files disk.old) (D.honest disk.new) (D.files disk.new) }
+    ensures done { IsTrue (D.honest disk.old) → result ≡ 0 → Prints command (D.files disk.old)
+        (followed form (W.contents writer.old)) (followed form (W.contents writer.new)) }
+{
+    let log = command.log();
+    match show_all(alloc, form, disk, command, writer, errors) {
+        Ok(status) => status,
+        Err(fault) => {
+            tell_fault(alloc, form, log, fault, errors);
+            1
+        }
     }
 }
 
@@ -62,6 +76,7 @@ pub(crate) fn tell_fault<E: Write>(fault: DirFault, errors: &mut E) {
 /// the status.
 fn show_all<D: LogDisk, W: Write, E: Write>(
     alloc: Global,
+    form: Form,
     disk: &mut D,
     command: DirCommand,
     writer: &mut W,
@@ -70,9 +85,9 @@ fn show_all<D: LogDisk, W: Write, E: Write>(
     ensures status { IfOk result (λ status. status ≤ 1) }
     ensures reads { OnlyReads (D.honest disk.old) (D.files disk.old) (D.honest disk.new) (D.files disk.new) }
     ensures done { IsTrue (D.honest disk.old) → IfOk result (λ status. status ≡ 0 → Prints command (D.files disk.old)
-        (W.contents writer.old) (W.contents writer.new)) }
+        (followed form (W.contents writer.old)) (followed form (W.contents writer.new))) }
 {
-    let shown = show(alloc, disk, command, writer, errors);
+    let shown = show(alloc, form, disk, command, writer, errors);
     let flushed = writer.flush();
     let status = shown?;
     flushed?;
@@ -82,6 +97,7 @@ fn show_all<D: LogDisk, W: Write, E: Write>(
 /// Shows what a command asks for. Gives the status.
 fn show<D: LogDisk, W: Write, E: Write>(
     alloc: Global,
+    form: Form,
     disk: &mut D,
     command: DirCommand,
     writer: &mut W,
@@ -90,19 +106,19 @@ fn show<D: LogDisk, W: Write, E: Write>(
     ensures status { IfOk result (λ status. status ≤ 1) }
     ensures reads { OnlyReads (D.honest disk.old) (D.files disk.old) (D.honest disk.new) (D.files disk.new) }
     ensures done { IsTrue (D.honest disk.old) → IfOk result (λ status. status ≡ 0 → Prints command (D.files disk.old)
-        (W.contents writer.old) (W.contents writer.new)) }
+        (followed form (W.contents writer.old)) (followed form (W.contents writer.new))) }
 {
     match command {
-        DirCommand::Logs => show_logs(alloc, disk, writer)?,
-        DirCommand::Header(log) => show_header(alloc, disk, log, writer)?,
-        DirCommand::Map(log) => show_map(alloc, disk, log, writer)?,
-        DirCommand::Scan(log) => show_scan(alloc, disk, log, writer)?,
-        DirCommand::ScanPart(log, choice) => show_part(alloc, disk, log, choice, writer)?,
-        DirCommand::Find(key) => return show_last(alloc, disk, key, writer, errors),
-        DirCommand::Check => return show_check(alloc, disk, writer),
-        DirCommand::CheckDigests(choice) => return show_digests(alloc, disk, choice, writer),
-        DirCommand::Ledgers => return show_totals(alloc, disk, writer, errors),
-        DirCommand::Entries(range) => return show_range(alloc, disk, range, writer, errors),
+        DirCommand::Logs => show_logs(alloc, disk, form, writer)?,
+        DirCommand::Header(log) => show_header(alloc, disk, log, form, writer)?,
+        DirCommand::Map(log) => show_map(alloc, disk, log, form, writer)?,
+        DirCommand::Scan(log) => show_scan(alloc, disk, log, form, writer)?,
+        DirCommand::ScanPart(log, choice) => show_part(alloc, disk, log, choice, form, writer)?,
+        DirCommand::Find(key) => return show_last(alloc, disk, key, form, writer, errors),
+        DirCommand::Check => return show_check(alloc, disk, form, writer),
+        DirCommand::CheckDigests(choice) => return show_digests(alloc, disk, choice, form, writer),
+        DirCommand::Ledgers => return show_totals(alloc, disk, form, writer, errors),
+        DirCommand::Entries(range) => return show_range(alloc, disk, range, form, writer, errors),
     }
     Ok(0)
 }

@@ -3,16 +3,19 @@
 ghost use Rattle.std.specs.Prelude.{◌≤◌, IfOk};
 ghost use Rattle.bk_dir.specs.Reading.{OnlyReads};
 
-use crate::DirFault;
 use crate::calls::{list_logs, view_of};
+use crate::fault::{tell_damage, tell_fault};
+use crate::form::write_row;
 use crate::header::read_head;
 use crate::listing::{LogStanding, state_of};
-use crate::run::tell_fault;
-use crate::walk::{TakesEntries, take_in_view, tell_damage};
+use crate::walk::{TakesEntries, take_in_view};
+use crate::{DirFault, Form};
 use bk_disk::LogDisk;
 use bk_log::Found;
+use serde::Serialize;
 use std::alloc::{AllocError, Global};
-use std::io;
+use std::fmt;
+use std::fmt::{Display, Formatter};
 use std::io::Write;
 
 /// Shows for each log, by rising ids, `ID LENGTH ENTRIES BYTES LIVE SHARE STATE`, and then the sums over all logs,
@@ -33,11 +36,27 @@ pub fn run_stat<D: LogDisk, W: Write, E: Write>(
     ensures status { result ≤ 1 }
     ensures reads { OnlyReads (D.honest disk.old) (D.files disk.old) (D.honest disk.new) (D.files disk.new) }
 {
-    match show_stat(alloc, disk, dead, writer, errors) {
+    run_stat_as(alloc, Form::Text, disk, dead, writer, errors)
+}
+
+/// Shows the same in a form of the caller's choice: each line is then a row of that form, and so is each line on the error
+/// stream.
+pub fn run_stat_as<D: LogDisk, W: Write, E: Write>(
+    alloc: Global,
+    form: Form,
+    disk: &mut D,
+    dead: &[u64],
+    writer: &mut W,
+    errors: &mut E,
+) -> u8
+    ensures status { result ≤ 1 }
+    ensures reads { OnlyReads (D.honest disk.old) (D.files disk.old) (D.honest disk.new) (D.files disk.new) }
+{
+    match show_stat(alloc, disk, dead, form, writer, errors) {
         Ok(status) => status,
         Err(fault) => {
             let _ = writer.flush();
-            tell_fault(fault, errors);
+            tell_fault(alloc, form, None, fault, errors);
             1
         }
     }
@@ -48,6 +67,7 @@ fn show_stat<D: LogDisk, W: Write, E: Write>(
     alloc: Global,
     disk: &mut D,
     dead: &[u64],
+    form: Form,
     writer: &mut W,
     errors: &mut E,
 ) -> Result<u8, DirFault>
@@ -58,15 +78,15 @@ fn show_stat<D: LogDisk, W: Write, E: Write>(
     let mut sums = Sums::new(dead);
     let mut status = 0;
     for log in ids.as_slice() {
-        if let Some(stat) = stat_of(alloc, disk, *log, dead, errors)? {
-            write_stat(*log, &stat, writer)?;
+        if let Some(stat) = stat_of(alloc, disk, *log, dead, form, errors)? {
+            write_stat(alloc, *log, &stat, form, writer)?;
             sums.add(&stat);
             if !stat.is_whole {
                 status = 1;
             }
         }
     }
-    write_sums(&sums, writer)?;
+    write_row(alloc, form, &SumsRow::of(&sums), writer)?;
     writer.flush()?;
     Ok(status)
 }
@@ -157,6 +177,7 @@ fn stat_of<'a, D: LogDisk, E: Write>(
     disk: &mut D,
     log: u32,
     dead: &'a [u64],
+    form: Form,
     errors: &mut E,
 ) -> Result<Option<LogStat<'a>>, DirFault>
     ensures reads { OnlyReads (D.honest disk.old) (D.files disk.old) (D.honest disk.new) (D.files disk.new) }
@@ -175,7 +196,7 @@ fn stat_of<'a, D: LogDisk, E: Write>(
     let is_whole = match take_in_view(alloc, log, &view, &mut amount) {
         Ok(()) => true,
         Err(DirFault::Log(fault)) => {
-            tell_damage(log, fault, errors);
+            tell_damage(alloc, form, log, fault, errors);
             false
         }
         Err(fault) => return Err(fault),
@@ -188,35 +209,93 @@ fn stat_of<'a, D: LogDisk, E: Write>(
     }))
 }
 
-/// Writes the line of a log.
-fn write_stat<W: Write>(log: u32, stat: &LogStat<'_>, writer: &mut W) -> io::Result<()> {
-    let amount = &stat.amount;
-    write!(
-        writer,
-        "{log} {} {} {} {} ",
-        stat.length, amount.entries, amount.bytes, amount.live
-    )?;
-    write_share(amount, writer)?;
-    writeln!(writer, " {}", stat.standing)?;
-    writer.flush()
+/// The row of a log.
+#[derive(Clone, Copy, Serialize)]
+struct StatRow {
+    log: u32,
+    length: u64,
+    entries: u64,
+    bytes: u64,
+    live: u64,
+    share: Option<u64>,
+    state: LogStanding,
 }
 
-/// Writes the line of the sums.
-fn write_sums<W: Write>(sums: &Sums<'_>, writer: &mut W) -> io::Result<()> {
-    let amount = &sums.amount;
-    write!(
-        writer,
-        "logs {} length {} entries {} bytes {} live {} share ",
-        sums.logs, sums.length, amount.entries, amount.bytes, amount.live
-    )?;
-    write_share(amount, writer)?;
-    writeln!(writer, "")
-}
-
-/// Writes how many thousandths of the bytes live.
-fn write_share<W: Write>(amount: &Amount<'_>, writer: &mut W) -> io::Result<()> {
-    match amount.share() {
-        Some(share) => write!(writer, "{share}"),
-        None => write!(writer, "-"),
+impl StatRow {
+    /// That of a log of which this is to be told.
+    fn of(log: u32, stat: &LogStat<'_>) -> StatRow {
+        StatRow {
+            log,
+            length: stat.length,
+            entries: stat.amount.entries,
+            bytes: stat.amount.bytes,
+            live: stat.amount.live,
+            share: stat.amount.share(),
+            state: stat.standing,
+        }
     }
+}
+
+impl Display for StatRow {
+    fn fmt<W: fmt::Write>(&self, f: &mut Formatter<W>) -> fmt::Result {
+        write!(f, "{} {} ", self.log, self.length)?;
+        write!(f, "{} {} {} ", self.entries, self.bytes, self.live)?;
+        write_share(self.share, f)?;
+        write!(f, " {}", self.state)
+    }
+}
+
+/// The row of the sums.
+#[derive(Clone, Copy, Serialize)]
+struct SumsRow {
+    logs: u64,
+    length: u64,
+    entries: u64,
+    bytes: u64,
+    live: u64,
+    share: Option<u64>,
+}
+
+impl SumsRow {
+    /// That of these sums.
+    fn of(sums: &Sums<'_>) -> SumsRow {
+        SumsRow {
+            logs: sums.logs,
+            length: sums.length,
+            entries: sums.amount.entries,
+            bytes: sums.amount.bytes,
+            live: sums.amount.live,
+            share: sums.amount.share(),
+        }
+    }
+}
+
+impl Display for SumsRow {
+    fn fmt<W: fmt::Write>(&self, f: &mut Formatter<W>) -> fmt::Result {
+        write!(f, "logs {} length {} ", self.logs, self.length)?;
+        write!(f, "entries {} bytes {} ", self.entries, self.bytes)?;
+        write!(f, "live {} share ", self.live)?;
+        write_share(self.share, f)
+    }
+}
+
+/// Writes how many thousandths of the bytes live; `-` where there are no bytes.
+fn write_share<W: fmt::Write>(share: Option<u64>, f: &mut Formatter<W>) -> fmt::Result {
+    match share {
+        Some(share) => write!(f, "{share}"),
+        None => write!(f, "-"),
+    }
+}
+
+/// Writes the row of a log, and hands it on, so that it is seen while the next log is read.
+fn write_stat<W: Write>(
+    alloc: Global,
+    log: u32,
+    stat: &LogStat<'_>,
+    form: Form,
+    writer: &mut W,
+) -> Result<(), DirFault> {
+    write_row(alloc, form, &StatRow::of(log, stat), writer)?;
+    writer.flush()?;
+    Ok(())
 }

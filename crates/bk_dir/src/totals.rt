@@ -3,13 +3,16 @@
 ghost use Rattle.std.specs.Prelude.{◌≤◌, IfOk};
 ghost use Rattle.bk_dir.specs.Reading.{OnlyReads};
 
-use crate::DirFault;
+use crate::form::write_row;
 use crate::walk::{TakesEntries, take_in_logs};
+use crate::{DirFault, Form};
 use bk_disk::LogDisk;
 use bk_log::Found;
+use serde::Serialize;
 use std::alloc::{AllocError, Global};
 use std::collections::BTreeMap;
-use std::io;
+use std::fmt;
+use std::fmt::{Display, Formatter};
 use std::io::Write;
 
 /// What stands of a ledger in the logs.
@@ -80,6 +83,7 @@ impl TakesEntries for Totals {
 pub(crate) fn show_totals<D: LogDisk, W: Write, E: Write>(
     alloc: Global,
     disk: &mut D,
+    form: Form,
     writer: &mut W,
     errors: &mut E,
 ) -> Result<u8, DirFault>
@@ -89,18 +93,45 @@ pub(crate) fn show_totals<D: LogDisk, W: Write, E: Write>(
     let mut totals = Totals {
         ledgers: BTreeMap::new(alloc),
     };
-    let status = take_in_logs(alloc, disk, &mut totals, errors)?;
+    let status = take_in_logs(alloc, disk, &mut totals, form, errors)?;
     for (ledger, total) in &totals.ledgers {
-        write_total(*ledger, *total, writer)?;
+        let row = TotalRow::of(*ledger, *total);
+        write_row(alloc, form, &row, writer)?;
     }
     Ok(status)
 }
 
-/// Writes the line of a ledger.
-fn write_total<W: Write>(ledger: u64, total: LedgerTotal, writer: &mut W) -> io::Result<()> {
-    writeln!(
-        writer,
-        "{ledger} {} {} {} {} {}",
-        total.records, total.bytes, total.first, total.last, total.logs
-    )
+/// The row of a ledger.
+#[derive(Clone, Copy, Serialize)]
+struct TotalRow {
+    ledger: u64,
+    records: u64,
+    bytes: u64,
+    first: u64,
+    last: u64,
+    logs: u64,
+}
+
+impl TotalRow {
+    /// That of a ledger of which so much was found.
+    fn of(ledger: u64, total: LedgerTotal) -> TotalRow {
+        TotalRow {
+            ledger,
+            records: total.records,
+            bytes: total.bytes,
+            first: total.first,
+            last: total.last,
+            logs: total.logs,
+        }
+    }
+}
+
+impl Display for TotalRow {
+    fn fmt<W: fmt::Write>(&self, f: &mut Formatter<W>) -> fmt::Result {
+        write!(
+            f,
+            "{} {} {} {} {} {}",
+            self.ledger, self.records, self.bytes, self.first, self.last, self.logs
+        )
+    }
 }

@@ -4,8 +4,9 @@ ghost use Rattle.std.specs.Prelude.{◌≤◌, IfOk};
 ghost use Rattle.bk_dir.specs.Reading.{OnlyReads};
 
 use crate::calls::{list_logs, view_of};
+use crate::fault::tell_damage;
 use crate::header::HEADER;
-use crate::{BytesFault, DirFault};
+use crate::{DirFault, Form};
 use bk_disk::{LogDisk, LogView};
 use bk_log::{Found, Scanner};
 use std::alloc::{AllocError, Global};
@@ -25,6 +26,7 @@ pub(crate) fn take_in_logs<D: LogDisk, T: TakesEntries, E: Write>(
     alloc: Global,
     disk: &mut D,
     taking: &mut T,
+    form: Form,
     errors: &mut E,
 ) -> Result<u8, DirFault>
     ensures status { IfOk result (λ status. status ≤ 1) }
@@ -41,7 +43,7 @@ pub(crate) fn take_in_logs<D: LogDisk, T: TakesEntries, E: Write>(
         match take_in_view(alloc, *log, &view, taking) {
             Ok(()) => {}
             Err(DirFault::Log(fault)) => {
-                tell_damage(*log, fault, errors);
+                tell_damage(alloc, form, *log, fault, errors);
                 status = 1;
             }
             Err(fault) => return Err(fault),
@@ -65,9 +67,4 @@ pub(crate) fn take_in_view<V: LogView, T: TakesEntries>(
         }
     }
     Ok(())
-}
-
-/// Tells a log that can't be read to its end. Whether the line comes through changes nothing.
-pub(crate) fn tell_damage<E: Write>(log: u32, fault: BytesFault, errors: &mut E) {
-    let _ = writeln!(errors, "fault log {log}: {fault}");
 }

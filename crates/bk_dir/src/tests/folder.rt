@@ -9,7 +9,7 @@ use std::process::Abort;
 use std::test::Fail;
 
 /// Makes a folder with one sealed log, and opens it.
-fn anew(rt: &HostRuntime, folder: &str) -> Result<DirDisk, Fail> {
+pub(crate) fn anew(rt: &HostRuntime, folder: &str) -> Result<DirDisk, Fail> {
     let alloc = rt.alloc();
     let mut bytes = Vec::from_slice(alloc, SEALED)?;
     bytes.resize(1024, 0)?;

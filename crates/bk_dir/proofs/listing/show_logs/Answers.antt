@@ -1,6 +1,7 @@
 use Rattle.std.proofs.Common.{[], get_or, subst, sym, ◌∙◌, IsSome}
 use Rattle.std.specs.FinMap as map
 use Rattle.bk_record.specs.Files.{Files}
+use Rattle.bk_dir.specs.Forms.{followed}
 use Rattle.bk_dir.specs.Shown.{IsLogLine, WritesText}
 use Rattle.bk_dir.specs.Shown.AreLines.{none}
 use Rattle.bk_dir.proofs.Lines.{appends_none, line_more}
@@ -16,8 +17,8 @@ loop-log-preserved g c =
     let first = c.loop-log.invariant in
     let logs = c.as_slice-log-items.result.now in
     let log = get_or logs c.loop-log.log-index 0 in
-    let before = g.W.Write.contents c.loop-log.writer in
-    let after = g.W.Write.contents c.show_log.new.writer in (
+    let before = followed c.args.form (g.W.Write.contents c.loop-log.writer) in
+    let after = followed c.args.form (g.W.Write.contents c.show_log.new.writer) in (
       read_then _ _ _ _ _ _ first.0 c.show_log.ensures.reads,
       λ honest.
           line_more (IsLogLine (g.D.LogDisk.files c.args.disk.now)) logs c.loop-log.log-index _ _ _ c.loop-log-test.true (first.1 honest)

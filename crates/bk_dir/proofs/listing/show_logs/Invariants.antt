@@ -1,4 +1,5 @@
 use Rattle.std.proofs.Common.{IsTrue, take}
+use Rattle.bk_dir.specs.Forms.{followed}
 use Rattle.bk_dir.specs.Reading.{OnlyReads}
 use Rattle.bk_dir.specs.Shown.{AreLines, IsLogLine, WritesText}
 use Rattle.bk_dir.proofs.listing.show_logs.Given as goal
@@ -7,4 +8,4 @@ abbrev pub invariant-loop-log : goal.invariant-loop-log
 invariant-loop-log g l =
     OnlyReads (g.D.LogDisk.honest l.fn.disk) (g.D.LogDisk.files l.fn.disk) (g.D.LogDisk.honest l.disk) (g.D.LogDisk.files l.disk)
     × (IsTrue (g.D.LogDisk.honest l.fn.disk) → WritesText (AreLines (IsLogLine (g.D.LogDisk.files l.fn.disk)) (take l.log-index l.log-items))
-    (g.W.Write.contents l.fn.writer) (g.W.Write.contents l.writer))
+    (followed l.fn.form (g.W.Write.contents l.fn.writer)) (followed l.fn.form (g.W.Write.contents l.writer)))

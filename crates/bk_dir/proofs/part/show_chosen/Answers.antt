@@ -1,5 +1,6 @@
 use Rattle.std.proofs.Common.{◌≡◌, Bool, IsTrue, Option, Ok, sym, ap, ◌∙◌, subst, arith}
 use Rattle.std.specs.Io.KnownBytes.{Appends}
+use Rattle.bk_dir.specs.Forms.{followed}
 use Rattle.bk_dir.specs.Texts.{counts_line}
 use Rattle.bk_disk.specs.Disk.{view_end}
 use Rattle.bk_log.specs.declared.found.Found.{Found}
@@ -34,8 +35,8 @@ returns g c = λ honest.
     let file = g.V.LogView.bytes c.args.view.now in
     let end_is : c.max-end.result ≡ view_end file = omega (arith, c.max-end.ensures, c.end.ensures honest) in
     let entries = c.loop-scanner.entries in
-    let before = g.W.Write.contents c.loop-scanner.writer in
-    let after = g.W.Write.contents c.write_counts.new.writer in
+    let before = followed c.args.form (g.W.Write.contents c.loop-scanner.writer) in
+    let after = followed c.args.form (g.W.Write.contents c.write_counts.new.writer) in
     part_all c.args.choice c.new-scanner.result now next entries file _ _ _ c.loop-scanner.invariant
     (subst (λ (o : Option Found). NextMoves now (Ok o) next) c.in_default.is c.in_ok-found.ensures.moves)
     (λ h. subst (λ (o : Option Found). NextTurn now (Ok o) next) c.in_default.is (c.in_ok-found.ensures.turn h))

@@ -1,4 +1,4 @@
-use Rattle.bk_dir.proofs.data.show_data.Given as goal
+use Rattle.bk_dir.proofs.data.show_digits.Given as goal
 
 abbrev pub decreases-loop-left : goal.decreases-loop-left
 decreases-loop-left g l = l.left
