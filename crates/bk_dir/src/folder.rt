@@ -9,7 +9,7 @@ ghost use Rattle.std.specs.FinMap as map;
 use crate::fault::tell_fault;
 use crate::form::{write_object, write_row};
 use crate::{DirCommand, DirFault, Form, run_dir_as, run_stat_as};
-use bk_disk::{DirDisk, DiskFault, LogDisk, log_of};
+use bk_disk::{DirDisk, DiskFault, FolderFault, LogDisk, log_of};
 use serde::Serialize;
 use std::alloc::{AllocError, Global};
 use std::fmt;
@@ -41,11 +41,18 @@ pub fn run_folder<W: Write, E: Write>(
 ) -> u8
     ensures { result ≤ 1 }
 {
-    run_folder_as(rt, Form::Text, path, command, writer, errors)
+    match DirDisk::open(rt, path) {
+        Ok(disk) => run_on(rt, Form::Text, path, disk, command, writer, errors),
+        Err(fault) => {
+            tell_fault(rt.alloc(), Form::Text, None, DirFault::from(fault), errors);
+            1
+        }
+    }
 }
 
 /// Runs a command as `run_folder` does, and writes what it shows in a form of the caller's choice: each line is then a row
-/// of that form, and so is each line on the error stream.
+/// of that form, and so is each line on the error stream. A folder that can't be opened is told with the system's reason:
+/// as text `fault disk: PATH: REASON`.
 pub fn run_folder_as<W: Write, E: Write>(
     rt: &HostRuntime,
     form: Form,
@@ -56,13 +63,27 @@ pub fn run_folder_as<W: Write, E: Write>(
 ) -> u8
     ensures { result ≤ 1 }
 {
-    let disk = match DirDisk::open(rt, path) {
-        Ok(disk) => disk,
+    match DirDisk::open_to_read(rt, path) {
+        Ok(disk) => run_on(rt, form, path, disk, command, writer, errors),
         Err(fault) => {
-            tell_fault(rt.alloc(), form, None, DirFault::from(fault), errors);
-            return 1;
+            let _ = tell_folder(rt.alloc(), form, &fault, errors);
+            1
         }
-    };
+    }
+}
+
+/// Runs a command on a folder that was opened.
+fn run_on<W: Write, E: Write>(
+    rt: &HostRuntime,
+    form: Form,
+    path: &str,
+    disk: DirDisk,
+    command: &FolderCommand<'_>,
+    writer: &mut W,
+    errors: &mut E,
+) -> u8
+    ensures { result ≤ 1 }
+{
     let mut folder = Folder {
         rt: *rt,
         path,
@@ -163,6 +184,54 @@ fn tell_unread<E: Write>(
         }
     }
     Ok(())
+}
+
+/// The object of a folder that can't be opened, or not to be written in.
+#[derive(Drop, Serialize)]
+struct FolderRow<'a> {
+    fault: &'static str,
+    #[serde(skip_serializing_if = "Option::is_none")]
+    folder: Option<&'a str>,
+    reason: String,
+}
+
+/// Tells why a folder can't be opened, or not be written in.
+pub(crate) fn tell_folder<E: Write>(
+    alloc: Global,
+    form: Form,
+    fault: &FolderFault,
+    errors: &mut E,
+) -> Result<(), DirFault> {
+    match form {
+        Form::Text => writeln!(errors, "fault {fault}")?,
+        Form::Json => match folder_row(alloc, fault) {
+            Ok(row) => write_object(alloc, &row, errors)?,
+            Err(fault) => tell_fault(alloc, form, None, fault, errors),
+        },
+    }
+    Ok(())
+}
+
+/// What an object tells of such a fault.
+fn folder_row(alloc: Global, fault: &FolderFault) -> Result<FolderRow<'_>, DirFault> {
+    let (name, folder, reason) = match fault {
+        FolderFault::InUse { .. } => (
+            "in use",
+            None,
+            fault.to_string(alloc).map_err(|_| DirFault::Memory)?,
+        ),
+        FolderFault::Refused { path, reason } => (
+            "disk",
+            Some(path.as_str()),
+            reason.to_string(alloc).map_err(|_| DirFault::Memory)?,
+        ),
+        FolderFault::Memory => return Err(DirFault::Memory),
+    };
+    Ok(FolderRow {
+        fault: name,
+        folder,
+        reason,
+    })
 }
 
 /// The row of a folder without logs.

@@ -4,10 +4,11 @@ ghost use Rattle.std.specs.Prelude.{◌≡◌, ◌≤◌, IsTrue};
 ghost use Rattle.bk_dir.specs.Sealing.{SealLeaves, SealsOne};
 
 use crate::fault::{FaultMembers, tell_fault};
-use crate::form::{write_object, write_row};
+use crate::folder::tell_folder;
+use crate::form::write_row;
 use crate::seal::{Refusal, SealFault, SealedLog, seal_log};
 use crate::{DirFault, Form};
-use bk_disk::{DirDisk, FolderFault, LogDisk};
+use bk_disk::{DirDisk, LogDisk};
 use serde::Serialize;
 use std::alloc::Global;
 use std::fmt;
@@ -179,35 +180,4 @@ fn tell_unsealed<E: Write>(alloc: Global, form: Form, log: u32, fault: SealFault
         text: refusal,
     };
     let _ = write_row(alloc, form, &row, errors);
-}
-
-/// The object of a folder that is not written in.
-#[derive(Drop, Serialize)]
-struct FolderRow {
-    fault: &'static str,
-    reason: String,
-}
-
-/// Tells why a folder is not written in.
-fn tell_folder<E: Write>(
-    alloc: Global,
-    form: Form,
-    fault: &FolderFault,
-    errors: &mut E,
-) -> Result<(), DirFault> {
-    match form {
-        Form::Text => writeln!(errors, "fault {fault}")?,
-        Form::Json => {
-            let row = FolderRow {
-                fault: match fault {
-                    FolderFault::InUse { .. } => "in use",
-                    FolderFault::Refused { .. } => "disk",
-                    FolderFault::Memory => "memory",
-                },
-                reason: fault.to_string(alloc).map_err(|_| DirFault::Memory)?,
-            };
-            write_object(alloc, &row, errors)?;
-        }
-    }
-    Ok(())
 }

@@ -8,9 +8,12 @@ mod every_byte;
 mod failing;
 mod folder;
 mod hostile;
+mod json;
+mod json_folder;
 mod leaving;
 mod maps;
 mod rows;
+mod seal;
 
 use crate::{DirCommand, run_dir};
 use bk_disk::{LogDisk, MemDisk};
