@@ -1,0 +1,33 @@
+//! A program that does one kind of the store's work after another, in memory, so that each can be measured alone.
+#![tactic(auto)]
+
+mod entries;
+mod fault;
+mod memory;
+mod run;
+mod stages;
+mod trail;
+mod words;
+
+use fault::BenchFault;
+use std::process::ExitCode;
+use words::{Work, read_words};
+
+fn main(rt: HostRuntime) -> ExitCode {
+    match work(&rt) {
+        Ok(()) => ExitCode::from(0),
+        Err(fault) => {
+            let _ = eprintln!(rt; "bk_bench: {fault}");
+            ExitCode::from(1)
+        }
+    }
+}
+
+/// Does what the command line asks for.
+fn work(rt: &HostRuntime) -> Result<(), BenchFault> {
+    match read_words(rt)? {
+        Work::Entries(amount) => run::run(rt, amount),
+        Work::Trail(lengths) => trail::run(rt, &lengths),
+        Work::Memory(holding, amount) => memory::run(rt, holding, amount),
+    }
+}

@@ -1,0 +1,81 @@
+//! The words of the command line.
+
+use crate::BenchFault;
+use crate::entries::{Amount, Order};
+use crate::memory::Holding;
+use std::alloc::{AllocError, Global};
+use std::env;
+
+/// What the command line asks for.
+#[derive(Drop)]
+pub(crate) enum Work {
+    /// All stages over so many entries.
+    Entries(Amount),
+    /// Adds beside trails of these lengths.
+    Trail(Vec<u64>),
+    /// So many entries, to be held in memory in one form.
+    Memory(Holding, Amount),
+}
+
+/// Reads the words: `entries N ORDER`, `trail N..`, `memory WHAT N ORDER`. `Words`, `Host`, `Memory`.
+pub(crate) fn read_words(rt: &HostRuntime) -> Result<Work, BenchFault> {
+    let words: Vec<String> = env::args(rt)?.collect(rt.alloc())?;
+    let texts = texts_of(rt.alloc(), &words)?;
+    match texts.as_slice() {
+        ["entries", count, order] => Ok(Work::Entries(amount(count, order)?)),
+        ["memory", holding, count, order] => {
+            Ok(Work::Memory(holding_named(holding)?, amount(count, order)?))
+        }
+        ["trail", lengths @ ..] => Ok(Work::Trail(numbers(rt.alloc(), lengths)?)),
+        _ => Err(BenchFault::Words),
+    }
+}
+
+/// The words behind the program's name.
+fn texts_of(alloc: Global, words: &[String]) -> Result<Vec<&str>, AllocError> {
+    let mut texts = Vec::new(alloc);
+    for word in words.iter().skip(1) {
+        texts.push(word.as_str())?;
+    }
+    Ok(texts)
+}
+
+fn numbers(alloc: Global, words: &[&str]) -> Result<Vec<u64>, BenchFault> {
+    let mut numbers = Vec::new(alloc);
+    for word in words {
+        let number = number(word)?;
+        numbers.push(number).map_err(|_| BenchFault::Memory)?;
+    }
+    Ok(numbers)
+}
+
+fn amount(count: &str, order: &str) -> Result<Amount, BenchFault> {
+    let order = match order {
+        "turn" => Order::Turn,
+        "rising" => Order::Rising,
+        _ => return Err(BenchFault::Words),
+    };
+    Ok(Amount {
+        count: number(count)?,
+        order,
+    })
+}
+
+fn holding_named(name: &str) -> Result<Holding, BenchFault> {
+    match name {
+        "nothing" => Ok(Holding::Nothing),
+        "log" => Ok(Holding::Log),
+        "store" => Ok(Holding::Store),
+        "cached" => Ok(Holding::Cached),
+        "marks" => Ok(Holding::Marks),
+        _ => Err(BenchFault::Words),
+    }
+}
+
+/// The number that a word is, below 2^32.
+fn number(word: &str) -> Result<u64, BenchFault> {
+    match word.parse::<u32>() {
+        Ok(number) => Ok(u64::from(number)),
+        Err(_) => Err(BenchFault::Words),
+    }
+}
