@@ -8,3 +8,4 @@ pub mod Lines
 pub mod Texts
 pub mod Scripts
 pub mod Streams
+pub mod Runs

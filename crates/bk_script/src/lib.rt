@@ -1,7 +1,8 @@
-//! Scripts of steps: what their lines spell, their run over a new store in memory, and the texts of the answers.
+//! Scripts of steps: what their lines spell, their run over a store, and the texts of the answers.
 #![tactic(auto)]
 
 mod digits;
+mod disk;
 mod fault;
 mod input;
 mod line;
@@ -10,7 +11,8 @@ mod script;
 mod text;
 
 pub use digits::number;
+pub use disk::ScriptDisk;
 use fault::ScriptFault;
 pub use line::{LAST_READER, LineFault, read_step};
-pub use run::run_script;
+pub use run::{run_on, run_script};
 pub use text::Text;

@@ -1,19 +1,22 @@
 //! Running a script: the whole input is read and understood before the first step, and the answers are printed after
 //! the last.
 
-ghost use Rattle.std.specs.Prelude.{◌≡◌, ◌≤◌, List, IfOk, IfSome, IsErr, OnOk};
+ghost use Rattle.std.specs.Prelude.{◌≡◌, ◌≤◌, List, IfOk, IfSome, IsErr, IsTrue, OnOk};
 ghost use Rattle.std.specs.Io.KnownBytes.{Appends, Keeps};
+ghost use Rattle.bk_disk.specs.Disk.{AreSound};
 ghost use Rattle.bk_drive.specs.declared.step.Step.{Step};
-ghost use Rattle.bk_script.specs.Run.{AnswersScript, AnswersSteps, RunsScript};
+ghost use Rattle.bk_drive.specs.Failing.{NeverFails};
+ghost use Rattle.bk_script.specs.Run.{AnswersScript, RunsOn, RunsScript};
 ghost use Rattle.bk_script.specs.Script.{IsScript};
 ghost use Rattle.bk_script.specs.Text.{lines_of};
 
 use crate::ScriptFault;
+use crate::disk::ScriptDisk;
 use crate::input::read_input;
 use crate::script::read_steps;
 use crate::text::Text;
 use bk_disk::MemDisk;
-use bk_drive::{Answer, OpenFault, Settings, Step, drive};
+use bk_drive::{Answer, Settings, Step};
 use std::alloc::Global;
 use std::io;
 use std::io::{Read, Write};
@@ -39,7 +42,27 @@ pub fn run_script<R: Read, W: Write, E: Write>(
     ensures bad { IfSome (R.remaining reader.old) (λ input. ((steps : List Step) → ¬ (IsScript input steps))
         → (result ≡ 1) × Keeps (W.contents writer.old) (W.contents writer.new)) }
 {
-    match answers_to(alloc, settings, dead, reader) {
+    let disk = MemDisk::new(alloc);
+    run_on(alloc, disk, settings, dead, reader, writer, errors)
+}
+
+/// The same on this disk: the store is opened on the logs that it has, once the whole script was read and understood.
+pub fn run_on<D: ScriptDisk, R: Read, W: Write, E: Write>(
+    alloc: Global,
+    disk: D,
+    settings: Settings,
+    dead: &[u64],
+    reader: &mut R,
+    writer: &mut W,
+    errors: &mut E,
+) -> u8
+    ensures status { result ≤ 1 }
+    ensures done { result ≡ 0 → RunsOn (IsTrue (D.honest disk)) (NeverFails D.failures × AreSound D.View.sound) (D.files disk)
+        settings dead.now (R.remaining reader.old) (R.remaining reader.new) (W.contents writer.old) (W.contents writer.new) }
+    ensures bad { IfSome (R.remaining reader.old) (λ input. ((steps : List Step) → ¬ (IsScript input steps))
+        → (result ≡ 1) × Keeps (W.contents writer.old) (W.contents writer.new)) }
+{
+    match answers_to(alloc, disk, settings, dead, reader) {
         Ok(answers) => match write_answers(writer, &answers) {
             Ok(()) => 0,
             Err(_) => 1,
@@ -56,37 +79,25 @@ fn tell<E: Write>(fault: ScriptFault, errors: &mut E) {
     let _ = writeln!(errors, "{fault}");
 }
 
-/// Reads the script and runs its steps: their answers.
-fn answers_to<R: Read>(
+/// Reads the script and runs its steps on this disk: their answers.
+fn answers_to<D: ScriptDisk, R: Read>(
     alloc: Global,
+    disk: D,
     settings: Settings,
     dead: &[u64],
     reader: &mut R,
 ) -> Result<Vec<Answer>, ScriptFault>
-    ensures ok { IfOk result (λ answers. AnswersScript settings dead.now (R.remaining reader.old) (R.remaining reader.new)
-        answers.items) }
+    ensures ok { IfOk result (λ answers. AnswersScript (IsTrue (D.honest disk)) (NeverFails D.failures × AreSound D.View.sound)
+        (D.files disk) settings dead.now (R.remaining reader.old) (R.remaining reader.new) answers.items) }
     ensures bad { IfSome (R.remaining reader.old) (λ input. ((steps : List Step) → ¬ (IsScript input steps))
         → IsErr result) }
 {
     let input = read_input(alloc, reader)?;
     let steps = read_steps(alloc, &input)?;
-    match answers_of(alloc, settings, dead, &steps) {
+    match disk.answers(alloc, settings, dead, &steps) {
         Ok(answers) => Ok(answers),
         Err(fault) => Err(ScriptFault::Open(fault)),
     }
-}
-
-/// Runs steps on a new disk in memory: their answers.
-fn answers_of(
-    alloc: Global,
-    settings: Settings,
-    dead: &[u64],
-    steps: &[Step],
-) -> Result<Vec<Answer>, OpenFault>
-    ensures { IfOk result (λ answers. AnswersSteps settings dead.now steps.now answers.items) }
-{
-    let ran = drive(alloc, MemDisk::new(alloc), settings, dead, steps)?;
-    Ok(ran.answers)
 }
 
 /// Writes one line for each answer, and then everything that the writer has kept back.

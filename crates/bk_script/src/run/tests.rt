@@ -1,5 +1,6 @@
 mod compacting;
 mod faults;
+mod folder;
 mod lines;
 mod long;
 mod streams;

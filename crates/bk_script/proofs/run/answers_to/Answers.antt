@@ -1,4 +1,6 @@
-use Rattle.std.proofs.Common.{subst}
+use Rattle.std.proofs.Common.{IsTrue, subst}
+use Rattle.bk_disk.specs.Disk.{AreSound}
+use Rattle.bk_drive.specs.Failing.{NeverFails}
 use Rattle.bk_script.specs.Script.{IsScript}
 use Rattle.bk_script.specs.Run.{AnswersSteps}
 use Rattle.bk_script.proofs.Scripts.{spelled_never_bad}
@@ -16,5 +18,7 @@ returns-in-Ok-clause-ok g c = record {
   taken = c.in_ok-input.ensures.bytes;
   ended = c.in_ok-input.ensures.end;
   spelled = subst (λ bytes. IsScript bytes c.in_ok-steps.steps.items) c.deref.ensures.value c.in_ok-steps.ensures.ok;
-  answered = subst (λ steps. AnswersSteps c.args.settings c.args.dead.now steps c.in-Ok.answers.items) c.deref-2.ensures.value c.in-Ok.ensures;
+  answered = subst (λ steps. AnswersSteps (IsTrue (g.D.LogDisk.honest c.args.disk))
+      (NeverFails g.D.LogDisk.failures × AreSound g.D.View.LogView.sound) (g.D.LogDisk.files c.args.disk) c.args.settings c.args.dead.now steps
+      c.in-Ok.answers.items) c.deref-2.ensures.value c.in-Ok.ensures;
 }

@@ -303,17 +303,27 @@ pub(super) fn are_answered(
     dead: &[u64],
     steps: &[(&str, &str)],
 ) -> Result<bool, AllocError> {
+    let (script, output) = texts_of(alloc, steps)?;
+    let shown = run_from(alloc, settings, dead, &mut script.as_bytes());
+    Ok(is_shown(&shown, 0, &output, ""))
+}
+
+/// The script of these lines, and what it prints.
+pub(super) fn texts_of(
+    alloc: Global,
+    steps: &[(&str, &str)],
+) -> Result<(String, String), AllocError> {
     let mut script = String::new(alloc);
     let mut output = String::new(alloc);
     for (line, answer) in steps {
         push_line(&mut script, line)?;
         push_line(&mut output, answer)?;
     }
-    let shown = run_from(alloc, settings, dead, &mut script.as_bytes());
-    Ok(is_shown(&shown, 0, &output, ""))
+    Ok((script, output))
 }
 
-fn push_line(text: &mut String, line: &str) -> Result<(), AllocError> {
+/// Puts a line at the end of a text.
+pub(super) fn push_line(text: &mut String, line: &str) -> Result<(), AllocError> {
     text.push_str(line)?;
     text.push('\n')?;
     Ok(())
@@ -348,7 +358,7 @@ const ONE_RECENT: Settings = Settings {
 };
 
 /// Scripts, with the settings of their stores and the ledgers that were deleted before.
-const SCRIPTS: [(Settings, &[u64], Worked); 20] = [
+pub(super) const SCRIPTS: [(Settings, &[u64], Worked); 20] = [
     (DEFAULTS, &[], READ),
     (DEFAULTS, &[], HELD),
     (DEFAULTS, &[], FLUSHING),

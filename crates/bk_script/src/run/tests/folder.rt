@@ -1,0 +1,182 @@
+//! Scripts over folders, which each test makes and takes away.
+
+use super::worked::{SCRIPTS, push_line, texts_of};
+use super::{DEFAULTS, Shown, is_shown};
+use crate::run_on;
+use bk_disk::DirDisk;
+use bk_drive::Settings;
+use std::test::Fail;
+use std::{fs, io};
+
+/// Makes an empty folder.
+fn anew(rt: &HostRuntime, folder: &str) -> io::Result<()> {
+    let _ = fs::remove_dir_all(rt, folder);
+    fs::create_dir(rt, folder)
+}
+
+/// Runs a script on this disk.
+fn run_over(
+    rt: &HostRuntime,
+    disk: DirDisk,
+    settings: Settings,
+    dead: &[u64],
+    script: &str,
+) -> Shown {
+    let alloc = rt.alloc();
+    let mut output = Vec::new(alloc);
+    let mut errors = Vec::new(alloc);
+    let mut reader = script.as_bytes();
+    let status = run_on(
+        alloc,
+        disk,
+        settings,
+        dead,
+        &mut reader,
+        &mut output,
+        &mut errors,
+    );
+    Shown {
+        status,
+        output,
+        errors,
+    }
+}
+
+/// The same over a folder, which it locks, and lets go at its end.
+fn run_in(
+    rt: &HostRuntime,
+    folder: &str,
+    settings: Settings,
+    dead: &[u64],
+    script: &str,
+) -> Result<Shown, Fail> {
+    let disk = DirDisk::open_to_write(rt, folder)?;
+    Ok(run_over(rt, disk, settings, dead, script))
+}
+
+#[test]
+fn an_empty_folder_answers_as_a_disk_in_memory(rt: HostRuntime) -> Result<(), Fail> {
+    let folder = "bk_script_worked";
+    for (number, (settings, dead, steps)) in SCRIPTS.iter().enumerate() {
+        let (script, output) = texts_of(rt.alloc(), steps)?;
+        anew(&rt, folder)?;
+        let shown = run_in(&rt, folder, *settings, dead, &script)?;
+        assert!(rt; is_shown(&shown, 0, &output, ""), "script {number}");
+    }
+    fs::remove_dir_all(&rt, folder)?;
+    Ok(())
+}
+
+/// A script with a flush, a log that is sealed, another flush, a deletion, and a compaction of the first log.
+const STEPS: [&str; 19] = [
+    "add 1 0 one",
+    "add 2 0 two",
+    "swap",
+    "write",
+    "write",
+    "publish",
+    "roll",
+    "add 1 1 three",
+    "swap",
+    "write",
+    "publish",
+    "delete 2",
+    "major",
+    "copy 2",
+    "end",
+    "switch 1",
+    "finish",
+    "close 0",
+    "remove 0",
+];
+
+/// Which entries are published after so many steps: the step, the entry, and what a read of it prints.
+const PUBLISHED: [(usize, &str, &str); 3] = [
+    (6, "1 0", "bytes 6f6e65\nreleased\n"),
+    (6, "2 0", "bytes 74776f\nreleased\n"),
+    (11, "1 1", "bytes 7468726565\nreleased\n"),
+];
+
+/// After so many steps ledger 2 is deleted: who opens the folder again has to say so.
+const DELETED: usize = 12;
+
+/// What a read of an entry of a deleted ledger prints.
+const GONE: &str = "deleted\nno lease\nno lease\n";
+
+/// Runs the first steps over an empty folder, and then reads each entry that was published, each time over a store that was
+/// opened anew: whether all are there, and those of the deleted ledger are not.
+fn is_all_there(rt: &HostRuntime, folder: &str, count: usize) -> Result<bool, Fail> {
+    let mut script = String::new(rt.alloc());
+    for line in STEPS.iter().take(count) {
+        push_line(&mut script, line)?;
+    }
+    anew(rt, folder)?;
+    let ran = run_in(rt, folder, DEFAULTS, &[], &script)?;
+    let dead: &[u64] = if count < DELETED { &[] } else { &[2] };
+    let mut is_there = ran.status == 0;
+    for (since, entry, printed) in PUBLISHED.iter() {
+        if *since <= count {
+            let read = format!(in rt.alloc(); "take 0 {entry}\nfetch 0\nrelease 0\n")?;
+            let shown = run_in(rt, folder, DEFAULTS, dead, &read)?;
+            let is_dead = count >= DELETED && entry.starts_with("2");
+            let end = if is_dead { GONE } else { *printed };
+            is_there = is_there && shown.status == 0 && shown.output.ends_with(end.as_bytes());
+        }
+    }
+    Ok(is_there)
+}
+
+#[test]
+fn what_was_published_is_there_after_each_step(rt: HostRuntime) -> Result<(), Fail> {
+    let folder = "bk_script_stopped";
+    for count in 0..=STEPS.len() {
+        assert!(rt; is_all_there(&rt, folder, count)?, "after {count} steps");
+    }
+    fs::remove_dir_all(&rt, folder)?;
+    Ok(())
+}
+
+/// Files beside the logs that are none, and stay as they are.
+const FOREIGN: [&str; 5] = [
+    "notes",
+    "01f.log",
+    "1F.log",
+    "0.log.compacted",
+    "80000000.log",
+];
+
+#[test]
+fn other_files_of_the_folder_are_left_alone(rt: HostRuntime) -> Result<(), Fail> {
+    let folder = "bk_script_foreign";
+    anew(&rt, folder)?;
+    for name in FOREIGN.iter() {
+        let path = format!(in rt.alloc(); "{folder}/{name}")?;
+        fs::write(&rt, path.as_str(), b"bytes".as_slice())?;
+    }
+    fs::create_dir(&rt, "bk_script_foreign/7.log")?;
+    let script = "add 1 0 a\nswap\nwrite\npublish\nroll\n";
+    let output = "accepted\nswapped 1\nwrote 1028\npublished 1\nsealed 0\n";
+    let shown = run_in(&rt, folder, DEFAULTS, &[], script)?;
+    assert!(rt; is_shown(&shown, 0, output, ""), "beside other files");
+    for name in FOREIGN.iter() {
+        let path = format!(in rt.alloc(); "{folder}/{name}")?;
+        let text = fs::read_to_string(&rt, path.as_str())?;
+        assert!(rt; text.as_str() == "bytes", "{name} is as it was");
+    }
+    fs::remove_dir_all(&rt, folder)?;
+    Ok(())
+}
+
+#[test]
+fn a_folder_that_is_taken_away_is_told(rt: HostRuntime) -> Result<(), Fail> {
+    let folder = "bk_script_taken";
+    anew(&rt, folder)?;
+    let disk = DirDisk::open_to_write(&rt, folder)?;
+    fs::remove_dir_all(&rt, folder)?;
+    let shown = run_over(&rt, disk, DEFAULTS, &[], "add 1 0 a\n");
+    assert!(rt;
+        is_shown(&shown, 1, "", "fault disk\n"),
+        "without the folder"
+    );
+    Ok(())
+}
