@@ -1,0 +1,4 @@
+mod LongerRecords
+mod Cuts
+mod Recovered
+mod Opened

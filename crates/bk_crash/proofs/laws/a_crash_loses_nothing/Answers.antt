@@ -1,0 +1,5 @@
+use Rattle.bk_crash.proofs.Opened.{reopened}
+use Rattle.bk_crash.proofs.laws.a_crash_loses_nothing.Goals as goal
+
+pub returns : goal.returns
+returns c = reopened

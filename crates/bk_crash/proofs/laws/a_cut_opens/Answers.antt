@@ -1,0 +1,5 @@
+use Rattle.bk_crash.proofs.Cuts.{cut_opens}
+use Rattle.bk_crash.proofs.laws.a_cut_opens.Goals as goal
+
+pub returns : goal.returns
+returns c = cut_opens

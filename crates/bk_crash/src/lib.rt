@@ -1,0 +1,12 @@
+//! What a crash may leave of a store's logs, what an opening makes of it, and a disk for tests whose power goes.
+#![tactic(auto)]
+
+mod laws;
+mod power_disk;
+#[cfg(test)]
+mod tests;
+mod written;
+
+pub use laws::{a_crash_loses_nothing, a_cut_opens};
+pub use power_disk::PowerDisk;
+pub use written::{Choices, File, Written};

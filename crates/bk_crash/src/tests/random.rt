@@ -1,0 +1,70 @@
+//! Lives by chance: a store takes steps until its power goes, is opened on what is left, goes on, and so on.
+
+use super::life::{Chance, Owed, Stop, add_of, compare, live, push};
+use crate::Choices;
+use bk_drive::{Kind, Step, Work};
+use std::alloc::{AllocError, Global};
+
+/// A step by chance: half of them adds and writes.
+fn step(alloc: Global, chance: &mut Chance) -> Result<Step, AllocError> {
+    let kind = chance.up_to(39);
+    let number = chance.up_to(9) as u64;
+    let log = chance.up_to(12) as u32;
+    let ledger = u64::from(log % 4);
+    if kind < 10 {
+        let entry = chance.up_to(40) as u64;
+        return add_of(alloc, ledger, entry, chance.up_to(300), number as u8);
+    }
+    if kind == 10 && number == 0 {
+        return Ok(Step::Delete(ledger));
+    }
+    Ok(Step::Work(work_of(kind, number, log)))
+}
+
+/// A step of the store alone, for a number from 10 to 39.
+fn work_of(kind: usize, number: u64, log: u32) -> Work {
+    match kind {
+        0..=12 => Work::Swap,
+        13..=21 => Work::WriteOne,
+        22..=24 => Work::Publish,
+        25 => Work::Roll,
+        26 => Work::Begin(Kind::Minor),
+        27 => Work::Begin(Kind::Major),
+        28..=30 => Work::Copy(number),
+        31 | 32 => Work::EndCopy,
+        33 => Work::Switch(number),
+        34 => Work::Finish,
+        35 => Work::Retire(log),
+        36 => Work::Close(log),
+        37 => Work::Remove(log),
+        38 => Work::Rebuild,
+        _ => Work::GiveUp,
+    }
+}
+
+/// So many lives of one store, each on what the crash of the one before left.
+fn lives(alloc: Global, seed: u64, count: u32) -> Result<(), Stop> {
+    let mut chance = Chance::new(seed);
+    let mut owed = Owed::new(alloc);
+    let mut files = Vec::new(alloc);
+    for _ in 0..count {
+        let mut steps = Vec::new(alloc);
+        for _ in 0..120 {
+            push(&mut steps, step(alloc, &mut chance)?)?;
+        }
+        let calls = chance.up_to(90) as u64;
+        let (left, _) = live(alloc, &mut owed, files, &steps, calls, &mut chance)?;
+        compare(alloc, &mut owed, &left)?;
+        files = left;
+    }
+    Ok(())
+}
+
+#[test]
+fn a_store_lives_on_through_many_crashes(rt: HostRuntime) {
+    for seed in 0..3 {
+        if let Err(stop) = lives(rt.alloc(), seed, 6) {
+            assert!(rt; false, "seed {seed}: {stop:?}");
+        }
+    }
+}

@@ -1,0 +1,228 @@
+//! Worked runs: the power goes at each call in turn, several times, with other files left each time.
+
+use super::life::{Chance, Owed, Stop, add_of, compare, live, push};
+use bk_drive::{Kind, Step, Work};
+use std::alloc::{AllocError, Global};
+
+/// A step of a run.
+#[derive(Clone, Copy)]
+enum Plan {
+    /// An add of so many bytes as this entry of this ledger.
+    Add(u64, u64, usize),
+    Delete(u64),
+    Do(Work),
+}
+
+use Plan::{Add, Delete, Do};
+
+const SWAP: Plan = Do(Work::Swap);
+
+const WRITE: Plan = Do(Work::WriteOne);
+
+const PUBLISH: Plan = Do(Work::Publish);
+
+const ROLL: Plan = Do(Work::Roll);
+
+const MAJOR: Plan = Do(Work::Begin(Kind::Major));
+
+const END: Plan = Do(Work::EndCopy);
+
+const FINISH: Plan = Do(Work::Finish);
+
+/// A flush of three entries, a roll, and a second flush with an add in it.
+const FLUSHES: &[Plan] = &[
+    Add(1, 0, 5),
+    Add(2, 0, 7),
+    Add(1, 1, 0),
+    SWAP,
+    WRITE,
+    WRITE,
+    WRITE,
+    PUBLISH,
+    ROLL,
+    Add(3, 0, 9),
+    Add(1, 2, 1),
+    SWAP,
+    WRITE,
+    Add(2, 1, 30),
+    WRITE,
+    PUBLISH,
+];
+
+/// Logs that are full after two entries, so that a write seals one log and makes the next.
+const FULL_LOGS: &[Plan] = &[
+    Add(1, 0, 480),
+    Add(1, 1, 480),
+    Add(1, 2, 480),
+    Add(2, 0, 480),
+    Add(2, 1, 480),
+    SWAP,
+    WRITE,
+    WRITE,
+    WRITE,
+    WRITE,
+    WRITE,
+    PUBLISH,
+    Add(3, 0, 480),
+    SWAP,
+    WRITE,
+    PUBLISH,
+    ROLL,
+];
+
+/// Two logs are compacted, retired, closed and removed, the copy of the first with them; entries are added and flushed
+/// between.
+const COMPACTIONS: &[Plan] = &[
+    Add(1, 0, 5),
+    Add(2, 0, 200),
+    Add(3, 0, 4),
+    SWAP,
+    WRITE,
+    WRITE,
+    WRITE,
+    PUBLISH,
+    ROLL,
+    Delete(2),
+    MAJOR,
+    Do(Work::Copy(1)),
+    Add(4, 0, 9),
+    Do(Work::Copy(5)),
+    END,
+    Do(Work::Switch(1)),
+    SWAP,
+    WRITE,
+    Do(Work::Switch(5)),
+    FINISH,
+    Do(Work::Close(0)),
+    Do(Work::Remove(0)),
+    PUBLISH,
+    Delete(3),
+    ROLL,
+    MAJOR,
+    Do(Work::Copy(9)),
+    END,
+    Do(Work::Switch(9)),
+    FINISH,
+    Do(Work::Close(1)),
+    Do(Work::Remove(1)),
+    Do(Work::Close(2)),
+    Do(Work::Remove(2)),
+];
+
+/// A compaction is given up behind its end, the index is made anew, and the log that no key names goes.
+const GIVEN_UP: &[Plan] = &[
+    Add(1, 0, 5),
+    Add(2, 0, 200),
+    SWAP,
+    WRITE,
+    WRITE,
+    PUBLISH,
+    ROLL,
+    Delete(2),
+    MAJOR,
+    Do(Work::Copy(9)),
+    END,
+    Do(Work::GiveUp),
+    Do(Work::Rebuild),
+    Do(Work::Retire(0)),
+    Do(Work::Close(0)),
+    Do(Work::Remove(0)),
+    Add(5, 0, 4),
+    SWAP,
+    WRITE,
+    PUBLISH,
+    ROLL,
+    MAJOR,
+    Do(Work::Copy(1)),
+    Do(Work::GiveUp),
+];
+
+/// Ledgers are deleted while they are flushed, and while they are copied.
+const DELETIONS: &[Plan] = &[
+    Add(1, 0, 1),
+    Add(2, 0, 1),
+    Add(3, 0, 1),
+    SWAP,
+    WRITE,
+    Delete(1),
+    WRITE,
+    WRITE,
+    PUBLISH,
+    ROLL,
+    Add(4, 0, 1),
+    MAJOR,
+    Do(Work::Copy(1)),
+    Delete(2),
+    Do(Work::Copy(9)),
+    END,
+    Do(Work::Switch(9)),
+    FINISH,
+    Do(Work::Close(0)),
+    Do(Work::Remove(0)),
+    SWAP,
+    WRITE,
+    PUBLISH,
+    Do(Work::Rebuild),
+];
+
+fn steps_of(alloc: Global, plans: &[Plan]) -> Result<Vec<Step>, AllocError> {
+    let mut steps = Vec::new(alloc);
+    for plan in plans {
+        let step = match plan {
+            Add(ledger, entry, size) => add_of(alloc, *ledger, *entry, *size, 7)?,
+            Delete(ledger) => Step::Delete(*ledger),
+            Do(work) => Step::Work(*work),
+        };
+        push(&mut steps, step)?;
+    }
+    Ok(steps)
+}
+
+/// How many crashes of a run were compared: `times` at each of its calls on the disk.
+fn crashes(alloc: Global, plans: &[Plan], times: u64) -> Result<u64, Stop> {
+    let steps = steps_of(alloc, plans)?;
+    let mut count = 0u64;
+    for calls in 1..1000u64 {
+        let mut is_cut = false;
+        for time in 0..times {
+            let mut chance = Chance::new(calls.wrapping_mul(1000).wrapping_add(time));
+            let mut owed = Owed::new(alloc);
+            let (left, cut) = live(
+                alloc,
+                &mut owed,
+                Vec::new(alloc),
+                &steps,
+                calls,
+                &mut chance,
+            )?;
+            compare(alloc, &mut owed, &left)?;
+            is_cut = cut;
+            count = count.saturating_add(1);
+        }
+        if !is_cut {
+            return Ok(count);
+        }
+    }
+    Ok(count)
+}
+
+#[test]
+fn a_worked_run_loses_nothing(rt: HostRuntime) {
+    let mut count = 0u64;
+    for (name, plans) in [
+        ("flushes", FLUSHES),
+        ("full logs", FULL_LOGS),
+        ("compactions", COMPACTIONS),
+        ("given up", GIVEN_UP),
+        ("deletions", DELETIONS),
+    ] {
+        match crashes(rt.alloc(), plans, TIMES) {
+            Ok(more) => count = count.saturating_add(more),
+            Err(stop) => assert!(rt; false, "{name}: {stop:?}"),
+        }
+    }
+    assert!(rt; count > 100 * TIMES, "{count} crashes");
+}
+
+/// How often the power goes at each call.
+const TIMES: u64 = 2;

@@ -1,0 +1,180 @@
+//! What a disk was asked to write: the bytes of each log, how many of them are on the device for sure, and the files that
+//! were removed. Of it comes what a loss of power may leave.
+
+use std::alloc::{AllocError, Global};
+use std::collections::BTreeMap;
+
+/// Where the twelve bytes of a header that a patch writes begin, and where they end.
+const PATCHED: (usize, usize) = (8, 20);
+
+/// A log's id, and the bytes of its file.
+pub type File = (u32, Vec<u8>);
+
+/// Whoever chooses what a loss of power leaves, where it may leave more than one thing.
+pub trait Choices {
+    /// A number from 0 to this one.
+    fn up_to(&mut self, most: usize) -> usize;
+}
+
+/// What was written to a log.
+#[derive(Drop)]
+struct WrittenLog {
+    bytes: Vec<u8>,
+    /// How many bytes are on the device for sure; `None` where not even the file is.
+    synced: Option<usize>,
+    /// Whether the header was patched since.
+    is_patched: bool,
+}
+
+/// What was written to the logs of a disk.
+#[derive(Drop)]
+pub struct Written {
+    logs: BTreeMap<u32, WrittenLog>,
+    /// The files that were removed.
+    gone: BTreeMap<u32, Vec<u8>>,
+    /// Whether there was no memory for some of it.
+    is_lost: bool,
+}
+
+impl Written {
+    /// Nothing.
+    pub fn new(alloc: Global) -> Written {
+        Written {
+            logs: BTreeMap::new(alloc),
+            gone: BTreeMap::new(alloc),
+            is_lost: false,
+        }
+    }
+
+    /// Whether there was no memory for something that was written.
+    pub fn is_lost(&self) -> bool {
+        self.is_lost
+    }
+
+    /// A log that is on the device with all its bytes.
+    pub fn find(&mut self, log: u32, bytes: Vec<u8>) {
+        let synced = Some(bytes.len());
+        self.put(
+            log,
+            WrittenLog {
+                bytes,
+                synced,
+                is_patched: false,
+            },
+        );
+    }
+
+    pub(crate) fn create(&mut self, alloc: Global, log: u32) {
+        let bytes = Vec::new(alloc);
+        self.put(
+            log,
+            WrittenLog {
+                bytes,
+                synced: None,
+                is_patched: false,
+            },
+        );
+    }
+
+    fn put(&mut self, log: u32, written: WrittenLog) {
+        if self.logs.insert(log, written).is_err() {
+            self.is_lost = true;
+        }
+    }
+
+    pub(crate) fn append(&mut self, log: u32, more: &[u8]) {
+        if let Some(written) = self.logs.get_mut(&log) {
+            if written.bytes.extend_from_slice(more).is_err() {
+                self.is_lost = true;
+            }
+        }
+    }
+
+    pub(crate) fn patch(&mut self, log: u32, bytes: &[u8; 12]) {
+        if let Some(written) = self.logs.get_mut(&log) {
+            written.is_patched = true;
+            overwrite(&mut written.bytes, bytes);
+        }
+    }
+
+    pub(crate) fn sync(&mut self, log: u32) {
+        if let Some(written) = self.logs.get_mut(&log) {
+            written.synced = Some(written.bytes.len());
+            written.is_patched = false;
+        }
+    }
+
+    pub(crate) fn remove(&mut self, log: u32) {
+        if let Some(written) = self.logs.remove(&log) {
+            if self.gone.insert(log, written.bytes).is_err() {
+                self.is_lost = true;
+            }
+        }
+    }
+
+    /// Files that a loss of power may leave: of each log a beginning, no shorter than what was synced, with any bytes where
+    /// its header was patched since; no file where nothing was synced; and removed files, or beginnings of them.
+    pub fn left<C: Choices>(
+        &self,
+        alloc: Global,
+        choices: &mut C,
+    ) -> Result<Vec<File>, AllocError> {
+        let mut left = Vec::new(alloc);
+        for (log, written) in self.logs.iter() {
+            if written.synced.is_none() && choices.up_to(3) == 0 {
+                continue;
+            }
+            let mut bytes = beginning(alloc, &written.bytes, written.synced.unwrap_or(0), choices)?;
+            if written.is_patched {
+                spoil(&mut bytes, choices);
+            }
+            left.push((*log, bytes))?;
+        }
+        for (log, bytes) in self.gone.iter() {
+            if !self.logs.contains_key(log) && choices.up_to(1) == 0 {
+                left.push((*log, beginning(alloc, bytes, 0, choices)?))?;
+            }
+        }
+        Ok(left)
+    }
+}
+
+/// Writes twelve bytes over those at byte 8, where there are so many.
+fn overwrite(file: &mut [u8], bytes: &[u8; 12]) {
+    for (at, byte) in bytes.iter().enumerate() {
+        if let Some(old) = file.get_mut(at.saturating_add(PATCHED.0)) {
+            *old = *byte;
+        }
+    }
+}
+
+/// The first bytes of a file, at least so many: no more, all, a few more, or any number.
+fn beginning<C: Choices>(
+    alloc: Global,
+    file: &[u8],
+    least: usize,
+    choices: &mut C,
+) -> Result<Vec<u8>, AllocError> {
+    let open = file.len().saturating_sub(least);
+    let more = match choices.up_to(3) {
+        0 => 0,
+        1 => open,
+        2 => choices.up_to(30),
+        _ => choices.up_to(open),
+    };
+    let end = least.saturating_add(more);
+    let mut bytes = Vec::new(alloc);
+    for byte in file.iter().take(end) {
+        bytes.push(*byte)?;
+    }
+    Ok(bytes)
+}
+
+/// Other bytes where a header is patched, or the same.
+fn spoil<C: Choices>(file: &mut [u8], choices: &mut C) {
+    match choices.up_to(2) {
+        0 => overwrite(file, &[0; 12]),
+        1 => overwrite(file, &[0xa5; 12]),
+        _ => {}
+    }
+}
