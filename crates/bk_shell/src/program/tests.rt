@@ -1,3 +1,4 @@
+mod compact;
 mod folder;
 
 use super::{StartFault, run_words, words_of};
