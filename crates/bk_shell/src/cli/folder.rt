@@ -1,10 +1,9 @@
-//! The commands on a folder: how they are called, and what is told of each.
+//! The commands that read a folder: how they are called, and what is told of each.
 
 ghost use Rattle.std.specs.Prelude.{◌≤◌, IfOk};
 
 mod help;
 
-use super::compact::{CompactAsk, compact_command, read_compact, read_dead};
 use bk_dir::{Digest, DigestChoice, DirCommand, EntryRange, ScanChoice};
 use bk_disk::log_of;
 use bk_record::{Key, LAST_ID, LAST_LOG, MAX_LOG_LENGTH};
@@ -21,22 +20,20 @@ use std::convert::AsStr;
 
 /// What is asked of a folder.
 #[derive(Debug, PartialEq, Eq, Drop)]
-pub(crate) enum FolderAsk<'a> {
+pub(crate) enum FolderAsk {
     /// A command that any disk answers.
     Dir(DirCommand),
     /// How much stands in each log, and how much of that is of ledgers that aren't among these.
     Stat(Vec<u64>),
-    /// A compaction, the only command that writes.
-    Compact(CompactAsk<'a>),
 }
 
-/// A call of a command on a folder.
+/// A call of a command that reads a folder.
 #[derive(Debug, PartialEq, Eq, Drop)]
 pub(crate) struct FolderCall<'a> {
     /// The folder.
     pub path: &'a str,
     /// What is asked of it.
-    pub ask: FolderAsk<'a>,
+    pub ask: FolderAsk,
 }
 
 /// A word behind a command isn't what it is to be.
@@ -61,7 +58,7 @@ pub(crate) enum BadWord<'a> {
     },
 }
 
-/// Whether the words call a command on a folder, or ask for help on one.
+/// Whether the words call a command that reads a folder, or ask for help on one.
 pub(crate) fn is_folder_call<S: AsStr>(words: &[S]) -> bool {
     match words {
         [_, first, second, ..] if first.as_str() == "help" => is_folder_command(second.as_str()),
@@ -73,16 +70,7 @@ pub(crate) fn is_folder_call<S: AsStr>(words: &[S]) -> bool {
 fn is_folder_command(name: &str) -> bool {
     matches!(
         name,
-        "logs"
-            | "header"
-            | "map"
-            | "scan"
-            | "find"
-            | "check"
-            | "stat"
-            | "ledgers"
-            | "entries"
-            | "compact"
+        "logs" | "header" | "map" | "scan" | "find" | "check" | "stat" | "ledgers" | "entries"
     )
 }
 
@@ -126,21 +114,38 @@ fn read_ask<'a>(
     alloc: Global,
     name: &str,
     found: &ArgMatches<'a>,
-) -> Result<Result<FolderAsk<'a>, BadWord<'a>>, AllocError> {
-    match name {
-        "stat" => match read_dead(alloc, found)? {
-            Ok(dead) => Ok(Ok(FolderAsk::Stat(dead))),
-            Err(bad) => Ok(Err(bad)),
-        },
-        "compact" => match read_compact(alloc, found)? {
-            Ok(ask) => Ok(Ok(FolderAsk::Compact(ask))),
-            Err(bad) => Ok(Err(bad)),
-        },
-        _ => match read_command(name, found) {
-            Ok(command) => Ok(Ok(FolderAsk::Dir(command))),
-            Err(bad) => Ok(Err(bad)),
-        },
+) -> Result<Result<FolderAsk, BadWord<'a>>, AllocError> {
+    if name == "stat" {
+        return read_stat(alloc, found);
     }
+    match read_command(name, found) {
+        Ok(command) => Ok(Ok(FolderAsk::Dir(command))),
+        Err(bad) => Ok(Err(bad)),
+    }
+}
+
+/// The ledgers that `stat` takes for deleted.
+fn read_stat<'a>(
+    alloc: Global,
+    found: &ArgMatches<'a>,
+) -> Result<Result<FolderAsk, BadWord<'a>>, AllocError> {
+    let mut dead = Vec::new(alloc);
+    let Some(words) = found.get_strs("dead") else {
+        return Ok(Ok(FolderAsk::Stat(dead)));
+    };
+    for text in words {
+        match number(text, LAST_ID) {
+            Some(ledger) => dead.push(ledger)?,
+            None => {
+                return Ok(Err(BadWord::Number {
+                    text: *text,
+                    name: "LEDGER",
+                    most: LAST_ID,
+                }));
+            }
+        }
+    }
+    Ok(Ok(FolderAsk::Stat(dead)))
 }
 
 /// The command on any disk that a command of this name and the words behind it are.
@@ -268,19 +273,18 @@ fn usage_of(name: &str) -> &'static str {
         "stat" => "bk_shell stat [OPTIONS] <DIR>",
         "ledgers" => "bk_shell ledgers <DIR>",
         "entries" => "bk_shell entries <DIR> <LEDGER> [FIRST] [LAST]",
-        "compact" => "bk_shell compact [OPTIONS] <DIR>",
         _ => "bk_shell logs <DIR>",
     }
 }
 
-/// The commands on a folder, as a command line of the program.
+/// The commands that read a folder, as a command line of the program.
 fn folder_commands<'a>(alloc: Global) -> Result<Command<'a>, AllocError> {
     let commands = Command::new(alloc, "bk_shell")
         .about("Entry log storage of a bookie")
         .subcommand_required(true);
     let commands = with_listing_commands(alloc, commands)?;
     let commands = with_log_commands(alloc, commands)?;
-    with_ledger_commands(alloc, commands)?.subcommand(compact_command(alloc)?)
+    with_ledger_commands(alloc, commands)
 }
 
 /// With the commands that show a line for each log.
@@ -314,7 +318,7 @@ fn with_ledger_commands<'a>(
 }
 
 /// A command on a folder.
-pub(super) fn on_folder<'a>(
+fn on_folder<'a>(
     alloc: Global,
     name: &'a str,
     about: &'a str,

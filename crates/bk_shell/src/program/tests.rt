@@ -1,4 +1,3 @@
-mod compact;
 mod folder;
 
 use super::{StartFault, run_words, words_of};

@@ -7,7 +7,7 @@ use std::process::Abort;
 use std::test::Fail;
 
 /// What the program tells of these words, which are no call on a folder.
-pub(super) fn told_of_folder(rt: &impl Abort, alloc: Global, words: &[&str]) -> String {
+fn told_of_folder(rt: &impl Abort, alloc: Global, words: &[&str]) -> String {
     match folder_call(alloc, words) {
         Ok(_) => {
             assert!(rt; false, "{words:?} is a call on a folder");
@@ -199,7 +199,7 @@ fn a_call_on_a_folder(rt: HostRuntime) {
 }
 
 /// Commands on folders, and parts of the help of each.
-const FOLDER_HELP: [(&str, &str); 10] = [
+const FOLDER_HELP: [(&str, &str); 9] = [
     (
         "logs",
         "$ bk_shell logs /var/bookie/current\n  0 1089 sealed",
@@ -212,7 +212,6 @@ const FOLDER_HELP: [(&str, &str); 10] = [
     ("stat", "3 1087 3 63 41 650 open"),
     ("ledgers", "1 3 66 0 2 2"),
     ("entries", "2 3 1071 20"),
-    ("compact", "0 1325 compact 1"),
 ];
 
 #[test]
