@@ -1,6 +1,8 @@
 //! What a disk was asked to write: the bytes of each log, how many of them are on the device for sure, and the files that
 //! were removed. Of it comes what a loss of power may leave.
 
+ghost use Rattle.std.specs.Prelude.{◌≤◌};
+
 use std::alloc::{AllocError, Global};
 use std::collections::BTreeMap;
 
@@ -13,7 +15,8 @@ pub type File = (u32, Vec<u8>);
 /// Whoever chooses what a loss of power leaves, where it may leave more than one thing.
 pub trait Choices {
     /// A number from 0 to this one.
-    fn up_to(&mut self, most: usize) -> usize;
+    fn up_to(&mut self, most: usize) -> usize
+        ensures { result ≤ most };
 }
 
 /// What was written to a log.

@@ -250,7 +250,12 @@ enum Done {
 
 /// Takes a step of the store alone.
 fn work_done(store: &mut Powered, work: Work) -> Done {
-    match &apply(store, work) {
+    done_by(&apply(store, work))
+}
+
+/// What a step did that gave this answer.
+fn done_by(answer: &Answer) -> Done {
+    match answer {
         Answer::Swap(SwapAnswer::Swapped(_)) => Done::Swapped,
         Answer::Publish(Ok(PublishAnswer::Published(_))) => Done::Published,
         _ => Done::Other,

@@ -62,8 +62,8 @@ fn lives(alloc: Global, seed: u64, count: u32) -> Result<(), Stop> {
 
 #[test]
 fn a_store_lives_on_through_many_crashes(rt: HostRuntime) {
-    for seed in 0..3 {
-        if let Err(stop) = lives(rt.alloc(), seed, 6) {
+    for seed in 0..200 {
+        if let Err(stop) = lives(rt.alloc(), seed, 20) {
             assert!(rt; false, "seed {seed}: {stop:?}");
         }
     }

@@ -225,4 +225,4 @@ fn a_worked_run_loses_nothing(rt: HostRuntime) {
 }
 
 /// How often the power goes at each call.
-const TIMES: u64 = 2;
+const TIMES: u64 = 60;
