@@ -8,6 +8,8 @@ mod noting;
 mod numbers;
 mod parse;
 mod running;
+#[cfg(test)]
+mod tests;
 mod worked;
 
 use compare::{Tally, first_other};

@@ -5,7 +5,7 @@ ghost use Rattle.std.specs.Prelude.{◌<◌, ◌^◌};
 use crate::noting::NotingDisk;
 use crate::worked::{Failing, Worked};
 use crate::{RunFault, first_other};
-use bk_disk::{FaultDisk, LogDisk, MemDisk};
+use bk_disk::{DiskFault, FaultDisk, LogDisk, MemDisk};
 use bk_drive::{Answer, OpenFault, Ran, drive};
 use bk_script::Text;
 use std::alloc::{AllocError, Global};
@@ -192,8 +192,13 @@ fn line_at(alloc: Global, lines: &[String], index: usize) -> Result<String, Allo
 fn disk_of(alloc: Global, worked: &Worked) -> Result<MemDisk, RunFault> {
     let mut disk = MemDisk::new(alloc);
     for (log, bytes) in &worked.files {
-        if *log >= 2_147_483_648 || disk.create(alloc, *log).is_err() {
+        if *log >= 2_147_483_648 {
             return Err(RunFault::Files);
+        }
+        match disk.create(alloc, *log) {
+            Ok(()) => {}
+            Err(DiskFault::Memory) => return Err(RunFault::Memory),
+            Err(_) => return Err(RunFault::Files),
         }
         if disk.append(alloc, *log, bytes).is_err() {
             return Err(RunFault::Memory);

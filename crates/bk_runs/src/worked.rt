@@ -45,7 +45,7 @@ pub(crate) struct Worked {
 }
 
 /// The settings of a store without options.
-const DEFAULTS: Settings = Settings {
+pub(crate) const DEFAULTS: Settings = Settings {
     log_limit: 1_073_741_824,
     cache_limit: 16_777_216,
     recent: 0,

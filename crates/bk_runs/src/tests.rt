@@ -1,0 +1,4 @@
+//! Runs that no file of this crate can say: over disks that a test makes.
+
+mod large;
+mod lengths;
