@@ -100,12 +100,18 @@ module _ {Z : Type 0} where
   name_in (Some b) name rows e = ap (option_map (λ (p : Text × List Row). p.0)) e
 
 -- the rows of words that call `script` are those that they ask by
-pub asked_rows : (words : List Text) (settings : Settings) (dead : List ℕ) (asks : Asks words settings dead) (rows : List Row)
-    → subcommand_of program words ≡ Some (codes "script", rows) → asks.rows ≡ rows
-asked_rows words settings dead asks rows e =
+pub asked_rows : (words : List Text) (over : Option Text) (settings : Settings) (dead : List ℕ) (asks : Asks words over settings dead)
+    (rows : List Row) → subcommand_of program words ≡ Some (codes "script", rows) → asks.rows ≡ rows
+asked_rows words over settings dead asks rows e =
     let same : Some (codes "script", asks.rows) ≡ Some (codes "script", rows) = sym asks.called ∙ e in
     let pair : (codes "script", asks.rows) ≡ (codes "script", rows) = cc in
     ap (λ (p : Text × List Row). p.1) pair
+
+-- words ask for one folder, or for none
+pub one_folder : {words : List Text} {over over' : Option Text} {settings settings' : Settings} {dead dead' : List ℕ}
+    → Asks words over settings dead → Asks words over' settings' dead' → over ≡ over'
+one_folder {words} {over} {over'} {settings} {settings'} {dead} one other =
+    sym one.over ∙ (ap (first_of (codes "folder")) (asked_rows words over settings dead one other.rows other.called) ∙ other.over)
 
 program_is_free : is_simple_and_free program ≡ true
 unfolding clap_on_literals
@@ -120,15 +126,15 @@ memory_alone error kinds = elim kinds [ inl memory ↦ memory | inr none ↦ abs
 
 pub refused_by_parse : {T : Type 0} (r : Result T Error) (words : List Text) (app : App) (told : Error) → app ≡ program
     → IsErrAnd r (λ error. error ≡ told) → (is_simple_and_free app ≡ true → HasKind (fault_of app words) told)
-    → IfErr r (λ error. (settings : Settings) (dead : List ℕ) → Asks words settings dead → kind_of error ≡ OutOfMemory)
+    → IfErr r (λ error. (over : Option Text) (settings : Settings) (dead : List ℕ) → Asks words over settings dead → kind_of error ≡ OutOfMemory)
 refused_by_parse (Ok x) words app told is same kinds = tt
-refused_by_parse (Err error) words app told is same kinds = λ settings dead asks.
+refused_by_parse (Err error) words app told is same kinds = λ over settings dead asks.
     let has : HasKind (fault_of app words) told = kinds (ap is_simple_and_free is ∙ program_is_free) in
     let none : fault_of app words ≡ [] = ap (λ (a : App). fault_of a words) is ∙ asks.faultless in
     rw same (memory_alone told (subst (λ (list : Kinds). HasKind list told) none has))
 
 -- an error for want of memory
 pub refused_for_memory : {T : Type 0} (r : Result T Error) (words : List Text) → IsErrAnd r (λ error. kind_of error ≡ OutOfMemory)
-    → IfErr r (λ error. (settings : Settings) (dead : List ℕ) → Asks words settings dead → kind_of error ≡ OutOfMemory)
+    → IfErr r (λ error. (over : Option Text) (settings : Settings) (dead : List ℕ) → Asks words over settings dead → kind_of error ≡ OutOfMemory)
 refused_for_memory (Ok x) words memory = tt
-refused_for_memory (Err error) words memory = λ settings dead asks. memory
+refused_for_memory (Err error) words memory = λ over settings dead asks. memory

@@ -20,9 +20,10 @@ words_rule name = record (new_rule name) { action = Some Append; value_names = 1
 
 -- the command `script`, with its options and the words beside them
 abbrev pub script : App
-script = with_rule (with_rule (with_rule (with_rule (with_rule (with_rule (with_rule (with_rule (new_app (codes "script"))
+script = with_rule (with_rule (with_rule (with_rule (with_rule (with_rule (with_rule (with_rule (with_rule (new_app (codes "script"))
     (option_rule (codes "log-limit"))) (option_rule (codes "cache-limit"))) (option_rule (codes "recent"))) (option_rule (codes "slots")))
-    (option_rule (codes "leases"))) (option_rule (codes "minor"))) (option_rule (codes "major"))) (words_rule (codes "LEDGER"))
+    (option_rule (codes "leases"))) (option_rule (codes "minor"))) (option_rule (codes "major"))) (option_rule (codes "folder")))
+    (words_rule (codes "LEDGER"))
 
 -- the program, which is called with a command
 abbrev pub program : App
@@ -56,12 +57,13 @@ pub record AsksSettings (rows : List Row) (settings : Settings) : Type 0 where
   pub minor : AsksNumber 200 0 1000 (first_of (codes "minor") rows) settings.minor
   pub major : AsksNumber 800 0 1000 (first_of (codes "major") rows) settings.major
 
--- The words, of which the first is the program's name, call `script` with options that ask for these settings, and with
--- these ledgers, which were deleted before.
-pub record Asks (words : List Text) (settings : Settings) (dead : List ℕ) : Type 0 where
+-- The words, of which the first is the program's name, call `script` with options that ask for these settings, over the folder
+-- at this path or over none, and with these ledgers, which were deleted before.
+pub record Asks (words : List Text) (folder : Option Text) (settings : Settings) (dead : List ℕ) : Type 0 where
   -- nothing in them is unknown, given twice or left over, and none asks for help
   pub faultless : fault_of program words ≡ []
   pub rows : List Row
   pub called : subcommand_of program words ≡ Some (codes "script", rows)
   pub asked : AsksSettings rows settings
+  pub over : first_of (codes "folder") rows ≡ folder
   pub ledgers : AsksLedgers (all_of (codes "LEDGER") rows) dead

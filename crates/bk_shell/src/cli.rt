@@ -1,15 +1,17 @@
 //! The command line: what the program is called with, and what it tells of itself.
 
-ghost use Rattle.std.specs.Prelude.{◌≡◌, ℕ, List, map, IfOk, IfErr, OnErr};
+ghost use Rattle.std.specs.Prelude.{◌≡◌, ℕ, List, Option, map, option_map, IfOk, IfErr, OnErr};
 ghost use Rattle.clap.specs.Matches.{found_of};
 ghost use Rattle.clap.specs.Simple.{app_of};
 ghost use Rattle.clap.specs.Values.{kind_of};
-ghost use Rattle.clap.specs.Walk.{rows_of};
+ghost use Rattle.clap.specs.Walk.{Text, rows_of};
 ghost use Rattle.bk_store.specs.Limits.{IsAllowed};
 ghost use Rattle.bk_store.specs.declared.settings.Settings.{Settings};
 ghost use Rattle.bk_shell.specs.CommandLine.{program, Asks, AsksSettings};
 
+mod compact;
 mod folder;
+mod folder_option;
 mod help;
 mod ledgers;
 mod number_option;
@@ -20,7 +22,9 @@ use bk_drive::Settings;
 use bk_record::{MAX_CACHE_LIMIT, MAX_LOG_LIMIT};
 use clap::error::ErrorKind;
 use clap::{ArgMatches, Command, Error};
+pub(crate) use compact::CompactAsk;
 pub(crate) use folder::{FolderAsk, FolderCall, folder_call, is_folder_call};
+use folder_option::{FOLDER, folder_arg, read_folder};
 use help::{ABOUT_SCRIPT, SCRIPT_HELP};
 pub(crate) use help::{ABOUT, COMMANDS, PROGRAM_HELP, VERSION};
 use ledgers::{ledgers_arg, read_ledgers};
@@ -29,10 +33,12 @@ use std::alloc::{AllocError, Global};
 use std::convert::AsStr;
 use strsim::osa_distance;
 
-/// What a call of `script` asks for: the settings of the store, and the ledgers that were deleted before.
+/// What a call of `script` asks for: the settings of the store, the path of the folder that it runs over, if it runs over
+/// one, and the ledgers that were deleted before.
 #[derive(Debug, PartialEq, Eq, Drop)]
-pub(crate) struct ScriptCall {
+pub(crate) struct ScriptCall<'a> {
     pub settings: Settings,
+    pub folder: Option<&'a str>,
     pub dead: Vec<u64>,
 }
 
@@ -112,11 +118,15 @@ const MAJOR: NumberOption = NumberOption {
 
 /// The call of `script` that a command line is, its first word being the program's name. An error is a wrong command
 /// line, help that was asked for, or want of memory, as its kind says.
-pub(crate) fn script_call<'a, S: AsStr>(alloc: Global, words: &'a [S]) -> Result<ScriptCall, Error>
+pub(crate) fn script_call<'a, S: AsStr>(
+    alloc: Global,
+    words: &'a [S],
+) -> Result<ScriptCall<'a>, Error>
     ensures allowed { IfOk result (λ call. IsAllowed call.settings) }
-    ensures asked { IfOk result (λ call. Asks (map S.text words.now) call.settings call.dead.items) }
-    ensures refused { IfErr result (λ error. (settings : Settings) (dead : List ℕ)
-        → Asks (map S.text words.now) settings dead → kind_of error ≡ ErrorKind.OutOfMemory) }
+    ensures asked { IfOk result (λ call. Asks (map S.text words.now) (option_map (λ path. path.now) call.folder) call.settings
+        call.dead.items) }
+    ensures refused { IfErr result (λ error. (folder : Option Text) (settings : Settings) (dead : List ℕ)
+        → Asks (map S.text words.now) folder settings dead → kind_of error ≡ ErrorKind.OutOfMemory) }
 {
     let mut command = command(alloc)?;
     let matches = command.try_get_matches_from_mut(words)?;
@@ -131,7 +141,11 @@ pub(crate) fn script_call<'a, S: AsStr>(alloc: Global, words: &'a [S]) -> Result
         }
     };
     match read_ledgers(alloc, script)? {
-        Ok(dead) => Ok(ScriptCall { settings, dead }),
+        Ok(dead) => Ok(ScriptCall {
+            settings,
+            folder: read_folder(script),
+            dead,
+        }),
         Err(bad) => {
             let told = format!(in alloc; "{bad}")?;
             Err(script_error(alloc, ErrorKind::ValueValidation, &told)?)
@@ -179,7 +193,8 @@ pub(crate) fn text_of(alloc: Global, error: &Error) -> Result<String, AllocError
 
 /// The word of an error's text that is told to be no option, where no command on a folder was called.
 fn unknown_word<'t>(error: &Error, text: &'t str) -> Option<&'t str> {
-    if error.kind() != ErrorKind::UnknownArgument || text.contains("<DIR>") {
+    let is_on_folder = text.contains("<DIR>") && !text.contains("bk_shell script ");
+    if error.kind() != ErrorKind::UnknownArgument || is_on_folder {
         return None;
     }
     let (_, rest) = text.split_once("unexpected argument '")?;
@@ -189,9 +204,10 @@ fn unknown_word<'t>(error: &Error, text: &'t str) -> Option<&'t str> {
 
 /// The option of `script` that is this word but for one slip: a letter too many, too few, another, or two exchanged.
 fn near_option(alloc: Global, word: &str) -> Result<Option<&'static str>, AllocError> {
-    for option in [LOG_LIMIT, CACHE_LIMIT, RECENT, SLOTS, LEASES, MINOR, MAJOR] {
-        if osa_distance(alloc, word.trim_start_matches('-'), option.name)? <= 1 {
-            return Ok(Some(option.name));
+    let numbers = [LOG_LIMIT, CACHE_LIMIT, RECENT, SLOTS, LEASES, MINOR, MAJOR];
+    for name in numbers.iter().map(|option| option.name).chain([FOLDER]) {
+        if osa_distance(alloc, word.trim_start_matches('-'), name)? <= 1 {
+            return Ok(Some(name));
         }
     }
     Ok(None)
@@ -221,6 +237,7 @@ fn command<'a>(alloc: Global) -> Result<Command<'a>, AllocError>
         .arg(LEASES.arg(alloc))?
         .arg(MINOR.arg(alloc))?
         .arg(MAJOR.arg(alloc))?
+        .arg(folder_arg(alloc))?
         .arg(ledgers_arg(alloc))?;
     Command::new(alloc, "bk_shell")
         .about("Entry log storage of a bookie")

@@ -1,8 +1,13 @@
-//! A program that runs scripts of steps over a store of entry logs, and shows what a folder of such logs has.
+//! A program that runs scripts of steps over a store of entry logs, and shows, or compacts, what a folder of such logs has.
 #![tactic(auto)]
 
 mod cli;
+mod compact;
+mod dead;
 mod program;
+mod progress;
+mod script;
+mod told;
 
 pub use bk_dir::{Digest, DigestChoice, DirCommand, EntryRange, ScanChoice, run_dir};
 pub use bk_script::run_script;

@@ -1,10 +1,12 @@
 //! What the program does with the words that it is called with, on any streams.
 
-ghost use Rattle.std.specs.Prelude.{◌≡◌, ◌≤◌, ℕ, List, map};
+ghost use Rattle.std.specs.Prelude.{◌≡◌, ◌≤◌, ℕ, List, None, Option, Some, map};
 ghost use Rattle.bk_store.specs.declared.settings.Settings.{Settings};
 ghost use Rattle.bk_script.specs.Run.{RunsScript};
 ghost use Rattle.bk_shell.specs.CommandLine.{Asks};
+ghost use Rattle.bk_shell.specs.Folder.{RunsOverFolder};
 ghost use Rattle.clap.specs.Values.{kind_of};
+ghost use Rattle.clap.specs.Walk.{Text};
 
 #[cfg(test)]
 mod tests;
@@ -13,8 +15,9 @@ use crate::cli::{
     ABOUT, COMMANDS, FolderAsk, FolderCall, PROGRAM_HELP, VERSION, folder_call, is_folder_call,
     script_call, text_of,
 };
-use bk_dir::{FolderCommand, run_folder};
-use bk_script::run_script;
+use crate::compact::run_compact;
+use crate::script::{run_in_memory, run_over_folder};
+use bk_dir::{FolderCommand, run_folder_as, run_seal_folder};
 use clap::Error;
 use clap::error::ErrorKind;
 use std::alloc::{AllocGlobal, Global};
@@ -66,8 +69,8 @@ pub(crate) fn tell_fault<E: Write>(fault: StartFault, errors: &mut E) {
 }
 
 /// Does what the words ask for: runs the script that the reader gives with the settings of its options and the dead
-/// ledgers beside them, or a command on a folder, or writes the help that was asked for. Returns the program's status: 0, 1
-/// as `run_script` and `run_dir` say, or where no memory is to be had
+/// ledgers beside them, in memory or over a folder, or a command on a folder, or writes the help that was asked for. Returns
+/// the program's status: 0, 1 as `run_in_memory`, `run_over_folder` and `run_dir` say, or where no memory is to be had
 /// or the help can't be written, and 2 where the words are a wrong command line. The error stream gets the reason,
 /// `writer` nothing but answers and help.
 pub(crate) fn run_words<S: AsStr, R: Read, W: Write, E: Write>(
@@ -77,15 +80,23 @@ pub(crate) fn run_words<S: AsStr, R: Read, W: Write, E: Write>(
     writer: &mut W,
     errors: &mut E,
 ) -> u8
-    ensures done { (asked : Settings) (named : List ℕ) → Asks (map S.text words.now) asked named → result ≡ 0
-        → (settings : Settings) × (dead : List ℕ) × Asks (map S.text words.now) settings dead
+    ensures done { (asked : Settings) (named : List ℕ) → Asks (map S.text words.now) None asked named → result ≡ 0
+        → (settings : Settings) × (dead : List ℕ) × Asks (map S.text words.now) None settings dead
         × RunsScript settings dead (R.remaining reader.old) (R.remaining reader.new)
         (W.contents writer.old) (W.contents writer.new) }
-    ensures right { (asked : Settings) (named : List ℕ) → Asks (map S.text words.now) asked named → result ≤ 1 }
+    ensures folder { (path : Text) (asked : Settings) (named : List ℕ) → Asks (map S.text words.now) (Some path) asked named
+        → result ≡ 0 → (settings : Settings) × (dead : List ℕ) × Asks (map S.text words.now) (Some path) settings dead
+        × RunsOverFolder settings dead (R.remaining reader.old) (R.remaining reader.new)
+        (W.contents writer.old) (W.contents writer.new) }
+    ensures right { (over : Option Text) (asked : Settings) (named : List ℕ) → Asks (map S.text words.now) over asked named
+        → result ≤ 1 }
 {
     let alloc = rt.alloc();
     match script_call(alloc, words) {
-        Ok(call) => run_script(alloc, call.settings, &call.dead, reader, writer, errors),
+        Ok(call) => match call.folder {
+            None => run_in_memory(alloc, &call, reader, writer, errors),
+            Some(path) => run_over_folder(rt, path, &call, reader, writer, errors),
+        },
         Err(error) => run_other(rt, words, &error, writer, errors),
     }
 }
@@ -123,15 +134,18 @@ fn run_call<W: Write, E: Write>(
     writer: &mut W,
     errors: &mut E,
 ) -> u8 {
+    let (form, path) = (call.form, call.path);
     match &call.ask {
         FolderAsk::Dir(command) => {
             let command = FolderCommand::Dir(*command);
-            run_folder(rt, call.path, &command, writer, errors)
+            run_folder_as(rt, form, path, &command, writer, errors)
         }
         FolderAsk::Stat(dead) => {
             let command = FolderCommand::Stat(dead);
-            run_folder(rt, call.path, &command, writer, errors)
+            run_folder_as(rt, form, path, &command, writer, errors)
         }
+        FolderAsk::Seal(log) => run_seal_folder(rt, form, path, *log, writer, errors),
+        FolderAsk::Compact(ask) => run_compact(rt, form, path, ask, writer, errors),
     }
 }
 

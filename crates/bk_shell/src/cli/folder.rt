@@ -1,10 +1,11 @@
-//! The commands that read a folder: how they are called, and what is told of each.
+//! The commands on a folder: how they are called, and what is told of each.
 
 ghost use Rattle.std.specs.Prelude.{◌≤◌, IfOk};
 
 mod help;
 
-use bk_dir::{Digest, DigestChoice, DirCommand, EntryRange, ScanChoice};
+use super::compact::{CompactAsk, compact_command, read_compact, read_dead};
+use bk_dir::{Digest, DigestChoice, DirCommand, EntryRange, Form, ScanChoice};
 use bk_disk::log_of;
 use bk_record::{Key, LAST_ID, LAST_LOG, MAX_LOG_LENGTH};
 use bk_script::number;
@@ -12,28 +13,34 @@ use clap::error::ErrorKind;
 use clap::{Arg, ArgAction, ArgMatches, Command, Error};
 use help::{
     ABOUT_CHECK, ABOUT_ENTRIES, ABOUT_FIND, ABOUT_HEADER, ABOUT_LEDGERS, ABOUT_LOGS, ABOUT_MAP,
-    ABOUT_SCAN, ABOUT_STAT, CHECK_HELP, ENTRIES_HELP, FIND_HELP, HEADER_HELP, LEDGERS_HELP,
-    LOGS_HELP, MAP_HELP, SCAN_HELP, STAT_HELP,
+    ABOUT_SCAN, ABOUT_SEAL, ABOUT_STAT, CHECK_HELP, ENTRIES_HELP, FIND_HELP, HEADER_HELP,
+    LEDGERS_HELP, LOGS_HELP, MAP_HELP, SCAN_HELP, SEAL_HELP, STAT_HELP,
 };
 use std::alloc::{AllocError, Global};
 use std::convert::AsStr;
 
 /// What is asked of a folder.
 #[derive(Debug, PartialEq, Eq, Drop)]
-pub(crate) enum FolderAsk {
+pub(crate) enum FolderAsk<'a> {
     /// A command that any disk answers.
     Dir(DirCommand),
     /// How much stands in each log, and how much of that is of ledgers that aren't among these.
     Stat(Vec<u64>),
+    /// That a log be sealed.
+    Seal(u32),
+    /// A compaction.
+    Compact(CompactAsk<'a>),
 }
 
-/// A call of a command that reads a folder.
+/// A call of a command on a folder.
 #[derive(Debug, PartialEq, Eq, Drop)]
 pub(crate) struct FolderCall<'a> {
+    /// How it is shown.
+    pub form: Form,
     /// The folder.
     pub path: &'a str,
     /// What is asked of it.
-    pub ask: FolderAsk,
+    pub ask: FolderAsk<'a>,
 }
 
 /// A word behind a command isn't what it is to be.
@@ -58,11 +65,18 @@ pub(crate) enum BadWord<'a> {
     },
 }
 
-/// Whether the words call a command that reads a folder, or ask for help on one.
+/// The option, behind the program's name or behind a command, that asks for objects of JSON.
+const JSON: &str = "--json";
+
+/// Whether the words call a command on a folder, or ask for help on one.
 pub(crate) fn is_folder_call<S: AsStr>(words: &[S]) -> bool {
-    match words {
-        [_, first, second, ..] if first.as_str() == "help" => is_folder_command(second.as_str()),
-        [_, first, ..] => is_folder_command(first.as_str()),
+    let skipped = match words {
+        [_, first, ..] if first.as_str() == JSON => 2,
+        _ => 1,
+    };
+    match words.get(skipped..) {
+        Some([first, second, ..]) if first.as_str() == "help" => is_folder_command(second.as_str()),
+        Some([first, ..]) => is_folder_command(first.as_str()),
         _ => false,
     }
 }
@@ -70,7 +84,17 @@ pub(crate) fn is_folder_call<S: AsStr>(words: &[S]) -> bool {
 fn is_folder_command(name: &str) -> bool {
     matches!(
         name,
-        "logs" | "header" | "map" | "scan" | "find" | "check" | "stat" | "ledgers" | "entries"
+        "logs"
+            | "header"
+            | "map"
+            | "scan"
+            | "find"
+            | "check"
+            | "stat"
+            | "ledgers"
+            | "entries"
+            | "seal"
+            | "compact"
     )
 }
 
@@ -87,6 +111,7 @@ pub(crate) fn folder_call<'a, S: AsStr>(
     };
     match read_ask(alloc, name, found)? {
         Ok(ask) => Ok(FolderCall {
+            form: form_of(found),
             path: word_of(found, "DIR"),
             ask,
         }),
@@ -95,6 +120,15 @@ pub(crate) fn folder_call<'a, S: AsStr>(
             let mut command = Command::new(alloc, "bk_shell").override_usage(usage_of(name));
             Err(command.error(ErrorKind::ValueValidation, &told)?)
         }
+    }
+}
+
+/// The form that is asked for.
+fn form_of(found: &ArgMatches<'_>) -> Form {
+    if found.get_flag("json") {
+        Form::Json
+    } else {
+        Form::Text
     }
 }
 
@@ -114,38 +148,25 @@ fn read_ask<'a>(
     alloc: Global,
     name: &str,
     found: &ArgMatches<'a>,
-) -> Result<Result<FolderAsk, BadWord<'a>>, AllocError> {
-    if name == "stat" {
-        return read_stat(alloc, found);
+) -> Result<Result<FolderAsk<'a>, BadWord<'a>>, AllocError> {
+    match name {
+        "stat" => match read_dead(alloc, found)? {
+            Ok(dead) => Ok(Ok(FolderAsk::Stat(dead))),
+            Err(bad) => Ok(Err(bad)),
+        },
+        "seal" => match read_log(found) {
+            Ok(log) => Ok(Ok(FolderAsk::Seal(log))),
+            Err(bad) => Ok(Err(bad)),
+        },
+        "compact" => match read_compact(alloc, found)? {
+            Ok(ask) => Ok(Ok(FolderAsk::Compact(ask))),
+            Err(bad) => Ok(Err(bad)),
+        },
+        _ => match read_command(name, found) {
+            Ok(command) => Ok(Ok(FolderAsk::Dir(command))),
+            Err(bad) => Ok(Err(bad)),
+        },
     }
-    match read_command(name, found) {
-        Ok(command) => Ok(Ok(FolderAsk::Dir(command))),
-        Err(bad) => Ok(Err(bad)),
-    }
-}
-
-/// The ledgers that `stat` takes for deleted.
-fn read_stat<'a>(
-    alloc: Global,
-    found: &ArgMatches<'a>,
-) -> Result<Result<FolderAsk, BadWord<'a>>, AllocError> {
-    let mut dead = Vec::new(alloc);
-    let Some(words) = found.get_strs("dead") else {
-        return Ok(Ok(FolderAsk::Stat(dead)));
-    };
-    for text in words {
-        match number(text, LAST_ID) {
-            Some(ledger) => dead.push(ledger)?,
-            None => {
-                return Ok(Err(BadWord::Number {
-                    text: *text,
-                    name: "LEDGER",
-                    most: LAST_ID,
-                }));
-            }
-        }
-    }
-    Ok(Ok(FolderAsk::Stat(dead)))
 }
 
 /// The command on any disk that a command of this name and the words behind it are.
@@ -265,26 +286,39 @@ fn read_check<'a>(found: &ArgMatches<'a>) -> Result<DirCommand, BadWord<'a>> {
 /// The usage of a command of this name.
 fn usage_of(name: &str) -> &'static str {
     match name {
-        "header" => "bk_shell header <DIR> <LOG>",
-        "map" => "bk_shell map <DIR> <LOG>",
+        "header" => "bk_shell header [OPTIONS] <DIR> <LOG>",
+        "map" => "bk_shell map [OPTIONS] <DIR> <LOG>",
         "scan" => "bk_shell scan [OPTIONS] <DIR> <LOG>",
-        "find" => "bk_shell find <DIR> <LEDGER> <ENTRY>",
+        "find" => "bk_shell find [OPTIONS] <DIR> <LEDGER> <ENTRY>",
         "check" => "bk_shell check [OPTIONS] <DIR>",
         "stat" => "bk_shell stat [OPTIONS] <DIR>",
-        "ledgers" => "bk_shell ledgers <DIR>",
-        "entries" => "bk_shell entries <DIR> <LEDGER> [FIRST] [LAST]",
-        _ => "bk_shell logs <DIR>",
+        "ledgers" => "bk_shell ledgers [OPTIONS] <DIR>",
+        "entries" => "bk_shell entries [OPTIONS] <DIR> <LEDGER> [FIRST] [LAST]",
+        "seal" => "bk_shell seal [OPTIONS] <DIR> <LOG>",
+        "compact" => "bk_shell compact [OPTIONS] <DIR>",
+        _ => "bk_shell logs [OPTIONS] <DIR>",
     }
 }
 
-/// The commands that read a folder, as a command line of the program.
+/// The commands on a folder, as a command line of the program.
 fn folder_commands<'a>(alloc: Global) -> Result<Command<'a>, AllocError> {
     let commands = Command::new(alloc, "bk_shell")
         .about("Entry log storage of a bookie")
-        .subcommand_required(true);
+        .subcommand_required(true)
+        .arg(json_arg(alloc))?;
     let commands = with_listing_commands(alloc, commands)?;
     let commands = with_log_commands(alloc, commands)?;
-    with_ledger_commands(alloc, commands)
+    let commands = with_ledger_commands(alloc, commands)?;
+    with_writing_commands(alloc, commands)
+}
+
+/// The option that asks for objects of JSON, behind the program's name or behind a command.
+fn json_arg<'a>(alloc: Global) -> Arg<'a> {
+    Arg::new(alloc, "json")
+        .long("json")
+        .global(true)
+        .action(ArgAction::SetTrue)
+        .help("Prints each line as an object of JSON")
 }
 
 /// With the commands that show a line for each log.
@@ -317,8 +351,18 @@ fn with_ledger_commands<'a>(
         .subcommand(entries_command(alloc)?)
 }
 
+/// With the commands that write.
+fn with_writing_commands<'a>(
+    alloc: Global,
+    commands: Command<'a>,
+) -> Result<Command<'a>, AllocError> {
+    commands
+        .subcommand(on_log(alloc, "seal", ABOUT_SEAL, SEAL_HELP)?)?
+        .subcommand(compact_command(alloc)?)
+}
+
 /// A command on a folder.
-fn on_folder<'a>(
+pub(super) fn on_folder<'a>(
     alloc: Global,
     name: &'a str,
     about: &'a str,

@@ -2,7 +2,7 @@
 
 /// What `script` does, in a line.
 pub(crate) const ABOUT_SCRIPT: &str =
-    "Runs steps from standard input on a new store in memory, and prints an answer for each";
+    "Runs steps from standard input on a new store in memory, or over a folder, and prints an answer for each";
 
 /// What the program is, in a line.
 pub(crate) const ABOUT: &str = "Entry log storage of a bookie\n\n";
@@ -11,7 +11,7 @@ pub(crate) const ABOUT: &str = "Entry log storage of a bookie\n\n";
 pub(crate) const COMMANDS: &str = "\
 Usage: bk_shell COMMAND [OPTIONS] [WORDS]
 
-A folder of entry logs is read, and never written, by
+A folder of entry logs is read by
   check DIR                             whether each log is whole; with --digest KIND also each entry
   logs DIR                              the logs: id, length and state
   stat DIR                              how much stands in each log, and how much of that lives
@@ -22,18 +22,25 @@ A folder of entry logs is read, and never written, by
   header DIR LOG                        the header of a log
   map DIR LOG                           the ledgers map of a log
 
-A new store in memory is tried by
-  script                                runs steps from standard input, and prints an answer for each
+A folder of entry logs is written by
+  compact DIR                           empties logs of which little lives, and removes what is not read
+  seal DIR LOG                          ends a log with the ledgers map of its entries
+
+A new store in memory is tried, or a folder is written, by
+  script                                runs steps from standard input, and prints an answer for each;
+                                        with --folder DIR over the logs of that folder
 
 Of the program itself tell
   help COMMAND                          one of these, with an example
   --help, --version
 
+With --json, behind bk_shell or behind the command, each line about a folder is an object of JSON.
+
 ";
 
 /// The program's version, and the toolchain that its proofs are of.
 pub(crate) const VERSION: &str =
-    "bk_shell 0.1.0\nproved with rattle-kit-13b logic dac8208d650f15bf\n";
+    "bk_shell 0.1.0\nproved with rattle-kit-13f logic dac8208d650f15bf\n";
 
 /// What the program tells of its commands.
 pub(crate) const PROGRAM_HELP: &str = "\
@@ -120,9 +127,15 @@ A log can be compacted that no flush has and that keys are read from, where fewe
 that are not deleted than --minor or --major says. Until the compaction is over, that log and the new one are in use. A
 retired log goes by `close` and `remove`.
 
+With --folder the store is opened on the logs of DIR, and what is published is there at the next call. DIR is made where
+nothing is there, and its parent is; its entries stay until a compaction leaves them behind. Who deleted ledgers before has
+to name them again, as words: a folder does not tell which they were. One program writes in a folder at a time: a second one
+is refused, and told which process writes there. Without a fault the answers are those of a store in memory.
+
 The status is 0 where every step was answered. It is 1 where a read fails, the input has more than 16777216 bytes or
-takes more than 1048576 reads, or a line spells no step; where the store is not opened; where no memory is to be had
-outside a step; and where answers or this help cannot be written. It is 2 where the command line is wrong.
+takes more than 1048576 reads, or a line spells no step; where the store is not opened, or the folder can't be written;
+where no memory is to be had outside a step; and where answers or this help cannot be written. It is 2 where the command
+line is wrong.
 
 Example:
   $ printf 'add 1 0 hello\\nswap\\nwrite\\npublish\\ntake 0 1 0\\nfetch 0\\nrelease 0\\nroll\\n' | bk_shell script
@@ -134,4 +147,51 @@ Example:
   bytes 68656c6c6f
   released
   sealed 0
+
+Over a folder, which the first call makes and the second finds:
+  $ printf 'add 1 0 hello\\nswap\\nwrite\\npublish\\n' | bk_shell script --folder logs
+  accepted
+  swapped 1
+  wrote 1028
+  published 1
+  $ printf 'take 0 1 0\\nfetch 0\\n' | bk_shell script --folder logs
+  leased 1028
+  bytes 68656c6c6f
+";
+
+/// What `compact` does, in a line.
+pub(crate) const ABOUT_COMPACT: &str =
+    "Empties the logs of a folder of which little lives, and removes those that are not read";
+
+/// What the program tells of `compact`.
+pub(crate) const COMPACT_HELP: &str = "\
+Opens a store on the logs of DIR, removes each log that no key is read from, and compacts log after log, the one of which
+the least lives first, until there is none left of which fewer thousandths live than --minor, --major or --below says. What
+lives of a log is its records of ledgers that are not named by --dead or --dead-file, in bytes. Whatever of a log is still
+read is copied to a new log; when that is sealed and synced, the old one is removed. Then it prints
+`before N after N freed BYTES moved ENTRIES`: how many logs there were and are, how many bytes their files are shorter
+(`-BYTES` where they are longer), and how many entries were copied.
+
+A folder does not tell which ledgers were deleted: without --dead all live. The entries of a ledger that is named are gone
+for good when their log is. A FILE has a ledger a line, in plain digits; empty lines are passed over.
+
+With --dry-run the folder is only read. Printed is for each log that would be taken, by rising ids, `ID LENGTH remove` or
+`ID LENGTH compact ENTRIES`, and the line that the compaction would print. With --json a log has `log`, `length`, `fate` and
+`entries`, the last line `before`, `after`, `freed` and `moved`.
+
+One program writes in a folder at a time: where another one does, the command is refused, and told which process it is. It
+may be ended at any moment, by SIGKILL too: every entry of a ledger that is not named is still found, and the next call goes
+on. A bookie that runs on the folder does not ask for the lock: stop it first. Where the error stream is a terminal, a line
+there tells how far it is.
+
+The status is 0 where all was done. It is 1 where it ends early, with a line `fault TEXT` on the error stream: what was done
+before stays done. It is 2 where the command line is wrong.
+
+Example:
+  $ bk_shell compact --dead 2 --dry-run /var/bookie/current
+  0 1325 compact 1
+  1 1085 remove
+  before 3 after 2 freed 1321 moved 1
+  $ bk_shell compact --dead 2 /var/bookie/current
+  before 3 after 2 freed 1321 moved 1
 ";

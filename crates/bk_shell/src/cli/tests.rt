@@ -1,5 +1,6 @@
 //! What words ask for, and what is told of wrong ones.
 
+mod compact;
 mod folder;
 mod lines;
 mod script;

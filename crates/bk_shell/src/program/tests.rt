@@ -1,4 +1,7 @@
+mod compact;
 mod folder;
+mod json;
+mod over;
 
 use super::{StartFault, run_words, words_of};
 use std::env::{Env, FillError};
@@ -231,6 +234,39 @@ fn help_goes_to_the_output_or_is_a_fault_of_its_own(rt: HostRuntime) {
         errors.as_slice(),
         b"fault output\nfault output\n".as_slice()
     );
+}
+
+/// Fails as a pipe does that nobody reads any more.
+#[derive(Drop)]
+struct Unread;
+
+impl Write for Unread {
+    fn write(&mut self, _buf: &[u8]) -> io::Result<usize> {
+        Err(io::Error::from(io::ErrorKind::BrokenPipe))
+    }
+
+    fn flush(&mut self) -> io::Result<()> {
+        Err(io::Error::from(io::ErrorKind::BrokenPipe))
+    }
+}
+
+/// The status of a script whose answers go to this writer, and what is told.
+fn told_of_answers<W: Write>(rt: &HostRuntime, writer: &mut W) -> (u8, Vec<u8>) {
+    let mut errors = Vec::new(rt.alloc());
+    let mut reader = b"swap\n".as_slice();
+    let words = ["bk_shell", "script"];
+    let status = run_words(rt, &words, &mut reader, writer, &mut errors);
+    (status, errors)
+}
+
+#[test]
+fn answers_that_can_not_be_written_are_told(rt: HostRuntime) {
+    let (closed, told) = told_of_answers(&rt, &mut Closed);
+    assert!(rt; closed == 1 && told.starts_with(b"fault output: "));
+    let (full, told) = told_of_answers(&rt, &mut Full);
+    assert!(rt; full == 1 && told.starts_with(b"fault output: "));
+    let (unread, told) = told_of_answers(&rt, &mut Unread);
+    assert!(rt; unread == 1 && told.is_empty());
 }
 
 /// An environment in which the program is called with these words.

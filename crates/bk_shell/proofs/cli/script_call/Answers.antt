@@ -43,29 +43,30 @@ returns-in-Ok-2-clause-asked g c =
       called = sym (rows_met app words c.in_ok-matches.matches c.in_ok-command.ensures c.in_ok-matches.ensures.ok.2)
           ∙ pair_in _ (codes "script") rows (c.in-Some.ensures.found.0 (search rules)) c.in-Some.ensures.rows;
       asked = c.in-Ok.ensures.ok;
+      over = c.read_folder.ensures;
       ledgers = rw c.in-Ok-2.is at c.in_ok-dead.ensures;
     }
 
 pub returns-in_default-clause-refused : goal.returns-in_default-clause-refused
-returns-in_default-clause-refused g c = λ settings dead asks.
+returns-in_default-clause-refused g c = λ over settings dead asks.
     let words = map g.S.AsStr.text c.args.words.now in
     let met = rows_met (app_of c.in_ok-command.command) words c.in_ok-matches.matches c.in_ok-command.ensures c.in_ok-matches.ensures.ok.2 in
     absurd (false≢true (c.in_default.ensures.found.1 (name_in _ (codes "script") asks.rows (met ∙ asks.called))))
 
 pub returns-in-Err-clause-refused : goal.returns-in-Err-clause-refused
-returns-in-Err-clause-refused g c = λ settings dead asks.
+returns-in-Err-clause-refused g c = λ over settings dead asks.
     let words = map g.S.AsStr.text c.args.words.now in
     let rows = rows_of (found_of c.in-Some.script.now) in
     let met = rows_met (app_of c.in_ok-command.command) words c.in_ok-matches.matches c.in_ok-command.ensures c.in_ok-matches.ensures.ok.2 in
     let called = sym met ∙ pair_in _ (codes "script") rows (c.in-Some.ensures.found.0 (search rules)) c.in-Some.ensures.rows in
-    absurd (c.in-Err.ensures.err settings (subst (λ (r : List Row). AsksSettings r settings) (asked_rows words settings dead asks rows called) asks.asked))
+    absurd (c.in-Err.ensures.err settings (subst (λ (r : List Row). AsksSettings r settings) (asked_rows words over settings dead asks rows called) asks.asked))
 
 pub returns-clause-refused : goal.returns-clause-refused
-returns-clause-refused g c = λ settings dead asks.
+returns-clause-refused g c = λ over settings dead asks.
     let words = map g.S.AsStr.text c.args.words.now in
     let rows = rows_of (found_of c.in-Some.script.now) in
     let met = rows_met (app_of c.in_ok-command.command) words c.in_ok-matches.matches c.in_ok-command.ensures c.in_ok-matches.ensures.ok.2 in
     let called = sym met ∙ pair_in _ (codes "script") rows (c.in-Some.ensures.found.0 (search rules)) c.in-Some.ensures.rows in
     let refused = rw c.in-Err-2.is at c.in_ok-dead.ensures in
     absurd (refused dead (subst (λ (r : List Row). AsksLedgers (all_of (codes "LEDGER") r) dead)
-    (asked_rows words settings dead asks rows called) asks.ledgers))
+    (asked_rows words over settings dead asks rows called) asks.ledgers))

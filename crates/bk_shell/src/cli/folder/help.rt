@@ -1,4 +1,4 @@
-//! What the program tells of the commands that read a folder.
+//! What the program tells of the commands that read a folder, and of the one that seals a log.
 
 pub(crate) const ABOUT_LOGS: &str = "Lists the logs of a folder: id, length and state";
 
@@ -152,4 +152,35 @@ Example:
   2 3 1071 20
   $ bk_shell entries /var/bookie/current 1 2
   2 3 1071 20
+";
+
+pub(crate) const ABOUT_SEAL: &str =
+    "Ends a log that was never sealed with the ledgers map of its entries";
+
+pub(crate) const SEAL_HELP: &str = "\
+Writes the map of the log's entries behind its last byte, and then where it stands into the log's header, each synced before
+the next. A bookie, or a later call, finds the log's ledgers there, and need not read it whole. Prints
+`sealed LOG map OFFSET count LEDGERS`.
+
+The log is left as it is where it has a fault, or need not be sealed:
+  short                  fewer than the 1024 bytes of a header
+  bad magic, version V   its header can't be read
+  no map in version 0    the header of a log of that version has no place for it
+  sealed already         its header names a map
+  bad length AT N        a length below 16 stands behind whole records
+  torn N                 N bytes at its end are no whole record. They are never cut: copy the log aside, and cut the copy
+  no room for a map      it would end past byte 2^32 - 1
+
+One program writes in a folder at a time: where another one does, the command is refused, and told which process it is. A
+bookie that runs on the folder does not ask for the lock: stop it first.
+
+The status is 0 where the log was sealed. It is 1 where it was not, with a line `fault TEXT` on the error stream, and 2
+where the command line is wrong.
+
+Example:
+  $ bk_shell seal /var/bookie/current 3.log
+  sealed 3 map 1049 count 1
+  $ bk_shell check /var/bookie/current
+  0 ok
+  3 ok
 ";

@@ -1,13 +1,13 @@
 //! Calls of the commands that read a folder.
 
 use crate::cli::{COMMANDS, FolderAsk, folder_call, is_folder_call, text_of};
-use bk_dir::{Digest, DigestChoice, DirCommand, EntryRange, ScanChoice};
+use bk_dir::{Digest, DigestChoice, DirCommand, EntryRange, Form, ScanChoice};
 use std::alloc::Global;
 use std::process::Abort;
 use std::test::Fail;
 
 /// What the program tells of these words, which are no call on a folder.
-fn told_of_folder(rt: &impl Abort, alloc: Global, words: &[&str]) -> String {
+pub(super) fn told_of_folder(rt: &impl Abort, alloc: Global, words: &[&str]) -> String {
     match folder_call(alloc, words) {
         Ok(_) => {
             assert!(rt; false, "{words:?} is a call on a folder");
@@ -18,18 +18,18 @@ fn told_of_folder(rt: &impl Abort, alloc: Global, words: &[&str]) -> String {
 }
 
 /// Wrong calls of the commands that read a folder, and a part of what is told of each.
-const WRONG_FOLDERS: [(&[&str], &str); 22] = [
+const WRONG_FOLDERS: [(&[&str], &str); 25] = [
     (&["bk_shell", "logs"], "<DIR>"),
     (&["bk_shell", "check"], "<DIR>"),
     (&["bk_shell", "header", "folder"], "<LOG>"),
     (&["bk_shell", "find", "folder", "1"], "<ENTRY>"),
     (
         &["bk_shell", "logs", "folder", "1"],
-        "unexpected argument '1' found\n\nUsage: bk_shell logs <DIR>\n",
+        "unexpected argument '1' found\n\nUsage: bk_shell logs [OPTIONS] <DIR>\n",
     ),
     (
         &["bk_shell", "map", "folder", "2147483648"],
-        "invalid value '2147483648' for '<LOG>': not a number from 0 to 2147483647 in plain digits\n\nUsage: bk_shell map <DIR> <LOG>\n",
+        "invalid value '2147483648' for '<LOG>': not a number from 0 to 2147483647 in plain digits\n\nUsage: bk_shell map [OPTIONS] <DIR> <LOG>\n",
     ),
     (&["bk_shell", "header", "folder", "01"], "'01' for '<LOG>'"),
     (
@@ -67,7 +67,7 @@ const WRONG_FOLDERS: [(&[&str], &str); 22] = [
     ),
     (
         &["bk_shell", "find", "folder", "0", "x"],
-        "'x' for '<ENTRY>': not a number from 0 to 9223372036854775807 in plain digits\n\nUsage: bk_shell find <DIR> <LEDGER> <ENTRY>\n",
+        "'x' for '<ENTRY>': not a number from 0 to 9223372036854775807 in plain digits\n\nUsage: bk_shell find [OPTIONS] <DIR> <LEDGER> <ENTRY>\n",
     ),
     (
         &["bk_shell", "check", "--all", "folder"],
@@ -85,6 +85,15 @@ const WRONG_FOLDERS: [(&[&str], &str); 22] = [
     (
         &["bk_shell", "logs", "--digest", "auto", "folder"],
         "unexpected argument '--digest' found",
+    ),
+    (&["bk_shell", "seal", "folder"], "<LOG>"),
+    (
+        &["bk_shell", "seal", "folder", "1F.log"],
+        "invalid value '1F.log' for '<LOG>': not a number from 0 to 2147483647 in plain digits\n\nUsage: bk_shell seal [OPTIONS] <DIR> <LOG>\n",
+    ),
+    (
+        &["bk_shell", "--json", "logs", "folder", "--json=yes"],
+        "unexpected value 'yes' for '--json' found",
     ),
 ];
 
@@ -199,7 +208,7 @@ fn a_call_on_a_folder(rt: HostRuntime) {
 }
 
 /// Commands on folders, and parts of the help of each.
-const FOLDER_HELP: [(&str, &str); 9] = [
+const FOLDER_HELP: [(&str, &str); 11] = [
     (
         "logs",
         "$ bk_shell logs /var/bookie/current\n  0 1089 sealed",
@@ -212,6 +221,8 @@ const FOLDER_HELP: [(&str, &str); 9] = [
     ("stat", "3 1087 3 63 41 650 open"),
     ("ledgers", "1 3 66 0 2 2"),
     ("entries", "2 3 1071 20"),
+    ("seal", "sealed 3 map 1049 count 1"),
+    ("compact", "0 1325 compact 1"),
 ];
 
 #[test]
@@ -241,4 +252,37 @@ fn a_call_of_stat_names_the_dead_ledgers(rt: HostRuntime) -> Result<(), Fail> {
         }
     }
     Ok(())
+}
+
+/// Calls of `logs` and of `seal`, the form that they ask for, and the log that is to be sealed.
+const FORMS: [(&[&str], Form, Option<u32>); 6] = [
+    (&["bk_shell", "logs", "folder"], Form::Text, None),
+    (&["bk_shell", "logs", "folder", "--json"], Form::Json, None),
+    (&["bk_shell", "--json", "logs", "folder"], Form::Json, None),
+    (&["bk_shell", "seal", "folder", "31"], Form::Text, Some(31)),
+    (
+        &["bk_shell", "seal", "--json", "folder", "1f.log"],
+        Form::Json,
+        Some(31),
+    ),
+    (
+        &["bk_shell", "--json", "seal", "folder", "0"],
+        Form::Json,
+        Some(0),
+    ),
+];
+
+#[test]
+fn a_call_names_a_form(rt: HostRuntime) {
+    for (words, form, sealed) in FORMS.iter() {
+        let ask = match sealed {
+            Some(log) => FolderAsk::Seal(*log),
+            None => FolderAsk::Dir(DirCommand::Logs),
+        };
+        let is_asked = match folder_call(rt.alloc(), words) {
+            Ok(call) => call.form == *form && call.ask == ask,
+            Err(_) => false,
+        };
+        assert!(rt; is_asked && is_folder_call(words), "{words:?}");
+    }
 }

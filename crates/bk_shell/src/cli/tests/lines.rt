@@ -4,7 +4,7 @@ use crate::cli::script_call;
 
 #[test]
 fn a_wrong_command_line_has_status_2_and_help_has_0(rt: HostRuntime) {
-    let lines: [(&[&str], i32); 48] = [
+    let lines: [(&[&str], i32); 50] = [
         (&["bk_shell"], 2),
         (&["bk_shell", "frob"], 2),
         (&["bk_shell", "--slots", "5"], 2),
@@ -55,6 +55,8 @@ fn a_wrong_command_line_has_status_2_and_help_has_0(rt: HostRuntime) {
             &["bk_shell", "script", "--log-limit=2048", "--log-limit=2048"],
             2,
         ),
+        (&["bk_shell", "script", "--folder"], 2),
+        (&["bk_shell", "script", "--folder", "a", "--folder", "a"], 2),
         (&["bk_shell", "help"], 0),
         (&["bk_shell", "--help"], 0),
         (&["bk_shell", "help", "script"], 0),

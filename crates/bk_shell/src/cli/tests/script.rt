@@ -4,6 +4,28 @@ use crate::cli::{DEFAULTS, script_call};
 use bk_drive::Settings;
 use std::test::Fail;
 
+/// Words behind the program's name, and the folder that they ask for.
+const FOLDERS: [(&[&str], Option<&str>); 4] = [
+    (&["script"], None),
+    (&["script", "--folder", "logs"], Some("logs")),
+    (&["script", "4", "--folder=a b", "--minor=0"], Some("a b")),
+    (&["script", "--", "4"], None),
+];
+
+#[test]
+fn words_give_the_folder(rt: HostRuntime) -> Result<(), Fail> {
+    for (behind, folder) in FOLDERS.iter() {
+        let mut words = vec![in rt.alloc(); "any name"]?;
+        words.extend_from_slice(behind)?;
+        let is_given = match script_call(rt.alloc(), &words) {
+            Ok(call) => call.folder == *folder,
+            Err(_) => false,
+        };
+        assert!(rt; is_given, "the folder of {behind:?}");
+    }
+    Ok(())
+}
+
 /// Words behind the program's name, the settings that they ask for, and the ledgers.
 const CALLS: [(&[&str], Settings, &[u64]); 12] = [
     (&["script"], DEFAULTS, &[]),

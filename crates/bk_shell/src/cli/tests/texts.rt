@@ -3,7 +3,7 @@
 use super::told;
 
 /// What is told of a wrong value and of an unknown word: the part that it has, and one that it has not.
-const TOLD: [(&[&str], &str, &str); 10] = [
+const TOLD: [(&[&str], &str, &str); 11] = [
     (
         &["bk_shell", "script", "--slots", "0"],
         "'0' for '--slots <NUMBER>': not a number from 1 to 65536",
@@ -45,6 +45,11 @@ const TOLD: [(&[&str], &str, &str); 10] = [
         "tip",
     ),
     (
+        &["bk_shell", "script", "--flder", "logs"],
+        "unexpected argument '--flder' found; there is '--folder'\n",
+        "tip",
+    ),
+    (
         &["bk_shell", "script", "5", "x"],
         "invalid value 'x' for '[LEDGER]...': not a number from 0 to 9223372036854775807 in plain digits\n\nUsage: bk_shell script [OPTIONS] [LEDGER]...\n",
         "tip",
@@ -66,7 +71,7 @@ fn a_wrong_word_is_told_and_no_other_option_is_named(rt: HostRuntime) {
 }
 
 /// Parts of the help: each step and option, the largest payload of a pad, each way to status 1.
-const SHOWN: [&str; 35] = [
+const SHOWN: [&str; 36] = [
     "add LEDGER ENTRY [TEXT]",
     "pad LEDGER ENTRY SIZE",
     "4999984",
@@ -95,6 +100,7 @@ const SHOWN: [&str; 35] = [
     "--leases <NUMBER>",
     "--minor <NUMBER>",
     "--major <NUMBER>",
+    "--folder <DIR>",
     "[LEDGER]...",
     "a read fails",
     "16777216 bytes",

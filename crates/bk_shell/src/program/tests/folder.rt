@@ -24,21 +24,21 @@ const HELLO: &[u8] = b"\0\0\0\0\0\0\0\x01\0\0\0\0\0\0\0\0hello";
 
 /// A call of the program, and what it is to leave: its status, and the texts on the two streams.
 #[derive(Clone, Copy)]
-struct Row<'a> {
-    words: &'a [&'a str],
-    status: u8,
-    output: &'a str,
-    errors: &'a str,
+pub(super) struct Row<'a> {
+    pub words: &'a [&'a str],
+    pub status: u8,
+    pub output: &'a str,
+    pub errors: &'a str,
 }
 
 /// Makes an empty folder.
-fn anew(rt: &HostRuntime, folder: &str) -> io::Result<()> {
+pub(super) fn anew(rt: &HostRuntime, folder: &str) -> io::Result<()> {
     let _ = fs::remove_dir_all(rt, folder);
     fs::create_dir(rt, folder)
 }
 
 /// Calls the program as a table says, and compares what it leaves.
-fn check(rt: &impl Abort, host: &HostRuntime, rows: &[Row<'_>]) {
+pub(super) fn check(rt: &impl Abort, host: &HostRuntime, rows: &[Row<'_>]) {
     for row in rows {
         let words = row.words;
         let shown = run(host, words, "");
@@ -57,7 +57,7 @@ fn check(rt: &impl Abort, host: &HostRuntime, rows: &[Row<'_>]) {
 }
 
 /// A call that is done.
-fn done<'a>(words: &'a [&'a str], output: &'a str) -> Row<'a> {
+pub(super) fn done<'a>(words: &'a [&'a str], output: &'a str) -> Row<'a> {
     Row {
         words,
         status: 0,
@@ -67,7 +67,7 @@ fn done<'a>(words: &'a [&'a str], output: &'a str) -> Row<'a> {
 }
 
 /// A call that is told a fault, and shows nothing.
-fn told<'a>(words: &'a [&'a str], errors: &'a str) -> Row<'a> {
+pub(super) fn told<'a>(words: &'a [&'a str], errors: &'a str) -> Row<'a> {
     Row {
         words,
         status: 1,
@@ -185,6 +185,9 @@ fn a_folder_without_logs_is_told(rt: HostRuntime) -> Result<(), Fail> {
     Ok(())
 }
 
+/// What is told of a folder that is not there.
+const GONE: &str = "fault disk: bk_shell_gone: No such file or directory (os error 2)\n";
+
 #[test]
 fn a_folder_that_is_gone(rt: HostRuntime) -> Result<(), Fail> {
     const TOLD: &str = "fault log 5: disk: No such file or directory (os error 2)\n";
@@ -202,19 +205,136 @@ fn a_folder_that_is_gone(rt: HostRuntime) -> Result<(), Fail> {
     check(&rt, &rt, &broken);
     fs::remove_dir_all(&rt, folder)?;
     let gone = [
-        told(&["bk_shell", "logs", "bk_shell_gone"], "fault disk\n"),
-        told(
-            &["bk_shell", "header", "bk_shell_gone", "0"],
-            "fault disk\n",
-        ),
-        told(&["bk_shell", "map", "bk_shell_gone", "0"], "fault disk\n"),
-        told(&["bk_shell", "scan", "bk_shell_gone", "0"], "fault disk\n"),
-        told(
-            &["bk_shell", "find", "bk_shell_gone", "0", "0"],
-            "fault disk\n",
-        ),
-        told(&["bk_shell", "check", "bk_shell_gone"], "fault disk\n"),
+        told(&["bk_shell", "logs", "bk_shell_gone"], GONE),
+        told(&["bk_shell", "header", "bk_shell_gone", "0"], GONE),
+        told(&["bk_shell", "map", "bk_shell_gone", "0"], GONE),
+        told(&["bk_shell", "scan", "bk_shell_gone", "0"], GONE),
+        told(&["bk_shell", "find", "bk_shell_gone", "0", "0"], GONE),
+        told(&["bk_shell", "check", "bk_shell_gone"], GONE),
+        told(&["bk_shell", "seal", "bk_shell_gone", "0"], GONE),
     ];
     check(&rt, &rt, &gone);
+    Ok(())
+}
+
+/// A flush of one entry, and then a read of it.
+const FLUSHED: &str = "add 1 0 hello\nswap\nwrite\npublish\ntake 0 1 0\nfetch 0\n";
+
+/// What that prints over an empty folder.
+const FLUSHED_OUTPUT: &str =
+    "accepted\nswapped 1\nwrote 1028\npublished 1\nleased 1028\nbytes 68656c6c6f\n";
+
+/// A call of `script` over a folder, its input, and what it is to leave.
+#[derive(Clone, Copy)]
+struct Call<'a> {
+    words: &'a [&'a str],
+    input: &'a str,
+    status: u8,
+    output: &'a str,
+    errors: &'a str,
+}
+
+/// Whether a call leaves just this.
+fn is_left(rt: &HostRuntime, call: &Call<'_>) -> bool {
+    let shown = run(rt, call.words, call.input);
+    shown.status == call.status
+        && shown.output.as_slice() == call.output.as_bytes()
+        && shown.errors.as_slice() == call.errors.as_bytes()
+}
+
+#[test]
+fn a_script_goes_on_in_its_folder(rt: HostRuntime) -> Result<(), Fail> {
+    let folder = &["bk_shell", "script", "--folder", "bk_shell_script"];
+    let calls = [
+        // The folder is made.
+        Call {
+            words: folder,
+            input: FLUSHED,
+            status: 0,
+            output: FLUSHED_OUTPUT,
+            errors: "",
+        },
+        Call {
+            words: folder,
+            input: "take 0 1 0\nfetch 0\nadd 1 0 again\n",
+            status: 0,
+            output: "leased 1028\nbytes 68656c6c6f\nheld\n",
+            errors: "",
+        },
+        Call {
+            words: &["bk_shell", "script", "1", "--folder=bk_shell_script"],
+            input: "take 0 1 0\n",
+            status: 0,
+            output: "deleted\n",
+            errors: "",
+        },
+        Call {
+            words: folder,
+            input: "frob\n",
+            status: 1,
+            output: "",
+            errors: "line 1: bad command\n",
+        },
+    ];
+    let _ = fs::remove_dir_all(&rt, "bk_shell_script");
+    for (number, call) in calls.iter().enumerate() {
+        assert!(rt; is_left(&rt, call), "call {number}");
+    }
+    fs::remove_dir_all(&rt, "bk_shell_script")?;
+    Ok(())
+}
+
+#[test]
+fn a_script_is_not_run_where_no_folder_can_be_written(rt: HostRuntime) -> Result<(), Fail> {
+    let calls = [
+        Call {
+            words: &["bk_shell", "script", "--folder", "bk_shell_place"],
+            input: FLUSHED,
+            status: 1,
+            output: "",
+            errors: "fault disk: bk_shell_place: Not a directory (os error 20)\n",
+        },
+        Call {
+            words: &["bk_shell", "script", "--folder", "bk_shell_place/in"],
+            input: FLUSHED,
+            status: 1,
+            output: "",
+            errors: "fault disk: bk_shell_place/in: Not a directory (os error 20)\n",
+        },
+        Call {
+            words: &["bk_shell", "script", "--folder", "bk_shell_no/folder"],
+            input: FLUSHED,
+            status: 1,
+            output: "",
+            errors: "fault disk: bk_shell_no/folder: No such file or directory (os error 2)\n",
+        },
+    ];
+    fs::write(&rt, "bk_shell_place", b"bytes".as_slice())?;
+    for (number, call) in calls.iter().enumerate() {
+        assert!(rt; is_left(&rt, call), "call {number}");
+    }
+    assert!(rt; fs::read_to_string(&rt, "bk_shell_place")?.as_str() == "bytes");
+    fs::remove_file(&rt, "bk_shell_place")?;
+    Ok(())
+}
+
+#[test]
+fn one_program_writes_in_a_folder(rt: HostRuntime) -> Result<(), Fail> {
+    let words: &[&str] = &["bk_shell", "script", "--folder", "bk_shell_two"];
+    anew(&rt, "bk_shell_two")?;
+    let shown = run(&rt, words, FLUSHED);
+    assert!(rt; shown.status == 0 && shown.output.as_slice() == FLUSHED_OUTPUT.as_bytes());
+    let first = DirDisk::open_to_write(&rt, "bk_shell_two")?;
+    let shown = run(&rt, words, FLUSHED);
+    assert!(rt; shown.status == 1 && shown.output.is_empty());
+    assert!(rt; shown.errors.starts_with(b"fault in use: process "));
+    // Readers are not hindered.
+    let found = "0 1028 68656c6c6f\n";
+    let find = &["bk_shell", "find", "bk_shell_two", "1", "0"];
+    check(&rt, &rt, &[done(find, found)]);
+    drop(first);
+    let shown = run(&rt, words, "take 0 1 0\n");
+    assert!(rt; shown.status == 0 && shown.output.as_slice() == b"leased 1028\n".as_slice());
+    fs::remove_dir_all(&rt, "bk_shell_two")?;
     Ok(())
 }
