@@ -7,6 +7,8 @@ mod clearing;
 mod compacting;
 mod planning;
 mod sweeping;
+#[cfg(test)]
+mod tests;
 
 pub use answer::{SweepFault, Swept, Watch};
 pub use bk_compact::Kind;
