@@ -1,0 +1,17 @@
+//! A load on a bookie: callers that add, take and delete, workers that flush, and a keeper that compacts and removes logs; and
+//! what came of it.
+#![tactic(auto)]
+
+mod caller;
+mod checking;
+mod entries;
+mod keeper;
+mod latency;
+mod report;
+mod running;
+#[cfg(test)]
+mod tests;
+
+pub use latency::Latencies;
+pub use report::{Checked, Load, LoadFault, Logs, Report, Until};
+pub use running::run_load;
