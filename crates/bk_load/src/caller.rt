@@ -151,7 +151,9 @@ impl<L: AddLedger> Caller<L> {
         shared: &Shared,
         round: u64,
     ) -> Result<(), LoadFault> {
-        let entry = round.saturating_mul(shared.callers).saturating_add(self.number);
+        let entry = round
+            .saturating_mul(shared.callers)
+            .saturating_add(self.number);
         let mut frame = [0; LONGEST];
         let payload = payload(&mut frame, ledger_of(round, entry), entry);
         let begun = now(rt)?;
@@ -226,7 +228,9 @@ impl<L: AddLedger> Caller<L> {
         bookie: &Bookie<L, D>,
         round: u64,
     ) -> Result<(), LoadFault> {
-        let ledger = (round / ROUNDS).saturating_mul(OPEN_LEDGERS).saturating_add(round % OPEN_LEDGERS);
+        let ledger = (round / ROUNDS)
+            .saturating_mul(OPEN_LEDGERS)
+            .saturating_add(round % OPEN_LEDGERS);
         self.dead.reserve(1).map_err(|_| LoadFault::Memory)?;
         if bookie.delete(rt, &mut self.pass, ledger).is_ok() {
             self.dead.push_reserved(ledger);

@@ -2,8 +2,8 @@
 
 ghost use Rattle.std.specs.Prelude.{◌≡◌, ◌+◌, length};
 
-use crate::caller::is_right;
 use crate::Checked;
+use crate::caller::is_right;
 use bk_disk::LogDisk;
 use bk_store::{Receipt, Store, Taken};
 use std::alloc::Global;

@@ -21,7 +21,9 @@ pub(crate) fn mixed(seed: u64) -> u64 {
 
 /// The ledger of the entry that a caller adds in this round.
 pub(crate) fn ledger_of(round: u64, seed: u64) -> u64 {
-    (round / ROUNDS).saturating_mul(OPEN_LEDGERS).saturating_add(mixed(seed) % OPEN_LEDGERS)
+    (round / ROUNDS)
+        .saturating_mul(OPEN_LEDGERS)
+        .saturating_add(mixed(seed) % OPEN_LEDGERS)
 }
 
 /// The payload of an entry: its ids, and 1 to 240 bytes of data.

@@ -5,8 +5,8 @@ use bk_bookie::{AddLedger, Bookie};
 use bk_disk::LogDisk;
 use bk_drive::{Answer, BeginAnswer, FinishAnswer, Kind, RemoveAnswer, RollAnswer, Work};
 use crossbeam_channel::Sender;
-use std::rt::Clock;
 use std::io::Write;
+use std::rt::Clock;
 use std::sync::Wait;
 use std::sync::atomic::Ordering;
 use std::thread;
@@ -51,7 +51,15 @@ impl Keeper {
             self.flush(rt, works, adds.saturating_sub(written));
             written = adds;
             if round % 4 == 3 {
-                self.compact(rt, bookie, if round % 8 == 3 { Kind::Minor } else { Kind::Major });
+                self.compact(
+                    rt,
+                    bookie,
+                    if round % 8 == 3 {
+                        Kind::Minor
+                    } else {
+                        Kind::Major
+                    },
+                );
                 self.remove_all(rt, bookie);
             }
             told = tell(rt, shared, adds, told, progress);

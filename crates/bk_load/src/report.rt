@@ -71,34 +71,61 @@ impl Report {
     pub fn is_good(&self) -> bool
         ensures { IsTrue result ↔ IsGood self.now }
     {
-        self.adds == self.receipts && self.wrong == 0 && self.works.faults == 0 && self.checked.lost == 0
+        self.adds == self.receipts
+            && self.wrong == 0
+            && self.works.faults == 0
+            && self.checked.lost == 0
     }
 }
 
 impl Display for Report {
     fn fmt<W: Write>(&self, f: &mut Formatter<W>) -> fmt::Result {
-        writeln!(f, "adds {} receipts {} bytes {}", self.adds, self.receipts, self.bytes)?;
-        writeln!(f, "takes {} wrong {} deleted {}", self.takes, self.wrong, self.deletes)?;
-        writeln!(f, "works {} faults {}", self.works.answered, self.works.faults)?;
+        writeln!(
+            f,
+            "adds {} receipts {} bytes {}",
+            self.adds, self.receipts, self.bytes
+        )?;
+        writeln!(
+            f,
+            "takes {} wrong {} deleted {}",
+            self.takes, self.wrong, self.deletes
+        )?;
+        writeln!(
+            f,
+            "works {} faults {}",
+            self.works.answered, self.works.faults
+        )?;
         write!(f, "{}\n{}\n{}", self.logs, self.latencies, self.checked)
     }
 }
 
 impl Display for Logs {
     fn fmt<W: Write>(&self, f: &mut Formatter<W>) -> fmt::Result {
-        write!(f, "logs made {} compacted {} removed {}", self.made, self.compacted, self.removed)
+        write!(
+            f,
+            "logs made {} compacted {} removed {}",
+            self.made, self.compacted, self.removed
+        )
     }
 }
 
 impl Display for Latencies {
     fn fmt<W: Write>(&self, f: &mut Formatter<W>) -> fmt::Result {
-        write!(f, "nanoseconds 50% {} 99% {} 99.9% {}", self.at_500, self.at_990, self.at_999)
+        write!(
+            f,
+            "nanoseconds 50% {} 99% {} 99.9% {}",
+            self.at_500, self.at_990, self.at_999
+        )
     }
 }
 
 impl Display for Checked {
     fn fmt<W: Write>(&self, f: &mut Formatter<W>) -> fmt::Result {
-        write!(f, "files found {} deleted {} lost {}", self.found, self.deleted, self.lost)
+        write!(
+            f,
+            "files found {} deleted {} lost {}",
+            self.found, self.deleted, self.lost
+        )
     }
 }
 

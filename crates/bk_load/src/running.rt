@@ -99,7 +99,11 @@ fn run_all<
     let (ended, keeper) = thread::join(
         rt,
         || {
-            let ended = thread::map_vec(rt, waiting, &|caller| run_caller(rt, alloc, bookie, shared, caller));
+            let ended = thread::map_vec(
+                rt,
+                waiting,
+                &|caller| run_caller(rt, alloc, bookie, shared, caller),
+            );
             shared.is_over.store(true, Ordering::SeqCst);
             ended
         },

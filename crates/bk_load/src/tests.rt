@@ -21,7 +21,14 @@ fn a_small_load_is_found_whole(rt: HostRuntime) -> Result<(), Fail> {
         until: Until::Adds(8000),
     };
     let progress: Option<Vec<u8>> = None;
-    let report = run_load(&rt, rt.alloc(), MemDisk::new(rt.alloc()), settings, asked, progress)?;
+    let report = run_load(
+        &rt,
+        rt.alloc(),
+        MemDisk::new(rt.alloc()),
+        settings,
+        asked,
+        progress,
+    )?;
     assert!(rt; report.is_good(), "{report}");
     assert!(rt; report.logs.compacted > 0 && report.deletes > 0, "{report}");
     Ok(())
