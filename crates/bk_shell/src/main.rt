@@ -2,6 +2,7 @@
 #![tactic(auto)]
 
 mod cli;
+mod load;
 mod program;
 
 pub use bk_dir::{Digest, DigestChoice, DirCommand, EntryRange, ScanChoice, run_dir};

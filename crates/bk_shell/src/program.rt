@@ -13,6 +13,7 @@ use crate::cli::{
     ABOUT, COMMANDS, FolderAsk, FolderCall, PROGRAM_HELP, VERSION, folder_call, is_folder_call,
     script_call, text_of,
 };
+use crate::load::{is_load_call, load_as_asked};
 use bk_dir::{FolderCommand, run_folder};
 use bk_script::run_script;
 use clap::Error;
@@ -103,6 +104,9 @@ fn run_other<S: AsStr, W: Write, E: Write>(
 {
     if error.kind() == ErrorKind::OutOfMemory {
         return tell(rt.alloc(), error, writer, errors);
+    }
+    if is_load_call(words) {
+        return load_as_asked(rt, words, writer, errors);
     }
     if is_folder_call(words) {
         return match folder_call(rt.alloc(), words) {

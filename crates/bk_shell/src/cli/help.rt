@@ -25,6 +25,9 @@ A folder of entry logs is read, and never written, by
 A new store in memory is tried by
   script                                runs steps from standard input, and prints an answer for each
 
+A bookie under load is tried by
+  load                                  many callers at once; with --threads N, --seconds S or --adds N, --folder DIR
+
 Of the program itself tell
   help COMMAND                          one of these, with an example
   --help, --version
