@@ -1,7 +1,8 @@
 //! Calls of `compact`.
 
 use super::folder::told_of_folder;
-use crate::cli::{CompactAsk, FolderAsk, folder_call, is_folder_call};
+use crate::cli::{FolderAsk, folder_call, is_folder_call};
+use std::alloc::Global;
 use std::test::Fail;
 
 /// Words behind the program's name, and what they ask for: the threshold, the dead ledgers, whether it is only told.
@@ -24,22 +25,31 @@ const CALLS: [(&[&str], u32, &[u64], bool); 6] = [
     ),
 ];
 
+/// Whether words ask for this compaction of the folder `logs`.
+fn is_asked(alloc: Global, words: &[&str], below: u32, dead: &[u64], is_dry: bool) -> bool {
+    match folder_call(alloc, words) {
+        Ok(call) => match &call.ask {
+            FolderAsk::Compact(ask) => {
+                call.path == "logs"
+                    && ask.below == below
+                    && ask.dead.as_slice() == dead
+                    && ask.dead_files.is_empty()
+                    && ask.is_dry == is_dry
+            }
+            _ => false,
+        },
+        Err(_) => false,
+    }
+}
+
 #[test]
 fn a_call_of_compact(rt: HostRuntime) -> Result<(), Fail> {
     for (behind, below, dead, is_dry) in CALLS.iter() {
         let mut words = vec![in rt.alloc(); "any name"]?;
         words.extend_from_slice(behind)?;
-        let asked = FolderAsk::Compact(CompactAsk {
-            below: *below,
-            dead: Vec::from_slice(rt.alloc(), dead)?,
-            dead_files: Vec::new(rt.alloc()),
-            is_dry: *is_dry,
-        });
-        let is_asked = match folder_call(rt.alloc(), &words) {
-            Ok(call) => call.path == "logs" && call.ask == asked,
-            Err(_) => false,
-        };
-        assert!(rt; is_asked && is_folder_call(&words), "{behind:?}");
+        let is_on_folder = is_folder_call(&words);
+        let is_right = is_asked(rt.alloc(), &words, *below, dead, *is_dry);
+        assert!(rt; is_on_folder && is_right, "{behind:?}");
     }
     Ok(())
 }

@@ -23,7 +23,12 @@ const RUNS: [(&[&str], &str); 8] = [
 ];
 
 /// What a script shows, in memory or over a new folder.
-fn shown(rt: &HostRuntime, behind: &[&str], folder: &[&str], input: &str) -> Option<Shown> {
+fn shown<'w>(
+    rt: &HostRuntime,
+    behind: &[&'w str],
+    folder: &[&'w str],
+    input: &str,
+) -> Option<Shown> {
     let mut words = Vec::new(rt.alloc());
     words.extend_from_slice(&["bk_shell", "script"]).ok()?;
     words.extend_from_slice(behind).ok()?;
