@@ -72,9 +72,9 @@ const PUBLISHED: [(usize, &str, &[u8]); 3] = [
 
 /// The first lines of a text.
 fn first_lines(text: &str, count: usize) -> &str {
-    let mut length = 0;
+    let mut length: usize = 0;
     for line in text.split_inclusive('\n').take(count) {
-        length += line.len();
+        length = length.saturating_add(line.len());
     }
     text.get(..length).unwrap_or(text)
 }
