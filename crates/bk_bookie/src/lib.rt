@@ -8,8 +8,6 @@ mod ending;
 mod fault;
 mod pass;
 mod receipts;
-#[cfg(test)]
-mod tests;
 mod workers;
 
 pub use bookie::{Bookie, OpenRefused};

@@ -63,13 +63,61 @@ pub fn run_folder_as<W: Write, E: Write>(
 ) -> u8
     ensures { result ≤ 1 }
 {
-    match DirDisk::open_to_read(rt, path) {
+    match open_listed(rt, path, command) {
         Ok(disk) => run_on(rt, form, path, disk, command, writer, errors),
         Err(fault) => {
             let _ = tell_folder(rt.alloc(), form, &fault, errors);
             1
         }
     }
+}
+
+/// Opens the folder at a path, and where the command looks at all its logs, looks whether they can be listed.
+fn open_listed(
+    rt: &HostRuntime,
+    path: &str,
+    command: &FolderCommand<'_>,
+) -> Result<DirDisk, FolderFault> {
+    let disk = DirDisk::open_to_read(rt, path)?;
+    if is_of_one_log(command) {
+        return Ok(disk);
+    }
+    match unlisted(rt, path) {
+        Some(fault) => Err(fault),
+        None => Ok(disk),
+    }
+}
+
+/// Whether a command looks at one log alone.
+fn is_of_one_log(command: &FolderCommand<'_>) -> bool {
+    match command {
+        FolderCommand::Dir(command) => command.log().is_some(),
+        FolderCommand::Stat(_) => false,
+    }
+}
+
+/// Why the names in the folder at a path can't be listed, as where one is not UTF-8: `Refused` with the path and the system's
+/// reason, or `Memory`. `None` where they can.
+pub fn unlisted(rt: &HostRuntime, path: &str) -> Option<FolderFault> {
+    let reason = listing_fault(rt, path)?;
+    match String::from_str(rt.alloc(), path) {
+        Ok(path) => Some(FolderFault::Refused { path, reason }),
+        Err(_) => Some(FolderFault::Memory),
+    }
+}
+
+/// What the system says of the first name in a folder that it doesn't give.
+fn listing_fault(rt: &HostRuntime, path: &str) -> Option<io::Error> {
+    let entries = match fs::read_dir(rt, path) {
+        Ok(entries) => entries,
+        Err(reason) => return Some(reason),
+    };
+    for entry in entries {
+        if let Err(reason) = entry {
+            return Some(reason);
+        }
+    }
+    None
 }
 
 /// Runs a command on a folder that was opened.

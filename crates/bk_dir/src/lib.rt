@@ -22,8 +22,6 @@ mod scan;
 mod seal;
 mod seal_run;
 mod stat;
-#[cfg(test)]
-mod tests;
 mod totals;
 mod walk;
 mod written;
@@ -31,7 +29,7 @@ mod written;
 pub use command::{DirCommand, EntryRange, ScanChoice};
 pub use digest::{Digest, DigestChoice};
 use fault::{BytesFault, DirFault};
-pub use folder::{FolderCommand, run_folder, run_folder_as};
+pub use folder::{FolderCommand, run_folder, run_folder_as, unlisted};
 pub use form::Form;
 pub use run::{run_dir, run_dir_as};
 pub use seal_run::{run_seal, run_seal_folder};

@@ -17,8 +17,6 @@ mod lock;
 mod mem_disk;
 mod mem_view;
 mod names;
-#[cfg(test)]
-mod tests;
 
 pub use dir_disk::DirDisk;
 pub use dir_view::DirView;

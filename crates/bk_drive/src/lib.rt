@@ -5,8 +5,6 @@ mod readers;
 mod run;
 mod step;
 mod taking;
-#[cfg(test)]
-mod tests;
 
 pub use bk_collect::{CloseAnswer, CollectFault, RemoveAnswer, RetireAnswer};
 pub use bk_compact::{

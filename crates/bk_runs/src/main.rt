@@ -1,6 +1,7 @@
 //! A program that takes worked runs from files, runs each on a disk in memory, and tells which answer otherwise.
 #![tactic(auto)]
 
+mod asking;
 mod compare;
 mod fault;
 mod hexadecimal;

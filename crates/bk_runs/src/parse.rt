@@ -19,6 +19,7 @@ pub(crate) enum Section {
     Answers,
     Failing,
     Calls,
+    Store,
 }
 
 impl Section {
@@ -32,6 +33,7 @@ impl Section {
             "answers" => Some(Section::Answers),
             "failing" => Some(Section::Failing),
             "calls" => Some(Section::Calls),
+            "store" => Some(Section::Store),
             _ => None,
         }
     }
@@ -46,6 +48,7 @@ impl Section {
             Section::Answers => 5,
             Section::Failing => 6,
             Section::Calls => 7,
+            Section::Store => 8,
         }
     }
 }

@@ -2,6 +2,7 @@
 
 ghost use Rattle.std.specs.Prelude.{◌<◌, ◌^◌};
 
+use crate::asking::{Asked, told};
 use crate::noting::NotingDisk;
 use crate::worked::{Failing, Worked};
 use crate::{RunFault, first_other};
@@ -51,50 +52,73 @@ struct Told {
 
 /// The first difference between what a run tells and what it is to tell. `None` where there is none.
 pub(crate) fn check(alloc: Global, worked: &Worked) -> Result<Option<Difference>, RunFault> {
-    match &worked.failing {
-        Failing::Nothing => check_once(
-            alloc,
-            worked,
-            FaultDisk::new(disk_of(alloc, worked)?, 0, 0),
-        ),
-        Failing::Call(call, kept) => {
-            check_once(
-                alloc,
-                worked,
-                FaultDisk::new(disk_of(alloc, worked)?, *call, *kept),
-            )
-        }
-        Failing::View(view) => {
-            check_once(
-                alloc,
-                worked,
-                FaultDisk::broken_view(disk_of(alloc, worked)?, *view),
-            )
-        }
-        Failing::Each(leaving) => {
-            for kept in leaving {
-                let found = check_each(alloc, worked, *kept)?;
-                if found.is_some() {
-                    return Ok(found);
-                }
-            }
-            Ok(None)
+    let Failing::Each(leaving) = &worked.failing else {
+        return check_once(alloc, worked);
+    };
+    for kept in leaving {
+        let found = check_each(alloc, worked, *kept)?;
+        if found.is_some() {
+            return Ok(found);
         }
     }
+    Ok(None)
 }
 
-/// The first difference of a run over this disk.
-fn check_once(
-    alloc: Global,
-    worked: &Worked,
-    disk: FaultDisk<MemDisk>,
-) -> Result<Option<Difference>, RunFault> {
-    let told = told_by(alloc, worked, disk)?;
-    let found = differ(alloc, "answer", None, &worked.answers, &told.answers)?;
-    match &worked.calls {
-        Some(calls) if found.is_none() => Ok(differ(alloc, "call", None, calls, &told.calls)?),
-        _ => Ok(found),
+/// The disk of a run of which at most one call or view fails.
+fn failing_disk(alloc: Global, worked: &Worked) -> Result<FaultDisk<MemDisk>, RunFault> {
+    let disk = disk_of(alloc, worked)?;
+    Ok(match &worked.failing {
+        Failing::Nothing | Failing::Each(_) => FaultDisk::new(disk, 0, 0),
+        Failing::Call(call, kept) => FaultDisk::new(disk, *call, *kept),
+        Failing::View(view) => FaultDisk::broken_view(disk, *view),
+    })
+}
+
+/// The first difference of a run of which at most one call or view fails.
+fn check_once(alloc: Global, worked: &Worked) -> Result<Option<Difference>, RunFault> {
+    let told = told_by(alloc, worked, failing_disk(alloc, worked)?)?;
+    let mut found = differ(alloc, "answer", None, &worked.answers, &told.answers)?;
+    if let (Some(calls), None) = (&worked.calls, &found) {
+        found = differ(alloc, "call", None, calls, &told.calls)?;
     }
+    if found.is_some() {
+        return Ok(found);
+    }
+    Ok(differ(
+        alloc,
+        "store",
+        None,
+        &worked.told,
+        &asked_of(alloc, worked)?,
+    )?)
+}
+
+/// What the store tells each time that it is asked.
+fn asked_of(alloc: Global, worked: &Worked) -> Result<Vec<String>, RunFault> {
+    let mut lines = Vec::with_capacity(alloc, worked.asked.len())?;
+    for asked in &worked.asked {
+        if lines.push(asked_once(alloc, worked, *asked)?).is_err() {
+            return Err(RunFault::Memory);
+        }
+    }
+    Ok(lines)
+}
+
+/// What the store tells that took the first steps of a run, each time anew.
+fn asked_once(alloc: Global, worked: &Worked, asked: Asked) -> Result<String, RunFault> {
+    let count = worked.steps.len().min(asked.after);
+    let disk = failing_disk(alloc, worked)?;
+    let line = match drive(
+        alloc,
+        disk,
+        worked.settings,
+        &worked.dead,
+        &worked.steps[..count],
+    ) {
+        Ok(ran) => told(alloc, &ran.store, count, asked.what),
+        Err(fault) => not_opened(alloc, fault),
+    };
+    Ok(line?)
 }
 
 /// The first difference of a run whose calls fail in turn, until one makes fewer calls.
@@ -216,10 +240,14 @@ fn told_by(alloc: Global, worked: &Worked, disk: FaultDisk<MemDisk>) -> Result<T
     }
 }
 
+fn not_opened(alloc: Global, fault: OpenFault) -> Result<String, AllocError> {
+    format!(in alloc; "not opened: {fault}")
+}
+
 /// What is told where the store isn't opened.
 fn refused(alloc: Global, fault: OpenFault) -> Result<Told, AllocError> {
     let mut answers = Vec::new(alloc);
-    answers.push(format!(in alloc; "not opened: {fault}")?)?;
+    answers.push(not_opened(alloc, fault)?)?;
     Ok(Told {
         answers,
         calls: Vec::new(alloc),

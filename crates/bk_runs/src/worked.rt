@@ -1,5 +1,6 @@
 //! A worked run: what it is taken with, and what it is to tell.
 
+use crate::asking::Asked;
 use bk_drive::{Settings, Step};
 use std::alloc::Global;
 
@@ -42,6 +43,10 @@ pub(crate) struct Worked {
     pub others: Vec<Other>,
     /// The calls on the disk. `None` where the run doesn't say.
     pub calls: Option<Vec<String>>,
+    /// What the store is asked between two steps.
+    pub asked: Vec<Asked>,
+    /// What it is to tell then, a line for each of `asked`.
+    pub told: Vec<String>,
 }
 
 /// The settings of a store without options.
@@ -67,6 +72,8 @@ impl Worked {
             answers: Vec::new(alloc),
             others: Vec::new(alloc),
             calls: None,
+            asked: Vec::new(alloc),
+            told: Vec::new(alloc),
         }
     }
 }

@@ -1,6 +1,7 @@
 //! The lines of each section.
 
 use super::Section;
+use crate::asking::Asked;
 use crate::hexadecimal::text_bytes;
 use crate::noting::line_of;
 use crate::numbers::small_number;
@@ -30,6 +31,7 @@ pub(crate) fn read_line(
         }
         Section::Failing => read_other(alloc, worked, line),
         Section::Calls => read_call(alloc, worked, line),
+        Section::Store => read_asked(alloc, worked, line),
     }
 }
 
@@ -173,5 +175,15 @@ fn read_call(alloc: Global, worked: &mut Worked, line: &str) -> Result<bool, All
         _ => String::from_str(alloc, line)?,
     };
     calls.push(text)?;
+    Ok(true)
+}
+
+/// A line `AFTER NAME LOG ANSWER`, or `AFTER keys ANSWER`: what the store is asked after so many steps.
+fn read_asked(alloc: Global, worked: &mut Worked, line: &str) -> Result<bool, AllocError> {
+    let Some(asked) = Asked::of(line) else {
+        return Ok(false);
+    };
+    worked.asked.push(asked)?;
+    worked.told.push(String::from_str(alloc, line)?)?;
     Ok(true)
 }

@@ -1,0 +1,83 @@
+//! Runs of bookies that clauses don't tell of: what is answered at all, and what threads do at once.
+//!
+//! A bookie lives in a function over its ledger. A test calls it with std's `Brand` and a blank ledger, and the proof of the
+//! call says what `Brand` stands for there.
+
+ghost use Rattle.std.specs.Prelude.{◌≡◌, ◌+◌, true};
+
+use bk_bookie::{AddLedger, Bookie};
+use bk_disk::MemDisk;
+use bk_record::Key;
+use bk_store::{Mark, Receipt, Settings, Taken};
+use std::alloc::Global;
+use std::process::Abort;
+use std::sync::ledger::Blank;
+
+mod callers;
+mod fencing;
+mod leases;
+mod many;
+mod refused;
+mod strangers;
+mod working;
+
+/// The limits of these runs.
+const SETTINGS: Settings = Settings {
+    log_limit: 1_048_576,
+    cache_limit: 16_777_216,
+    recent: 0,
+    slots: 64,
+    leases: 1000,
+    minor: 200,
+    major: 800,
+};
+
+/// The payload of an entry, with one byte of data.
+fn payload(ledger: u8, entry: u16, data: u8) -> [u8; 17] {
+    let [high, low] = entry.to_be_bytes();
+    let mut payload = [0; 17];
+    payload[7] = ledger;
+    payload[14] = high;
+    payload[15] = low;
+    payload[16] = data;
+    payload
+}
+
+/// The key of an entry.
+fn key(ledger: u8, entry: u16) -> Option<Key> {
+    Key::new(u64::from(ledger), u64::from(entry))
+}
+
+/// Whether a take gave this payload from a cache.
+fn is_cached<V: Drop, F>(taken: &Result<Taken<V>, F>, payload: &[u8]) -> bool {
+    match taken {
+        Ok(Taken::Cached(found)) => found.as_slice() == payload,
+        _ => false,
+    }
+}
+
+/// The mark of a receipt.
+fn mark_of(receipt: &Receipt) -> Mark {
+    Mark::Add {
+        key: receipt.key,
+        digest: receipt.digest,
+    }
+}
+
+/// A bookie of so many passes over an empty disk in memory, where ledger 9 is dead.
+fn open<L: AddLedger, R: Abort>(
+    rt: &R,
+    alloc: Global,
+    blank: Blank,
+    passes: u32,
+) -> Bookie<L, MemDisk>
+    requires name { blank.name ≡ L.name }
+    requires parts { blank.parts ≡ L.parts }
+    requires each { blank.parts ≡ passes + 1 }
+    requires honest { L.honest ≡ true }
+{
+    match Bookie::open(alloc, blank, passes, MemDisk::new(alloc), SETTINGS, &[9]) {
+        Ok(bookie) => bookie,
+        Err(refused) => panic!(rt; "{}", refused.fault),
+    }
+}
