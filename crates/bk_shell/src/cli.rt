@@ -14,6 +14,7 @@ mod folder;
 mod folder_option;
 mod help;
 mod ledgers;
+mod load;
 mod number_option;
 #[cfg(test)]
 mod tests;
@@ -28,6 +29,7 @@ use folder_option::{FOLDER, folder_arg, read_folder};
 use help::{ABOUT_SCRIPT, SCRIPT_HELP};
 pub(crate) use help::{ABOUT, COMMANDS, PROGRAM_HELP, VERSION};
 use ledgers::{ledgers_arg, read_ledgers};
+pub(crate) use load::{LoadCall, is_load_call, load_call};
 use number_option::{BadValue, NumberOption};
 use std::alloc::{AllocError, Global};
 use std::convert::AsStr;
@@ -194,7 +196,8 @@ pub(crate) fn text_of(alloc: Global, error: &Error) -> Result<String, AllocError
 /// The word of an error's text that is told to be no option, where no command on a folder was called.
 fn unknown_word<'t>(error: &Error, text: &'t str) -> Option<&'t str> {
     let is_on_folder = text.contains("<DIR>") && !text.contains("bk_shell script ");
-    if error.kind() != ErrorKind::UnknownArgument || is_on_folder {
+    let is_load = text.contains("bk_shell load ");
+    if error.kind() != ErrorKind::UnknownArgument || is_on_folder || is_load {
         return None;
     }
     let (_, rest) = text.split_once("unexpected argument '")?;

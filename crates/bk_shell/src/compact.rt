@@ -8,7 +8,7 @@ mod rows;
 use crate::cli::{CompactAsk, DEFAULTS};
 use crate::dead::dead_ledgers;
 use crate::progress::Progress;
-use bk_dir::Form;
+use bk_dir::{Form, unlisted};
 use bk_disk::{DirDisk, DiskFault, LogDisk};
 use bk_drive::Settings;
 use bk_sweep::{Fate, Kind, Planned, Store, SweepFault, plan, sweep_disk};
@@ -52,6 +52,9 @@ fn compact<W: Write, E: Write>(
 ) -> Result<(), CompactFault> {
     let dead = dead_ledgers(rt, ask)?;
     let mut disk = DirDisk::open_to_read(rt, path)?;
+    if let Some(fault) = unlisted(rt, path) {
+        return Err(CompactFault::Folder(fault));
+    }
     let logs = lengths_of(rt.alloc(), &mut disk)?;
     let summary = if logs.is_empty() {
         let row = EmptyRow {

@@ -4,6 +4,7 @@
 mod cli;
 mod compact;
 mod dead;
+mod load;
 mod program;
 mod progress;
 mod script;
@@ -11,13 +12,18 @@ mod told;
 
 pub use bk_dir::{Digest, DigestChoice, DirCommand, EntryRange, ScanChoice, run_dir};
 pub use bk_script::run_script;
+use cli::is_load_call;
+use load::load_as_asked;
 use program::{StartFault, run_words, tell_fault, words_of};
 use std::io::{BufWriter, Stderr};
 use std::process::ExitCode;
+use std::rt::Clock;
+use std::sync::Wait;
+use std::thread::Threads;
 
 fn main(rt: HostRuntime) -> ExitCode {
     let mut errors = rt.stderr();
-    match run(&rt, &mut errors) {
+    match run(&rt, &rt, &mut errors) {
         Ok(status) => ExitCode::from(status),
         Err(fault) => {
             tell_fault(fault, &mut errors);
@@ -26,12 +32,19 @@ fn main(rt: HostRuntime) -> ExitCode {
     }
 }
 
-/// Does what the command line of the process asks for, and returns the status.
-fn run(rt: &HostRuntime, errors: &mut Stderr) -> Result<u8, StartFault> {
+/// Does what the command line of the process asks for, and returns the status. A load alone needs threads.
+fn run<T: Threads + Wait + Clock + Sync>(
+    rt: &HostRuntime,
+    threads: &T,
+    errors: &mut Stderr,
+) -> Result<u8, StartFault> {
     let alloc = rt.alloc();
     let words = words_of(rt)?;
     let Ok(mut writer) = BufWriter::new(alloc, rt.stdout()) else {
         return Err(StartFault::Memory);
     };
+    if is_load_call(&words) {
+        return Ok(load_as_asked(rt, threads, &words, &mut writer, errors));
+    }
     Ok(run_words(rt, &words, &mut rt.stdin(), &mut writer, errors))
 }

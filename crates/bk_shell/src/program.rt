@@ -218,7 +218,12 @@ fn tell_unwritten<E: Write>(error: &io::Error, errors: &mut E) -> u8
 }
 
 /// Writes help that was asked for, or tells on the error stream what is wrong with the words. Returns the status.
-fn tell<W: Write, E: Write>(alloc: Global, error: &Error, writer: &mut W, errors: &mut E) -> u8
+pub(crate) fn tell<W: Write, E: Write>(
+    alloc: Global,
+    error: &Error,
+    writer: &mut W,
+    errors: &mut E,
+) -> u8
     ensures { kind_of error.now ≡ ErrorKind.OutOfMemory → result ≡ 1 }
 {
     if error.kind() == ErrorKind::OutOfMemory {

@@ -6,6 +6,7 @@ ghost use Rattle.bk_shell.specs.Folder.{RunsOverFolder};
 
 use crate::cli::ScriptCall;
 use crate::told::Told;
+use bk_dir::unlisted;
 use bk_disk::{DirDisk, FolderFault};
 use bk_script::{run_on, run_script};
 use std::alloc::Global;
@@ -90,9 +91,14 @@ fn run_on_folder<R: Read, W: Write, E: Write>(
 }
 
 /// The disk of the folder at a path, to be written. Where nothing is there, the folder is made, if its parent is there.
-fn open_or_make(rt: &HostRuntime, path: &str) -> Result<DirDisk, FolderFault> {
+pub(crate) fn open_or_make(rt: &HostRuntime, path: &str) -> Result<DirDisk, FolderFault> {
     let fault = match DirDisk::open_to_write(rt, path) {
-        Ok(disk) => return Ok(disk),
+        Ok(disk) => {
+            return match unlisted(rt, path) {
+                Some(fault) => Err(fault),
+                None => Ok(disk),
+            };
+        }
         Err(fault) => fault,
     };
     if !is_missing(&fault) {

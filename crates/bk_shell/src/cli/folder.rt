@@ -66,7 +66,7 @@ pub(crate) enum BadWord<'a> {
 }
 
 /// The option, behind the program's name or behind a command, that asks for objects of JSON.
-const JSON: &str = "--json";
+pub(super) const JSON: &str = "--json";
 
 /// Whether the words call a command on a folder, or ask for help on one.
 pub(crate) fn is_folder_call<S: AsStr>(words: &[S]) -> bool {
@@ -124,7 +124,7 @@ pub(crate) fn folder_call<'a, S: AsStr>(
 }
 
 /// The form that is asked for.
-fn form_of(found: &ArgMatches<'_>) -> Form {
+pub(super) fn form_of(found: &ArgMatches<'_>) -> Form {
     if found.get_flag("json") {
         Form::Json
     } else {
@@ -313,7 +313,7 @@ fn folder_commands<'a>(alloc: Global) -> Result<Command<'a>, AllocError> {
 }
 
 /// The option that asks for objects of JSON, behind the program's name or behind a command.
-fn json_arg<'a>(alloc: Global) -> Arg<'a> {
+pub(super) fn json_arg<'a>(alloc: Global) -> Arg<'a> {
     Arg::new(alloc, "json")
         .long("json")
         .global(true)

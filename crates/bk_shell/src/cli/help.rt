@@ -29,6 +29,8 @@ A folder of entry logs is written by
 A new store in memory is tried, or a folder is written, by
   script                                runs steps from standard input, and prints an answer for each;
                                         with --folder DIR over the logs of that folder
+  load                                  puts a load of many callers on a bookie, and checks what it leaves;
+                                        with --folder DIR on the logs of that folder
 
 Of the program itself tell
   help COMMAND                          one of these, with an example

@@ -3,6 +3,7 @@
 mod compact;
 mod folder;
 mod lines;
+mod load;
 mod script;
 mod texts;
 

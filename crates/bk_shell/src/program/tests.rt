@@ -1,6 +1,7 @@
 mod compact;
 mod folder;
 mod json;
+mod load;
 mod over;
 
 use super::{StartFault, run_words, words_of};

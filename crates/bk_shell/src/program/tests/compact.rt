@@ -1,6 +1,6 @@
 //! Compactions of real folders, which each test makes and takes away.
 
-use super::folder::{Row, anew, check, done, told};
+use super::folder::{Row, anew, check, done, in_use, told};
 use super::run;
 use bk_disk::DirDisk;
 use std::fs;
@@ -199,7 +199,8 @@ fn a_folder_that_is_written_is_not_compacted(rt: HostRuntime) -> Result<(), Fail
     let writer = DirDisk::open_to_write(&rt, folder)?;
     let shown = run(&rt, &["bk_shell", "compact", "--dead=2", folder], "");
     assert!(rt; shown.status == 1 && shown.output.is_empty());
-    assert!(rt; shown.errors.starts_with(b"fault in use: process "));
+    let busy = in_use(&rt, folder)?;
+    assert_eq!(rt; shown.errors.as_slice(), busy.as_bytes());
     // What would be done is told all the same.
     let dry = run(
         &rt,

@@ -2,8 +2,9 @@
 
 use super::run;
 use bk_disk::{DirDisk, LogDisk};
+use std::alloc::AllocError;
 use std::os::unix::fs::symlink;
-use std::process::Abort;
+use std::process::{self, Abort};
 use std::test::Fail;
 use std::{fs, io};
 
@@ -54,6 +55,14 @@ pub(super) fn check(rt: &impl Abort, host: &HostRuntime, rows: &[Row<'_>]) {
         );
         assert_eq!(rt; shown.status, row.status, "the status of {words:?}");
     }
+}
+
+/// What is told where this process writes in a folder: who does, and what is to be done.
+pub(super) fn in_use(rt: &HostRuntime, folder: &str) -> Result<String, AllocError> {
+    let process = process::id(rt.process());
+    format!(in rt.alloc();
+        "fault in use: process {process} holds the lock of {folder}/writer.lock; one program writes in a folder at a time, so wait until it ends, or end it: the lock goes with it, and the file may stay\n"
+    )
 }
 
 /// A call that is done.
@@ -327,7 +336,8 @@ fn one_program_writes_in_a_folder(rt: HostRuntime) -> Result<(), Fail> {
     let first = DirDisk::open_to_write(&rt, "bk_shell_two")?;
     let shown = run(&rt, words, FLUSHED);
     assert!(rt; shown.status == 1 && shown.output.is_empty());
-    assert!(rt; shown.errors.starts_with(b"fault in use: process "));
+    let busy = in_use(&rt, "bk_shell_two")?;
+    assert_eq!(rt; shown.errors.as_slice(), busy.as_bytes());
     // Readers are not hindered.
     let found = "0 1028 68656c6c6f\n";
     let find = &["bk_shell", "find", "bk_shell_two", "1", "0"];

@@ -1,0 +1,72 @@
+//! What a disk has before a load.
+
+ghost use Rattle.std.specs.Prelude.{◌≡◌, ◌<◌, ◌≤◌, ◌^◌, All};
+ghost use Rattle.std.specs.FinMap as map;
+
+use crate::LoadFault;
+use bk_disk::LogDisk;
+use bk_index::Index;
+use bk_store::{Settings, Store};
+use std::alloc::Global;
+
+/// What a disk has before a load.
+#[derive(Clone, Copy)]
+pub(crate) struct Before {
+    pub logs: u64,
+    pub entries: u64,
+    /// From this ledger on it has no entry.
+    pub first: u64,
+}
+
+/// A load may begin at this ledger at most, so that there are enough behind it.
+const LAST_FIRST: u64 = 1 << 62;
+
+/// How many logs a disk has.
+pub(crate) fn logs_on<D: LogDisk>(alloc: Global, disk: &mut D) -> Result<u64, LoadFault> {
+    match disk.list(alloc) {
+        Ok(logs) => Ok(logs.len() as u64),
+        Err(_) => Err(LoadFault::Disk),
+    }
+}
+
+/// A ledger that is not below this one, and past the other.
+fn past(free: u64, ledger: u64) -> u64
+    requires { ledger < 2 ^ 63 }
+    ensures above { free ≤ result }
+    ensures past { ledger < result }
+{
+    free.max(ledger + 1)
+}
+
+/// A ledger from which on an index has no entry.
+fn free_ledger(index: &Index) -> u64
+    ensures { All (λ e. e.0.ledger < result) (map.entries index.now) }
+{
+    let mut free = 0;
+    for (key, _) in index.walk() {
+        free = past(free, key.ledger());
+    }
+    free
+}
+
+/// Looks at what a disk has, and hands it back.
+pub(crate) fn survey<D: LogDisk>(
+    alloc: Global,
+    mut disk: D,
+    settings: Settings,
+) -> Result<(D, Before), LoadFault> {
+    let logs = logs_on(alloc, &mut disk)?;
+    let store = Store::open(alloc, disk, settings, &[]).map_err(LoadFault::Open)?;
+    let before = Before {
+        logs,
+        entries: store.index().len() as u64,
+        first: free_ledger(store.index()),
+    };
+    if before.first > LAST_FIRST {
+        return Err(LoadFault::NoLedger);
+    }
+    match store.into_disk() {
+        Ok(disk) => Ok((disk, before)),
+        Err(_) => Err(LoadFault::Leased),
+    }
+}

@@ -1,0 +1,59 @@
+//! What callers have done.
+
+ghost use Rattle.std.specs.Prelude.{◌≡◌, ◌+◌, OnOk, OnErr, vec_len};
+
+use bk_store::Receipt;
+use std::alloc::{AllocError, Global};
+
+/// What a caller has done, or some together.
+#[derive(Drop)]
+pub(crate) struct Done {
+    /// The receipts of the adds that were accepted, and how many nanoseconds each took.
+    pub receipts: Vec<Receipt>,
+    pub times: Vec<u32>,
+    /// The bytes of their payloads.
+    pub bytes: u64,
+    /// How many adds found their entry there.
+    pub held: u64,
+    /// How many adds came to a ledger that was deleted.
+    pub refused: u64,
+    /// How many entries were taken back, and how many of these were not as they had been added.
+    pub takes: u64,
+    pub wrong: u64,
+    /// The ledgers that were deleted.
+    pub dead: Vec<u64>,
+}
+
+impl Done {
+    /// Nothing yet.
+    pub fn new(alloc: Global) -> Done
+        ensures { vec_len result.receipts ≡ 0 }
+    {
+        Done {
+            receipts: Vec::new(alloc),
+            times: Vec::new(alloc),
+            bytes: 0,
+            held: 0,
+            refused: 0,
+            takes: 0,
+            wrong: 0,
+            dead: Vec::new(alloc),
+        }
+    }
+
+    /// Takes in what another caller has done. The only error is want of memory.
+    pub fn take_in(&mut self, other: &Done) -> Result<(), AllocError>
+        ensures ok { OnOk result (vec_len self.new.receipts ≡ vec_len self.old.receipts + vec_len other.now.receipts) }
+        ensures err { OnErr result (vec_len self.new.receipts ≡ vec_len self.old.receipts) }
+    {
+        self.times.extend_from_slice(&other.times)?;
+        self.dead.extend_from_slice(&other.dead)?;
+        self.receipts.extend_from_slice(&other.receipts)?;
+        self.bytes = self.bytes.saturating_add(other.bytes);
+        self.held = self.held.saturating_add(other.held);
+        self.refused = self.refused.saturating_add(other.refused);
+        self.takes = self.takes.saturating_add(other.takes);
+        self.wrong = self.wrong.saturating_add(other.wrong);
+        Ok(())
+    }
+}

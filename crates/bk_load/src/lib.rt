@@ -1,0 +1,20 @@
+//! A load on a bookie: callers that add, take and delete, workers that flush, and a keeper that compacts and removes logs; and
+//! what came of it.
+#![tactic(auto)]
+
+mod before;
+mod caller;
+mod checking;
+mod done;
+mod entries;
+mod keeper;
+mod latency;
+mod report;
+mod running;
+mod serving;
+#[cfg(test)]
+mod tests;
+
+pub use latency::Latencies;
+pub use report::{Checked, Load, LoadFault, Logs, Report, Until};
+pub use running::run_load;

@@ -1,0 +1,100 @@
+//! The load itself.
+
+ghost use Rattle.std.specs.Prelude.{◌≡◌, ◌+◌, ◌<◌, IfOk, vec_len};
+
+use crate::before::{Before, logs_on, survey};
+use crate::checking::check;
+use crate::latency::ranks_of;
+use crate::serving::{Served, serve};
+use crate::{Load, LoadFault, Logs, Report};
+use bk_disk::LogDisk;
+use bk_store::{Settings, Store};
+use std::alloc::Global;
+use std::io::Write;
+use std::marker::Brand;
+use std::rt::Clock;
+use std::sync::Wait;
+use std::sync::ledger::Blank;
+use std::thread::Threads;
+
+/// Opens the files that a load leaves, and looks at what stands in them.
+fn report_on<D: LogDisk>(
+    alloc: Global,
+    settings: Settings,
+    before: Before,
+    served: Served<D>,
+) -> Result<Report, LoadFault>
+    ensures counted { IfOk result (λ r. (r.adds ≡ served.adds) × (r.receipts ≡ vec_len served.done.receipts)) }
+    ensures checked { IfOk result (λ r. r.checked.found + r.checked.deleted + r.checked.lost ≡ r.receipts) }
+{
+    let Served {
+        store,
+        adds,
+        done,
+        works,
+        keeper,
+        milliseconds,
+    } = served;
+    let Ok(mut disk) = store.into_disk() else {
+        return Err(LoadFault::Leased);
+    };
+    let after = logs_on(alloc, &mut disk)?;
+    let mut store = Store::open(alloc, disk, settings, &done.dead).map_err(LoadFault::Open)?;
+    let checked = check(alloc, &mut store, before.first, &done.receipts)?;
+    Ok(Report {
+        adds,
+        receipts: done.receipts.len() as u64,
+        bytes: done.bytes,
+        held: done.held,
+        refused: done.refused,
+        takes: done.takes,
+        wrong: done.wrong,
+        deletes: done.dead.len() as u64,
+        works,
+        logs: Logs {
+            made: after
+                .saturating_add(keeper.removed)
+                .saturating_sub(before.logs),
+            compacted: keeper.compacted,
+            removed: keeper.removed,
+        },
+        milliseconds,
+        latencies: ranks_of(done.times).map_err(|_| LoadFault::Memory)?,
+        earlier: before.entries,
+        checked,
+    })
+}
+
+/// Puts a load on a bookie over this disk, on whose logs its store is opened: so many callers at once add entries of ledgers
+/// that they share, take some of them back, and delete a ledger now and then. Two workers flush, and a keeper compacts the
+/// logs and removes those that no key names. Once a second the progress is told, where a writer for it is given.
+///
+/// The ledgers are those behind the last one of which the disk has an entry. Of `Until::Adds(n)` the callers make n adds
+/// together.
+///
+/// Faults: see `LoadFault`. A fault lets the disk go.
+pub fn run_load<D: LogDisk, R: Threads + Wait + Clock + Sync, W: Write + Send + Drop>(
+    rt: &R,
+    alloc: Global,
+    disk: D,
+    settings: Settings,
+    load: Load,
+    progress: Option<W>,
+) -> Result<Report, LoadFault>
+    ensures counted { IfOk result (λ r. r.adds ≡ r.receipts) }
+    ensures checked { IfOk result (λ r. r.checked.found + r.checked.deleted + r.checked.lost ≡ r.receipts) }
+{
+    let (disk, before) = survey(alloc, disk, settings)?;
+    let blank = Blank::new(u64::from(load.callers) + 1);
+    let served = serve::<Brand, D, R, W>(
+        rt,
+        alloc,
+        blank,
+        disk,
+        settings,
+        load,
+        before.first,
+        progress,
+    )?;
+    report_on(alloc, settings, before, served)
+}

@@ -1,0 +1,275 @@
+//! A load while it runs: a bookie over one ledger, with its callers, workers and keeper.
+
+ghost use Rattle.std.specs.Prelude.{◌≡◌, ◌+◌, ◌<◌, IfOk, sum_by, vec_len};
+ghost use Rattle.bk_bookie.specs.Receipts.{AllStand};
+
+use crate::caller::{Caller, Shared};
+use crate::done::Done;
+use crate::keeper::{Keeper, end_flush};
+use crate::{Load, LoadFault};
+use bk_bookie::{AddLedger, Bookie, Finished, Gate, Pass, WorkReport};
+use bk_disk::LogDisk;
+use bk_drive::Work;
+use bk_store::{Receipt, Settings, Store};
+use crossbeam_channel::{Sender, bounded};
+use std::alloc::{AllocError, Global};
+use std::io::Write;
+use std::rt::Clock;
+use std::sync::Wait;
+use std::sync::atomic::Ordering;
+use std::sync::ledger::Blank;
+use std::thread;
+use std::thread::Threads;
+
+/// How many workers flush.
+const WORKERS: u32 = 2;
+
+/// So many works wait at most.
+const WAITING: usize = 256;
+
+/// A gate that is always open.
+#[derive(Drop)]
+struct OpenGate;
+
+impl Gate for OpenGate {
+    fn enter(&self, _worker: u32) {}
+
+    fn leave(&self, _worker: u32) {}
+}
+
+/// A caller that has ended, and why where it did so before its time.
+#[derive(Drop)]
+struct Ended<L: AddLedger> {
+    caller: Caller<L>,
+    ran: Result<(), LoadFault>,
+}
+
+/// Lets a caller run.
+fn run_caller<L: AddLedger, D: LogDisk, R: Wait + Clock>(
+    rt: &R,
+    alloc: Global,
+    bookie: &Bookie<L, D>,
+    shared: &Shared,
+    mut caller: Caller<L>,
+) -> Ended<L> {
+    let ran = caller.run(rt, alloc, bookie, shared);
+    Ended { caller, ran }
+}
+
+/// The callers of a load, with a pass each.
+fn callers<L: AddLedger, D: LogDisk, R: Wait>(
+    rt: &R,
+    alloc: Global,
+    bookie: &Bookie<L, D>,
+    count: u32,
+) -> Result<Vec<Caller<L>>, LoadFault> {
+    let mut callers = Vec::new(alloc);
+    for number in 0..count {
+        let pass = bookie.pass(rt).map_err(|_| LoadFault::NoPass)?;
+        let caller = Caller::new(alloc, pass, u64::from(number));
+        callers.push(caller).map_err(|_| LoadFault::Memory)?;
+    }
+    Ok(callers)
+}
+
+/// What the callers and the keeper of a load leave.
+#[derive(Drop)]
+struct Ran<L: AddLedger> {
+    ended: Vec<Ended<L>>,
+    keeper: Keeper,
+}
+
+/// Lets all callers run at once.
+fn run_callers<L: AddLedger + Send + Sync, D: LogDisk, R: Threads + Wait + Clock + Sync>(
+    rt: &R,
+    alloc: Global,
+    bookie: &Bookie<L, D>,
+    shared: &Shared,
+    waiting: Vec<Caller<L>>,
+) -> Result<Vec<Ended<L>>, LoadFault> {
+    let ended = thread::map_vec(
+        rt,
+        waiting,
+        &|caller| run_caller(rt, alloc, bookie, shared, caller),
+    );
+    shared.is_over.store(true, Ordering::SeqCst);
+    ended.map_err(|_| LoadFault::Memory)
+}
+
+/// Lets all callers and the keeper run, and closes the channel of works behind them.
+fn run_all<
+    L: AddLedger + Send + Sync,
+    D: LogDisk,
+    R: Threads + Wait + Clock + Sync,
+    W: Write + Send + Drop,
+>(
+    rt: &R,
+    alloc: Global,
+    bookie: &Bookie<L, D>,
+    shared: &Shared,
+    waiting: Vec<Caller<L>>,
+    works: Sender<Work>,
+    mut progress: Option<W>,
+) -> Result<Ran<L>, LoadFault> {
+    let mut keeper = Keeper::new();
+    let (ended, keeper) = thread::join(
+        rt,
+        || run_callers(rt, alloc, bookie, shared, waiting),
+        move || {
+            keeper.run(rt, bookie, &works, shared, &mut progress);
+            keeper
+        },
+    );
+    Ok(Ran {
+        ended: ended?,
+        keeper,
+    })
+}
+
+/// Lets the workers work meanwhile.
+fn run_with_workers<
+    L: AddLedger + Send + Sync,
+    D: LogDisk,
+    R: Threads + Wait + Clock + Sync,
+    W: Write + Send + Drop,
+>(
+    rt: &R,
+    alloc: Global,
+    bookie: &Bookie<L, D>,
+    shared: &Shared,
+    progress: Option<W>,
+) -> Result<(WorkReport, Ran<L>), LoadFault> {
+    let waiting = callers(rt, alloc, bookie, shared.load.callers)?;
+    let (sender, works) = bounded(alloc, WAITING).map_err(|_| LoadFault::Memory)?;
+    let (report, ran) = thread::join(
+        rt,
+        move || {
+            let works = works;
+            bookie.workers(rt, alloc, WORKERS, &works, &OpenGate)
+        },
+        || run_all(rt, alloc, bookie, shared, waiting, sender, progress),
+    );
+    let report = report.map_err(LoadFault::Workers)?;
+    Ok((report, ran?))
+}
+
+/// Brings what is in memory to the logs: a flush that runs, and another one.
+fn flush<L: AddLedger, D: LogDisk, R: Wait>(rt: &R, bookie: &Bookie<L, D>) {
+    end_flush(rt, bookie);
+    let _ = bookie.step(rt, Work::Swap);
+    end_flush(rt, bookie);
+}
+
+/// What callers did together, and their passes: there is a receipt for each add that these count.
+#[derive(Drop)]
+struct Sums<L: AddLedger> {
+    passes: Vec<Pass<L>>,
+    done: Done,
+    ghost counted: { vec_len done.receipts ≡ sum_by (λ p. p.adds) passes.items },
+}
+
+impl<L: AddLedger> Sums<L> {
+    /// Of no caller.
+    fn new(alloc: Global) -> Sums<L> {
+        Sums {
+            passes: Vec::new(alloc),
+            done: Done::new(alloc),
+        }
+    }
+
+    /// Takes a caller in. The only error is want of memory.
+    fn take_in(&mut self, caller: Caller<L>) -> Result<(), AllocError> {
+        let Caller {
+            pass,
+            number: _,
+            done,
+        } = caller;
+        self.passes.reserve(1)?;
+        self.done.take_in(&done)?;
+        self.passes.push_reserved(pass);
+        Ok(())
+    }
+
+    /// Takes all callers in; the fault of the first that ended before its time.
+    fn take_in_all(&mut self, ended: Vec<Ended<L>>) -> Result<(), LoadFault> {
+        for one in ended {
+            let Ended { caller, ran } = one;
+            ran?;
+            self.take_in(caller).map_err(|_| LoadFault::Memory)?;
+        }
+        Ok(())
+    }
+}
+
+/// Ends a bookie: its store, with the sum of what the passes count, where each receipt stands in the trail.
+fn end<L: AddLedger, D: LogDisk>(
+    bookie: Bookie<L, D>,
+    passes: Vec<Pass<L>>,
+    receipts: &[Receipt],
+) -> Result<Finished<D>, LoadFault>
+    ensures sum { IfOk result (λ f. f.adds ≡ sum_by (λ p. p.adds) passes.items) }
+    ensures stand { IfOk result (λ f. AllStand f.store.ledgers.trail receipts.now) }
+{
+    match bookie.finish(passes, receipts) {
+        Ok(finished) => Ok(finished),
+        Err(refused) => Err(LoadFault::Finish(refused.fault)),
+    }
+}
+
+/// What a load leaves: the store of its bookie, how many adds its passes count, and what was done meanwhile.
+#[derive(Drop)]
+pub(crate) struct Served<D: LogDisk> {
+    pub store: Store<D>,
+    pub adds: u64,
+    pub done: Done,
+    pub works: WorkReport,
+    pub keeper: Keeper,
+    pub milliseconds: u64,
+}
+
+/// Opens a bookie over this ledger, and lets a load run on it, from the ledger `first` on.
+pub(crate) fn serve<
+    L: AddLedger + Send + Sync,
+    D: LogDisk,
+    R: Threads + Wait + Clock + Sync,
+    W: Write + Send + Drop,
+>(
+    rt: &R,
+    alloc: Global,
+    blank: Blank,
+    disk: D,
+    settings: Settings,
+    load: Load,
+    first: u64,
+    progress: Option<W>,
+) -> Result<Served<D>, LoadFault>
+    requires name { blank.name ≡ L.name }
+    requires parts { blank.parts ≡ L.parts }
+    requires each { blank.parts ≡ load.callers + 1 }
+    requires honest { D.honest disk ≡ L.honest }
+    ensures stand { IfOk result (λ s. AllStand s.store.ledgers.trail s.done.receipts.items) }
+    ensures counted { IfOk result (λ s. s.adds ≡ vec_len s.done.receipts) }
+{
+    let bookie = match Bookie::<L, D>::open(alloc, blank, load.callers, disk, settings, &[]) {
+        Ok(bookie) => bookie,
+        Err(refused) => return Err(LoadFault::Open(refused.fault)),
+    };
+    let shared = Shared::new(rt, load, first)?;
+    let (works, ran) = run_with_workers(rt, alloc, &bookie, &shared, progress)?;
+    let milliseconds = shared.milliseconds(rt)?;
+    let Ran { ended, mut keeper } = ran;
+    flush(rt, &bookie);
+    keeper.settle(rt, &bookie);
+    let mut sums = Sums::new(alloc);
+    sums.take_in_all(ended)?;
+    let Sums { passes, done } = sums;
+    let Finished { store, adds } = end(bookie, passes, &done.receipts)?;
+    Ok(Served {
+        store,
+        adds,
+        done,
+        works,
+        keeper,
+        milliseconds,
+    })
+}

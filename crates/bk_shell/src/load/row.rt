@@ -1,0 +1,149 @@
+//! What a load shows: the lines of its report, or one object, and why it ended early.
+
+use bk_dir::Form;
+use bk_disk::FolderFault;
+use bk_load::Report;
+use serde::Serialize;
+use std::alloc::Global;
+use std::io;
+use std::io::Write;
+use thiserror::Error;
+
+/// Why a load ends early. Its text is what the program tells of it.
+#[derive(Debug, Error, Drop)]
+pub(super) enum LoadFault {
+    /// The folder is not opened.
+    #[error("{0}")]
+    Folder(FolderFault),
+    /// There is no report.
+    #[error("{0}")]
+    Load(bk_load::LoadFault),
+    /// No memory was to be had.
+    #[error("memory")]
+    Memory,
+    /// The output could not be written.
+    #[error("output")]
+    Output(io::Error),
+}
+
+impl From<io::Error> for LoadFault {
+    fn from(error: io::Error) -> LoadFault {
+        LoadFault::Output(error)
+    }
+}
+
+/// The object of a report.
+#[derive(Clone, Copy, Serialize)]
+struct ReportRow {
+    good: bool,
+    adds: u64,
+    receipts: u64,
+    bytes: u64,
+    held: u64,
+    refused: u64,
+    milliseconds: u64,
+    takes: u64,
+    wrong: u64,
+    deletes: u64,
+    made: u64,
+    compacted: u64,
+    removed: u64,
+    works: u64,
+    faults: u64,
+    at_500: u32,
+    at_990: u32,
+    at_999: u32,
+    found: u64,
+    deleted: u64,
+    lost: u64,
+    unknown: u64,
+    kept: u64,
+    earlier: u64,
+}
+
+/// The object of a fault.
+#[derive(Clone, Copy, Serialize)]
+struct FaultRow<'a> {
+    fault: &'a str,
+}
+
+/// The object of this report.
+fn row_of(report: &Report) -> ReportRow {
+    ReportRow {
+        good: report.is_good(),
+        adds: report.adds,
+        receipts: report.receipts,
+        bytes: report.bytes,
+        held: report.held,
+        refused: report.refused,
+        milliseconds: report.milliseconds,
+        takes: report.takes,
+        wrong: report.wrong,
+        deletes: report.deletes,
+        made: report.logs.made,
+        compacted: report.logs.compacted,
+        removed: report.logs.removed,
+        works: report.works.answered,
+        faults: report.works.faults,
+        at_500: report.latencies.at_500,
+        at_990: report.latencies.at_990,
+        at_999: report.latencies.at_999,
+        found: report.checked.found,
+        deleted: report.checked.deleted,
+        lost: report.checked.lost,
+        unknown: report.checked.unknown,
+        kept: report.checked.kept,
+        earlier: report.earlier,
+    }
+}
+
+/// Writes a report, and what the writer has kept back.
+pub(super) fn write_report<W: Write>(
+    alloc: Global,
+    form: Form,
+    report: &Report,
+    writer: &mut W,
+) -> Result<(), LoadFault> {
+    match form {
+        Form::Text => {
+            let verdict = if report.is_good() { "good" } else { "bad" };
+            writeln!(writer, "{report}\n{verdict}")?;
+        }
+        Form::Json => write_object(alloc, &row_of(report), writer)?,
+    }
+    writer.flush()?;
+    Ok(())
+}
+
+/// Tells why a load ends early, in a line on the error stream. Whether it comes through changes nothing.
+pub(super) fn tell_fault<E: Write>(alloc: Global, form: Form, fault: &LoadFault, errors: &mut E) {
+    let _ = match form {
+        Form::Text => writeln!(errors, "fault {fault}").map_err(LoadFault::Output),
+        Form::Json => tell_object(alloc, fault, errors),
+    };
+}
+
+/// Tells it as an object.
+fn tell_object<E: Write>(
+    alloc: Global,
+    fault: &LoadFault,
+    errors: &mut E,
+) -> Result<(), LoadFault> {
+    let Ok(text) = fault.to_string(alloc) else {
+        return Err(LoadFault::Memory);
+    };
+    write_object(alloc, &FaultRow { fault: &text }, errors)
+}
+
+/// Writes an object, and the end of its line. Nothing is written where memory is refused.
+fn write_object<R: Serialize, W: Write>(
+    alloc: Global,
+    row: &R,
+    writer: &mut W,
+) -> Result<(), LoadFault> {
+    let Ok(object) = serde_json::to_string(alloc, row) else {
+        return Err(LoadFault::Memory);
+    };
+    writeln!(writer, "{object}")?;
+    Ok(())
+}
