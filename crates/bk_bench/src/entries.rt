@@ -1,6 +1,6 @@
 //! The entries that the stages work on.
 
-ghost use Rattle.std.specs.Prelude.{◌≡◌, ◌≤◌, ◌/◌, ◌%◌, IfOk, length};
+ghost use Rattle.std.specs.Prelude.{◌≡◌, ◌+◌, ◌≤◌, ◌/◌, ◌%◌, IfOk, length};
 
 use bk_record::Key;
 use std::alloc::{AllocError, Global};
@@ -69,8 +69,15 @@ impl Amount {
 pub(crate) fn payload(alloc: Global, ids: (u64, u64)) -> Result<Vec<u8>, AllocError>
     ensures { IfOk result (λ payload. length payload.items ≡ 100) }
 {
+    payload_of(alloc, ids, &DATA)
+}
+
+/// A payload of the ids of ledger and entry, then these bytes.
+pub(crate) fn payload_of(alloc: Global, ids: (u64, u64), data: &[u8]) -> Result<Vec<u8>, AllocError>
+    ensures { IfOk result (λ payload. length payload.items ≡ 16 + length data.now) }
+{
     let mut payload = short_payload(alloc, ids)?;
-    payload.extend_from_slice(&DATA)?;
+    payload.extend_from_slice(data)?;
     Ok(payload)
 }
 

@@ -8,7 +8,7 @@ use thiserror::Error;
 #[derive(Clone, Copy, Debug, PartialEq, Eq, Error)]
 pub(crate) enum BenchFault {
     /// The words of the command line ask for nothing.
-    #[error("entries N ORDER, trail N.., or memory WHAT N ORDER")]
+    #[error("entries N ORDER, trail N.., memory WHAT N ORDER, or folder WHAT ..")]
     Words,
     /// No memory was to be had.
     #[error("memory")]

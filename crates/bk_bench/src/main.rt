@@ -1,8 +1,10 @@
-//! A program that does one kind of the store's work after another, in memory, so that each can be measured alone.
+//! A program that does one kind of the store's work after another, in memory or over a folder, so that each can be measured
+//! alone.
 #![tactic(auto)]
 
 mod entries;
 mod fault;
+mod folder;
 mod memory;
 mod run;
 mod stages;
@@ -29,5 +31,6 @@ fn work(rt: &HostRuntime) -> Result<(), BenchFault> {
         Work::Entries(amount) => run::run(rt, amount),
         Work::Trail(lengths) => trail::run(rt, &lengths),
         Work::Memory(holding, amount) => memory::run(rt, holding, amount),
+        Work::Folder(path, work) => folder::run(rt, &path, work),
     }
 }

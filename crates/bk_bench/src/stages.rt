@@ -9,7 +9,7 @@ use bk_compact::{
     BeginAnswer, CopyAnswer, EndAnswer, FinishAnswer, Kind, SwitchAnswer, begin, copy, end_copy,
     finish, switch,
 };
-use bk_disk::{LogView, MemDisk, MemView};
+use bk_disk::{LogDisk, LogView, MemDisk};
 use bk_flush::{PublishAnswer, WriteAnswer, publish as publish_flush, swap, write_one};
 use bk_log::{Scanner, fetch as fetch_entry};
 use bk_record::{HEADER_LENGTH, Key};
@@ -49,7 +49,10 @@ pub(crate) fn digest(payloads: &[Vec<u8>]) -> u64 {
 
 /// An add of each payload.
 #[inline(never)]
-pub(crate) fn add(store: &mut Store<MemDisk>, payloads: &[Vec<u8>]) -> Result<u64, BenchFault> {
+pub(crate) fn add<D: LogDisk>(
+    store: &mut Store<D>,
+    payloads: &[Vec<u8>],
+) -> Result<u64, BenchFault> {
     let mut count = 0u64;
     for payload in payloads {
         let Ok(Added::Accepted(_)) = store.add(payload) else {
@@ -75,7 +78,7 @@ pub(crate) fn cached(store: &mut Store<MemDisk>, keys: &[Key]) -> Result<u64, Be
 
 /// A swap, and then each entry is written to the log.
 #[inline(never)]
-pub(crate) fn write(store: &mut Store<MemDisk>) -> Result<u64, BenchFault> {
+pub(crate) fn write<D: LogDisk>(store: &mut Store<D>) -> Result<u64, BenchFault> {
     let SwapAnswer::Swapped(entries) = swap(store) else {
         return Err(BenchFault::Answer("write"));
     };
@@ -89,7 +92,7 @@ pub(crate) fn write(store: &mut Store<MemDisk>) -> Result<u64, BenchFault> {
 
 /// The flush is published: the index gets all keys.
 #[inline(never)]
-pub(crate) fn publish(store: &mut Store<MemDisk>) -> Result<u64, BenchFault> {
+pub(crate) fn publish<D: LogDisk>(store: &mut Store<D>) -> Result<u64, BenchFault> {
     match publish_flush(store) {
         Ok(PublishAnswer::Published(entries)) => Ok(entries),
         _ => Err(BenchFault::Answer("publish")),
@@ -98,8 +101,8 @@ pub(crate) fn publish(store: &mut Store<MemDisk>) -> Result<u64, BenchFault> {
 
 /// A take of each key by a lease, the entry's bytes, and the end of the lease.
 #[inline(never)]
-pub(crate) fn fetch(
-    store: &mut Store<MemDisk>,
+pub(crate) fn fetch<D: LogDisk>(
+    store: &mut Store<D>,
     alloc: Global,
     keys: &[Key],
 ) -> Result<u64, BenchFault> {
@@ -128,7 +131,7 @@ pub(crate) fn scan(store: &Store<MemDisk>, alloc: Global, most: u64) -> Result<u
 }
 
 /// How many entries a view shows, as far as the most.
-fn scan_log(view: &MemView, alloc: Global, most: u64) -> Result<u64, BenchFault> {
+fn scan_log<V: LogView>(view: &V, alloc: Global, most: u64) -> Result<u64, BenchFault> {
     let end = view.end();
     if end < HEADER_LENGTH as u64 {
         return Err(BenchFault::Answer("scan"));
@@ -175,7 +178,7 @@ pub(crate) fn delete(store: &mut Store<MemDisk>) -> Result<u64, BenchFault> {
 
 /// A whole compaction of the one log. Answers how many keys were sent to their copies.
 #[inline(never)]
-pub(crate) fn compact(store: &mut Store<MemDisk>) -> Result<u64, BenchFault> {
+pub(crate) fn compact<D: LogDisk>(store: &mut Store<D>) -> Result<u64, BenchFault> {
     copy_log(store)?;
     let moved = move_keys(store)?;
     match finish(store) {
@@ -185,7 +188,7 @@ pub(crate) fn compact(store: &mut Store<MemDisk>) -> Result<u64, BenchFault> {
 }
 
 /// Chooses the log, and copies its entries.
-fn copy_log(store: &mut Store<MemDisk>) -> Result<(), BenchFault> {
+fn copy_log<D: LogDisk>(store: &mut Store<D>) -> Result<(), BenchFault> {
     match begin(store, Kind::Major) {
         Ok(BeginAnswer::Chosen(_)) => {}
         _ => return Err(BenchFault::Answer("begin")),
@@ -197,7 +200,7 @@ fn copy_log(store: &mut Store<MemDisk>) -> Result<(), BenchFault> {
 }
 
 /// Ends the copying, and sends the keys to the copy. Answers how many.
-fn move_keys(store: &mut Store<MemDisk>) -> Result<u64, BenchFault> {
+fn move_keys<D: LogDisk>(store: &mut Store<D>) -> Result<u64, BenchFault> {
     match end_copy(store) {
         Ok(EndAnswer::Ended(_)) => {}
         _ => return Err(BenchFault::Answer("end")),

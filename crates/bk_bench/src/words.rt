@@ -2,6 +2,7 @@
 
 use crate::BenchFault;
 use crate::entries::{Amount, Order};
+use crate::folder::{Filling, FolderWork};
 use crate::memory::Holding;
 use std::alloc::{AllocError, Global};
 use std::env;
@@ -15,9 +16,11 @@ pub(crate) enum Work {
     Trail(Vec<u64>),
     /// So many entries, to be held in memory in one form.
     Memory(Holding, Amount),
+    /// Work over the folder at a path.
+    Folder(String, FolderWork),
 }
 
-/// Reads the words: `entries N ORDER`, `trail N..`, `memory WHAT N ORDER`. `Words`, `Host`, `Memory`.
+/// Reads the words: `entries N ORDER`, `trail N..`, `memory WHAT N ORDER`, `folder WHAT ..`. `Words`, `Host`, `Memory`.
 pub(crate) fn read_words(rt: &HostRuntime) -> Result<Work, BenchFault> {
     let words: Vec<String> = env::args(rt)?.collect(rt.alloc())?;
     let texts = texts_of(rt.alloc(), &words)?;
@@ -27,6 +30,7 @@ pub(crate) fn read_words(rt: &HostRuntime) -> Result<Work, BenchFault> {
             Ok(Work::Memory(holding_named(holding)?, amount(count, order)?))
         }
         ["trail", lengths @ ..] => Ok(Work::Trail(numbers(rt.alloc(), lengths)?)),
+        ["folder", words @ ..] => folder_work(rt.alloc(), words),
         _ => Err(BenchFault::Words),
     }
 }
@@ -47,6 +51,29 @@ fn numbers(alloc: Global, words: &[&str]) -> Result<Vec<u64>, BenchFault> {
         numbers.push(number).map_err(|_| BenchFault::Memory)?;
     }
     Ok(numbers)
+}
+
+/// Reads what is to be done over a folder: `fill DIR LENGTH BATCH PUBLISHES LIMIT`, `open DIR`, `compact DIR`.
+fn folder_work(alloc: Global, words: &[&str]) -> Result<Work, BenchFault> {
+    let (path, work) = match words {
+        ["fill", path, numbers @ ..] => (path, FolderWork::Fill(filling(numbers)?)),
+        ["open", path] => (path, FolderWork::Open),
+        ["compact", path] => (path, FolderWork::Compact),
+        _ => return Err(BenchFault::Words),
+    };
+    Ok(Work::Folder(String::from_str(alloc, path)?, work))
+}
+
+fn filling(numbers: &[&str]) -> Result<Filling, BenchFault> {
+    match numbers {
+        [length, batch, publishes, limit] => Ok(Filling {
+            length: number(length)?,
+            batch: number(batch)?,
+            publishes: number(publishes)?,
+            limit: small_number(limit)?,
+        }),
+        _ => Err(BenchFault::Words),
+    }
 }
 
 fn amount(count: &str, order: &str) -> Result<Amount, BenchFault> {
@@ -74,8 +101,10 @@ fn holding_named(name: &str) -> Result<Holding, BenchFault> {
 
 /// The number that a word is, below 2^32.
 fn number(word: &str) -> Result<u64, BenchFault> {
-    match word.parse::<u32>() {
-        Ok(number) => Ok(u64::from(number)),
-        Err(_) => Err(BenchFault::Words),
-    }
+    small_number(word).map(u64::from)
+}
+
+/// The same, as a number of 32 bits.
+fn small_number(word: &str) -> Result<u32, BenchFault> {
+    word.parse::<u32>().map_err(|_| BenchFault::Words)
 }

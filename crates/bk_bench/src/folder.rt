@@ -1,0 +1,208 @@
+//! The stages over a folder of the system, each with the time that it took.
+//!
+//! Beside what it did its work for, a line tells nanoseconds: so no two runs print the same. The work between two stages,
+//! as making payloads, is in no line.
+
+use crate::BenchFault;
+use crate::entries::{Amount, LEDGERS, Order, payload_of};
+use crate::stages::{SETTINGS, add, compact, digest, fetch, publish, write};
+use bk_disk::DirDisk;
+use bk_store::{Settings, Store};
+use std::alloc::{AllocError, Global};
+use std::time::Instant;
+
+/// The bytes of a payload's ids.
+const IDS: u64 = 16;
+
+/// What is done over a folder.
+#[derive(Clone, Copy, Debug, PartialEq, Eq)]
+pub(crate) enum FolderWork {
+    /// Entries are added, flushed, and read by leases.
+    Fill(Filling),
+    /// A store is opened on the logs that are there.
+    Open,
+    /// The log of which the least lives is compacted, while every tenth ledger is dead.
+    Compact,
+}
+
+/// Entries that are flushed to a folder, one of each ledger in turn.
+#[derive(Clone, Copy, Debug, PartialEq, Eq)]
+pub(crate) struct Filling {
+    /// The bytes of a payload, the 16 of its ids among them.
+    pub length: u64,
+    /// How many entries a flush has.
+    pub batch: u64,
+    /// How many flushes there are.
+    pub publishes: u64,
+    /// How many bytes a log has at most.
+    pub limit: u32,
+}
+
+impl Filling {
+    /// All entries.
+    fn amount(self) -> Amount {
+        Amount {
+            count: self.batch.saturating_mul(self.publishes),
+            order: Order::Turn,
+        }
+    }
+}
+
+/// What the stages of a filling came to, and how long they took, in nanoseconds.
+#[derive(Clone, Copy, Debug)]
+struct Times {
+    sum: u64,
+    digest: u64,
+    add: u64,
+    write: u64,
+    publish: u64,
+}
+
+/// Does the work over the folder at a path, and tells what it took.
+pub(crate) fn run(rt: &HostRuntime, path: &str, work: FolderWork) -> Result<(), BenchFault> {
+    match work {
+        FolderWork::Fill(filling) => fill(rt, path, filling),
+        FolderWork::Open => open(rt, path),
+        FolderWork::Compact => compact_one(rt, path),
+    }
+}
+
+/// A store over the folder, while these ledgers are dead.
+fn opened(
+    rt: &HostRuntime,
+    path: &str,
+    settings: Settings,
+    dead: &[u64],
+) -> Result<Store<DirDisk>, BenchFault> {
+    let Ok(disk) = DirDisk::open(rt, path) else {
+        return Err(BenchFault::Answer("folder"));
+    };
+    match Store::open(rt.alloc(), disk, settings, dead) {
+        Ok(store) => Ok(store),
+        Err(_) => Err(BenchFault::Answer("open")),
+    }
+}
+
+/// Nanoseconds since a moment.
+fn since(rt: &HostRuntime, begun: Instant) -> Result<u64, BenchFault> {
+    let spent = begun.elapsed(rt)?;
+    let seconds = spent.as_secs().saturating_mul(1_000_000_000);
+    Ok(seconds.saturating_add(u64::from(spent.subsec_nanos())))
+}
+
+/// Tells what a stage answered, and how long it took.
+fn tell_time(rt: &HostRuntime, stage: &str, count: u64, time: u64) -> Result<(), BenchFault> {
+    println!(rt; "{stage} {count} {time}")?;
+    Ok(())
+}
+
+fn fill(rt: &HostRuntime, path: &str, filling: Filling) -> Result<(), BenchFault> {
+    let settings = Settings {
+        log_limit: filling.limit,
+        ..SETTINGS
+    };
+    let mut store = opened(rt, path, settings, &[])?;
+    fill_store(rt, &mut store, filling)
+}
+
+/// Adds and flushes all entries, and reads them.
+fn fill_store(
+    rt: &HostRuntime,
+    store: &mut Store<DirDisk>,
+    filling: Filling,
+) -> Result<(), BenchFault> {
+    let mut times = Times {
+        sum: 0,
+        digest: 0,
+        add: 0,
+        write: 0,
+        publish: 0,
+    };
+    for number in 0..filling.publishes {
+        let payloads = payloads_of(rt.alloc(), filling, number)?;
+        flush(rt, store, &payloads, &mut times)?;
+    }
+    let amount = filling.amount();
+    tell_time(rt, "digest", times.sum, times.digest)?;
+    tell_time(rt, "add", amount.count, times.add)?;
+    tell_time(rt, "write", amount.count, times.write)?;
+    tell_time(rt, "publish", amount.count, times.publish)?;
+    read(rt, store, amount)
+}
+
+/// The payloads of the flush of this number, counted from 0.
+fn payloads_of(alloc: Global, filling: Filling, flush: u64) -> Result<Vec<Vec<u8>>, AllocError> {
+    let data = vec![in alloc; 0u8; filling.length.saturating_sub(IDS) as usize]?;
+    let amount = filling.amount();
+    let first = flush.saturating_mul(filling.batch);
+    let mut payloads = Vec::new(alloc);
+    for number in 0..filling.batch {
+        let ids = amount.ids(first.saturating_add(number));
+        payloads.push(payload_of(alloc, ids, &data)?)?;
+    }
+    Ok(payloads)
+}
+
+/// Makes the digests of these payloads, as an add does; then adds and flushes them.
+fn flush(
+    rt: &HostRuntime,
+    store: &mut Store<DirDisk>,
+    payloads: &[Vec<u8>],
+    times: &mut Times,
+) -> Result<(), BenchFault> {
+    let begun = Instant::now(rt)?;
+    times.sum = times.sum.saturating_add(digest(payloads));
+    times.digest = times.digest.saturating_add(since(rt, begun)?);
+    let begun = Instant::now(rt)?;
+    add(store, payloads)?;
+    let added = since(rt, begun)?;
+    write(store)?;
+    let written = since(rt, begun)?;
+    publish(store)?;
+    let published = since(rt, begun)?;
+    times.add = times.add.saturating_add(added);
+    times.write = times.write.saturating_add(written.saturating_sub(added));
+    times.publish = times
+        .publish
+        .saturating_add(published.saturating_sub(written));
+    Ok(())
+}
+
+/// Reads all entries by leases.
+fn read(rt: &HostRuntime, store: &mut Store<DirDisk>, amount: Amount) -> Result<(), BenchFault> {
+    let keys = amount.keys(rt.alloc())?;
+    let begun = Instant::now(rt)?;
+    let fetched = fetch(store, rt.alloc(), &keys)?;
+    let time = since(rt, begun)?;
+    tell_time(rt, "fetch", fetched, time)
+}
+
+fn open(rt: &HostRuntime, path: &str) -> Result<(), BenchFault> {
+    let begun = Instant::now(rt)?;
+    let store = opened(rt, path, SETTINGS, &[])?;
+    let time = since(rt, begun)?;
+    tell_time(rt, "open", store.index().len() as u64, time)
+}
+
+fn compact_one(rt: &HostRuntime, path: &str) -> Result<(), BenchFault> {
+    let dead = tenths(rt.alloc())?;
+    let mut store = opened(rt, path, SETTINGS, &dead)?;
+    compact_store(rt, &mut store)
+}
+
+/// Every tenth ledger.
+fn tenths(alloc: Global) -> Result<Vec<u64>, AllocError> {
+    let mut ledgers = Vec::new(alloc);
+    for tenth in 0..LEDGERS / 10 {
+        ledgers.push(10 * tenth)?;
+    }
+    Ok(ledgers)
+}
+
+/// Compacts the log of which the least lives.
+fn compact_store(rt: &HostRuntime, store: &mut Store<DirDisk>) -> Result<(), BenchFault> {
+    let begun = Instant::now(rt)?;
+    let moved = compact(store)?;
+    let time = since(rt, begun)?;
+    tell_time(rt, "compact", moved, time)
+}
