@@ -7,3 +7,4 @@ pub mod Digests
 pub mod Parts
 pub mod Shown
 pub mod Sealing
+pub mod Cutting

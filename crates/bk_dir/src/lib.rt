@@ -1,9 +1,14 @@
 //! The commands that read a folder of entry logs: what each shows, on any disk.
 #![tactic(auto)]
 
+mod aside;
 mod calls;
 mod check;
 mod command;
+mod cut;
+mod cut_folder;
+mod cut_run;
+mod cutting;
 mod data;
 mod digest;
 mod digests;
@@ -27,6 +32,8 @@ mod walk;
 mod written;
 
 pub use command::{DirCommand, EntryRange, ScanChoice};
+pub use cut_run::{run_cut_and_seal, run_cut_and_seal_folder};
+pub use cutting::{Aside, CutDisk};
 pub use digest::{Digest, DigestChoice};
 use fault::{BytesFault, DirFault};
 pub use folder::{FolderCommand, run_folder, run_folder_as, unlisted};

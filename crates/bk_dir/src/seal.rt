@@ -24,7 +24,7 @@ use std::collections::BTreeMap;
 const VERSION: u32 = 1;
 
 /// The greatest length of a log's file.
-const GREATEST: u64 = u32::MAX as u64;
+pub(crate) const GREATEST: u64 = u32::MAX as u64;
 
 /// Why a log is not sealed. The files are then as they were.
 #[derive(Clone, Copy, Debug, PartialEq, Eq)]
@@ -114,7 +114,7 @@ pub(crate) fn seal_log<D: LogDisk>(
 }
 
 /// Refuses a log with this header, but for one of version 1 that names no map.
-fn refuse_head(head: Head) -> Result<(), SealFault>
+pub(crate) fn refuse_head(head: Head) -> Result<(), SealFault>
     ensures { OnOk result (IsOpenHead head) }
 {
     match head {

@@ -163,7 +163,13 @@ impl Refusal {
 }
 
 /// Tells why a log was not sealed. Whether the line comes through changes nothing.
-fn tell_unsealed<E: Write>(alloc: Global, form: Form, log: u32, fault: SealFault, errors: &mut E) {
+pub(crate) fn tell_unsealed<E: Write>(
+    alloc: Global,
+    form: Form,
+    log: u32,
+    fault: SealFault,
+    errors: &mut E,
+) {
     let refusal = match fault {
         SealFault::Broken(fault) => return tell_fault(alloc, form, Some(log), fault, errors),
         SealFault::Refused(refusal) => refusal,
