@@ -9,3 +9,5 @@ pub mod LedgerLines
 pub mod Fits
 pub mod Listed
 pub mod Seals
+pub mod Cuts
+pub mod Copies

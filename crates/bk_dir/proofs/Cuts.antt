@@ -1,0 +1,139 @@
+-- A log cut behind its last whole record: where a scan says that this ends, and what a cut of it leaves.
+use Rattle.std.proofs.Common.{◌≡◌, inl, inr, ℕ, ℤ, ◌+◌, ◌-◌, ◌≤◌, ◌<◌, Bool, false, List, [], ◌∷◌, ◌++◌, length, take, drop, Option, Some, None, IsNone, Ok, Err}
+use Rattle.std.proofs.Common.{refl, sym, ap, ◌∙◌, subst, arith, length-append, length-drop, append_assoc}
+use Rattle.std.specs.Prelude.{◌^◌, ◌⊎◌}
+use Rattle.std.specs.Int.{w32, cast_signed}
+use Rattle.std.specs.Option.{option_map_or}
+use Rattle.std.specs.FinMap as map
+use Rattle.std.proofs.lemmas.List.{append-nil, drop-drop, drop-take, drop_at, take_all, take_at}
+use Rattle.bk_record.specs.Record.{record_of, length_field, signed_field}
+use Rattle.bk_record.specs.Body.{Body, IsBadAt, starts_with_record}
+use Rattle.bk_record.specs.Body.Body.{done, more, torn}
+use Rattle.bk_record.specs.Files.{Files, header_length, records_of, rest_of}
+use Rattle.bk_record.specs.Spelling.{all_pieces}
+use Rattle.bk_record.proofs.Growth.{records_of-body}
+use Rattle.bk_record.proofs.Records.{length_field-append, starts-nil, starts-torn}
+use Rattle.bk_disk.specs.Disk.{IsFile, view_end}
+use Rattle.bk_log.specs.declared.fault.ScanFault.TheVariants.{BadLength}
+use Rattle.bk_log.proofs.Ranges.{all_pieces-behind, all_pieces-file, all_pieces-stop, bad_stops}
+use Rattle.bk_dir.specs.declared.cut.Cut.{Cut}
+use Rattle.bk_dir.specs.declared.header.Head.{Head}
+use Rattle.bk_dir.specs.declared.header.Head.TheVariants.{Short, Bad, Whole}
+use Rattle.bk_dir.specs.Heads.{IsHead}
+use Rattle.bk_dir.specs.Reading.{OfFile}
+use Rattle.bk_dir.specs.Sealing.{IsOpenHead}
+use Rattle.bk_dir.specs.Cutting.{CutsOff, EndsWholeAt, IsCutAside, IsCutOf, IsWholeLog, LeavesCopies, ScanEnds, cut_to}
+
+-- what a body leaves stands behind whole records
+body_front : {from : ℕ} {bytes rest : List ℕ} {records : List (ℕ × List ℕ)} → Body from bytes records rest
+    → (front : List ℕ) × ((bytes ≡ front ++ rest) × Body from front records [])
+body_front (done) = ([], (refl, done))
+body_front (torn is) = ([], (refl, done))
+body_front {rest = rest} (more {payload = payload} {behind = behind} legal body) =
+    let inner = body_front body in
+    (
+      record_of payload ++ inner.0,
+      (ap (λ (b : List ℕ). record_of payload ++ b) inner.1.0 ∙ sym (append_assoc (record_of payload) inner.0 rest), more legal inner.1.1),
+    )
+
+body_stops : {from : ℕ} {bytes rest : List ℕ} {records : List (ℕ × List ℕ)} → Body from bytes records rest → starts_with_record rest ≡ false
+body_stops (done) = starts-nil
+body_stops (torn {bytes = bytes} is) = starts-torn bytes is
+body_stops (more legal body) = body_stops body
+
+signed_field-append : (field behind : List ℕ) → length field ≡ 4 → signed_field (field ++ behind) ≡ signed_field field
+unfolding signed_field length_field
+signed_field-append field behind four = ap (cast_signed w32) (length_field-append field behind four)
+
+-- a log of whole records and of bytes that don't begin with one
+ends_whole : (file front tail : List ℕ) (records : List (ℕ × List ℕ)) (at : ℕ) → header_length ≤ length file → drop header_length file ≡ front ++ tail
+    → Body header_length front records [] → starts_with_record tail ≡ false → at ≡ header_length + length front → EndsWholeAt file at
+ends_whole file front tail records at long split body stops is =
+    let kept : drop header_length (take at file) ≡ front =
+    ap (λ (n : ℕ). drop header_length (take n file)) is ∙ drop-take header_length (length front) file
+    ∙ ap (take (length front)) split ∙ take_at front tail (length front) refl in
+    let behind : drop at file ≡ tail =
+    ap (λ (n : ℕ). drop n file) is ∙ sym (drop-drop (length front) header_length file)
+    ∙ ap (drop (length front)) split ∙ drop_at front tail (length front) refl in
+    let here : records_of file ≡ records =
+    sym (all_pieces-file file) ∙ ap (all_pieces header_length) split ∙ all_pieces-behind tail body refl
+    ∙ ap (λ (l : List (ℕ × List ℕ)). records ++ l) (all_pieces-stop (header_length + length front) tail stops) ∙ append-nil records in
+    let whole : Body header_length (drop header_length (take at file)) (records_of file) [] =
+    subst (λ (b : List ℕ). Body header_length b (records_of file) []) (sym kept)
+    (subst (λ (r : List (ℕ × List ℕ)). Body header_length front r []) (sym here) body) in
+    record {
+      headed = omega (arith, is);
+      within = omega (arith, is, long, ap length split, length-drop header_length file, length-append front tail);
+      whole = whole;
+      found = records_of-body (take at file) whole;
+      stops = subst (λ (b : List ℕ). starts_with_record b ≡ false) (sym behind) stops;
+    }
+
+-- the place that a scan tells, of a log whose end is torn
+pub cut_torn : (file : List ℕ) (end tail at : ℕ) → header_length ≤ length file → end ≡ view_end file → ScanEnds file (Ok tail) → at ≡ end - tail
+    → EndsWholeAt file at × (at + (end - at) ≡ length file)
+cut_torn file end tail at long is ends place =
+    let front = body_front ends.0 in
+    let size = length-append front.0 (rest_of file) in
+    let part = length-drop header_length file in
+    let split = ap length front.1.0 in
+    let here : at ≡ header_length + length front.0 = omega (arith, long, is, ends.1, place, size, part, split) in
+    let whole = ends_whole file front.0 (rest_of file) (records_of file) at long front.1.0 front.1.1 (body_stops ends.0) here in
+    (whole, omega (arith, long, is, whole.within))
+
+-- the same of a log that has a bad length
+pub cut_bad : (file : List ℕ) (end at : ℕ) (value : ℤ) → header_length ≤ length file → end ≡ view_end file → ScanEnds file (Err (BadLength at value))
+    → EndsWholeAt file at × (at + (end - at) ≡ length file)
+cut_bad file end at value long is bad =
+    let tail = bad.field ++ bad.behind in
+    let split = bad.bytes_are ∙ append_assoc bad.before bad.field bad.behind in
+    let stops = bad_stops tail value (bad.value_is ∙ sym (signed_field-append bad.field bad.behind bad.four)) bad.below in
+    let whole = ends_whole file bad.before tail bad.records at long split bad.whole stops bad.place in
+    (whole, omega (arith, long, is, whole.within))
+
+-- a log whose header was read has one
+pub headed_open : (file : List ℕ) (head : Head) → IsHead file head → IsOpenHead head → header_length ≤ length file
+headed_open file Short is opens = absurd opens
+headed_open file (Bad fault) is opens = absurd opens
+headed_open file (Whole header) is opens = is.0
+
+-- ---- cutting
+
+cut_to-stands : (files : Files) (log kept : ℕ) (file : List ℕ) → IsFile files log file → cut_to files log kept ≡ map.insert files log (take kept file)
+cut_to-stands files log kept file stands = ap (λ (o : Option (List ℕ)). option_map_or (λ f. map.insert files log (take kept f)) o files) stands
+
+-- a log behind whose last whole record nothing stands
+pub nothing_to_cut : (files : Files) (log : ℕ) (cut : Cut) → OfFile files log (λ file. IsCutOf file cut) → cut.bytes ≡ 0 → OfFile files log IsWholeLog
+nothing_to_cut files log cut found none =
+    let file = found.0 in
+    let all : take cut.at file ≡ file = take_all cut.at file (omega (arith, none, found.1.1.1)) in
+    (file, (found.1.0, subst (λ (b : List ℕ). Body header_length (drop header_length b) (records_of file) []) all found.1.1.0.whole))
+
+-- a log that was cut once its copy stood
+pub cut_aside : (files mid now files' copies copies' : Files) (log : ℕ) (cut : Cut) → OfFile files log (λ file. IsCutOf file cut) → 0 < cut.bytes
+    → mid ≡ files → now ≡ mid → IsNone (map.get copies log)
+    → ((file : List ℕ) → IsFile mid log file → cut.at + cut.bytes ≡ length file → copies' ≡ map.insert copies log file)
+    → files' ≡ cut_to now log cut.at → IsCutAside files copies log cut files' copies'
+cut_aside files mid now files' copies copies' log cut found some first second free copied wrote =
+    let file = found.0 in
+    record {
+      file = file;
+      stands = found.1.0;
+      torn = found.1.1;
+      some = some;
+      free = free;
+      copied = copied file (ap (λ (fs : Files). map.get fs log) first ∙ found.1.0) found.1.1.1;
+      now = wrote ∙ ap (λ (fs : Files). cut_to fs log cut.at) (second ∙ first) ∙ cut_to-stands files log cut.at file found.1.0;
+    }
+
+-- a cut that failed
+pub cut_failed : (files mid now files' copies copies' : Files) (log : ℕ) (cut : Cut) → OfFile files log (λ file. IsCutOf file cut) → 0 < cut.bytes
+    → mid ≡ files → now ≡ mid → IsNone (map.get copies log)
+    → ((file : List ℕ) → IsFile mid log file → cut.at + cut.bytes ≡ length file → copies' ≡ map.insert copies log file)
+    → (files' ≡ now) ⊎ (files' ≡ cut_to now log cut.at)
+    → ((files' ≡ files) × LeavesCopies copies log copies') ⊎ ((cut : Cut) × IsCutAside files copies log cut files' copies')
+cut_failed files mid now files' copies copies' log cut found some first second free copied (inl same) =
+    let stands = ap (λ (fs : Files). map.get fs log) first ∙ found.1.0 in
+    inl (same ∙ second ∙ first, inr (free, (found.0, copied found.0 stands found.1.1.1)))
+cut_failed files mid now files' copies copies' log cut found some first second free copied (inr wrote) =
+    inr (cut, cut_aside files mid now files' copies copies' log cut found some first second free copied wrote)
