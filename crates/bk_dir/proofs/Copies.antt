@@ -49,13 +49,13 @@ pub copied_next : (files mid copies now copies' : Files) (log at n next : ℕ) �
     → CopiesPiece mid now log at n (Ok tt) copies' → next ≡ at + n → HasCopied files copies log next copies'
 copied_next files mid copies now copies' log at n next copied same piece is = record {
   piece = copied.piece ++ take n (drop at piece.0);
-  now = piece.1.1.1 ∙ ap (λ (fs : Files). grown fs log (take n (drop at piece.0))) copied.now ∙ grown-grown copies log copied.piece (take n (drop at piece.0));
+  now = piece.2.1 ∙ ap (λ (fs : Files). grown fs log (take n (drop at piece.0))) copied.now ∙ grown-grown copies log copied.piece (take n (drop at piece.0));
   front = λ file stands.
-      let here : get mid log ≡ Some piece.0 = piece.1.0 in
+      let here : get mid log ≡ Some piece.0 = piece.1 in
       let there : get mid log ≡ Some file = ap (λ (fs : Files). get fs log) same ∙ stands in
       let one : piece.0 ≡ file = cc in
       ap (λ (b : List ℕ). copied.piece ++ take n (drop at b)) one ∙ ap (λ (b : List ℕ). b ++ take n (drop at file)) (copied.front file stands)
-      ∙ take-add at n file (omega (arith, piece.1.1.0, ap length one)) ∙ ap (λ (k : ℕ). take k file) (sym is);
+      ∙ take-add at n file (omega (arith, piece.2.0, ap length one)) ∙ ap (λ (k : ℕ). take k file) (sym is);
 }
 
 -- a piece that could not be copied

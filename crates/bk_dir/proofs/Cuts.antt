@@ -1,5 +1,5 @@
 -- A log cut behind its last whole record: where a scan says that this ends, and what a cut of it leaves.
-use Rattle.std.proofs.Common.{◌≡◌, inl, inr, ℕ, ℤ, ◌+◌, ◌-◌, ◌≤◌, ◌<◌, Bool, false, List, [], ◌∷◌, ◌++◌, length, take, drop, Option, Some, None, IsNone, Ok, Err}
+use Rattle.std.proofs.Common.{◌≡◌, inl, inr, ℕ, ℤ, ◌+◌, ◌-◌, ◌≤◌, ◌<◌, Bool, false, List, [], ◌∷◌, ◌++◌, length, take, drop, Option, Some, None, IsNone, IsTrue, Ok, Err}
 use Rattle.std.proofs.Common.{refl, sym, ap, ◌∙◌, subst, arith, length-append, length-drop, append_assoc}
 use Rattle.std.specs.Prelude.{◌^◌, ◌⊎◌}
 use Rattle.std.specs.Int.{w32, cast_signed}
@@ -10,12 +10,15 @@ use Rattle.bk_record.specs.Record.{record_of, length_field, signed_field}
 use Rattle.bk_record.specs.Body.{Body, IsBadAt, starts_with_record}
 use Rattle.bk_record.specs.Body.Body.{done, more, torn}
 use Rattle.bk_record.specs.Files.{Files, header_length, records_of, rest_of}
-use Rattle.bk_record.specs.Spelling.{all_pieces}
+use Rattle.bk_record.specs.Spelling.{all_pieces, all_leftover}
 use Rattle.bk_record.proofs.Growth.{records_of-body}
 use Rattle.bk_record.proofs.Records.{length_field-append, starts-nil, starts-torn}
 use Rattle.bk_disk.specs.Disk.{IsFile, view_end}
-use Rattle.bk_log.specs.declared.fault.ScanFault.TheVariants.{BadLength}
-use Rattle.bk_log.proofs.Ranges.{all_pieces-behind, all_pieces-file, all_pieces-stop, bad_stops}
+use Rattle.bk_log.specs.declared.fault.ScanFault.{ScanFault}
+use Rattle.bk_log.specs.declared.fault.ScanFault.TheVariants.{BadLength, Disk, Memory, Odd}
+use Rattle.bk_log.specs.declared.found.Found.{Found}
+use Rattle.bk_log.specs.Scanning.{Scan, part_of, IsFinished, NextMoves, ScanFails}
+use Rattle.bk_log.proofs.Ranges.{all_leftover-file, all_pieces-behind, all_pieces-file, all_pieces-stop, bad_stops}
 use Rattle.bk_dir.specs.declared.cut.Cut.{Cut}
 use Rattle.bk_dir.specs.declared.header.Head.{Head}
 use Rattle.bk_dir.specs.declared.header.Head.TheVariants.{Short, Bad, Whole}
@@ -71,25 +74,64 @@ ends_whole file front tail records at long split body stops is =
 
 -- the place that a scan tells, of a log whose end is torn
 pub cut_torn : (file : List ℕ) (end tail at : ℕ) → header_length ≤ length file → end ≡ view_end file → ScanEnds file (Ok tail) → at ≡ end - tail
-    → EndsWholeAt file at × (at + (end - at) ≡ length file)
+    → EndsWholeAt file at
 cut_torn file end tail at long is ends place =
     let front = body_front ends.0 in
     let size = length-append front.0 (rest_of file) in
     let part = length-drop header_length file in
     let split = ap length front.1.0 in
     let here : at ≡ header_length + length front.0 = omega (arith, long, is, ends.1, place, size, part, split) in
-    let whole = ends_whole file front.0 (rest_of file) (records_of file) at long front.1.0 front.1.1 (body_stops ends.0) here in
-    (whole, omega (arith, long, is, whole.within))
+    ends_whole file front.0 (rest_of file) (records_of file) at long front.1.0 front.1.1 (body_stops ends.0) here
 
 -- the same of a log that has a bad length
-pub cut_bad : (file : List ℕ) (end at : ℕ) (value : ℤ) → header_length ≤ length file → end ≡ view_end file → ScanEnds file (Err (BadLength at value))
-    → EndsWholeAt file at × (at + (end - at) ≡ length file)
-cut_bad file end at value long is bad =
+pub cut_bad : (file : List ℕ) (at : ℕ) (value : ℤ) → header_length ≤ length file → ScanEnds file (Err (BadLength at value)) → EndsWholeAt file at
+cut_bad file at value long bad =
     let tail = bad.field ++ bad.behind in
     let split = bad.bytes_are ∙ append_assoc bad.before bad.field bad.behind in
     let stops = bad_stops tail value (bad.value_is ∙ sym (signed_field-append bad.field bad.behind bad.four)) bad.below in
-    let whole = ends_whole file bad.before tail bad.records at long split bad.whole stops bad.place in
-    (whole, omega (arith, long, is, whole.within))
+    ends_whole file bad.before tail bad.records at long split bad.whole stops bad.place
+
+-- what is to be cut off behind that place
+pub cut_here : (file : List ℕ) (end at : ℕ) → header_length ≤ length file → end ≡ view_end file → EndsWholeAt file at
+    → EndsWholeAt file at × (at + (end - at) ≡ length file)
+cut_here file end at long is whole = (whole, omega (arith, long, is, whole.within))
+
+-- a scan that goes on: it has met no fault, and found nothing torn
+abbrev pub Passing : Scan → Scan → Type 0
+Passing first now = now ≡ record first { left = now.left; given = now.given; foreign = now.foreign }
+
+pub passing_next : (first now next : Scan) (found : Found) → Passing first now → NextMoves now (Ok (Some found)) next → Passing first next
+passing_next first now next found passing moves =
+    moves.2 ∙ ap (λ (s : Scan). record s { left = next.left; given = s.given + 1; foreign = next.foreign }) passing
+    ∙ ap (λ (n : ℕ). record first { left = next.left; given = n; foreign = next.foreign }) (sym (ap (λ (s : Scan). s.given) moves.2))
+
+-- such a scan of a whole log comes to its end
+pub passing_ends : (first now next : Scan) (file : List ℕ) → Passing first now → NextMoves now (Ok None) next → (IsTrue now.honest → IsFinished next)
+    → IsTrue first.honest → first.from ≡ header_length → part_of first ≡ drop header_length file → ScanEnds file (Ok next.torn)
+passing_ends first now next file passing moves finished honest from_is part_is =
+    let is : next ≡ record first { left = next.left; given = now.given; foreign = next.foreign; torn = next.torn; ended = true } =
+    moves.1 ∙ ap (λ (s : Scan). record s { left = next.left; foreign = next.foreign; torn = next.torn; ended = true }) passing in
+    let done = subst IsFinished is (finished (subst (λ (b : Bool). IsTrue b) (sym (ap (λ (s : Scan). s.honest) passing)) honest)) in
+    (
+      subst (λ (r : List ℕ). Body header_length (drop header_length file) (records_of file) r) (all_leftover-file file)
+          (subst (λ (r : List (ℕ × List ℕ)). Body header_length (drop header_length file) r (all_leftover (drop header_length file))) (all_pieces-file file)
+          (subst (λ (b : List ℕ). Body header_length b (all_pieces header_length b) (all_leftover b)) part_is
+          (subst (λ (n : ℕ). Body n (part_of first) (all_pieces n (part_of first)) (all_leftover (part_of first))) from_is done.spelled))),
+      done.torn ∙ ap (λ (b : List ℕ). length (all_leftover b)) part_is ∙ ap length (all_leftover-file file),
+    )
+
+-- or meets a fault
+pub passing_fails : (first now next : Scan) (file : List ℕ) (fault : ScanFault) → Passing first now → NextMoves now (Err fault) next
+    → (IsTrue now.honest → ScanFails next fault) → IsTrue first.honest → first.from ≡ header_length → part_of first ≡ drop header_length file
+    → ScanEnds file (Err fault)
+passing_fails first now next file (BadLength at value) passing moves fails honest from_is part_is =
+    let is : next ≡ record first { left = next.left; given = now.given; foreign = next.foreign; fault = Some (BadLength at value) } =
+    moves ∙ ap (λ (s : Scan). record s { left = next.left; foreign = next.foreign; fault = Some (BadLength at value) }) passing in
+    let bad = subst (λ (s : Scan). ScanFails s (BadLength at value)) is (fails (subst (λ (b : Bool). IsTrue b) (sym (ap (λ (s : Scan). s.honest) passing)) honest)) in
+    subst (λ (b : List ℕ). IsBadAt header_length b at value) part_is (subst (λ (n : ℕ). IsBadAt n (part_of first) at value) from_is bad.1)
+passing_fails first now next file Disk passing moves fails honest from_is part_is = tt
+passing_fails first now next file Memory passing moves fails honest from_is part_is = tt
+passing_fails first now next file Odd passing moves fails honest from_is part_is = tt
 
 -- a log whose header was read has one
 pub headed_open : (file : List ℕ) (head : Head) → IsHead file head → IsOpenHead head → header_length ≤ length file
@@ -106,8 +148,8 @@ cut_to-stands files log kept file stands = ap (λ (o : Option (List ℕ)). optio
 pub nothing_to_cut : (files : Files) (log : ℕ) (cut : Cut) → OfFile files log (λ file. IsCutOf file cut) → cut.bytes ≡ 0 → OfFile files log IsWholeLog
 nothing_to_cut files log cut found none =
     let file = found.0 in
-    let all : take cut.at file ≡ file = take_all cut.at file (omega (arith, none, found.1.1.1)) in
-    (file, (found.1.0, subst (λ (b : List ℕ). Body header_length (drop header_length b) (records_of file) []) all found.1.1.0.whole))
+    let all : take cut.at file ≡ file = take_all cut.at file (omega (arith, none, found.2.1)) in
+    (file, found.1, subst (λ (b : List ℕ). Body header_length (drop header_length b) (records_of file) []) all found.2.0.whole)
 
 -- a log that was cut once its copy stood
 pub cut_aside : (files mid now files' copies copies' : Files) (log : ℕ) (cut : Cut) → OfFile files log (λ file. IsCutOf file cut) → 0 < cut.bytes
@@ -118,12 +160,12 @@ cut_aside files mid now files' copies copies' log cut found some first second fr
     let file = found.0 in
     record {
       file = file;
-      stands = found.1.0;
-      torn = found.1.1;
+      stands = found.1;
+      torn = found.2;
       some = some;
       free = free;
-      copied = copied file (ap (λ (fs : Files). map.get fs log) first ∙ found.1.0) found.1.1.1;
-      now = wrote ∙ ap (λ (fs : Files). cut_to fs log cut.at) (second ∙ first) ∙ cut_to-stands files log cut.at file found.1.0;
+      copied = copied file (ap (λ (fs : Files). map.get fs log) first ∙ found.1) found.2.1;
+      now = wrote ∙ ap (λ (fs : Files). cut_to fs log cut.at) (second ∙ first) ∙ cut_to-stands files log cut.at file found.1;
     }
 
 -- a cut that failed
@@ -133,7 +175,7 @@ pub cut_failed : (files mid now files' copies copies' : Files) (log : ℕ) (cut 
     → (files' ≡ now) ⊎ (files' ≡ cut_to now log cut.at)
     → ((files' ≡ files) × LeavesCopies copies log copies') ⊎ ((cut : Cut) × IsCutAside files copies log cut files' copies')
 cut_failed files mid now files' copies copies' log cut found some first second free copied (inl same) =
-    let stands = ap (λ (fs : Files). map.get fs log) first ∙ found.1.0 in
-    inl (same ∙ second ∙ first, inr (free, (found.0, copied found.0 stands found.1.1.1)))
+    let stands = ap (λ (fs : Files). map.get fs log) first ∙ found.1 in
+    inl (same ∙ second ∙ first, inr (free, (found.0, copied found.0 stands found.2.1)))
 cut_failed files mid now files' copies copies' log cut found some first second free copied (inr wrote) =
     inr (cut, cut_aside files mid now files' copies copies' log cut found some first second free copied wrote)

@@ -6,7 +6,7 @@ ghost use Rattle.std.specs.Prelude.{◌≡◌, ◌+◌, ◌≤◌, ◌<◌, ◌^
 ghost use Rattle.bk_disk.specs.Disk.{view_end};
 ghost use Rattle.bk_record.specs.Files.{header_length};
 ghost use Rattle.bk_dir.specs.Reading.{OfFile, OnlyReads};
-ghost use Rattle.bk_dir.specs.Cutting.{CutTurn, IsCutOf, ScanEnds};
+ghost use Rattle.bk_dir.specs.Cutting.{CutTurn, EndsWholeAt, IsCutOf, ScanEnds};
 
 use crate::aside::{CopyFault, copy_log};
 use crate::calls::view_of;
@@ -100,11 +100,7 @@ fn cut_of<V: LogView>(alloc: Global, view: &V) -> Result<Cut, SealFault>
     if end > GREATEST {
         return Err(SealFault::Broken(DirFault::Odd));
     }
-    let at = match torn_in(alloc, view, end) {
-        Ok(torn) => end.saturating_sub(torn),
-        Err(ScanFault::BadLength { at, .. }) => at,
-        Err(fault) => return Err(SealFault::from(fault)),
-    };
+    let at = whole_end(alloc, view, end)?;
     if end < at {
         return Err(SealFault::Broken(DirFault::Odd));
     }
@@ -112,6 +108,20 @@ fn cut_of<V: LogView>(alloc: Global, view: &V) -> Result<Cut, SealFault>
         at,
         bytes: end - at,
     })
+}
+
+/// Where the last whole record of a view ends, which itself ends at `end`.
+fn whole_end<V: LogView>(alloc: Global, view: &V, end: u64) -> Result<u64, SealFault>
+    requires headed { HEADER ≤ end }
+    requires whole { IsTrue (V.honest view.now) → end ≡ view_end (V.bytes view.now) }
+    ensures { IsTrue (V.honest view.now) → header_length ≤ length (V.bytes view.now)
+        → IfOk result (λ at. EndsWholeAt (V.bytes view.now) at) }
+{
+    match torn_in(alloc, view, end) {
+        Ok(torn) => Ok(end.saturating_sub(torn)),
+        Err(ScanFault::BadLength { at, .. }) => Ok(at),
+        Err(fault) => Err(SealFault::from(fault)),
+    }
 }
 
 /// How many bytes of a view, which ends at `end`, stand behind its last whole record. A bad length there is the fault.
