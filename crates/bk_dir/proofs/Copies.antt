@@ -18,7 +18,9 @@ use Rattle.bk_disk.proofs.Failures.{grown-nil}
 use Rattle.bk_disk.proofs.FileMaps.{grown-insert}
 use Rattle.bk_log.proofs.Files.{grown-stands}
 use Rattle.bk_dir.specs.declared.fault.DirFault.{DirFault}
+use Rattle.bk_dir.specs.declared.aside.CopyFault.{CopyFault}
 use Rattle.bk_dir.specs.Cutting.{CopiesBytes, CopiesPiece, LeavesCopies}
+use Rattle.bk_dir.specs.Sealing.{AppendsMap}
 
 grown-none : (files : Files) (log : ℕ) (piece : List ℕ) → get files log ≡ None → grown files log piece ≡ files
 grown-none files log piece none = ap (λ (o : Option (List ℕ)). option_map_or (λ file. insert files log (file ++ piece)) o files) none
@@ -58,17 +60,27 @@ copied_next files mid copies now copies' log at n next copied same piece is = re
       ∙ take-add at n file (omega (arith, piece.2.0, ap length one)) ∙ ap (λ (k : ℕ). take k file) (sym is);
 }
 
+-- what was read and written behind the copy
+pub piece_read : (files mid copies copies' : Files) (log at n : ℕ) (bytes : List ℕ) (answer : Result (Unit {0}) DirFault)
+    → ((file : List ℕ) × IsFile files log file × (at + n ≤ length file) × (bytes ≡ take n (drop at file)) × (mid ≡ files))
+    → AppendsMap copies log bytes answer copies' → CopiesPiece files copies log at n answer copies'
+piece_read files mid copies copies' log at n bytes (Ok tt) found wrote =
+    (found.0, found.1, (found.2, wrote ∙ ap (grown copies log) found.3))
+piece_read files mid copies copies' log at n bytes (Err fault) found (inl same) = ([], same ∙ sym (grown-nil copies log))
+piece_read files mid copies copies' log at n bytes (Err fault) found (inr part) = (take part.0 bytes, part.1)
+
 -- a piece that could not be copied
 pub copied_failed : (files copies now copies' : Files) (log at : ℕ) → HasCopied files copies log at now → ((piece : List ℕ) × (copies' ≡ grown now log piece))
     → (piece : List ℕ) × (copies' ≡ grown copies log piece)
 copied_failed files copies now copies' log at copied failed =
     (copied.piece ++ failed.0, failed.1 ∙ ap (λ (fs : Files). grown fs log failed.0) copied.now ∙ grown-grown copies log copied.piece failed.0)
 
--- all was copied
-pub copied_all : (files copies now : Files) (log at n : ℕ) → HasCopied files copies log at now → at ≡ n → (file : List ℕ) → IsFile files log file → n ≡ length file
-    → now ≡ grown copies log file
-copied_all files copies now log at n copied is file stands long =
-    copied.now ∙ ap (grown copies log) (copied.front file stands ∙ take_all at file (omega (arith, is, long)))
+-- all was copied, and the device was asked to keep it
+pub bytes_copied : (files copies now copies' : Files) (log at n : ℕ) (answer : Result (Unit {0}) DirFault) → HasCopied files copies log at now → at ≡ n
+    → copies' ≡ now → CopiesBytes files copies log n answer copies'
+bytes_copied files copies now copies' log at n (Ok tt) copied is same = λ file stands long.
+    same ∙ copied.now ∙ ap (grown copies log) (copied.front file stands ∙ take_all at file (omega (arith, is, long)))
+bytes_copied files copies now copies' log at n (Err fault) copied is same = (copied.piece, same ∙ copied.now)
 
 -- ---- a copy that was begun
 
@@ -78,6 +90,10 @@ begun_grown copies log piece = grown-insert copies log [] piece
 -- it has all
 pub begun_all : (copies begun now : Files) (log : ℕ) (file : List ℕ) → begun ≡ insert copies log [] → now ≡ grown begun log file → now ≡ insert copies log file
 begun_all copies begun now log file is grew = grew ∙ ap (λ (fs : Files). grown fs log file) is ∙ begun_grown copies log file
+
+none_is : {X : Type 0} (o : Option X) → IsNone o → o ≡ None
+none_is None is = refl
+none_is (Some x) is = cc
 
 taken_away : (copies : Files) (log : ℕ) (part : List ℕ) → get copies log ≡ None → remove (insert copies log part) log ≡ copies
 taken_away copies log part none = same_by_get _ _ (λ q.
@@ -90,12 +106,12 @@ taken_away copies log part none = same_by_get _ _ (λ q.
 -- a part of it is taken away again, or left
 pub begun_left : {T : Type 0} (copies begun grew copies' : Files) (log : ℕ) (answer : Result T DiskFault) → IsNone (get copies log)
     → begun ≡ insert copies log [] → ((piece : List ℕ) × (grew ≡ grown begun log piece)) → Removes grew log answer copies' → LeavesCopies copies log copies'
-begun_left copies begun grew copies' log answer none is part removes =
+begun_left {T} copies begun grew copies' log answer none is part removes =
     let left : grew ≡ insert copies log part.0 = begun_all copies begun grew log part.0 is part.1 in
     let stays : copies' ≡ grew → LeavesCopies copies log copies' = λ same. inr (none, (part.0, same ∙ left)) in
     elim answer as (λ a. Removes grew log a copies' → LeavesCopies copies log copies') [
-      | Ok x ↦ λ r. inl (r.1 ∙ ap (λ (fs : Files). remove fs log) left ∙ taken_away copies log part.0 none)
-      | Err fault ↦ elim fault as (λ f. Removes grew log (Err f) copies' → LeavesCopies copies log copies') [
+      | Ok x ↦ λ r. inl (r.1 ∙ ap (λ (fs : Files). remove fs log) left ∙ taken_away copies log part.0 (none_is (get copies log) none))
+      | Err fault ↦ elim fault as (λ f. Removes {T = T} grew log (Err f) copies' → LeavesCopies copies log copies') [
         | Disk ↦ λ r. stays r
         | Exists ↦ λ r. absurd r
         | NoLog ↦ λ r. stays r.1

@@ -1,5 +1,5 @@
 -- A log cut behind its last whole record: where a scan says that this ends, and what a cut of it leaves.
-use Rattle.std.proofs.Common.{◌≡◌, inl, inr, ℕ, ℤ, ◌+◌, ◌-◌, ◌≤◌, ◌<◌, Bool, false, List, [], ◌∷◌, ◌++◌, length, take, drop, Option, Some, None, IsNone, IsTrue, Ok, Err}
+use Rattle.std.proofs.Common.{◌≡◌, inl, inr, ℕ, ℤ, ◌+◌, ◌-◌, ◌≤◌, ◌<◌, Bool, true, false, List, [], ◌∷◌, ◌++◌, length, take, drop, Option, Some, None, IsNone, IsTrue, Ok, Err}
 use Rattle.std.proofs.Common.{refl, sym, ap, ◌∙◌, subst, arith, length-append, length-drop, append_assoc}
 use Rattle.std.specs.Prelude.{◌^◌, ◌⊎◌}
 use Rattle.std.specs.Int.{w32, cast_signed}
@@ -18,7 +18,8 @@ use Rattle.bk_log.specs.declared.fault.ScanFault.{ScanFault}
 use Rattle.bk_log.specs.declared.fault.ScanFault.TheVariants.{BadLength, Disk, Memory, Odd}
 use Rattle.bk_log.specs.declared.found.Found.{Found}
 use Rattle.bk_log.specs.Scanning.{Scan, part_of, IsFinished, NextMoves, ScanFails}
-use Rattle.bk_log.proofs.Ranges.{all_leftover-file, all_pieces-behind, all_pieces-file, all_pieces-stop, bad_stops}
+use Rattle.bk_log.proofs.Ranges.{all_leftover-file, all_pieces-behind, all_pieces-file, all_pieces-stop}
+use Rattle.bk_log.proofs.Passes.{bad_stops}
 use Rattle.bk_dir.specs.declared.cut.Cut.{Cut}
 use Rattle.bk_dir.specs.declared.header.Head.{Head}
 use Rattle.bk_dir.specs.declared.header.Head.TheVariants.{Short, Bad, Whole}
@@ -33,8 +34,7 @@ body_front : {from : ℕ} {bytes rest : List ℕ} {records : List (ℕ × List �
 body_front (done) = ([], (refl, done))
 body_front (torn is) = ([], (refl, done))
 body_front {rest = rest} (more {payload = payload} {behind = behind} legal body) =
-    let inner = body_front body in
-    (
+    let inner = body_front body in (
       record_of payload ++ inner.0,
       (ap (λ (b : List ℕ). record_of payload ++ b) inner.1.0 ∙ sym (append_assoc (record_of payload) inner.0 rest), more legal inner.1.1),
     )
@@ -111,8 +111,7 @@ pub passing_ends : (first now next : Scan) (file : List ℕ) → Passing first n
 passing_ends first now next file passing moves finished honest from_is part_is =
     let is : next ≡ record first { left = next.left; given = now.given; foreign = next.foreign; torn = next.torn; ended = true } =
     moves.1 ∙ ap (λ (s : Scan). record s { left = next.left; foreign = next.foreign; torn = next.torn; ended = true }) passing in
-    let done = subst IsFinished is (finished (subst (λ (b : Bool). IsTrue b) (sym (ap (λ (s : Scan). s.honest) passing)) honest)) in
-    (
+    let done = subst IsFinished is (finished (subst (λ (b : Bool). IsTrue b) (sym (ap (λ (s : Scan). s.honest) passing)) honest)) in (
       subst (λ (r : List ℕ). Body header_length (drop header_length file) (records_of file) r) (all_leftover-file file)
           (subst (λ (r : List (ℕ × List ℕ)). Body header_length (drop header_length file) r (all_leftover (drop header_length file))) (all_pieces-file file)
           (subst (λ (b : List ℕ). Body header_length b (all_pieces header_length b) (all_leftover b)) part_is

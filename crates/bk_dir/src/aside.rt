@@ -92,12 +92,7 @@ fn copy_piece<D: LogDisk, A: Aside>(
 }
 
 /// Appends bytes to a copy.
-fn append<A: Aside>(
-    alloc: Global,
-    aside: &mut A,
-    log: u32,
-    bytes: &[u8],
-) -> Result<(), DirFault>
+fn append<A: Aside>(alloc: Global, aside: &mut A, log: u32, bytes: &[u8]) -> Result<(), DirFault>
     ensures honest { A.honest aside.new ≡ A.honest aside.old }
     ensures turn { IsTrue (A.honest aside.old) → AppendsMap (A.copies aside.old) log bytes.now result (A.copies aside.new) }
 {

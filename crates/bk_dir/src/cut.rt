@@ -8,12 +8,12 @@ ghost use Rattle.bk_record.specs.Files.{header_length};
 ghost use Rattle.bk_dir.specs.Reading.{OfFile, OnlyReads};
 ghost use Rattle.bk_dir.specs.Cutting.{CutTurn, EndsWholeAt, IsCutOf, ScanEnds};
 
+use crate::DirFault;
 use crate::aside::{CopyFault, copy_log};
 use crate::calls::view_of;
 use crate::cutting::{Aside, CutDisk};
 use crate::header::{HEADER, read_head};
 use crate::seal::{GREATEST, SealFault, refuse_head};
-use crate::DirFault;
 use bk_disk::{LogDisk, LogView};
 use bk_log::{ScanFault, Scanner};
 use std::alloc::Global;
@@ -38,21 +38,6 @@ pub(crate) enum CutFault {
     Uncut(DirFault),
 }
 
-impl From<SealFault> for CutFault {
-    fn from(fault: SealFault) -> CutFault {
-        CutFault::Unread(fault)
-    }
-}
-
-impl From<CopyFault> for CutFault {
-    fn from(fault: CopyFault) -> CutFault {
-        match fault {
-            CopyFault::Taken => CutFault::Taken,
-            CopyFault::Broken(fault) => CutFault::Uncopied(fault),
-        }
-    }
-}
-
 /// Cuts a log that was never sealed behind its last whole record, once all its bytes stand aside. `None` where it ends with
 /// a whole record: nothing is copied or cut then.
 pub(crate) fn cut_log<D: CutDisk, A: Aside>(
@@ -66,11 +51,18 @@ pub(crate) fn cut_log<D: CutDisk, A: Aside>(
     ensures turn { IsTrue (D.honest disk.old) → IsTrue (A.honest aside.old)
         → CutTurn (D.files disk.old) (A.copies aside.old) log result (D.files disk.new) (A.copies aside.new) }
 {
-    let cut = find_cut(alloc, disk, log)?;
+    let cut = match find_cut(alloc, disk, log) {
+        Ok(cut) => cut,
+        Err(fault) => return Err(CutFault::Unread(fault)),
+    };
     if cut.bytes == 0 {
         return Ok(None);
     }
-    copy_log(alloc, disk, aside, log, cut.at + cut.bytes)?;
+    match copy_log(alloc, disk, aside, log, cut.at + cut.bytes) {
+        Ok(()) => {}
+        Err(CopyFault::Taken) => return Err(CutFault::Taken),
+        Err(CopyFault::Broken(fault)) => return Err(CutFault::Uncopied(fault)),
+    }
     match disk.cut(alloc, log, cut.at + cut.bytes, cut.at) {
         Ok(()) => Ok(Some(cut)),
         Err(fault) => Err(CutFault::Uncut(DirFault::from(fault).of_known())),

@@ -75,15 +75,7 @@ pub fn run_cut_and_seal_folder<W: Write, E: Write>(
         Ok(disk) => {
             let mut disk = CutFolder::new(rt, path, disk);
             let mut aside = AsideFolder::new(rt, path);
-            run_cut_and_seal(
-                rt.alloc(),
-                form,
-                &mut disk,
-                &mut aside,
-                log,
-                writer,
-                errors,
-            )
+            run_cut_and_seal(rt.alloc(), form, &mut disk, &mut aside, log, writer, errors)
         }
         Err(fault) => {
             let _ = tell_folder(rt.alloc(), form, &fault, errors);
