@@ -2,14 +2,16 @@
 
 ghost use Rattle.std.specs.Prelude.{◌≤◌};
 
+mod call;
 mod row;
+#[cfg(test)]
+mod tests;
 
-use crate::cli::{LoadCall, load_call};
-use crate::program::tell;
-use crate::script::open_or_make;
+use bk_commands::{open_or_make, tell};
 use bk_disk::{LogDisk, MemDisk};
 use bk_load::{Load, Report, run_load};
 use bk_store::Settings;
+use call::{LoadCall, load_call};
 use row::{LoadFault, tell_fault, write_report};
 use std::convert::AsStr;
 use std::io;
@@ -32,7 +34,7 @@ const SETTINGS: Settings = Settings {
 /// Puts the load that the words ask for on a bookie, with these threads, and shows what came of it, or help; or tells what is
 /// wrong with the words. Returns the program's status: 0 where the load was good or help was written; 2 where the words are
 /// wrong; else 1.
-pub(crate) fn load_as_asked<T: Threads + Wait + Clock + Sync, S: AsStr, W: Write, E: Write>(
+pub(super) fn load_as_asked<T: Threads + Wait + Clock + Sync, S: AsStr, W: Write, E: Write>(
     rt: &HostRuntime,
     threads: &T,
     words: &[S],

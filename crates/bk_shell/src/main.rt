@@ -1,20 +1,13 @@
-//! A program that runs scripts of steps over a store of entry logs, and shows, or compacts, what a folder of such logs has.
+//! A program that runs scripts of steps over a store of entry logs, shows or compacts what a folder of such logs has, and puts a
+//! load of many callers on a bookie.
 #![tactic(auto)]
 
-mod cli;
-mod compact;
-mod dead;
 mod load;
-mod program;
-mod progress;
-mod script;
-mod told;
 
+use bk_commands::{StartFault, command_of, run_words, tell_fault, words_of};
 pub use bk_dir::{Digest, DigestChoice, DirCommand, EntryRange, ScanChoice, run_dir};
 pub use bk_script::run_script;
-use cli::is_load_call;
 use load::load_as_asked;
-use program::{StartFault, run_words, tell_fault, words_of};
 use std::io::{BufWriter, Stderr};
 use std::process::ExitCode;
 use std::rt::Clock;
@@ -43,7 +36,7 @@ fn run<T: Threads + Wait + Clock + Sync>(
     let Ok(mut writer) = BufWriter::new(alloc, rt.stdout()) else {
         return Err(StartFault::Memory);
     };
-    if is_load_call(&words) {
+    if command_of(&words) == Some("load") {
         return Ok(load_as_asked(rt, threads, &words, &mut writer, errors));
     }
     Ok(run_words(rt, &words, &mut rt.stdin(), &mut writer, errors))

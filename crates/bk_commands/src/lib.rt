@@ -1,0 +1,17 @@
+//! The commands of the program that need no threads: what its command line asks for, and what it then does, on any streams.
+#![tactic(auto)]
+
+mod cli;
+mod compact;
+mod dead;
+mod program;
+mod progress;
+mod script;
+mod told;
+
+pub use cli::{
+    COMMANDS, CompactAsk, DEFAULTS, FolderAsk, FolderCall, ScriptCall, command_of, folder_call,
+    form_of, is_folder_call, json_arg, script_call, text_of,
+};
+pub use program::{StartFault, run_words, tell, tell_fault, words_of};
+pub use script::open_or_make;

@@ -1,0 +1,133 @@
+//! Scripts in memory, and over a folder, which is made where it is not there.
+
+ghost use Rattle.std.specs.Prelude.{◌≡◌, ◌≤◌};
+ghost use Rattle.bk_script.specs.Run.{RunsScript};
+ghost use Rattle.bk_commands.specs.Folder.{RunsOverFolder};
+
+use crate::cli::ScriptCall;
+use crate::told::Told;
+use bk_dir::unlisted;
+use bk_disk::{DirDisk, FolderFault};
+use bk_script::{run_on, run_script};
+use std::alloc::Global;
+use std::fs::{self, File};
+use std::io::{self, ErrorKind, Read, Write};
+use std::path::Path;
+
+/// Runs the script that a reader gives on a new disk in memory. Returns the status, as `run_script` does; where the answers can't
+/// be written, the error stream gets `fault output` and the reason, but where nobody reads them any more.
+pub(crate) fn run_in_memory<R: Read, W: Write, E: Write>(
+    alloc: Global,
+    call: &ScriptCall<'_>,
+    reader: &mut R,
+    writer: &mut W,
+    errors: &mut E,
+) -> u8
+    ensures status { result ≤ 1 }
+    ensures done { result ≡ 0 → RunsScript call.now.settings call.now.dead.items (R.remaining reader.old) (R.remaining reader.new)
+        (W.contents writer.old) (W.contents writer.new) }
+{
+    let mut told = Told::new(errors);
+    let status = run_script(alloc, call.settings, &call.dead, reader, writer, &mut told);
+    if status == 0 {
+        return 0;
+    }
+    told.explain(writer);
+    status
+}
+
+/// Runs the script that a reader gives over the folder at a path, of which it is the one writer until it ends. Returns the
+/// status, as `run_in_memory` does; 1 too where the folder can't be written, with a line `fault TEXT` on the error stream that
+/// tells which file or folder is to blame, and who writes there if somebody else does.
+pub(crate) fn run_over_folder<R: Read, W: Write, E: Write>(
+    rt: &HostRuntime,
+    path: &str,
+    call: &ScriptCall<'_>,
+    reader: &mut R,
+    writer: &mut W,
+    errors: &mut E,
+) -> u8
+    ensures status { result ≤ 1 }
+    ensures done { result ≡ 0 → RunsOverFolder call.now.settings call.now.dead.items (R.remaining reader.old) (R.remaining reader.new)
+        (W.contents writer.old) (W.contents writer.new) }
+{
+    match open_or_make(rt, path) {
+        Ok(disk) => run_on_folder(rt.alloc(), disk, call, reader, writer, errors),
+        Err(fault) => {
+            let _ = writeln!(errors, "fault {fault}");
+            1
+        }
+    }
+}
+
+/// Runs the script over a folder that is there.
+fn run_on_folder<R: Read, W: Write, E: Write>(
+    alloc: Global,
+    disk: DirDisk,
+    call: &ScriptCall<'_>,
+    reader: &mut R,
+    writer: &mut W,
+    errors: &mut E,
+) -> u8
+    ensures status { result ≤ 1 }
+    ensures done { result ≡ 0 → RunsOverFolder call.now.settings call.now.dead.items (R.remaining reader.old) (R.remaining reader.new)
+        (W.contents writer.old) (W.contents writer.new) }
+{
+    let mut told = Told::new(errors);
+    let status = run_on(
+        alloc,
+        disk,
+        call.settings,
+        &call.dead,
+        reader,
+        writer,
+        &mut told,
+    );
+    if status == 0 {
+        return 0;
+    }
+    told.explain(writer);
+    status
+}
+
+/// The disk of the folder at a path, to be written, of which it is the one writer until it is dropped. Where nothing is there, the
+/// folder is made, if its parent is there. `Refused` where the system refuses the folder, or can't list it, with the path and the
+/// system's reason; `InUse` where another disk writes there, of this process or of another one; `Memory`.
+pub fn open_or_make(rt: &HostRuntime, path: &str) -> Result<DirDisk, FolderFault> {
+    let fault = match DirDisk::open_to_write(rt, path) {
+        Ok(disk) => {
+            return match unlisted(rt, path) {
+                Some(fault) => Err(fault),
+                None => Ok(disk),
+            };
+        }
+        Err(fault) => fault,
+    };
+    if !is_missing(&fault) {
+        return Err(fault);
+    }
+    match make_folder(rt, path) {
+        Ok(()) => DirDisk::open_to_write(rt, path),
+        Err(reason) => match String::from_str(rt.alloc(), path) {
+            Ok(path) => Err(FolderFault::Refused { path, reason }),
+            Err(_) => Err(FolderFault::Memory),
+        },
+    }
+}
+
+/// Whether nothing is there.
+fn is_missing(fault: &FolderFault) -> bool {
+    match fault {
+        FolderFault::Refused { reason, .. } => reason.kind() == ErrorKind::NotFound,
+        FolderFault::InUse { .. } | FolderFault::Memory => false,
+    }
+}
+
+/// Makes a folder, and syncs the one that it is in, so that its name stays.
+fn make_folder(rt: &HostRuntime, path: &str) -> io::Result<()> {
+    fs::create_dir(rt, path)?;
+    match Path::new(path).parent() {
+        Some(parent) if !parent.as_str().is_empty() => File::open(rt, parent)?.sync_all(),
+        _ => File::open(rt, ".")?.sync_all(),
+    }
+}

@@ -1,0 +1,288 @@
+//! Calls of the commands that read a folder.
+
+use bk_commands::{COMMANDS, FolderAsk, folder_call, is_folder_call, text_of};
+use bk_dir::{Digest, DigestChoice, DirCommand, EntryRange, Form, ScanChoice};
+use std::alloc::Global;
+use std::process::Abort;
+use std::test::Fail;
+
+/// What the program tells of these words, which are no call on a folder.
+pub(super) fn told_of_folder(rt: &impl Abort, alloc: Global, words: &[&str]) -> String {
+    match folder_call(alloc, words) {
+        Ok(_) => {
+            assert!(rt; false, "{words:?} is a call on a folder");
+            String::new(alloc)
+        }
+        Err(error) => text_of(alloc, &error).expect(rt, "memory"),
+    }
+}
+
+/// Wrong calls of the commands that read a folder, and a part of what is told of each.
+const WRONG_FOLDERS: [(&[&str], &str); 25] = [
+    (&["bk_shell", "logs"], "<DIR>"),
+    (&["bk_shell", "check"], "<DIR>"),
+    (&["bk_shell", "header", "folder"], "<LOG>"),
+    (&["bk_shell", "find", "folder", "1"], "<ENTRY>"),
+    (
+        &["bk_shell", "logs", "folder", "1"],
+        "unexpected argument '1' found\n\nUsage: bk_shell logs [OPTIONS] <DIR>\n",
+    ),
+    (
+        &["bk_shell", "map", "folder", "2147483648"],
+        "invalid value '2147483648' for '<LOG>': not a number from 0 to 2147483647 in plain digits\n\nUsage: bk_shell map [OPTIONS] <DIR> <LOG>\n",
+    ),
+    (&["bk_shell", "header", "folder", "01"], "'01' for '<LOG>'"),
+    (
+        &["bk_shell", "scan", "folder", "+1"],
+        "Usage: bk_shell scan [OPTIONS] <DIR> <LOG>\n",
+    ),
+    (
+        &["bk_shell", "scan", "folder", "1f"],
+        "invalid value '1f' for '<LOG>': not a number from 0 to 2147483647 in plain digits; the file 1f.log is log 31\n",
+    ),
+    (
+        &["bk_shell", "scan", "folder", "01f.log"],
+        "'01f.log' for '<LOG>'",
+    ),
+    (
+        &["bk_shell", "scan", "--from", "4294967296", "folder", "0"],
+        "'4294967296' for '<AT>': not a number from 0 to 4294967295",
+    ),
+    (
+        &["bk_shell", "stat", "folder", "--dead", "-1"],
+        "unexpected argument",
+    ),
+    (
+        &["bk_shell", "stat", "folder", "--dead", "05"],
+        "invalid value '05' for '<LEDGER>': not a number from 0 to 9223372036854775807 in plain digits\n\nUsage: bk_shell stat [OPTIONS] <DIR>\n",
+    ),
+    (
+        &["bk_shell", "entries", "folder", "1", "x"],
+        "'x' for '<FIRST>'",
+    ),
+    (&["bk_shell", "scan", "folder", "-1"], "unexpected argument"),
+    (
+        &["bk_shell", "find", "folder", "9223372036854775808", "0"],
+        "'9223372036854775808' for '<LEDGER>': not a number from 0 to 9223372036854775807",
+    ),
+    (
+        &["bk_shell", "find", "folder", "0", "x"],
+        "'x' for '<ENTRY>': not a number from 0 to 9223372036854775807 in plain digits\n\nUsage: bk_shell find [OPTIONS] <DIR> <LEDGER> <ENTRY>\n",
+    ),
+    (
+        &["bk_shell", "check", "--all", "folder"],
+        "unexpected argument '--all' found",
+    ),
+    (
+        &["bk_shell", "check", "--digest", "crc64", "folder"],
+        "invalid value 'crc64' for '--digest <KIND>': not crc32c, crc32 or auto\n\nUsage: bk_shell check [OPTIONS] <DIR>\n",
+    ),
+    (
+        &["bk_shell", "check", "--digest=", "folder"],
+        "'--digest <KIND>'",
+    ),
+    (&["bk_shell", "check", "--digest", "auto"], "<DIR>"),
+    (
+        &["bk_shell", "logs", "--digest", "auto", "folder"],
+        "unexpected argument '--digest' found",
+    ),
+    (&["bk_shell", "seal", "folder"], "<LOG>"),
+    (
+        &["bk_shell", "seal", "folder", "1F.log"],
+        "invalid value '1F.log' for '<LOG>': not a number from 0 to 2147483647 in plain digits\n\nUsage: bk_shell seal [OPTIONS] <DIR> <LOG>\n",
+    ),
+    (
+        &["bk_shell", "--json", "logs", "folder", "--json=yes"],
+        "unexpected value 'yes' for '--json' found",
+    ),
+];
+
+#[test]
+fn a_wrong_call_on_a_folder_is_told(rt: HostRuntime) {
+    for (words, part) in WRONG_FOLDERS {
+        let text = told_of_folder(&rt, rt.alloc(), words);
+        assert!(rt; text.contains(part), "{part:?} in {text:?}");
+    }
+}
+
+#[test]
+fn a_call_on_a_folder(rt: HostRuntime) {
+    let lines: [(&[&str], DirCommand); 15] = [
+        (&["bk_shell", "logs", "folder"], DirCommand::Logs),
+        (
+            &["bk_shell", "header", "folder", "0"],
+            DirCommand::Header(0),
+        ),
+        (
+            &["bk_shell", "map", "folder", "2147483647"],
+            DirCommand::Map(2_147_483_647),
+        ),
+        (&["bk_shell", "scan", "folder", "31"], DirCommand::Scan(31)),
+        (
+            &["bk_shell", "scan", "folder", "1f.log"],
+            DirCommand::Scan(31),
+        ),
+        (
+            &["bk_shell", "scan", "--data", "folder", "0"],
+            DirCommand::ScanPart(
+                0,
+                ScanChoice {
+                    ledger: None,
+                    from: 0,
+                    data: true,
+                },
+            ),
+        ),
+        (
+            &[
+                "bk_shell",
+                "scan",
+                "folder",
+                "0",
+                "--ledger",
+                "7",
+                "--from=1028",
+            ],
+            DirCommand::ScanPart(
+                0,
+                ScanChoice {
+                    ledger: Some(7),
+                    from: 1028,
+                    data: false,
+                },
+            ),
+        ),
+        (&["bk_shell", "ledgers", "folder"], DirCommand::Ledgers),
+        (
+            &["bk_shell", "entries", "folder", "7"],
+            DirCommand::Entries(EntryRange {
+                ledger: 7,
+                first: 0,
+                last: 9_223_372_036_854_775_807,
+            }),
+        ),
+        (
+            &["bk_shell", "entries", "folder", "7", "2"],
+            DirCommand::Entries(EntryRange {
+                ledger: 7,
+                first: 2,
+                last: 9_223_372_036_854_775_807,
+            }),
+        ),
+        (
+            &["bk_shell", "entries", "folder", "7", "2", "5"],
+            DirCommand::Entries(EntryRange {
+                ledger: 7,
+                first: 2,
+                last: 5,
+            }),
+        ),
+        (&["bk_shell", "check", "folder"], DirCommand::Check),
+        (
+            &["bk_shell", "check", "--digest", "crc32c", "folder"],
+            DirCommand::CheckDigests(DigestChoice::One(Digest::Crc32c)),
+        ),
+        (
+            &["bk_shell", "check", "folder", "--digest", "crc32"],
+            DirCommand::CheckDigests(DigestChoice::One(Digest::Crc32)),
+        ),
+        (
+            &["bk_shell", "check", "--digest=auto", "folder"],
+            DirCommand::CheckDigests(DigestChoice::Auto),
+        ),
+    ];
+    for (words, command) in lines {
+        assert!(rt; is_folder_call(words), "{words:?}");
+        match folder_call(rt.alloc(), words) {
+            Ok(call) => {
+                assert_eq!(rt; call.path, "folder", "the folder of {words:?}");
+                assert_eq!(rt;
+                    call.ask,
+                    FolderAsk::Dir(command),
+                    "the command of {words:?}"
+                );
+            }
+            Err(error) => assert!(rt; false, "{words:?}: {error}"),
+        }
+    }
+}
+
+/// Commands on folders, and parts of the help of each.
+const FOLDER_HELP: [(&str, &str); 11] = [
+    (
+        "logs",
+        "$ bk_shell logs /var/bookie/current\n  0 1089 sealed",
+    ),
+    ("header", "version 1 map 1049 count 1"),
+    ("map", "no map"),
+    ("scan", "entries 1 foreign 1 torn 0"),
+    ("find", "0 1028 68656c6c6f"),
+    ("check", "map differs"),
+    ("stat", "3 1087 3 63 41 650 open"),
+    ("ledgers", "1 3 66 0 2 2"),
+    ("entries", "2 3 1071 20"),
+    ("seal", "sealed 3 map 1049 count 1"),
+    ("compact", "0 1325 compact 1"),
+];
+
+#[test]
+fn help_shows_each_command_on_a_folder(rt: HostRuntime) {
+    for (name, part) in FOLDER_HELP {
+        let text = told_of_folder(&rt, rt.alloc(), &["bk_shell", "help", name]);
+        assert!(rt; text.contains(part), "{part:?} in {text:?}");
+        assert!(rt; COMMANDS.contains(name), "{name} in the list of commands");
+    }
+}
+
+#[test]
+fn a_call_of_stat_names_the_dead_ledgers(rt: HostRuntime) -> Result<(), Fail> {
+    let lines: [(&[&str], &[u64]); 3] = [
+        (&["bk_shell", "stat", "folder"], &[]),
+        (&["bk_shell", "stat", "--dead", "3", "folder"], &[3]),
+        (
+            &["bk_shell", "stat", "--dead", "3", "folder", "--dead=0"],
+            &[3, 0],
+        ),
+    ];
+    for (words, dead) in lines {
+        let asked = FolderAsk::Stat(Vec::from_slice(rt.alloc(), dead)?);
+        match folder_call(rt.alloc(), words) {
+            Ok(call) => assert_eq!(rt; call.ask, asked, "the ledgers of {words:?}"),
+            Err(error) => assert!(rt; false, "{words:?}: {error}"),
+        }
+    }
+    Ok(())
+}
+
+/// Calls of `logs` and of `seal`, the form that they ask for, and the log that is to be sealed.
+const FORMS: [(&[&str], Form, Option<u32>); 6] = [
+    (&["bk_shell", "logs", "folder"], Form::Text, None),
+    (&["bk_shell", "logs", "folder", "--json"], Form::Json, None),
+    (&["bk_shell", "--json", "logs", "folder"], Form::Json, None),
+    (&["bk_shell", "seal", "folder", "31"], Form::Text, Some(31)),
+    (
+        &["bk_shell", "seal", "--json", "folder", "1f.log"],
+        Form::Json,
+        Some(31),
+    ),
+    (
+        &["bk_shell", "--json", "seal", "folder", "0"],
+        Form::Json,
+        Some(0),
+    ),
+];
+
+#[test]
+fn a_call_names_a_form(rt: HostRuntime) {
+    for (words, form, sealed) in FORMS.iter() {
+        let ask = match sealed {
+            Some(log) => FolderAsk::Seal(*log),
+            None => FolderAsk::Dir(DirCommand::Logs),
+        };
+        let is_asked = match folder_call(rt.alloc(), words) {
+            Ok(call) => call.form == *form && call.ask == ask,
+            Err(_) => false,
+        };
+        assert!(rt; is_asked && is_folder_call(words), "{words:?}");
+    }
+}

@@ -1,0 +1,101 @@
+//! Small loads, in memory and on a folder, and what is told of words that are no load.
+
+use super::load_as_asked;
+use std::fs;
+use std::rt::Clock;
+use std::sync::Wait;
+use std::test::Fail;
+use std::thread::Threads;
+
+/// Whether a call of `load` ends in this status, with these parts in its output, and with this text on the error stream.
+fn is_shown<T: Threads + Wait + Clock + Sync>(
+    rt: &HostRuntime,
+    threads: &T,
+    words: &[&str],
+    status: u8,
+    parts: &[&str],
+    told: &str,
+) -> bool {
+    let mut output = Vec::new(rt.alloc());
+    let mut errors = Vec::new(rt.alloc());
+    let ended = load_as_asked(rt, threads, words, &mut output, &mut errors);
+    let Ok(text) = str::from_utf8(&output) else {
+        return false;
+    };
+    ended == status
+        && errors.as_slice() == told.as_bytes()
+        && parts.iter().all(|part| text.contains(part))
+}
+
+#[test]
+fn a_load_in_memory_is_good(rt: HostRuntime) {
+    let words = ["bk_shell", "load", "--threads", "3", "--adds", "2000"];
+    let parts = [
+        "adds 2000 bytes ",
+        " held 0 refused 0 ",
+        " wrong 0 ledgers deleted 0\n",
+        " faults 0\n",
+        "receipts 2000\n",
+        "files found 2000 deleted 0 lost 0 unknown 0 earlier 0 of 0\ngood\n",
+    ];
+    assert!(rt; is_shown(&rt, &rt, &words, 0, &parts, ""));
+}
+
+#[test]
+fn a_second_load_on_a_folder_leaves_the_first(rt: HostRuntime) -> Result<(), Fail> {
+    let folder = "bk_shell_load";
+    let _ = fs::remove_dir_all(&rt, folder);
+    let first = ["bk_shell", "load", "--adds=100", "--folder", folder];
+    let second = [
+        "bk_shell",
+        "--json",
+        "load",
+        "--folder",
+        folder,
+        "--adds=50",
+    ];
+    assert!(rt;
+        is_shown(
+            &rt,
+            &rt,
+            &first,
+            0,
+            &["files found 100 deleted 0 lost 0 unknown 0 earlier 0 of 0\ngood\n"],
+            ""
+        )
+    );
+    assert!(rt;
+        is_shown(
+            &rt,
+            &rt,
+            &second,
+            0,
+            &[
+                "{\"good\":true,\"adds\":50,\"receipts\":50,",
+                "\"found\":50,\"deleted\":0,\"lost\":0,\"unknown\":0,\"kept\":100,\"earlier\":100}\n"
+            ],
+            ""
+        )
+    );
+    fs::remove_dir_all(&rt, folder)?;
+    Ok(())
+}
+
+#[test]
+fn a_load_where_no_folder_can_be_is_refused(rt: HostRuntime) -> Result<(), Fail> {
+    let path = "bk_shell_no_load";
+    fs::write(&rt, path, "a file")?;
+    let words = ["bk_shell", "load", "--adds=1", "--folder", path];
+    assert!(rt;
+        is_shown(
+            &rt,
+            &rt,
+            &words,
+            1,
+            &[],
+            "fault disk: bk_shell_no_load: Not a directory (os error 20)\n"
+        )
+    );
+    fs::remove_file(&rt, path)?;
+    Ok(())
+}
