@@ -14,7 +14,7 @@ use crate::cli::{
 };
 use crate::compact::run_compact;
 use crate::script::{run_in_memory, run_over_folder};
-use bk_dir::{FolderCommand, run_folder_as, run_seal_folder};
+use bk_dir::{FolderCommand, run_cut_and_seal_folder, run_folder_as, run_seal_folder};
 use clap::Error;
 use clap::error::ErrorKind;
 use std::alloc::{AllocGlobal, Global};
@@ -71,9 +71,10 @@ pub fn tell_fault<E: Write>(fault: StartFault, errors: &mut E) {
 /// Does what the words ask for, the first being the program's name: runs the script that the reader gives with the settings of
 /// its options and the dead ledgers beside them, in memory or over a folder, or a command on a folder, or writes the help that
 /// was asked for. `load` is no command here. The reader is read for a script alone. Returns the program's status: 0, 1 as
-/// `run_in_memory`, `run_over_folder`, `bk_dir::run_folder_as`, `bk_dir::run_seal_folder` and `run_compact` say, or where no
-/// memory is to be had or the help can't be written, and 2 where the words are a wrong command line. The error stream gets
-/// the reason, `writer` nothing but answers and help, which it has been told to hand on (`flush`) where the status is 0.
+/// `run_in_memory`, `run_over_folder`, `bk_dir::run_folder_as`, `bk_dir::run_seal_folder`, `bk_dir::run_cut_and_seal_folder` and
+/// `run_compact` say, or where no memory is to be had or the help can't be written, and 2 where the words are a wrong command
+/// line. The error stream gets the reason, `writer` nothing but answers and help, which it has been told to hand on (`flush`)
+/// where the status is 0.
 pub fn run_words<S: AsStr, R: Read, W: Write, E: Write>(
     rt: &HostRuntime,
     words: &[S],
@@ -146,6 +147,9 @@ fn run_call<W: Write, E: Write>(
             run_folder_as(rt, form, path, &command, writer, errors)
         }
         FolderAsk::Seal(log) => run_seal_folder(rt, form, path, *log, writer, errors),
+        FolderAsk::CutAndSeal(log) => {
+            run_cut_and_seal_folder(rt, form, path, *log, writer, errors)
+        }
         FolderAsk::Compact(ask) => run_compact(rt, form, path, ask, writer, errors),
     }
 }

@@ -159,6 +159,7 @@ fn read_ask<'a>(
             Err(bad) => Ok(Err(bad)),
         },
         "seal" => match read_log(found) {
+            Ok(log) if found.get_flag("cut-torn") => Ok(Ok(FolderAsk::CutAndSeal(log))),
             Ok(log) => Ok(Ok(FolderAsk::Seal(log))),
             Err(bad) => Ok(Err(bad)),
         },
@@ -361,7 +362,7 @@ fn with_writing_commands<'a>(
     commands: Command<'a>,
 ) -> Result<Command<'a>, AllocError> {
     commands
-        .subcommand(on_log(alloc, "seal", ABOUT_SEAL, SEAL_HELP)?)?
+        .subcommand(seal_command(alloc)?)?
         .subcommand(compact_command(alloc)?)
 }
 
@@ -408,6 +409,16 @@ fn scan_command<'a>(alloc: Global) -> Result<Command<'a>, AllocError> {
                 .action(ArgAction::SetTrue)
                 .help("Shows the data of each entry too, in hexadecimal"),
         )
+}
+
+/// The command `seal`.
+fn seal_command<'a>(alloc: Global) -> Result<Command<'a>, AllocError> {
+    on_log(alloc, "seal", ABOUT_SEAL, SEAL_HELP)?.arg(
+        Arg::new(alloc, "cut-torn")
+            .long("cut-torn")
+            .action(ArgAction::SetTrue)
+            .help("Cuts off a torn end first, once the log is copied aside"),
+    )
 }
 
 /// The command `stat`.

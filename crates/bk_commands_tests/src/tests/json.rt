@@ -134,3 +134,22 @@ fn a_log_is_sealed(rt: HostRuntime) -> Result<(), Fail> {
     fs::remove_dir_all(&rt, "bk_shell_seal")?;
     Ok(())
 }
+
+#[test]
+fn a_torn_log_is_cut_and_sealed(rt: HostRuntime) -> Result<(), Fail> {
+    let rows = [
+        told(&["bk_shell", "seal", "bk_shell_cut", "2"], "fault torn 3\n"),
+        done(
+            &["bk_shell", "seal", "--cut-torn", "bk_shell_cut", "2.log"],
+            "cut 2 at 1048 bytes 3 copy bk_shell_cut/2.log.torn\nsealed 2 map 1048 count 1\n",
+        ),
+        done(&["bk_shell", "check", "bk_shell_cut"], "0 ok\n1 ok\n2 ok\n"),
+    ];
+    fill(&rt, "bk_shell_cut")?;
+    let mut bytes = fs::read(&rt, "bk_shell_cut/2.log")?;
+    bytes.extend_from_slice(b"\0\0\0")?;
+    fs::write(&rt, "bk_shell_cut/2.log", bytes.as_slice())?;
+    check(&rt, &rt, &rows);
+    fs::remove_dir_all(&rt, "bk_shell_cut")?;
+    Ok(())
+}

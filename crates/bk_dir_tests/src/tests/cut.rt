@@ -235,7 +235,13 @@ fn a_torn_end_of_each_kind_is_cut(rt: HostRuntime) -> Result<(), Fail> {
         wanted.extend_from_slice(HELLO_AND_MAP)?;
         assert_eq!(rt; bytes_of(alloc, &mut disk)?, wanted);
         assert_eq!(rt; entries_of(alloc, &mut disk)?, entries);
-        check(&rt, alloc, &mut disk, &[done(DirCommand::Check, "3 ok\n")], "a cut log");
+        check(
+            &rt,
+            alloc,
+            &mut disk,
+            &[done(DirCommand::Check, "3 ok\n")],
+            "a cut log",
+        );
     }
     Ok(())
 }
@@ -316,17 +322,15 @@ fn a_copy_that_stands_is_not_written_over(rt: HostRuntime) -> Result<(), Fail> {
         "{\"fault\":\"copy exists\",\"log\":3,\"copy\":\"aside/3\"}\n",
     );
     assert_eq!(rt; bytes_of(alloc, &mut disk)?, file_of(alloc, &HELLO[..24])?);
-    assert_eq!(rt; bytes_of(alloc, &mut aside.disk)?.as_slice(), b"an older copy".as_slice());
+    assert_eq!(rt;
+        bytes_of(alloc, &mut aside.disk)?.as_slice(),
+        b"an older copy".as_slice()
+    );
     Ok(())
 }
 
 /// Cuts log 3 on a disk and a place of which one call fails each, and expects that the log is as it was. How many copies stand.
-fn cut_failing(
-    rt: &impl Abort,
-    alloc: Global,
-    on_disk: u64,
-    on_aside: u64,
-) -> Result<usize, Fail> {
+fn cut_failing(rt: &impl Abort, alloc: Global, on_disk: u64, on_aside: u64) -> Result<usize, Fail> {
     let mut disk = CutMem::of(alloc, &log_of(&HELLO[..24]), on_disk)?;
     let mut aside = MemAside::new(alloc, on_aside);
     let shown = cut(alloc, Form::Text, &mut disk, &mut aside);
@@ -334,7 +338,10 @@ fn cut_failing(
     assert_eq!(rt; bytes_of(alloc, &mut disk)?, file_of(alloc, &HELLO[..24])?);
     let copies = aside.disk.list(alloc)?.len();
     if copies > 0 {
-        assert_eq!(rt; bytes_of(alloc, &mut aside.disk)?, file_of(alloc, &HELLO[..24])?);
+        assert_eq!(rt;
+            bytes_of(alloc, &mut aside.disk)?,
+            file_of(alloc, &HELLO[..24])?
+        );
     }
     Ok(copies)
 }
@@ -344,13 +351,21 @@ fn each_call_that_fails_leaves_the_log(rt: HostRuntime) -> Result<(), Fail> {
     let alloc = rt.alloc();
     // Its length, its header, a view of it, its one piece.
     for call in 1..=4u64 {
-        assert_eq!(rt; cut_failing(&rt, alloc, call, NEVER)?, 0, "call {call} of the disk");
+        assert_eq!(rt;
+            cut_failing(&rt, alloc, call, NEVER)?,
+            0,
+            "call {call} of the disk"
+        );
     }
     // The cut.
     assert_eq!(rt; cut_failing(&rt, alloc, 5, NEVER)?, 1);
     // The copy is made, gets its one piece, is kept.
     for call in 1..=3u64 {
-        assert_eq!(rt; cut_failing(&rt, alloc, NEVER, call)?, 0, "call {call} of the place");
+        assert_eq!(rt;
+            cut_failing(&rt, alloc, NEVER, call)?,
+            0,
+            "call {call} of the place"
+        );
     }
     Ok(())
 }
@@ -364,7 +379,10 @@ fn a_cut_that_is_told_as_failed_can_be_gone_on_with(rt: HostRuntime) -> Result<(
     let shown = cut(alloc, Form::Text, &mut disk, &mut aside);
     expect(&rt, &shown, 1, "", "fault disk\n");
     assert_eq!(rt; bytes_of(alloc, &mut disk)?, file_of(alloc, b"")?);
-    assert_eq!(rt; bytes_of(alloc, &mut aside.disk)?, file_of(alloc, &HELLO[..24])?);
+    assert_eq!(rt;
+        bytes_of(alloc, &mut aside.disk)?,
+        file_of(alloc, &HELLO[..24])?
+    );
     let again = cut(alloc, Form::Text, &mut disk, &mut aside);
     expect(&rt, &again, 0, "sealed 3 map 1024 count 0\n", "");
     Ok(())

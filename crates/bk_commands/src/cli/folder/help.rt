@@ -168,8 +168,14 @@ The log is left as it is where it has a fault, or need not be sealed:
   no map in version 0    the header of a log of that version has no place for it
   sealed already         its header names a map
   bad length AT N        a length below 16 stands behind whole records
-  torn N                 N bytes at its end are no whole record. They are never cut: copy the log aside, and cut the copy
+  torn N                 N bytes at its end are no whole record
   no room for a map      it would end past byte 2^32 - 1
+
+With --cut-torn such an end, torn or of a bad length, is no refusal: it is cut off. Before, the whole log is copied to a file
+beside it, 1f.log to 1f.log.torn, and synced, so that nothing is lost whatever happens then. No reader takes that file for a
+log; nobody removes it but you. Printed first is `cut LOG at AT bytes N copy FILE`: N bytes from AT on were cut. Where FILE is
+there already the log is left, `copy exists: FILE`: move it away. It is that of an earlier call; one that was killed while it
+copied may have left a part. A log that ends with a whole record is sealed only, and not copied.
 
 One program writes in a folder at a time: where another one does, the command is refused, and told which process it is. A
 bookie that runs on the folder does not ask for the lock: stop it first.
@@ -180,7 +186,13 @@ where the command line is wrong.
 Example:
   $ bk_shell seal /var/bookie/current 3.log
   sealed 3 map 1049 count 1
+  $ bk_shell seal /var/bookie/current 31
+  fault torn 10
+  $ bk_shell seal --cut-torn /var/bookie/current 31
+  cut 31 at 1049 bytes 10 copy /var/bookie/current/1f.log.torn
+  sealed 31 map 1049 count 1
   $ bk_shell check /var/bookie/current
   0 ok
   3 ok
+  31 ok
 ";

@@ -286,3 +286,24 @@ fn a_call_names_a_form(rt: HostRuntime) {
         assert!(rt; is_asked && is_folder_call(words), "{words:?}");
     }
 }
+
+#[test]
+fn a_call_of_seal_may_ask_for_a_cut(rt: HostRuntime) {
+    let lines: [(&[&str], FolderAsk); 3] = [
+        (
+            &["bk_shell", "seal", "--cut-torn", "folder", "1f.log"],
+            FolderAsk::CutAndSeal(31),
+        ),
+        (
+            &["bk_shell", "seal", "folder", "31", "--cut-torn"],
+            FolderAsk::CutAndSeal(31),
+        ),
+        (&["bk_shell", "seal", "folder", "31"], FolderAsk::Seal(31)),
+    ];
+    for (words, asked) in lines.iter() {
+        match folder_call(rt.alloc(), words) {
+            Ok(call) => assert_eq!(rt; &call.ask, asked, "what {words:?} asks for"),
+            Err(error) => assert!(rt; false, "{words:?}: {error}"),
+        }
+    }
+}
