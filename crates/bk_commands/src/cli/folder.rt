@@ -28,6 +28,8 @@ pub enum FolderAsk<'a> {
     Stat(Vec<u64>),
     /// That the log of this id be sealed.
     Seal(u32),
+    /// That what stands behind the last whole record of the log of this id be cut off, and the log be sealed.
+    CutAndSeal(u32),
     /// A compaction.
     Compact(CompactAsk<'a>),
 }
