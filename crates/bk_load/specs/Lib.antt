@@ -1,3 +1,4 @@
 pub mod Known
+pub mod Missing
 pub mod Ranks
 pub mod Verdict

@@ -1,7 +1,8 @@
 //! A caller of a load: it adds an entry in each round, takes an earlier one back in every fourth, and now and then deletes a
 //! ledger.
 
-ghost use Rattle.std.specs.Prelude.{◌≡◌, vec_len};
+ghost use Rattle.std.specs.Prelude.{◌≡◌, false, vec_len};
+ghost use Rattle.bk_store.specs.declared.answer.Taken.TheVariants.{NotHeld};
 
 use crate::done::Done;
 use crate::entries::{LONGEST, ROUNDS, doomed_ledger, is_doomed, ledger_of, mixed, payload};
@@ -84,7 +85,9 @@ pub(crate) fn is_right<V: LogView>(
     first: u64,
     taken: &Taken<V>,
     receipt: &Receipt,
-) -> bool {
+) -> bool
+    ensures { taken.now ≡ NotHeld → result ≡ false }
+{
     match taken {
         Taken::Deleted => is_doomed(first, receipt.key.ledger()),
         Taken::NotHeld => false,

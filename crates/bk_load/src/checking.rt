@@ -1,11 +1,12 @@
 //! What stands in the files at the end: each entry that was accepted is looked for in a store that is opened on them, and
 //! each entry that the store has is looked for among those that were accepted.
 
-ghost use Rattle.std.specs.Prelude.{◌≡◌, ◌+◌, IfOk, length, nat_lt, not, ◌&&◌, count_by};
+ghost use Rattle.std.specs.Prelude.{◌≡◌, ◌≤◌, ◌+◌, IfOk, length, nat_lt, not, ◌&&◌, count_by};
 ghost use Rattle.std.specs.BTreeSet.{IsFromIterResult, contains};
 ghost use Rattle.std.specs.FinMap as map;
 ghost use Rattle.bk_record.specs.Key.{key_cmp};
 ghost use Rattle.bk_load.specs.Known.{keys_of, earlier_count, AreKnown};
+ghost use Rattle.bk_load.specs.Missing.{dead_count, missing_count};
 
 use crate::caller::is_right;
 use crate::{Checked, LoadFault};
@@ -16,14 +17,16 @@ use bk_store::{Receipt, Store, Taken};
 use std::alloc::{AllocError, Global};
 use std::collections::BTreeSet;
 
-/// How many entries of these receipts a store has: found, deleted, lost.
+/// How many entries of these receipts a store has: found, deleted, lost. What it no longer has is lost.
 fn look_up<D: LogDisk>(
     alloc: Global,
     store: &mut Store<D>,
     first: u64,
     receipts: &[Receipt],
 ) -> (u64, u64, u64)
-    ensures { result.0 + result.1 + result.2 ≡ length receipts.now }
+    ensures all { result.0 + result.1 + result.2 ≡ length receipts.now }
+    ensures deleted { result.1 ≡ dead_count store.old receipts.now }
+    ensures lost { missing_count store.old receipts.now ≤ result.2 }
 {
     let mut found = 0;
     let mut deleted = 0;
@@ -73,6 +76,8 @@ pub(crate) fn check<D: LogDisk>(
     receipts: &[Receipt],
 ) -> Result<Checked, LoadFault>
     ensures all { IfOk result (λ c. c.found + c.deleted + c.lost ≡ length receipts.now) }
+    ensures deleted { IfOk result (λ c. c.deleted ≡ dead_count store.old receipts.now) }
+    ensures lost { IfOk result (λ c. missing_count store.old receipts.now ≤ c.lost) }
     ensures kept { IfOk result (λ c. c.kept ≡ earlier_count first store.old.index) }
     ensures known { IfOk result (λ c. c.unknown ≡ 0 → AreKnown first receipts.now store.old.index) }
 {

@@ -12,8 +12,6 @@ mod latency;
 mod report;
 mod running;
 mod serving;
-#[cfg(test)]
-mod tests;
 
 pub use latency::Latencies;
 pub use report::{Checked, Load, LoadFault, Logs, Report, Until};

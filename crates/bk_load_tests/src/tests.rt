@@ -1,8 +1,8 @@
 //! A small load, over a disk in memory, and the text of a report.
 
-use crate::{Checked, Latencies, Load, Logs, Report, Until, run_load};
 use bk_bookie::WorkReport;
 use bk_disk::MemDisk;
+use bk_load::{Checked, Latencies, Load, Logs, Report, Until, run_load};
 use bk_store::Settings;
 use std::test::Fail;
 
