@@ -7,6 +7,7 @@ mod rows;
 
 use crate::cli::{CompactAsk, DEFAULTS};
 use crate::dead::dead_ledgers;
+use crate::opening::OpeningDisk;
 use crate::progress::Progress;
 use bk_dir::{Form, unlisted};
 use bk_disk::{DirDisk, DiskFault, LogDisk};
@@ -64,6 +65,7 @@ fn compact<W: Write, E: Write>(
         let _ = write_row(rt.alloc(), form, &row, errors);
         still(size_of(&logs))
     } else if ask.is_dry {
+        let disk = OpeningDisk::new(rt, disk);
         show_plan(rt.alloc(), form, disk, &logs, ask, &dead, writer)?
     } else {
         drop(disk);
@@ -131,6 +133,7 @@ fn sweep_folder<E: Write>(
     let alloc = rt.alloc();
     let mut disk = DirDisk::open_to_write(rt, path)?;
     let before = size_of(&lengths_of(alloc, &mut disk)?);
+    let disk = OpeningDisk::new(rt, disk);
     let mut progress = Progress::new(rt, errors);
     let settings = settings_below(below);
     let swept = sweep_disk(alloc, disk, settings, dead, Kind::Major, &mut progress);
@@ -149,7 +152,7 @@ fn sweep_folder<E: Write>(
 fn show_plan<W: Write>(
     alloc: Global,
     form: Form,
-    disk: DirDisk,
+    disk: OpeningDisk,
     lengths: &BTreeMap<u32, u64>,
     ask: &CompactAsk<'_>,
     dead: &[u64],

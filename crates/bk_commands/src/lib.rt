@@ -4,6 +4,7 @@
 mod cli;
 mod compact;
 mod dead;
+mod opening;
 mod program;
 mod progress;
 mod script;

@@ -5,6 +5,7 @@ ghost use Rattle.bk_script.specs.Run.{RunsScript};
 ghost use Rattle.bk_commands.specs.Folder.{RunsOverFolder};
 
 use crate::cli::ScriptCall;
+use crate::opening::OpeningDisk;
 use crate::told::Told;
 use bk_dir::unlisted;
 use bk_disk::{DirDisk, FolderFault};
@@ -52,7 +53,10 @@ pub(crate) fn run_over_folder<R: Read, W: Write, E: Write>(
         (W.contents writer.old) (W.contents writer.new) }
 {
     match open_or_make(rt, path) {
-        Ok(disk) => run_on_folder(rt.alloc(), disk, call, reader, writer, errors),
+        Ok(disk) => {
+            let disk = OpeningDisk::new(rt, disk);
+            run_on_folder(rt.alloc(), disk, call, reader, writer, errors)
+        }
         Err(fault) => {
             let _ = writeln!(errors, "fault {fault}");
             1
@@ -63,7 +67,7 @@ pub(crate) fn run_over_folder<R: Read, W: Write, E: Write>(
 /// Runs the script over a folder that is there.
 fn run_on_folder<R: Read, W: Write, E: Write>(
     alloc: Global,
-    disk: DirDisk,
+    disk: OpeningDisk,
     call: &ScriptCall<'_>,
     reader: &mut R,
     writer: &mut W,
