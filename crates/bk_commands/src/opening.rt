@@ -157,9 +157,11 @@ impl LogDisk for OpeningDisk {
     fn bounds(&self) {}
 
     fn list(&mut self, alloc: Global) -> Result<Vec<u32>, DiskFault> {
-        let ids = self.disk.list(alloc)?;
-        self.line.begin(ids.len());
-        Ok(ids)
+        let answer = self.disk.list(alloc);
+        if let Ok(ids) = &answer {
+            self.line.begin(ids.len());
+        }
+        answer
     }
 
     fn length(&mut self, alloc: Global, log: u32) -> Result<u64, DiskFault> {
@@ -191,9 +193,11 @@ impl LogDisk for OpeningDisk {
     }
 
     fn view(&mut self, alloc: Global, log: u32) -> Result<DirView, DiskFault> {
-        let view = self.disk.view(alloc, log)?;
-        self.line.go_on(view.end());
-        Ok(view)
+        let answer = self.disk.view(alloc, log);
+        if let Ok(view) = &answer {
+            self.line.go_on(view.end());
+        }
+        answer
     }
 
     fn remove(&mut self, alloc: Global, log: u32) -> Result<(), DiskFault> {
