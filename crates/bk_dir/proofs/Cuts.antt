@@ -21,12 +21,14 @@ use Rattle.bk_log.specs.Scanning.{Scan, part_of, IsFinished, NextMoves, ScanFail
 use Rattle.bk_log.proofs.Ranges.{all_leftover-file, all_pieces-behind, all_pieces-file, all_pieces-stop}
 use Rattle.bk_log.proofs.Passes.{bad_stops}
 use Rattle.bk_dir.specs.declared.cut.Cut.{Cut}
+use Rattle.bk_dir.specs.declared.cut.CutFault.{CutFault}
+use Rattle.bk_dir.specs.declared.cut.CutFault.TheVariants.{Unread, Taken, Uncopied, Uncut}
 use Rattle.bk_dir.specs.declared.header.Head.{Head}
 use Rattle.bk_dir.specs.declared.header.Head.TheVariants.{Short, Bad, Whole}
 use Rattle.bk_dir.specs.Heads.{IsHead}
 use Rattle.bk_dir.specs.Reading.{OfFile}
-use Rattle.bk_dir.specs.Sealing.{IsOpenHead}
-use Rattle.bk_dir.specs.Cutting.{CutsOff, EndsWholeAt, IsCutAside, IsCutOf, IsWholeLog, LeavesCopies, ScanEnds, cut_to}
+use Rattle.bk_dir.specs.Sealing.{IsOpenHead, SealLeaves, SealsOne}
+use Rattle.bk_dir.specs.Cutting.{CutTurn, CutsAndSeals, CutsOff, EndsWholeAt, IsCutAside, IsCutOf, IsWholeLog, LeavesCopies, LosesNothing, ScanEnds, cut_to}
 
 -- what a body leaves stands behind whole records
 body_front : {from : ℕ} {bytes rest : List ℕ} {records : List (ℕ × List ℕ)} → Body from bytes records rest
@@ -178,3 +180,33 @@ cut_failed files mid now files' copies copies' log cut found some first second f
     inl (same ∙ second ∙ first, inr (free, (found.0, copied found.0 stands found.2.1)))
 cut_failed files mid now files' copies copies' log cut found some first second free copied (inr wrote) =
     inr (cut, cut_aside files mid now files' copies copies' log cut found some first second free copied wrote)
+
+-- ---- cutting and sealing
+
+-- a log that was whole, and what a sealing leaves
+pub whole_leaves : (files copies mid copies' files' : Files) (log : ℕ) (found : Option Cut) → found ≡ None → CutTurn files copies log (Ok found) mid copies'
+    → SealLeaves mid log files' → LosesNothing files copies log files' copies'
+whole_leaves files copies mid copies' files' log found is turn leaves =
+    let same = subst (λ (o : Option Cut). CutTurn files copies log (Ok o) mid copies') is turn in
+    inl (subst (λ (fs : Files). SealLeaves fs log files') same.1.0 leaves, inl same.1.1)
+
+-- a log that was cut, and sealed then
+pub cut_seals : (files copies mid copies' files' : Files) (log : ℕ) (found : Option Cut) (cut : Cut) → found ≡ Some cut
+    → CutTurn files copies log (Ok found) mid copies' → SealsOne mid log files' → CutsAndSeals files copies log files' copies'
+cut_seals files copies mid copies' files' log found cut is turn seals =
+    inr (cut, (mid, (subst (λ (o : Option Cut). CutTurn files copies log (Ok o) mid copies') is turn, seals)))
+
+-- or what the sealing left
+pub cut_leaves : (files copies mid copies' files' : Files) (log : ℕ) (found : Option Cut) (cut : Cut) → found ≡ Some cut
+    → CutTurn files copies log (Ok found) mid copies' → SealLeaves mid log files' → LosesNothing files copies log files' copies'
+cut_leaves files copies mid copies' files' log found cut is turn leaves =
+    inr (cut, (mid, (subst (λ (o : Option Cut). CutTurn files copies log (Ok o) mid copies') is turn, leaves)))
+
+-- a log that could not be cut
+pub uncut_leaves : (files copies files' copies' : Files) (log : ℕ) (fault : CutFault) → CutTurn files copies log (Err fault) files' copies'
+    → LosesNothing files copies log files' copies'
+uncut_leaves files copies files' copies' log (Unread why) turn = inl (inl turn.0, inl turn.1)
+uncut_leaves files copies files' copies' log Taken turn = inl (inl turn.1.0, inl turn.1.1)
+uncut_leaves files copies files' copies' log (Uncopied why) turn = inl (inl turn.0, turn.1)
+uncut_leaves files copies files' copies' log (Uncut why) (inl stays) = inl (inl stays.0, stays.1)
+uncut_leaves files copies files' copies' log (Uncut why) (inr was) = inr (was.0, (files', (was.1, inl refl)))
