@@ -1,15 +1,14 @@
 -- The copy of a log, as it grows piece by piece, and as it is taken away again.
-use Rattle.std.proofs.Common.{◌≡◌, inl, inr, ℕ, ◌+◌, ◌-◌, ◌≤◌, ◌<◌, Bool, true, false, cond, List, [], ◌++◌, length, take, drop, Option, Some, None, IsNone}
-use Rattle.std.proofs.Common.{Result, Ok, Err, nat_cmp, refl, sym, ap, ◌∙◌, subst, arith, append_assoc}
-use Rattle.std.specs.Prelude.{◌⊎◌}
+use Rattle.std.proofs.Common.{◌≡◌, inl, inr, ℕ, ◌+◌, ◌≤◌, true, false, cond, List, [], ◌++◌, length, take, drop, Option, Some, None, IsNone}
+use Rattle.std.proofs.Common.{Result, Ok, Err, nat_cmp, refl, sym, ap, ◌∙◌, arith, append_assoc}
 use Rattle.std.specs.Cmp.{nat_cmp_total}
 use Rattle.std.specs.Ordering.{eq_by_cmp}
 use Rattle.std.proofs.lemmas.Map.Views.{tells_apart}
 use Rattle.std.specs.Option.{option_map_or}
 use Rattle.std.specs.FinMap.{get, insert, remove, get-insert, get-remove, nat_cmp-IsAntisymmetric}
-use Rattle.std.proofs.lemmas.List.{append-nil, take_all}
+use Rattle.std.proofs.lemmas.List.{take_all}
 use Rattle.bk_record.specs.Files.{Files}
-use Rattle.bk_record.proofs.NumberMaps.{get-insert_same, same_by_get}
+use Rattle.bk_record.proofs.NumberMaps.{same_by_get}
 use Rattle.bk_disk.specs.Disk.{IsFile, Removes, grown}
 use Rattle.bk_disk.specs.declared.fault.DiskFault.{DiskFault}
 use Rattle.bk_disk.specs.declared.fault.DiskFault.TheVariants.{Disk, Exists, NoLog, PastEnd, TooLong, Memory}
@@ -18,7 +17,6 @@ use Rattle.bk_disk.proofs.Failures.{grown-nil}
 use Rattle.bk_disk.proofs.FileMaps.{grown-insert}
 use Rattle.bk_log.proofs.Files.{grown-stands}
 use Rattle.bk_dir.specs.declared.fault.DirFault.{DirFault}
-use Rattle.bk_dir.specs.declared.aside.CopyFault.{CopyFault}
 use Rattle.bk_dir.specs.Cutting.{CopiesBytes, CopiesPiece, LeavesCopies}
 use Rattle.bk_dir.specs.Sealing.{AppendsMap}
 

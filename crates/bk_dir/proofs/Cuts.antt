@@ -1,7 +1,7 @@
 -- A log cut behind its last whole record: where a scan says that this ends, and what a cut of it leaves.
-use Rattle.std.proofs.Common.{◌≡◌, inl, inr, ℕ, ℤ, ◌+◌, ◌-◌, ◌≤◌, ◌<◌, Bool, true, false, List, [], ◌∷◌, ◌++◌, length, take, drop, Option, Some, None, IsNone, IsTrue, Ok, Err}
+use Rattle.std.proofs.Common.{◌≡◌, inl, inr, ℕ, ℤ, ◌+◌, ◌-◌, ◌≤◌, ◌<◌, Bool, true, false, List, [], ◌++◌, length, take, drop, Option, Some, None, IsNone, IsTrue, Ok, Err}
 use Rattle.std.proofs.Common.{refl, sym, ap, ◌∙◌, subst, arith, length-append, length-drop, append_assoc}
-use Rattle.std.specs.Prelude.{◌^◌, ◌⊎◌}
+use Rattle.std.specs.Prelude.{◌⊎◌}
 use Rattle.std.specs.Int.{w32, cast_signed}
 use Rattle.std.specs.Option.{option_map_or}
 use Rattle.std.specs.FinMap as map
@@ -28,7 +28,7 @@ use Rattle.bk_dir.specs.declared.header.Head.TheVariants.{Short, Bad, Whole}
 use Rattle.bk_dir.specs.Heads.{IsHead}
 use Rattle.bk_dir.specs.Reading.{OfFile}
 use Rattle.bk_dir.specs.Sealing.{IsOpenHead, SealLeaves, SealsOne}
-use Rattle.bk_dir.specs.Cutting.{CutTurn, CutsAndSeals, CutsOff, EndsWholeAt, IsCutAside, IsCutOf, IsWholeLog, LeavesCopies, LosesNothing, ScanEnds, cut_to}
+use Rattle.bk_dir.specs.Cutting.{CutTurn, CutsAndSeals, EndsWholeAt, IsCutAside, IsCutOf, IsWholeLog, LeavesCopies, LosesNothing, ScanEnds, cut_to}
 
 -- what a body leaves stands behind whole records
 body_front : {from : ℕ} {bytes rest : List ℕ} {records : List (ℕ × List ℕ)} → Body from bytes records rest

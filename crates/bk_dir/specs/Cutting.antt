@@ -1,5 +1,5 @@
 -- A log that is cut behind its last whole record, and its copy, which stands aside before.
-use Rattle.std.specs.Prelude.{◌≡◌, ℕ, ℤ, ◌+◌, ◌<◌, ◌≤◌, false, List, [], length, take, drop, Option, Some, None, IsSome, IsNone, Result, Ok, Err, ◌⊎◌}
+use Rattle.std.specs.Prelude.{◌≡◌, ℕ, ◌+◌, ◌<◌, ◌≤◌, false, List, [], length, take, drop, Option, Some, None, IsSome, IsNone, Result, Ok, Err, ◌⊎◌}
 use Rattle.std.specs.Option.{option_map_or}
 use Rattle.std.specs.FinMap as map
 use Rattle.bk_record.specs.Body.{Body, IsBadAt, starts_with_record}

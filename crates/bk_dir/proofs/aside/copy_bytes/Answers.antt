@@ -1,6 +1,5 @@
-use Rattle.std.proofs.Common.{IsTrue, Bool, ℕ, List, Result, Ok, Err, sym, ap, refl, ◌∙◌, subst, arith}
+use Rattle.std.proofs.Common.{IsTrue, Bool, Result, sym, refl, ◌∙◌, subst, arith}
 use Rattle.std.proofs.lemmas.Result.{err_from_is_err_and}
-use Rattle.bk_record.specs.Files.{Files}
 use Rattle.bk_dir.specs.declared.fault.DirFault.{DirFault}
 use Rattle.bk_dir.specs.Cutting.{CopiesBytes}
 use Rattle.bk_dir.proofs.Copies.{bytes_copied, copied_failed, copied_next, copied_none}

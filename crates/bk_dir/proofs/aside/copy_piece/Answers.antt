@@ -1,4 +1,4 @@
-use Rattle.std.proofs.Common.{IsTrue, [], List, ℕ, Bool, sym, ap, subst}
+use Rattle.std.proofs.Common.{[], List, ℕ, sym, subst}
 use Rattle.bk_disk.proofs.Failures.{grown-nil}
 use Rattle.bk_dir.specs.Sealing.{AppendsMap}
 use Rattle.bk_dir.proofs.Copies.{piece_read}

@@ -1,4 +1,4 @@
-use Rattle.std.proofs.Common.{List, ℕ, Result, Ok, Err, ap, ◌∙◌, subst, sym}
+use Rattle.std.proofs.Common.{Err, subst}
 use Rattle.bk_log.specs.declared.fault.ScanFault.{ScanFault}
 use Rattle.bk_dir.specs.Cutting.{ScanEnds}
 use Rattle.bk_dir.proofs.Cuts.{cut_bad, cut_torn}
