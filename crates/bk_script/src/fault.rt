@@ -5,7 +5,7 @@ use thiserror::Error;
 
 /// Why a script is not run to its end. Its text is what the program tells of it.
 #[derive(Clone, Copy, Debug, PartialEq, Eq, Error)]
-pub(crate) enum ScriptFault {
+pub enum ScriptFault {
     /// A read failed, or the input is past one of its bounds.
     #[error("read fault")]
     Read,

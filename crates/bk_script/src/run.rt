@@ -109,6 +109,3 @@ fn write_answers<W: Write>(writer: &mut W, answers: &[Answer]) -> io::Result<()>
     }
     writer.flush()
 }
-
-#[cfg(test)]
-mod tests;

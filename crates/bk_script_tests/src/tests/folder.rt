@@ -2,9 +2,9 @@
 
 use super::worked::{SCRIPTS, push_line, texts_of};
 use super::{DEFAULTS, Shown, is_shown};
-use crate::run_on;
 use bk_disk::DirDisk;
 use bk_drive::Settings;
+use bk_script::run_on;
 use std::test::Fail;
 use std::{fs, io};
 
@@ -54,14 +54,26 @@ fn run_in(
     Ok(run_over(rt, disk, settings, dead, script))
 }
 
+/// Whether each of these lines prints its answer over an empty folder.
+fn are_answered_in(
+    rt: &HostRuntime,
+    folder: &str,
+    settings: Settings,
+    dead: &[u64],
+    steps: &[(&str, &str)],
+) -> Result<bool, Fail> {
+    let (script, output) = texts_of(rt.alloc(), steps)?;
+    anew(rt, folder)?;
+    let shown = run_in(rt, folder, settings, dead, &script)?;
+    Ok(is_shown(&shown, 0, &output, ""))
+}
+
 #[test]
 fn an_empty_folder_answers_as_a_disk_in_memory(rt: HostRuntime) -> Result<(), Fail> {
     let folder = "bk_script_worked";
     for (number, (settings, dead, steps)) in SCRIPTS.iter().enumerate() {
-        let (script, output) = texts_of(rt.alloc(), steps)?;
-        anew(&rt, folder)?;
-        let shown = run_in(&rt, folder, *settings, dead, &script)?;
-        assert!(rt; is_shown(&shown, 0, &output, ""), "script {number}");
+        let answered = are_answered_in(&rt, folder, *settings, dead, steps)?;
+        assert!(rt; answered, "script {number}");
     }
     fs::remove_dir_all(&rt, folder)?;
     Ok(())
@@ -103,24 +115,40 @@ const DELETED: usize = 12;
 /// What a read of an entry of a deleted ledger prints.
 const GONE: &str = "deleted\nno lease\nno lease\n";
 
-/// Runs the first steps over an empty folder, and then reads each entry that was published, each time over a store that was
-/// opened anew: whether all are there, and those of the deleted ledger are not.
-fn is_all_there(rt: &HostRuntime, folder: &str, count: usize) -> Result<bool, Fail> {
+/// Runs the first steps over an empty folder. Whether they ran.
+fn run_first(rt: &HostRuntime, folder: &str, count: usize) -> Result<bool, Fail> {
     let mut script = String::new(rt.alloc());
     for line in STEPS.iter().take(count) {
         push_line(&mut script, line)?;
     }
     anew(rt, folder)?;
     let ran = run_in(rt, folder, DEFAULTS, &[], &script)?;
+    Ok(ran.status == 0)
+}
+
+/// Whether a read of this entry over a store that is opened anew ends with this text, after so many steps.
+fn is_read(
+    rt: &HostRuntime,
+    folder: &str,
+    count: usize,
+    entry: &str,
+    end: &str,
+) -> Result<bool, Fail> {
+    let read = format!(in rt.alloc(); "take 0 {entry}\nfetch 0\nrelease 0\n")?;
     let dead: &[u64] = if count < DELETED { &[] } else { &[2] };
-    let mut is_there = ran.status == 0;
+    let shown = run_in(rt, folder, DEFAULTS, dead, &read)?;
+    Ok(shown.status == 0 && shown.output.ends_with(end.as_bytes()))
+}
+
+/// Runs the first steps over an empty folder, and then reads each entry that was published: whether all are there, and those
+/// of the deleted ledger are not.
+fn is_all_there(rt: &HostRuntime, folder: &str, count: usize) -> Result<bool, Fail> {
+    let mut is_there = run_first(rt, folder, count)?;
     for (since, entry, printed) in PUBLISHED.iter() {
         if *since <= count {
-            let read = format!(in rt.alloc(); "take 0 {entry}\nfetch 0\nrelease 0\n")?;
-            let shown = run_in(rt, folder, DEFAULTS, dead, &read)?;
             let is_dead = count >= DELETED && entry.starts_with("2");
             let end = if is_dead { GONE } else { *printed };
-            is_there = is_there && shown.status == 0 && shown.output.ends_with(end.as_bytes());
+            is_there = is_read(rt, folder, count, entry, end)? && is_there;
         }
     }
     Ok(is_there)
@@ -145,24 +173,41 @@ const FOREIGN: [&str; 5] = [
     "80000000.log",
 ];
 
+/// Makes a folder with these files, and with a folder that has the name of a log's file.
+fn make_foreign(rt: &HostRuntime, folder: &str) -> Result<(), Fail> {
+    anew(rt, folder)?;
+    for name in FOREIGN.iter() {
+        let path = format!(in rt.alloc(); "{folder}/{name}")?;
+        fs::write(rt, path.as_str(), b"bytes".as_slice())?;
+    }
+    let path = format!(in rt.alloc(); "{folder}/7.log")?;
+    fs::create_dir(rt, path.as_str())?;
+    Ok(())
+}
+
+/// How many of these files are as they were.
+fn foreign_left(rt: &HostRuntime, folder: &str) -> Result<usize, Fail> {
+    let mut left = 0usize;
+    for name in FOREIGN.iter() {
+        let path = format!(in rt.alloc(); "{folder}/{name}")?;
+        let text = fs::read_to_string(rt, path.as_str())?;
+        if text.as_str() == "bytes" {
+            left = left.saturating_add(1);
+        }
+    }
+    Ok(left)
+}
+
 #[test]
 fn other_files_of_the_folder_are_left_alone(rt: HostRuntime) -> Result<(), Fail> {
     let folder = "bk_script_foreign";
-    anew(&rt, folder)?;
-    for name in FOREIGN.iter() {
-        let path = format!(in rt.alloc(); "{folder}/{name}")?;
-        fs::write(&rt, path.as_str(), b"bytes".as_slice())?;
-    }
-    fs::create_dir(&rt, "bk_script_foreign/7.log")?;
+    make_foreign(&rt, folder)?;
     let script = "add 1 0 a\nswap\nwrite\npublish\nroll\n";
     let output = "accepted\nswapped 1\nwrote 1028\npublished 1\nsealed 0\n";
     let shown = run_in(&rt, folder, DEFAULTS, &[], script)?;
     assert!(rt; is_shown(&shown, 0, output, ""), "beside other files");
-    for name in FOREIGN.iter() {
-        let path = format!(in rt.alloc(); "{folder}/{name}")?;
-        let text = fs::read_to_string(&rt, path.as_str())?;
-        assert!(rt; text.as_str() == "bytes", "{name} is as it was");
-    }
+    let left = foreign_left(&rt, folder)?;
+    assert!(rt; left == FOREIGN.len(), "{left} files are as they were");
     fs::remove_dir_all(&rt, folder)?;
     Ok(())
 }

@@ -6,7 +6,7 @@ use std::alloc::{AllocError, Global};
 use std::test::Fail;
 
 /// The lines of a script, each with its answer.
-pub(super) type Worked = &'static [(&'static str, &'static str)];
+type Worked = &'static [(&'static str, &'static str)];
 
 /// An entry is read from the cache, and then from its log.
 const READ: Worked = &[
@@ -297,7 +297,7 @@ const FULL_LOG: Worked = &[
 
 /// Whether each of these lines prints its answer, on a store with these settings, of which these ledgers were deleted
 /// before.
-pub(super) fn are_answered(
+fn are_answered(
     alloc: Global,
     settings: Settings,
     dead: &[u64],

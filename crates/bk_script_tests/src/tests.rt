@@ -1,4 +1,5 @@
-mod compacting;
+//! Scripts that run in memory and over folders, each with what it prints.
+
 mod faults;
 mod folder;
 mod lines;
@@ -6,8 +7,8 @@ mod long;
 mod streams;
 mod worked;
 
-use super::run_script;
 use bk_drive::Settings;
+use bk_script::run_script;
 use std::alloc::Global;
 use std::io::Read;
 
