@@ -9,8 +9,6 @@ mod noting;
 mod numbers;
 mod parse;
 mod running;
-#[cfg(test)]
-mod tests;
 mod worked;
 
 use compare::{Tally, first_other};

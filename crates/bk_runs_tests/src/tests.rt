@@ -1,0 +1,4 @@
+//! Runs that no file of `bk_runs` can say: over disks that a test makes.
+
+mod large;
+mod lengths;
