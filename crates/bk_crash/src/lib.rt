@@ -3,8 +3,6 @@
 
 mod laws;
 mod power_disk;
-#[cfg(test)]
-mod tests;
 mod written;
 
 pub use laws::{a_crash_loses_nothing, a_cut_opens};

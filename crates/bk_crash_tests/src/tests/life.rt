@@ -1,8 +1,8 @@
 //! One life of a store: it is opened, takes steps until the power of its disk goes, and leaves files. What it owes is told
 //! by its answers alone.
 
-use crate::{Choices, File, PowerDisk, Written};
-use bk_disk::{DiskFault, LogDisk, MemDisk};
+use bk_crash::{Choices, File, PowerDisk, Written};
+use bk_disk::{LogDisk, MemDisk};
 use bk_drive::{Answer, OpenFault, PublishAnswer, Settings, Step, Store, SwapAnswer, Work, apply};
 use bk_log::fetch;
 use bk_record::{Key, key_of};
@@ -10,57 +10,66 @@ use bk_store::{Added, Taken};
 use rand_core::Rng;
 use rand_pcg::Pcg32;
 use std::alloc::{AllocError, Global};
-use std::collections::BTreeMap;
 
 /// How far an entry has come.
-#[derive(Clone, Copy, Debug, PartialEq, Eq)]
+#[derive(Clone, Copy)]
 enum Stage {
     Added,
     Flushing,
     Published,
+    Deleted,
 }
 
-/// Entries by ledger and entry id, with their payloads.
-type Entries = BTreeMap<(u64, u64), (Vec<u8>, Stage)>;
+/// An entry that a store was given.
+#[derive(Drop)]
+struct Entry {
+    ledger: u64,
+    entry: u64,
+    payload: Vec<u8>,
+    stage: Stage,
+}
 
 /// What a store was given and may not forget: its entries, and the ledgers that were deleted.
 #[derive(Drop)]
 pub(super) struct Owed {
-    entries: Entries,
+    entries: Vec<Entry>,
     dead: Vec<u64>,
 }
 
-/// Why a test could not go on.
-#[derive(Debug, Drop)]
-pub(super) enum Stop {
-    Memory,
-    Disk(DiskFault),
-    /// A store did not open on what a crash left.
-    Opening(OpenFault),
-    /// An entry that was published is not found.
-    Lost(u64, u64),
-    /// An entry is found with other bytes.
-    Other(u64, u64),
-    /// So many entries more are found than were added.
-    Invented(usize),
+/// Why a test could not go on: what is wrong, and with which ledger and entry, or with how many entries.
+#[derive(Clone, Copy)]
+pub(super) struct Stop {
+    pub what: &'static str,
+    pub ledger: u64,
+    pub number: u64,
+}
+
+impl Stop {
+    fn new(what: &'static str, ledger: u64, number: u64) -> Stop {
+        Stop {
+            what,
+            ledger,
+            number,
+        }
+    }
 }
 
 impl From<AllocError> for Stop {
     fn from(_: AllocError) -> Stop {
-        Stop::Memory
+        Stop::new("no memory", 0, 0)
     }
 }
 
-impl From<DiskFault> for Stop {
-    fn from(fault: DiskFault) -> Stop {
-        Stop::Disk(fault)
-    }
-}
-
-impl From<OpenFault> for Stop {
-    fn from(fault: OpenFault) -> Stop {
-        Stop::Opening(fault)
-    }
+/// A store did not open on what a crash left.
+fn not_opened(fault: OpenFault) -> Stop {
+    let what = match fault {
+        OpenFault::Disk => "not opened: disk",
+        OpenFault::Memory => "not opened: memory",
+        OpenFault::Odd => "not opened: odd disk",
+        OpenFault::Settings => "not opened: settings",
+        _ => "not opened: a log",
+    };
+    Stop::new(what, 0, 0)
 }
 
 /// Choices by chance.
@@ -70,6 +79,11 @@ pub(super) struct Chance(Pcg32);
 impl Chance {
     pub(super) fn new(seed: u64) -> Chance {
         Chance(Pcg32::new(seed, 54))
+    }
+
+    /// A number from 0 to this one.
+    pub(super) fn pick(&mut self, most: usize) -> usize {
+        self.up_to(most)
     }
 }
 
@@ -83,7 +97,7 @@ impl Choices for Chance {
     }
 }
 
-pub(super) const SETTINGS: Settings = Settings {
+const SETTINGS: Settings = Settings {
     log_limit: 2048,
     cache_limit: 100_000,
     recent: 2,
@@ -96,35 +110,48 @@ pub(super) const SETTINGS: Settings = Settings {
 impl Owed {
     pub(super) fn new(alloc: Global) -> Owed {
         Owed {
-            entries: BTreeMap::new(alloc),
+            entries: Vec::new(alloc),
             dead: Vec::new(alloc),
         }
     }
 
-    fn add(&mut self, alloc: Global, payload: &[u8], stage: Stage) -> Result<(), AllocError> {
-        if let Ok(key) = key_of(payload) {
-            let mut bytes = Vec::new(alloc);
-            bytes.extend_from_slice(payload)?;
-            self.entries
-                .insert((key.ledger(), key.entry()), (bytes, stage))?;
-        }
+    fn add(&mut self, alloc: Global, payload: &[u8]) -> Result<(), AllocError> {
+        let Ok(key) = key_of(payload) else {
+            return Ok(());
+        };
+        let entry = Entry {
+            ledger: key.ledger(),
+            entry: key.entry(),
+            payload: Vec::from_slice(alloc, payload)?,
+            stage: Stage::Added,
+        };
+        self.entries.push(entry)?;
         Ok(())
     }
 
     fn delete(&mut self, ledger: u64) -> Result<(), AllocError> {
-        self.entries.retain(|key, _| key.0 != ledger);
+        for entry in self.entries.iter_mut() {
+            if entry.ledger == ledger {
+                entry.stage = Stage::Deleted;
+            }
+        }
         self.dead.push(ledger)?;
         Ok(())
     }
 
     /// All entries of one stage are at another one.
     fn go_on(&mut self, from: Stage, to: Stage) {
-        for (_, entry) in self.entries.iter_mut() {
-            if entry.1 == from {
-                entry.1 = to;
+        for entry in self.entries.iter_mut() {
+            if entry.stage as u8 == from as u8 {
+                entry.stage = to;
             }
         }
     }
+}
+
+/// Puts a log on a disk. Whether it could be done.
+fn put_log(alloc: Global, disk: &mut MemDisk, log: u32, bytes: &[u8]) -> bool {
+    log < 2_147_483_648 && disk.create(alloc, log).is_ok() && disk.append(alloc, log, bytes).is_ok()
 }
 
 /// A disk with these files, and power for so many calls.
@@ -137,11 +164,9 @@ fn disk_of(
     let mut disk = MemDisk::new(alloc);
     let mut written = Written::new(alloc);
     for (log, bytes) in files {
-        if *log >= 2_147_483_648 {
-            continue;
+        if !put_log(alloc, &mut disk, *log, bytes) {
+            return Err(Stop::new("no disk", 0, 0));
         }
-        disk.create(alloc, *log)?;
-        disk.append(alloc, *log, bytes)?;
         written.find(*log, bytes.clone()?);
     }
     Ok(PowerDisk::new(disk, written, calls, kept))
@@ -160,13 +185,12 @@ pub(super) fn live(
     calls: u64,
     chance: &mut Chance,
 ) -> Result<(Vec<File>, bool), Stop> {
-    let disk = disk_of(alloc, &files, calls, chance.up_to(60))?;
+    let disk = disk_of(alloc, &files, calls, chance.pick(60))?;
     let Some(mut store) = opened(alloc, disk, &owed.dead)? else {
         return Ok((files, true));
     };
     take_all(alloc, &mut store, owed, steps)?;
-    let left = left_by(alloc, &store, chance)?;
-    Ok((left, store.disk().is_dead()))
+    left_by(alloc, &store, chance)
 }
 
 /// A store on the files of a disk; `None` where the power went while it was opened.
@@ -174,7 +198,7 @@ fn opened(alloc: Global, disk: PowerDisk<MemDisk>, dead: &[u64]) -> Result<Optio
     match Store::open(alloc, disk, SETTINGS, dead) {
         Ok(store) => Ok(Some(store)),
         Err(OpenFault::Disk) => Ok(None),
-        Err(fault) => Err(Stop::Opening(fault)),
+        Err(fault) => Err(not_opened(fault)),
     }
 }
 
@@ -187,20 +211,26 @@ fn take_all(
 ) -> Result<(), AllocError> {
     for step in steps {
         take(alloc, store, owed, step)?;
-        if store.disk().is_dead() {
+        if is_dead(store) {
             break;
         }
     }
     Ok(())
 }
 
-/// What a loss of power leaves of a store's files.
-fn left_by(alloc: Global, store: &Powered, chance: &mut Chance) -> Result<Vec<File>, Stop> {
+/// Whether the power is gone.
+fn is_dead(store: &Powered) -> bool {
+    store.disk().is_dead()
+}
+
+/// What a loss of power leaves of a store's files, and whether it was.
+fn left_by(alloc: Global, store: &Powered, chance: &mut Chance) -> Result<(Vec<File>, bool), Stop> {
     let written = store.disk().written();
     if written.is_lost() {
-        return Err(Stop::Memory);
+        return Err(Stop::new("no memory", 0, 0));
     }
-    Ok(written.left(alloc, chance)?)
+    let left = written.left(alloc, chance)?;
+    Ok((left, is_dead(store)))
 }
 
 /// Takes a step, and notes what is owed then. Readers are passed over.
@@ -213,7 +243,7 @@ fn take(
     match step {
         Step::Add(payload) => {
             if is_accepted(store, payload) {
-                owed.add(alloc, payload, Stage::Added)?;
+                owed.add(alloc, payload)?;
             }
         }
         Step::Delete(ledger) => {
@@ -267,12 +297,12 @@ fn done_by(answer: &Answer) -> Done {
 pub(super) fn compare(alloc: Global, owed: &mut Owed, files: &[File]) -> Result<(), Stop> {
     let disk = disk_of(alloc, files, u64::MAX, 0)?;
     let Some(mut store) = opened(alloc, disk, &owed.dead)? else {
-        return Err(Stop::Opening(OpenFault::Disk));
+        return Err(not_opened(OpenFault::Disk));
     };
     let found = found_in(alloc, &mut store, &owed.entries)?;
     let more = keys_of(&store).saturating_sub(found.len());
     if more > 0 {
-        return Err(Stop::Invented(more));
+        return Err(Stop::new("entries that nobody added", 0, more as u64));
     }
     owed.entries = found;
     Ok(())
@@ -284,23 +314,38 @@ fn keys_of(store: &Powered) -> usize {
 }
 
 /// The entries that a store has, each of which is one of these.
-fn found_in(alloc: Global, store: &mut Powered, owed: &Entries) -> Result<Entries, Stop> {
-    let mut found = BTreeMap::new(alloc);
-    for (key, (payload, stage)) in owed.iter() {
-        match read(alloc, store, *key)? {
-            Some(bytes) if bytes == *payload => note(&mut found, *key, bytes)?,
-            Some(_) => return Err(Stop::Other(key.0, key.1)),
-            None if *stage == Stage::Published => return Err(Stop::Lost(key.0, key.1)),
-            None => {}
+fn found_in(alloc: Global, store: &mut Powered, owed: &[Entry]) -> Result<Vec<Entry>, Stop> {
+    let mut found = Vec::new(alloc);
+    for entry in owed {
+        let payload = read(alloc, store, entry.ledger, entry.entry)?;
+        if let Some(entry) = judged(entry, payload)? {
+            push(&mut found, entry)?;
         }
     }
     Ok(found)
 }
 
-/// Notes an entry that was found.
-fn note(found: &mut Entries, key: (u64, u64), payload: Vec<u8>) -> Result<(), AllocError> {
-    found.insert(key, (payload, Stage::Published))?;
+/// Puts an entry at the end of a list.
+fn push(entries: &mut Vec<Entry>, entry: Entry) -> Result<(), AllocError> {
+    entries.push(entry)?;
     Ok(())
+}
+
+/// An entry of which this was found, where something was: its bytes, and something at all where it was published.
+fn judged(owed: &Entry, found: Option<Vec<u8>>) -> Result<Option<Entry>, Stop> {
+    match found {
+        Some(payload) if payload.as_slice() == owed.payload.as_slice() => Ok(Some(Entry {
+            ledger: owed.ledger,
+            entry: owed.entry,
+            payload,
+            stage: Stage::Published,
+        })),
+        Some(_) => Err(Stop::new("other bytes", owed.ledger, owed.entry)),
+        None if matches!(owed.stage, Stage::Published) => {
+            Err(Stop::new("lost", owed.ledger, owed.entry))
+        }
+        None => Ok(None),
+    }
 }
 
 /// An add of so many equal bytes as this entry of this ledger.
@@ -311,8 +356,7 @@ pub(super) fn add_of(
     size: usize,
     byte: u8,
 ) -> Result<Step, AllocError> {
-    let mut payload = Vec::new(alloc);
-    payload.extend_from_slice(&ledger.to_be_bytes())?;
+    let mut payload = Vec::from_slice(alloc, &ledger.to_be_bytes())?;
     payload.extend_from_slice(&entry.to_be_bytes())?;
     for _ in 0..size {
         payload.push(byte)?;
@@ -320,23 +364,25 @@ pub(super) fn add_of(
     Ok(Step::Add(payload))
 }
 
-/// A list with one more.
-pub(super) fn push<T: Drop>(list: &mut Vec<T>, one: T) -> Result<(), AllocError> {
-    list.push(one)?;
+/// Puts a step at the end of a list.
+pub(super) fn push_step(steps: &mut Vec<Step>, step: Step) -> Result<(), AllocError> {
+    steps.push(step)?;
     Ok(())
 }
 
-/// The payload that a store has of a key.
-fn read(alloc: Global, store: &mut Powered, key: (u64, u64)) -> Result<Option<Vec<u8>>, Stop> {
-    let Some(key) = Key::new(key.0, key.1) else {
+/// The payload that a store has of an entry.
+fn read(
+    alloc: Global,
+    store: &mut Powered,
+    ledger: u64,
+    entry: u64,
+) -> Result<Option<Vec<u8>>, Stop> {
+    let Some(key) = Key::new(ledger, entry) else {
         return Ok(None);
     };
     match store.take(key) {
-        Ok(Taken::Leased(lease, location)) => match fetch(lease.view(), alloc, location, key) {
-            Ok(bytes) => Ok(Some(bytes)),
-            Err(_) => Ok(None),
-        },
+        Ok(Taken::Leased(lease, location)) => Ok(fetch(lease.view(), alloc, location, key).ok()),
         Ok(_) => Ok(None),
-        Err(_) => Err(Stop::Memory),
+        Err(_) => Err(Stop::new("no lease", ledger, entry)),
     }
 }

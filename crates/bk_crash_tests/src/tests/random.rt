@@ -1,19 +1,19 @@
 //! Lives by chance: a store takes steps until its power goes, is opened on what is left, goes on, and so on.
 
-use super::life::{Chance, Owed, Stop, add_of, compare, live, push};
-use crate::Choices;
+use super::life::{Chance, Owed, Stop, add_of, compare, live, push_step};
+use bk_crash::File;
 use bk_drive::{Kind, Step, Work};
 use std::alloc::{AllocError, Global};
 
 /// A step by chance: half of them adds and writes.
 fn step(alloc: Global, chance: &mut Chance) -> Result<Step, AllocError> {
-    let kind = chance.up_to(39);
-    let number = chance.up_to(9) as u64;
-    let log = chance.up_to(12) as u32;
+    let kind = chance.pick(39);
+    let number = chance.pick(9) as u64;
+    let log = chance.pick(12) as u32;
     let ledger = u64::from(log % 4);
     if kind < 10 {
-        let entry = chance.up_to(40) as u64;
-        return add_of(alloc, ledger, entry, chance.up_to(300), number as u8);
+        let entry = chance.pick(40) as u64;
+        return add_of(alloc, ledger, entry, chance.pick(300), number as u8);
     }
     if kind == 10 && number == 0 {
         return Ok(Step::Delete(ledger));
@@ -42,20 +42,36 @@ fn work_of(kind: usize, number: u64, log: u32) -> Work {
     }
 }
 
+/// The steps of a life.
+fn steps_of(alloc: Global, chance: &mut Chance) -> Result<Vec<Step>, AllocError> {
+    let mut steps = Vec::new(alloc);
+    for _ in 0..120 {
+        push_step(&mut steps, step(alloc, chance)?)?;
+    }
+    Ok(steps)
+}
+
+/// A life on these files. Answers what its crash left.
+fn life(
+    alloc: Global,
+    owed: &mut Owed,
+    files: Vec<File>,
+    chance: &mut Chance,
+) -> Result<Vec<File>, Stop> {
+    let steps = steps_of(alloc, chance)?;
+    let calls = chance.pick(90) as u64;
+    let (left, _) = live(alloc, owed, files, &steps, calls, chance)?;
+    compare(alloc, owed, &left)?;
+    Ok(left)
+}
+
 /// So many lives of one store, each on what the crash of the one before left.
 fn lives(alloc: Global, seed: u64, count: u32) -> Result<(), Stop> {
     let mut chance = Chance::new(seed);
     let mut owed = Owed::new(alloc);
     let mut files = Vec::new(alloc);
     for _ in 0..count {
-        let mut steps = Vec::new(alloc);
-        for _ in 0..120 {
-            push(&mut steps, step(alloc, &mut chance)?)?;
-        }
-        let calls = chance.up_to(90) as u64;
-        let (left, _) = live(alloc, &mut owed, files, &steps, calls, &mut chance)?;
-        compare(alloc, &mut owed, &left)?;
-        files = left;
+        files = life(alloc, &mut owed, files, &mut chance)?;
     }
     Ok(())
 }
@@ -64,7 +80,11 @@ fn lives(alloc: Global, seed: u64, count: u32) -> Result<(), Stop> {
 fn a_store_lives_on_through_many_crashes(rt: HostRuntime) {
     for seed in 0..200 {
         if let Err(stop) = lives(rt.alloc(), seed, 20) {
-            assert!(rt; false, "seed {seed}: {stop:?}");
+            assert!(rt;
+                false,
+                "seed {seed}: {} {} {}",
+                stop.what, stop.ledger, stop.number
+            );
         }
     }
 }

@@ -1,11 +1,10 @@
 //! Worked runs: the power goes at each call in turn, several times, with other files left each time.
 
-use super::life::{Chance, Owed, Stop, add_of, compare, live, push};
+use super::life::{Chance, Owed, Stop, add_of, compare, live, push_step};
 use bk_drive::{Kind, Step, Work};
 use std::alloc::{AllocError, Global};
 
 /// A step of a run.
-#[derive(Clone, Copy)]
 enum Plan {
     /// An add of so many bytes as this entry of this ledger.
     Add(u64, u64, usize),
@@ -173,56 +172,68 @@ fn steps_of(alloc: Global, plans: &[Plan]) -> Result<Vec<Step>, AllocError> {
             Delete(ledger) => Step::Delete(*ledger),
             Do(work) => Step::Work(*work),
         };
-        push(&mut steps, step)?;
+        push_step(&mut steps, step)?;
     }
     Ok(steps)
 }
 
-/// How many crashes of a run were compared: `times` at each of its calls on the disk.
-fn crashes(alloc: Global, plans: &[Plan], times: u64) -> Result<u64, Stop> {
+/// How often the power goes at each call.
+const TIMES: u64 = 60;
+
+/// Takes steps with power for so many calls on the disk, and compares what is left, with other choices each time. Whether
+/// the power went before the steps ended.
+fn is_cut(alloc: Global, steps: &[Step], calls: u64, time: u64) -> Result<bool, Stop> {
+    let mut chance = Chance::new(calls.wrapping_mul(1000).wrapping_add(time));
+    let mut owed = Owed::new(alloc);
+    let files = Vec::new(alloc);
+    let (left, cut) = live(alloc, &mut owed, files, steps, calls, &mut chance)?;
+    compare(alloc, &mut owed, &left)?;
+    Ok(cut)
+}
+
+/// The same so often. Whether the power went the last time.
+fn are_cut(alloc: Global, steps: &[Step], calls: u64) -> Result<bool, Stop> {
+    let mut cut = false;
+    for time in 0..TIMES {
+        cut = is_cut(alloc, steps, calls, time)?;
+    }
+    Ok(cut)
+}
+
+/// How many crashes of a run were compared: so many at each of its calls on the disk.
+fn crashes(alloc: Global, plans: &[Plan]) -> Result<u64, Stop> {
     let steps = steps_of(alloc, plans)?;
-    let mut count = 0u64;
     for calls in 1..1000u64 {
-        let mut is_cut = false;
-        for time in 0..times {
-            let mut chance = Chance::new(calls.wrapping_mul(1000).wrapping_add(time));
-            let mut owed = Owed::new(alloc);
-            let (left, cut) = live(
-                alloc,
-                &mut owed,
-                Vec::new(alloc),
-                &steps,
-                calls,
-                &mut chance,
-            )?;
-            compare(alloc, &mut owed, &left)?;
-            is_cut = cut;
-            count = count.saturating_add(1);
-        }
-        if !is_cut {
-            return Ok(count);
+        if !are_cut(alloc, &steps, calls)? {
+            return Ok(calls.saturating_mul(TIMES));
         }
     }
-    Ok(count)
+    Ok(999 * TIMES)
 }
+
+/// The runs, each with a name.
+const RUNS: [(&str, &[Plan]); 5] = [
+    ("flushes", FLUSHES),
+    ("full logs", FULL_LOGS),
+    ("compactions", COMPACTIONS),
+    ("given up", GIVEN_UP),
+    ("deletions", DELETIONS),
+];
 
 #[test]
 fn a_worked_run_loses_nothing(rt: HostRuntime) {
     let mut count = 0u64;
-    for (name, plans) in [
-        ("flushes", FLUSHES),
-        ("full logs", FULL_LOGS),
-        ("compactions", COMPACTIONS),
-        ("given up", GIVEN_UP),
-        ("deletions", DELETIONS),
-    ] {
-        match crashes(rt.alloc(), plans, TIMES) {
+    for (name, plans) in RUNS.iter() {
+        match crashes(rt.alloc(), plans) {
             Ok(more) => count = count.saturating_add(more),
-            Err(stop) => assert!(rt; false, "{name}: {stop:?}"),
+            Err(stop) => {
+                assert!(rt;
+                    false,
+                    "{name}: {} {} {}",
+                    stop.what, stop.ledger, stop.number
+                );
+            }
         }
     }
     assert!(rt; count > 100 * TIMES, "{count} crashes");
 }
-
-/// How often the power goes at each call.
-const TIMES: u64 = 60;
