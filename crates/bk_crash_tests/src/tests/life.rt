@@ -80,11 +80,6 @@ impl Chance {
     pub(super) fn new(seed: u64) -> Chance {
         Chance(Pcg32::new(seed, 54))
     }
-
-    /// A number from 0 to this one.
-    pub(super) fn pick(&mut self, most: usize) -> usize {
-        self.up_to(most)
-    }
 }
 
 impl Choices for Chance {
@@ -150,7 +145,7 @@ impl Owed {
 }
 
 /// Puts a log on a disk. Whether it could be done.
-fn put_log(alloc: Global, disk: &mut MemDisk, log: u32, bytes: &[u8]) -> bool {
+fn put_log<D: LogDisk>(alloc: Global, disk: &mut D, log: u32, bytes: &[u8]) -> bool {
     log < 2_147_483_648 && disk.create(alloc, log).is_ok() && disk.append(alloc, log, bytes).is_ok()
 }
 
@@ -185,7 +180,7 @@ pub(super) fn live(
     calls: u64,
     chance: &mut Chance,
 ) -> Result<(Vec<File>, bool), Stop> {
-    let disk = disk_of(alloc, &files, calls, chance.pick(60))?;
+    let disk = disk_of(alloc, &files, calls, chance.up_to(60))?;
     let Some(mut store) = opened(alloc, disk, &owed.dead)? else {
         return Ok((files, true));
     };

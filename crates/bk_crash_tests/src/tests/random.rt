@@ -1,19 +1,19 @@
 //! Lives by chance: a store takes steps until its power goes, is opened on what is left, goes on, and so on.
 
 use super::life::{Chance, Owed, Stop, add_of, compare, live, push_step};
-use bk_crash::File;
+use bk_crash::{Choices, File};
 use bk_drive::{Kind, Step, Work};
 use std::alloc::{AllocError, Global};
 
 /// A step by chance: half of them adds and writes.
 fn step(alloc: Global, chance: &mut Chance) -> Result<Step, AllocError> {
-    let kind = chance.pick(39);
-    let number = chance.pick(9) as u64;
-    let log = chance.pick(12) as u32;
+    let kind = chance.up_to(39);
+    let number = chance.up_to(9) as u64;
+    let log = chance.up_to(12) as u32;
     let ledger = u64::from(log % 4);
     if kind < 10 {
-        let entry = chance.pick(40) as u64;
-        return add_of(alloc, ledger, entry, chance.pick(300), number as u8);
+        let entry = chance.up_to(40) as u64;
+        return add_of(alloc, ledger, entry, chance.up_to(300), number as u8);
     }
     if kind == 10 && number == 0 {
         return Ok(Step::Delete(ledger));
@@ -59,7 +59,7 @@ fn life(
     chance: &mut Chance,
 ) -> Result<Vec<File>, Stop> {
     let steps = steps_of(alloc, chance)?;
-    let calls = chance.pick(90) as u64;
+    let calls = chance.up_to(90) as u64;
     let (left, _) = live(alloc, owed, files, &steps, calls, chance)?;
     compare(alloc, owed, &left)?;
     Ok(left)
