@@ -110,10 +110,23 @@ impl Owed {
         }
     }
 
-    fn add(&mut self, alloc: Global, payload: &[u8]) -> Result<(), AllocError> {
+    /// Whether an entry of this key was added.
+    fn has(&self, key: Key) -> bool {
+        for entry in self.entries.iter() {
+            if entry.ledger == key.ledger() && entry.entry == key.entry() {
+                return true;
+            }
+        }
+        false
+    }
+
+    fn add(&mut self, alloc: Global, payload: &[u8]) -> Result<(), Stop> {
         let Ok(key) = key_of(payload) else {
             return Ok(());
         };
+        if self.has(key) {
+            return Err(Stop::new("accepted twice", key.ledger(), key.entry()));
+        }
         let entry = Entry {
             ledger: key.ledger(),
             entry: key.entry(),
@@ -203,7 +216,7 @@ fn take_all(
     store: &mut Powered,
     owed: &mut Owed,
     steps: &[Step],
-) -> Result<(), AllocError> {
+) -> Result<(), Stop> {
     for step in steps {
         take(alloc, store, owed, step)?;
         if is_dead(store) {
@@ -229,12 +242,7 @@ fn left_by(alloc: Global, store: &Powered, chance: &mut Chance) -> Result<(Vec<F
 }
 
 /// Takes a step, and notes what is owed then. Readers are passed over.
-fn take(
-    alloc: Global,
-    store: &mut Powered,
-    owed: &mut Owed,
-    step: &Step,
-) -> Result<(), AllocError> {
+fn take(alloc: Global, store: &mut Powered, owed: &mut Owed, step: &Step) -> Result<(), Stop> {
     match step {
         Step::Add(payload) => {
             if is_accepted(store, payload) {
