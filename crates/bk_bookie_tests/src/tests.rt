@@ -53,7 +53,7 @@ fn key<R: Abort>(rt: &R, ledger: u8, entry: u16) -> Key {
 }
 
 /// The mark of a receipt.
-fn mark_of(receipt: Receipt) -> Mark {
+fn mark_of(receipt: &Receipt) -> Mark {
     Mark::Add {
         key: receipt.key,
         digest: receipt.digest,
@@ -61,7 +61,7 @@ fn mark_of(receipt: Receipt) -> Mark {
 }
 
 /// A receipt of number 100.
-fn beyond(receipt: Receipt) -> Receipt {
+fn beyond(receipt: &Receipt) -> Receipt {
     Receipt {
         number: 100,
         key: receipt.key,
@@ -70,7 +70,7 @@ fn beyond(receipt: Receipt) -> Receipt {
 }
 
 /// The receipt with another digest.
-fn with_other_digest(receipt: Receipt) -> Receipt {
+fn with_other_digest(receipt: &Receipt) -> Receipt {
     Receipt {
         number: receipt.number,
         key: receipt.key,

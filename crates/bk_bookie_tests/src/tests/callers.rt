@@ -3,7 +3,8 @@
 ghost use Rattle.std.specs.Prelude.{◌≡◌, true};
 
 use super::calls::{
-    AddTold, Held, TakeTold, add, has_ended_with, has_no_pass, pass, read_back, take,
+    AddTold, Held, TakeTold, add, has_ended_with, has_no_pass, is_deleted, is_missing, is_other,
+    pass, read_back, take,
 };
 use super::{SETTINGS, beyond, mark_of, open, payload, with_other_digest};
 use bk_bookie::{AddLedger, Bookie, FinishFault, Pass};
@@ -156,21 +157,22 @@ fn are_told<L: AddLedger, R: Wait + Abort>(
     alloc: Global,
     bookie: &Bookie<L, MemDisk>,
     pass: &mut Pass<L>,
-    receipt: Receipt,
+    receipt: &Receipt,
 ) -> bool {
+    let past = beyond(receipt);
+    let other = with_other_digest(receipt);
+    let mark = mark_of(receipt);
     let dead = take(rt, alloc, bookie, pass, (9, 0), b"");
-    let missing = read_back(rt, alloc, bookie, pass, &beyond(receipt), b"");
-    let differs = read_back(rt, alloc, bookie, pass, &with_other_digest(receipt), b"");
-    matches!(dead, TakeTold::Deleted)
-        && matches!(missing, TakeTold::Missing(100))
-        && matches!(differs, TakeTold::Differs(mark) if mark == mark_of(receipt))
+    let missing = read_back(rt, alloc, bookie, pass, &past, b"");
+    let differs = read_back(rt, alloc, bookie, pass, &other, b"");
+    is_deleted(dead) && is_missing(missing, 100) && is_other(differs, &mark)
 }
 
 /// The receipt of number 0.
-fn first_of<R: Abort>(rt: &R, receipts: &[Receipt]) -> Receipt {
+fn first_of<'a, R: Abort>(rt: &R, receipts: &'a [Receipt]) -> &'a Receipt {
     for receipt in receipts {
         if receipt.number == 0 {
-            return *receipt;
+            return receipt;
         }
     }
     panic!(rt; "no receipt of number 0")
@@ -184,14 +186,12 @@ fn refuse_to_end<L: AddLedger, R: Abort>(
     receipts: &[Receipt],
 ) -> Held<L> {
     let receipt = first_of(rt, receipts);
-    held.is_refused(rt, receipts, FinishFault::PassesOut(1))
-        .with(rt, kept_back)
-        .is_refused(rt, &[receipt, beyond(receipt)], FinishFault::Missing(100))
-        .is_refused(
-            rt,
-            &[receipt, with_other_digest(receipt)],
-            FinishFault::Differs(0),
-        )
+    let past = beyond(receipt);
+    let other = with_other_digest(receipt);
+    let held = held.is_refused(rt, receipts, FinishFault::PassesOut(1));
+    let held = held.with(rt, kept_back);
+    let held = held.is_refused(rt, &[*receipt, past], FinishFault::Missing(100));
+    held.is_refused(rt, &[*receipt, other], FinishFault::Differs(0))
 }
 
 /// All receipts of two callers.

@@ -40,6 +40,27 @@ pub(super) enum TakeTold {
     Other,
 }
 
+/// Whether the ledger was deleted.
+pub(super) fn is_deleted(told: TakeTold) -> bool {
+    matches!(told, TakeTold::Deleted)
+}
+
+/// Whether the receipt was missing from a trail of so many marks.
+pub(super) fn is_missing(told: TakeTold, marks: u64) -> bool {
+    match told {
+        TakeTold::Missing(front) => front == marks,
+        _ => false,
+    }
+}
+
+/// Whether this mark was told, which is not the receipt's.
+pub(super) fn is_other(told: TakeTold, mark: &Mark) -> bool {
+    match told {
+        TakeTold::Differs(found) => found == *mark,
+        _ => false,
+    }
+}
+
 /// The answer of an add.
 fn add_told(answer: Result<Added, CallFault<AddFault>>) -> AddTold {
     match answer {
@@ -158,7 +179,10 @@ pub(super) fn delete<L: AddLedger, R: Wait>(
     pass: &mut Pass<L>,
     ledger: u8,
 ) -> Option<u64> {
-    bookie.delete(rt, pass, u64::from(ledger)).ok()
+    match bookie.delete(rt, pass, u64::from(ledger)) {
+        Ok(entries) => Some(entries),
+        Err(_) => None,
+    }
 }
 
 /// What a fence answered, or `None` where it was refused.
@@ -168,7 +192,10 @@ pub(super) fn fence<L: AddLedger, R: Wait>(
     pass: &mut Pass<L>,
     ledger: u8,
 ) -> Option<Fence> {
-    bookie.fence(rt, pass, u64::from(ledger)).ok()
+    match bookie.fence(rt, pass, u64::from(ledger)) {
+        Ok(answer) => Some(answer),
+        Err(_) => None,
+    }
 }
 
 /// Takes these steps, whatever they answer.
@@ -184,7 +211,10 @@ pub(super) fn take_steps<L: AddLedger, R: Wait>(
 
 /// A pass.
 pub(super) fn pass<L: AddLedger, R: Wait + Abort>(rt: &R, bookie: &Bookie<L, MemDisk>) -> Pass<L> {
-    bookie.pass(rt).expect(rt, "a pass")
+    match bookie.pass(rt) {
+        Ok(pass) => pass,
+        Err(_) => panic!(rt; "no pass"),
+    }
 }
 
 /// Whether no pass is to be had any more.

@@ -41,13 +41,18 @@ fn add_two<L: AddLedger, R: Wait + Abort>(
     [first, second]
 }
 
+/// Whether a trail has these marks.
+fn are_marks(trail: &[Mark], marks: &[Mark]) -> bool {
+    trail == marks
+}
+
 /// Whether the receipts have numbers 0 and 2, and the trail has their marks and the fence's between them.
-fn stand(finished: &Finished<MemDisk>, first: Receipt, second: Receipt) -> bool {
+fn stand(finished: &Finished<MemDisk>, first: &Receipt, second: &Receipt) -> bool {
     let marks = [mark_of(first), Mark::Fence { ledger: 1 }, mark_of(second)];
     first.number == 0
         && second.number == 2
         && finished.adds == 2
-        && finished.store.trail() == marks.as_slice()
+        && are_marks(finished.store.trail(), &marks)
 }
 
 /// An ordinary add before the fence and a recovery add after it are accepted; between them an ordinary one is refused.
@@ -61,7 +66,7 @@ fn run<L: AddLedger, R: Wait + Abort>(rt: &R, alloc: Global, blank: Blank)
     let mut pass = pass(rt, &bookie);
     let receipts = add_two(rt, &bookie, &mut pass);
     let finished = Held::new(rt, alloc, bookie, pass).end(rt, &receipts);
-    assert!(rt; stand(&finished, receipts[0], receipts[1]));
+    assert!(rt; stand(&finished, &receipts[0], &receipts[1]));
 }
 
 #[test]

@@ -120,7 +120,7 @@ fn retires<L: AddLedger, R: Wait>(rt: &R, bookie: &Bookie<L, MemDisk>) -> bool {
 }
 
 /// How many leases of log 0 are out where it is to be closed.
-fn leased<L: AddLedger, R: Wait>(rt: &R, bookie: &Bookie<L, MemDisk>) -> Option<u64> {
+fn leases_out<L: AddLedger, R: Wait>(rt: &R, bookie: &Bookie<L, MemDisk>) -> Option<u64> {
     match bookie.step(rt, Work::Close(0)) {
         Answer::Close(CloseAnswer::Leased(count)) => Some(count),
         _ => None,
@@ -147,7 +147,10 @@ fn ask_in_vain<R: Abort>(rt: &R, store: Store<MemDisk>) -> Store<MemDisk> {
 
 /// Whether the store gives its disk.
 fn gives_disk(store: Store<MemDisk>) -> bool {
-    store.into_disk().is_ok()
+    match store.into_disk() {
+        Ok(_) => true,
+        Err(_) => false,
+    }
 }
 
 /// The store gives its disk back once the last lease is.
@@ -192,7 +195,7 @@ fn let_go<R: Threads + Wait + Abort + Sync>(
 fn goes<L: AddLedger, R: Wait>(rt: &R, bookie: &Bookie<L, MemDisk>, pass: &mut Pass<L>) -> bool {
     matches!(delete(rt, bookie, pass, 1), Some(1))
         && retires(rt, bookie)
-        && matches!(leased(rt, bookie), Some(201))
+        && matches!(leases_out(rt, bookie), Some(201))
 }
 
 /// Main leases the entry once, and two callers a hundred times each. Then the ledger goes and its log is retired; the callers
@@ -215,7 +218,7 @@ fn run<L: AddLedger + Send + Sync, R: Threads + Wait + Abort + Sync>(
     let (first, second) = lease_by_both(rt, alloc, &bookie);
     assert!(rt; goes(rt, &bookie, &mut third));
     let_go(rt, alloc, first.leases, second.leases);
-    assert!(rt; matches!(leased(rt, &bookie), Some(1)));
+    assert!(rt; matches!(leases_out(rt, &bookie), Some(1)));
     assert!(rt; main.shows_hello(alloc));
     let held = Held::new(rt, alloc, bookie, third);
     let finished = held.with(rt, first.pass).with(rt, second.pass).end(rt, &[]);

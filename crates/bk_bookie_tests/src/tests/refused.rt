@@ -5,8 +5,11 @@
 
 ghost use Rattle.std.specs.Prelude.{◌≡◌, ◌+◌, true, IfErr};
 
-use super::calls::{AddTold, Held, TakeTold, accepted, add, has_ended_with, pass, read_back, take};
-use super::{SETTINGS, beyond, payload, with_other_digest};
+use super::calls::{
+    AddTold, Held, TakeTold, accepted, add, has_ended_with, is_deleted, is_missing, is_other, pass,
+    read_back, take,
+};
+use super::{SETTINGS, beyond, mark_of, payload, with_other_digest};
 use bk_bookie::{AddLedger, Bookie, FinishFault, OpenRefused, Pass};
 use bk_disk::MemDisk;
 use bk_store::{OpenFault, Receipt};
@@ -142,13 +145,14 @@ impl<L: AddLedger> Trial<L> {
     }
 
     /// Whether the other answers of the run are right: a key of a dead ledger, receipts past the trail and of another digest.
-    fn are_told<R: Wait + Abort>(&mut self, rt: &R, alloc: Global, receipt: Receipt) -> bool {
+    fn are_told<R: Wait + Abort>(&mut self, rt: &R, alloc: Global, receipt: &Receipt) -> bool {
+        let past = beyond(receipt);
+        let other = with_other_digest(receipt);
+        let mark = mark_of(receipt);
         let dead = self.take(rt, alloc, (9, 0), b"");
-        let missing = self.read_back(rt, alloc, &beyond(receipt), b"");
-        let differs = self.read_back(rt, alloc, &with_other_digest(receipt), b"");
-        matches!(dead, TakeTold::Deleted)
-            && matches!(missing, TakeTold::Missing(100))
-            && matches!(differs, TakeTold::Differs(_))
+        let missing = self.read_back(rt, alloc, &past, b"");
+        let differs = self.read_back(rt, alloc, &other, b"");
+        is_deleted(dead) && is_missing(missing, 100) && is_other(differs, &mark)
     }
 
     /// Ends the bookie, after a refusal with no pass. Only the list of passes takes memory.
@@ -177,7 +181,7 @@ impl<L: AddLedger> Trial<L> {
 fn try_all<L: AddLedger, R: Wait + Abort>(rt: &R, alloc: Global, mut trial: Trial<L>) {
     let receipts = trial.add_all(rt, alloc);
     trial.read_all(rt, alloc, &receipts);
-    assert!(rt; trial.are_told(rt, alloc, receipts[0]));
+    assert!(rt; trial.are_told(rt, alloc, &receipts[0]));
     let refused = trial.end(rt, alloc, &receipts);
     assert!(rt; refused <= 1, "{refused} calls were refused");
 }

@@ -184,20 +184,26 @@ fn scan<R: Abort>(rt: &R, alloc: Global, view: &View) -> usize {
 }
 
 /// The view of a log.
-fn view<R: Abort>(rt: &R, alloc: Global, disk: &mut MemDisk, log: u32) -> View {
-    disk.view(alloc, log).expect(rt, "a view")
+fn view_of<D: LogDisk, R: Abort>(rt: &R, alloc: Global, disk: &mut D, log: u32) -> D::View {
+    match disk.view(alloc, log) {
+        Ok(view) => view,
+        Err(_) => panic!(rt; "no view"),
+    }
 }
 
 /// The logs of a disk.
-fn list<R: Abort>(rt: &R, alloc: Global, disk: &mut MemDisk) -> Vec<u32> {
-    disk.list(alloc).expect(rt, "the logs")
+fn logs_of<D: LogDisk, R: Abort>(rt: &R, alloc: Global, disk: &mut D) -> Vec<u32> {
+    match disk.list(alloc) {
+        Ok(logs) => logs,
+        Err(_) => panic!(rt; "no list"),
+    }
 }
 
 /// How many entries stand in the logs, all of ledgers that live.
 fn scan_all<R: Abort>(rt: &R, alloc: Global, disk: &mut MemDisk) -> usize {
     let mut found = 0_usize;
-    for log in list(rt, alloc, disk) {
-        let view = view(rt, alloc, disk, log);
+    for log in logs_of(rt, alloc, disk) {
+        let view = view_of(rt, alloc, disk, log);
         found = found.saturating_add(scan(rt, alloc, &view));
     }
     found
