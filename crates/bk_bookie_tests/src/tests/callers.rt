@@ -168,16 +168,6 @@ fn are_told<L: AddLedger, R: Wait + Abort>(
     is_deleted(dead) && is_missing(missing, 100) && is_other(differs, &mark)
 }
 
-/// The receipt of number 0.
-fn first_of<'a, R: Abort>(rt: &R, receipts: &'a [Receipt]) -> &'a Receipt {
-    for receipt in receipts {
-        if receipt.number == 0 {
-            return receipt;
-        }
-    }
-    panic!(rt; "no receipt of number 0")
-}
-
 /// Refuses to end the bookie three times, the first with one pass kept back.
 fn refuse_to_end<L: AddLedger, R: Abort>(
     rt: &R,
@@ -185,13 +175,13 @@ fn refuse_to_end<L: AddLedger, R: Abort>(
     kept_back: Pass<L>,
     receipts: &[Receipt],
 ) -> Held<L> {
-    let receipt = first_of(rt, receipts);
+    let receipt = receipts.first().expect(rt, "a receipt");
     let past = beyond(receipt);
     let other = with_other_digest(receipt);
     let held = held.is_refused(rt, receipts, FinishFault::PassesOut(1));
     let held = held.with(rt, kept_back);
     let held = held.is_refused(rt, &[*receipt, past], FinishFault::Missing(100));
-    held.is_refused(rt, &[*receipt, other], FinishFault::Differs(0))
+    held.is_refused(rt, &[*receipt, other], FinishFault::Differs(receipt.number))
 }
 
 /// All receipts of two callers.
@@ -228,7 +218,8 @@ fn end<L: AddLedger, R: Wait + Abort>(
     read_all(rt, alloc, &bookie, &mut pass, of_first, &mut found);
     let of_second = (second.receipts.as_slice(), second.own);
     read_all(rt, alloc, &bookie, &mut pass, of_second, &mut found);
-    assert!(rt; are_told(rt, alloc, &bookie, &mut pass, first_of(rt, &receipts)));
+    let receipt = receipts.first().expect(rt, "a receipt");
+    assert!(rt; are_told(rt, alloc, &bookie, &mut pass, receipt));
     let held = Held::new(rt, alloc, bookie, pass);
     let held = refuse_to_end(rt, held, second.pass, &receipts);
     assert!(rt; has_ended_with(&held.end(rt, &receipts), 100, 100));

@@ -2,7 +2,9 @@
 //! a `bool`, so that what the call itself promises is in the proof of no other function.
 
 use super::key;
-use bk_bookie::{AddLedger, Bookie, CallFault, FinishFault, Finished, NoPass, Pass, ReadBackFault};
+use bk_bookie::{
+    AddLedger, Bookie, CallFault, FinishFault, FinishRefused, Finished, NoPass, Pass, ReadBackFault,
+};
 use bk_disk::{LogDisk, MemDisk};
 use bk_drive::Work;
 use bk_lease::Lease;
@@ -248,16 +250,25 @@ impl<L: AddLedger> Held<L> {
         self
     }
 
+    /// Ends the bookie, which is refused and handed back.
+    fn refusal<R: Abort>(self, rt: &R, receipts: &[Receipt]) -> (FinishFault, Held<L>) {
+        match self.bookie.finish(self.passes, receipts) {
+            Ok(_) => panic!(rt; "ended"),
+            Err(
+                FinishRefused {
+                    fault,
+                    bookie,
+                    passes,
+                },
+            ) => (fault, Held { bookie, passes }),
+        }
+    }
+
     /// Ends the bookie, which is refused with this fault and handed back.
     pub fn is_refused<R: Abort>(self, rt: &R, receipts: &[Receipt], fault: FinishFault) -> Held<L> {
-        let Err(refused) = self.bookie.finish(self.passes, receipts) else {
-            panic!(rt; "ended")
-        };
-        assert!(rt; refused.fault == fault);
-        Held {
-            bookie: refused.bookie,
-            passes: refused.passes,
-        }
+        let (found, held) = self.refusal(rt, receipts);
+        assert!(rt; found == fault);
+        held
     }
 
     /// Ends the bookie.
