@@ -203,6 +203,31 @@ fn are_counted<L: AddLedger>(first: &Caller<L>, second: &Caller<L>) -> bool {
         && first.pass.adds().saturating_add(second.pass.adds()) == 100
 }
 
+/// Reads back what two callers have, by one pass.
+fn read_both<L: AddLedger, R: Wait + Abort>(
+    rt: &R,
+    alloc: Global,
+    bookie: &Bookie<L, MemDisk>,
+    pass: &mut Pass<L>,
+    first: (&[Receipt], u8),
+    second: (&[Receipt], u8),
+) {
+    let mut found = [false; 100];
+    read_all(rt, alloc, bookie, pass, first, &mut found);
+    read_all(rt, alloc, bookie, pass, second, &mut found);
+}
+
+/// Ends the bookie, after three refusals.
+fn end_at_last<L: AddLedger, R: Abort>(
+    rt: &R,
+    held: Held<L>,
+    kept_back: Pass<L>,
+    receipts: &[Receipt],
+) {
+    let held = refuse_to_end(rt, held, kept_back, receipts);
+    assert!(rt; has_ended_with(&held.end(rt, receipts), 100, 100));
+}
+
 /// Reads back what two callers have, and ends their bookie.
 fn end<L: AddLedger, R: Wait + Abort>(
     rt: &R,
@@ -211,18 +236,29 @@ fn end<L: AddLedger, R: Wait + Abort>(
     first: Caller<L>,
     second: Caller<L>,
 ) {
-    let receipts = together(rt, alloc, &first.receipts, &second.receipts);
-    let mut pass = first.pass;
-    let mut found = [false; 100];
-    let of_first = (first.receipts.as_slice(), first.own);
-    read_all(rt, alloc, &bookie, &mut pass, of_first, &mut found);
-    let of_second = (second.receipts.as_slice(), second.own);
-    read_all(rt, alloc, &bookie, &mut pass, of_second, &mut found);
+    let Caller {
+        mut pass,
+        own,
+        other,
+        receipts: of_first,
+    } = first;
+    let Caller {
+        pass: kept_back,
+        receipts: of_second,
+        ..
+    } = second;
+    read_both(
+        rt,
+        alloc,
+        &bookie,
+        &mut pass,
+        (&of_first, own),
+        (&of_second, other),
+    );
+    let receipts = together(rt, alloc, &of_first, &of_second);
     let receipt = receipts.first().expect(rt, "a receipt");
     assert!(rt; are_told(rt, alloc, &bookie, &mut pass, receipt));
-    let held = Held::new(rt, alloc, bookie, pass);
-    let held = refuse_to_end(rt, held, second.pass, &receipts);
-    assert!(rt; has_ended_with(&held.end(rt, &receipts), 100, 100));
+    end_at_last(rt, Held::new(rt, alloc, bookie, pass), kept_back, &receipts);
 }
 
 /// The whole life of a bookie with two callers.

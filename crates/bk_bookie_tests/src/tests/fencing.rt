@@ -55,6 +55,19 @@ fn stand(finished: &Finished<MemDisk>, first: &Receipt, second: &Receipt) -> boo
         && are_marks(finished.store.trail(), &marks)
 }
 
+/// Ends the bookie with the receipts of both adds.
+fn end<L: AddLedger, R: Abort>(rt: &R, held: Held<L>, receipts: &[Receipt; 2]) {
+    let finished = held.end(rt, receipts);
+    assert!(rt; stand(&finished, &receipts[0], &receipts[1]));
+}
+
+/// The life of the bookie.
+fn live<L: AddLedger, R: Wait + Abort>(rt: &R, alloc: Global, bookie: Bookie<L, MemDisk>) {
+    let mut pass = pass(rt, &bookie);
+    let receipts = add_two(rt, &bookie, &mut pass);
+    end(rt, Held::new(rt, alloc, bookie, pass), &receipts);
+}
+
 /// An ordinary add before the fence and a recovery add after it are accepted; between them an ordinary one is refused.
 fn run<L: AddLedger, R: Wait + Abort>(rt: &R, alloc: Global, blank: Blank)
     requires name { blank.name ≡ L.name }
@@ -62,11 +75,7 @@ fn run<L: AddLedger, R: Wait + Abort>(rt: &R, alloc: Global, blank: Blank)
     requires each { blank.parts ≡ 2 }
     requires honest { L.honest ≡ true }
 {
-    let bookie = open::<L, R>(rt, alloc, blank, 1, SETTINGS, &[9]);
-    let mut pass = pass(rt, &bookie);
-    let receipts = add_two(rt, &bookie, &mut pass);
-    let finished = Held::new(rt, alloc, bookie, pass).end(rt, &receipts);
-    assert!(rt; stand(&finished, &receipts[0], &receipts[1]));
+    live(rt, alloc, open::<L, R>(rt, alloc, blank, 1, SETTINGS, &[9]));
 }
 
 #[test]

@@ -198,8 +198,73 @@ fn goes<L: AddLedger, R: Wait>(rt: &R, bookie: &Bookie<L, MemDisk>, pass: &mut P
         && matches!(leases_out(rt, bookie), Some(201))
 }
 
+/// Adds the entry, and leases it for main from the log that it is flushed into.
+fn lease_main<L: AddLedger, R: Wait + Abort>(
+    rt: &R,
+    bookie: &Bookie<L, MemDisk>,
+    pass: &mut Pass<L>,
+) -> Leased {
+    fill(rt, bookie, pass);
+    let main = lease(rt, bookie, pass);
+    assert!(rt; main.location.value() == 1028);
+    main
+}
+
+/// Lets two callers have their leases while the ledger goes, and then give them back. Their passes.
+fn lend_to_both<L: AddLedger + Send + Sync, R: Threads + Wait + Abort + Sync>(
+    rt: &R,
+    alloc: Global,
+    bookie: &Bookie<L, MemDisk>,
+    pass: &mut Pass<L>,
+) -> (Pass<L>, Pass<L>) {
+    let (first, second) = lease_by_both(rt, alloc, bookie);
+    assert!(rt; goes(rt, bookie, pass));
+    let Caller {
+        pass: one,
+        leases: given,
+    } = first;
+    let Caller {
+        pass: other,
+        leases: dropped,
+    } = second;
+    let_go(rt, alloc, given, dropped);
+    (one, other)
+}
+
+/// Whether main's lease is the only one, and the entry is read by it.
+fn is_last<L: AddLedger, R: Wait>(
+    rt: &R,
+    alloc: Global,
+    bookie: &Bookie<L, MemDisk>,
+    main: &Leased,
+) -> bool {
+    matches!(leases_out(rt, bookie), Some(1)) && main.shows_hello(alloc)
+}
+
+/// Ends the bookie while main has its lease.
+fn end<L: AddLedger, R: Abort>(rt: &R, alloc: Global, held: Held<L>, main: Leased) {
+    let finished = held.end(rt, &[]);
+    assert!(rt; finished.adds == 1);
+    ask_for_disk(rt, alloc, finished.store, main);
+}
+
 /// Main leases the entry once, and two callers a hundred times each. Then the ledger goes and its log is retired; the callers
 /// give their leases back, and main's outlives the bookie.
+fn live<L: AddLedger + Send + Sync, R: Threads + Wait + Abort + Sync>(
+    rt: &R,
+    alloc: Global,
+    bookie: Bookie<L, MemDisk>,
+) {
+    let mut third = pass(rt, &bookie);
+    let main = lease_main(rt, &bookie, &mut third);
+    let (first, second) = lend_to_both(rt, alloc, &bookie, &mut third);
+    assert!(rt; is_last(rt, alloc, &bookie, &main));
+    let held = Held::new(rt, alloc, bookie, third);
+    let held = held.with(rt, first).with(rt, second);
+    end(rt, alloc, held, main);
+}
+
+/// The whole run.
 fn run<L: AddLedger + Send + Sync, R: Threads + Wait + Abort + Sync>(
     rt: &R,
     alloc: Global,
@@ -210,20 +275,7 @@ fn run<L: AddLedger + Send + Sync, R: Threads + Wait + Abort + Sync>(
     requires each { blank.parts ≡ 4 }
     requires honest { L.honest ≡ true }
 {
-    let bookie = open::<L, R>(rt, alloc, blank, 3, SETTINGS, &[9]);
-    let mut third = pass(rt, &bookie);
-    fill(rt, &bookie, &mut third);
-    let main = lease(rt, &bookie, &mut third);
-    assert!(rt; main.location.value() == 1028);
-    let (first, second) = lease_by_both(rt, alloc, &bookie);
-    assert!(rt; goes(rt, &bookie, &mut third));
-    let_go(rt, alloc, first.leases, second.leases);
-    assert!(rt; matches!(leases_out(rt, &bookie), Some(1)));
-    assert!(rt; main.shows_hello(alloc));
-    let held = Held::new(rt, alloc, bookie, third);
-    let finished = held.with(rt, first.pass).with(rt, second.pass).end(rt, &[]);
-    assert!(rt; finished.adds == 1);
-    ask_for_disk(rt, alloc, finished.store, main);
+    live(rt, alloc, open::<L, R>(rt, alloc, blank, 3, SETTINGS, &[9]));
 }
 
 #[test]

@@ -143,6 +143,7 @@ fn read_all<L: AddLedger, R: Wait + Abort>(
             .extend_from_slice(&caller.receipts)
             .expect(rt, "memory");
     }
+    assert!(rt; are_all(&receipts));
     receipts
 }
 
@@ -292,6 +293,21 @@ fn look_at_files<R: Abort>(rt: &R, alloc: Global, store: Store<MemDisk>, receipt
     assert!(rt; are_found(&mut again, receipts));
 }
 
+/// Brings the bookie to rest.
+fn settle<L: AddLedger, R: Wait + Abort>(rt: &R, bookie: &Bookie<L, MemDisk>) {
+    take_steps(rt, bookie, &JOB);
+    flush(rt, bookie);
+    compact(rt, bookie);
+    remove_all(rt, bookie);
+}
+
+/// Ends the bookie, and looks at what it left.
+fn look_at_end<L: AddLedger, R: Abort>(rt: &R, alloc: Global, held: Held<L>, receipts: &[Receipt]) {
+    let finished = held.end(rt, receipts);
+    assert!(rt; is_left(&finished, receipts));
+    look_at_files(rt, alloc, finished.store, receipts);
+}
+
 /// Brings the bookie to rest and ends it; then looks at what it left.
 pub(super) fn end<L: AddLedger, R: Wait + Abort>(
     rt: &R,
@@ -299,14 +315,8 @@ pub(super) fn end<L: AddLedger, R: Wait + Abort>(
     bookie: Bookie<L, MemDisk>,
     mut callers: Vec<Caller<L>>,
 ) {
-    take_steps(rt, &bookie, &JOB);
-    flush(rt, &bookie);
-    compact(rt, &bookie);
-    remove_all(rt, &bookie);
+    settle(rt, &bookie);
     let receipts = read_all(rt, alloc, &bookie, callers.as_mut_slice());
-    assert!(rt; are_all(&receipts));
     let passes = passes_of(rt, alloc, callers);
-    let finished = Held { bookie, passes }.end(rt, &receipts);
-    assert!(rt; is_left(&finished, &receipts));
-    look_at_files(rt, alloc, finished.store, &receipts);
+    look_at_end(rt, alloc, Held { bookie, passes }, &receipts);
 }
