@@ -10,7 +10,7 @@ use bk_drive::Work;
 use bk_lease::Lease;
 use bk_log::fetch;
 use bk_record::{Key, Location};
-use bk_store::{AddFault, Added, Fence, Mark, Receipt, TakeFault, Taken};
+use bk_store::{AddFault, Added, Fence, Mark, Receipt, Store, TakeFault, Taken};
 use std::alloc::Global;
 use std::process::Abort;
 use std::sync::Wait;
@@ -283,4 +283,12 @@ impl<L: AddLedger> Held<L> {
 /// Whether a bookie ended with so many adds, and with a trail of so many marks.
 pub(super) fn has_ended_with(finished: &Finished<MemDisk>, adds: u64, marks: usize) -> bool {
     finished.adds == adds && finished.store.trail().len() == marks
+}
+
+/// The disk of a store of which no lease is out.
+pub(super) fn disk_of<R: Abort>(rt: &R, store: Store<MemDisk>) -> MemDisk {
+    match store.into_disk() {
+        Ok(disk) => disk,
+        Err(_) => panic!(rt; "a lease is out"),
+    }
 }

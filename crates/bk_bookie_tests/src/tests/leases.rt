@@ -2,7 +2,7 @@
 
 ghost use Rattle.std.specs.Prelude.{◌≡◌, true};
 
-use super::calls::{Held, View, accepted, add, delete, pass, shows, take_steps};
+use super::calls::{Held, View, accepted, add, delete, disk_of, pass, shows, take_steps};
 use super::{SETTINGS, key, open};
 use bk_bookie::{AddLedger, Bookie, Pass};
 use bk_disk::MemDisk;
@@ -145,20 +145,12 @@ fn ask_in_vain<R: Abort>(rt: &R, store: Store<MemDisk>) -> Store<MemDisk> {
     }
 }
 
-/// Whether the store gives its disk.
-fn gives_disk(store: Store<MemDisk>) -> bool {
-    match store.into_disk() {
-        Ok(_) => true,
-        Err(_) => false,
-    }
-}
-
 /// The store gives its disk back once the last lease is.
 fn ask_for_disk<R: Abort>(rt: &R, alloc: Global, store: Store<MemDisk>, last: Leased) {
     let store = ask_in_vain(rt, store);
     assert!(rt; last.shows_hello(alloc));
     last.lease.release().end();
-    assert!(rt; gives_disk(store));
+    let _disk = disk_of(rt, store);
 }
 
 /// Two callers lease the entry a hundred times each, at once.

@@ -1,6 +1,6 @@
 //! What a run of many callers leaves: receipts, counts, and what stands in the files.
 
-use super::super::calls::{Held, TakeTold, View, read_back, take_steps};
+use super::super::calls::{Held, TakeTold, View, disk_of, read_back, take_steps};
 use super::super::payload;
 use super::{Caller, DELETED, ENTRIES, LAST, Part, SETTINGS};
 use bk_bookie::{AddLedger, Bookie, Finished, Pass};
@@ -259,14 +259,6 @@ fn passes_of<L: AddLedger, R: Abort>(
         passes.push(caller.pass).expect(rt, "memory");
     }
     passes
-}
-
-/// The disk of a store of which no lease is out.
-fn disk_of<R: Abort>(rt: &R, store: Store<MemDisk>) -> MemDisk {
-    match store.into_disk() {
-        Ok(disk) => disk,
-        Err(_) => panic!(rt; "a lease is out"),
-    }
 }
 
 /// A store that is opened on the logs of a disk.
