@@ -2,18 +2,22 @@
 //!
 //! A bookie lives in a function over its ledger. A test calls it with std's `Brand` and a blank ledger, and the proof of the
 //! call says what `Brand` stands for there.
+//!
+//! A test is proved before it is run, and its proof is the dearer the more it knows. So each call of a bookie is made in a
+//! function of `calls`, which promises nothing.
 
 ghost use Rattle.std.specs.Prelude.{◌≡◌, ◌+◌, true};
 
 use bk_bookie::{AddLedger, Bookie};
 use bk_disk::MemDisk;
 use bk_record::Key;
-use bk_store::{Mark, Receipt, Settings, Taken};
+use bk_store::{Mark, Receipt, Settings};
 use std::alloc::Global;
 use std::process::Abort;
 use std::sync::ledger::Blank;
 
 mod callers;
+mod calls;
 mod fencing;
 mod leases;
 mod many;
@@ -44,16 +48,8 @@ fn payload(ledger: u8, entry: u16, data: u8) -> [u8; 17] {
 }
 
 /// The key of an entry.
-fn key(ledger: u8, entry: u16) -> Option<Key> {
-    Key::new(u64::from(ledger), u64::from(entry))
-}
-
-/// Whether a take gave this payload from a cache.
-fn is_cached<V: Drop, F>(taken: &Result<Taken<V>, F>, payload: &[u8]) -> bool {
-    match taken {
-        Ok(Taken::Cached(found)) => found.as_slice() == payload,
-        _ => false,
-    }
+fn key<R: Abort>(rt: &R, ledger: u8, entry: u16) -> Key {
+    Key::new(u64::from(ledger), u64::from(entry)).expect(rt, "a key")
 }
 
 /// The mark of a receipt.
@@ -64,20 +60,40 @@ fn mark_of(receipt: &Receipt) -> Mark {
     }
 }
 
-/// A bookie of so many passes over an empty disk in memory, where ledger 9 is dead.
+/// A receipt of number 100.
+fn beyond(receipt: &Receipt) -> Receipt {
+    Receipt {
+        number: 100,
+        key: receipt.key,
+        digest: receipt.digest,
+    }
+}
+
+/// The receipt with another digest.
+fn with_other_digest(receipt: &Receipt) -> Receipt {
+    Receipt {
+        number: receipt.number,
+        key: receipt.key,
+        digest: [7; 32],
+    }
+}
+
+/// A bookie of so many passes over an empty disk in memory.
 fn open<L: AddLedger, R: Abort>(
     rt: &R,
     alloc: Global,
     blank: Blank,
     passes: u32,
+    settings: Settings,
+    dead: &[u64],
 ) -> Bookie<L, MemDisk>
     requires name { blank.name ≡ L.name }
     requires parts { blank.parts ≡ L.parts }
     requires each { blank.parts ≡ passes + 1 }
     requires honest { L.honest ≡ true }
 {
-    match Bookie::open(alloc, blank, passes, MemDisk::new(alloc), SETTINGS, &[9]) {
+    match Bookie::open(alloc, blank, passes, MemDisk::new(alloc), settings, dead) {
         Ok(bookie) => bookie,
-        Err(refused) => panic!(rt; "{}", refused.fault),
+        Err(_) => panic!(rt; "not opened"),
     }
 }

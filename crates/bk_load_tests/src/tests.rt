@@ -4,43 +4,53 @@ use bk_bookie::WorkReport;
 use bk_disk::MemDisk;
 use bk_load::{Checked, Latencies, Load, Logs, Report, Until, run_load};
 use bk_store::Settings;
-use std::test::Fail;
+use std::alloc::Global;
+use std::process::Abort;
+use std::rt::Clock;
+use std::sync::Wait;
+use std::thread::Threads;
+
+/// The limits of the store of the small load: short logs.
+const SETTINGS: Settings = Settings {
+    log_limit: 65_536,
+    cache_limit: 65_536,
+    recent: 16,
+    slots: 1000,
+    leases: 100,
+    minor: 500,
+    major: 1000,
+};
+
+/// How many adds the small load makes.
+const ADDS: u64 = 16_001;
+
+/// What the small load asks for.
+const SMALL: Load = Load {
+    callers: 8,
+    until: Until::Adds(ADDS),
+};
+
+/// Whether a report is good, with compactions and two deletions, and tells of each add of the small load.
+fn is_whole(report: &Report) -> bool {
+    report.is_good()
+        && report.logs.compacted > 0
+        && report.deletes == 2
+        && report.adds.saturating_add(report.refused) == ADDS
+}
+
+/// What came of the small load.
+fn report<R: Threads + Wait + Clock + Abort + Sync>(rt: &R, alloc: Global) -> Report {
+    let progress: Option<Vec<u8>> = None;
+    match run_load(rt, alloc, MemDisk::new(alloc), SETTINGS, SMALL, progress) {
+        Ok(report) => report,
+        Err(_) => panic!(rt; "no report"),
+    }
+}
 
 #[test]
-fn a_small_load_is_found_whole(rt: HostRuntime) -> Result<(), Fail> {
-    let settings = Settings {
-        log_limit: 65_536,
-        cache_limit: 65_536,
-        recent: 16,
-        slots: 1000,
-        leases: 100,
-        minor: 500,
-        major: 1000,
-    };
-    let asked = Load {
-        callers: 8,
-        until: Until::Adds(16_001),
-    };
-    let progress: Option<Vec<u8>> = None;
-    let report = run_load(
-        &rt,
-        rt.alloc(),
-        MemDisk::new(rt.alloc()),
-        settings,
-        asked,
-        progress,
-    )?;
-    assert!(rt; report.is_good(), "{report}");
-    assert!(rt;
-        report.logs.compacted > 0 && report.deletes == 2,
-        "{report}"
-    );
-    assert_eq!(rt;
-        report.adds.saturating_add(report.refused),
-        16_001,
-        "{report}"
-    );
-    Ok(())
+fn a_small_load_is_found_whole(rt: HostRuntime) {
+    let report = report(&rt, rt.alloc());
+    assert!(rt; is_whole(&report), "{report}");
 }
 
 /// What came of a load of three adds, one of them to a ledger that was deleted since, beside four entries that were there.
@@ -78,18 +88,17 @@ const GOOD: Report = Report {
     },
 };
 
+/// The text of that report.
+const TOLD: &str = "adds 3 bytes 100 held 0 refused 1 milliseconds 12\n\
+    takes 2 wrong 0 ledgers deleted 1\n\
+    logs made 4 compacted 2 removed 3\n\
+    works 9 faults 0\n\
+    latency 50% 700 99% 800 99.9% 800 nanoseconds\n\
+    receipts 3\n\
+    files found 2 deleted 1 lost 0 unknown 0 earlier 4 of 4";
+
 #[test]
-fn a_report_is_told(rt: HostRuntime) -> Result<(), Fail> {
-    let text = format!(in rt.alloc(); "{GOOD}")?;
-    assert_eq!(rt;
-        text.as_str(),
-        "adds 3 bytes 100 held 0 refused 1 milliseconds 12\n\
-        takes 2 wrong 0 ledgers deleted 1\n\
-        logs made 4 compacted 2 removed 3\n\
-        works 9 faults 0\n\
-        latency 50% 700 99% 800 99.9% 800 nanoseconds\n\
-        receipts 3\n\
-        files found 2 deleted 1 lost 0 unknown 0 earlier 4 of 4"
-    );
-    Ok(())
+fn a_report_is_told(rt: HostRuntime) {
+    let text = format!(in rt.alloc(); "{GOOD}").expect(&rt, "memory");
+    assert!(rt; text.as_str() == TOLD, "{text}");
 }

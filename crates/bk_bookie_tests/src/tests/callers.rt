@@ -2,10 +2,14 @@
 
 ghost use Rattle.std.specs.Prelude.{◌≡◌, true};
 
-use super::{is_cached, key, mark_of, open, payload};
-use bk_bookie::{AddLedger, Bookie, FinishFault, Finished, NoPass, Pass, ReadBackFault};
+use super::calls::{
+    AddTold, Held, TakeTold, add, has_ended_with, has_no_pass, is_deleted, is_missing, is_other,
+    pass, read_back, take,
+};
+use super::{SETTINGS, beyond, mark_of, open, payload, with_other_digest};
+use bk_bookie::{AddLedger, Bookie, FinishFault, Pass};
 use bk_disk::MemDisk;
-use bk_store::{Added, Receipt, Taken};
+use bk_store::Receipt;
 use std::alloc::Global;
 use std::marker::Brand;
 use std::process::Abort;
@@ -14,197 +18,170 @@ use std::sync::ledger::Blank;
 use std::thread;
 use std::thread::Threads;
 
-/// A caller that has made its calls: its pass, its byte, and the receipts of its adds.
+/// A caller: its pass, its byte and the other caller's, and the receipts of its adds.
 #[derive(Drop)]
 struct Caller<L: AddLedger> {
     pass: Pass<L>,
     own: u8,
+    other: u8,
     receipts: Vec<Receipt>,
 }
 
-/// Adds entries 0 to 99 of ledger 1 with the caller's own byte, and takes each after its add. Where the add was held, the
-/// entry is the other caller's.
+impl<L: AddLedger> Caller<L> {
+    /// Adds an entry of ledger 1 with the caller's own byte; the byte that it has then. Where the add was held, the entry is
+    /// the other caller's.
+    fn add<R: Wait + Abort>(&mut self, rt: &R, bookie: &Bookie<L, MemDisk>, entry: u16) -> u8 {
+        match add(rt, bookie, &mut self.pass, &payload(1, entry, self.own)) {
+            AddTold::Accepted(receipt) => {
+                self.receipts.push(receipt).expect(rt, "memory");
+                self.own
+            }
+            AddTold::Held => self.other,
+            _ => panic!(rt; "entry {entry} was refused"),
+        }
+    }
+
+    /// Whether a take of this entry of ledger 1 gives this byte from a cache.
+    fn finds<R: Wait + Abort>(
+        &mut self,
+        rt: &R,
+        alloc: Global,
+        bookie: &Bookie<L, MemDisk>,
+        entry: u16,
+        data: u8,
+    ) -> bool {
+        let payload = payload(1, entry, data);
+        let told = take(rt, alloc, bookie, &mut self.pass, (1, entry), &payload);
+        matches!(told, TakeTold::Cached)
+    }
+
+    /// Whether the caller's receipt is read back with its byte, by its pass.
+    fn reads_back<R: Wait>(
+        pass: &mut Pass<L>,
+        rt: &R,
+        alloc: Global,
+        bookie: &Bookie<L, MemDisk>,
+        receipt: &Receipt,
+        own: u8,
+    ) -> bool {
+        let Ok(entry) = u16::try_from(receipt.key.entry()) else {
+            return false;
+        };
+        let told = read_back(rt, alloc, bookie, pass, receipt, &payload(1, entry, own));
+        matches!(told, TakeTold::Cached)
+    }
+}
+
+/// Adds entries 0 to 99, and takes each after its add.
 fn call<L: AddLedger, R: Wait + Abort>(
     rt: &R,
     alloc: Global,
     bookie: &Bookie<L, MemDisk>,
-    mut pass: Pass<L>,
-    own: u8,
-    other: u8,
+    mut caller: Caller<L>,
 ) -> Caller<L> {
-    let mut receipts = Vec::new(alloc);
     for entry in 0..100 {
-        let data = match bookie.add(rt, &mut pass, &payload(1, entry, own)) {
-            Ok(Added::Accepted(receipt)) => {
-                receipts.push(receipt).expect(rt, "memory");
-                own
-            }
-            answer => {
-                assert_eq!(rt; answer, Ok(Added::Held));
-                other
-            }
-        };
-        let taken = bookie.take(rt, &mut pass, key(1, entry).expect(rt, "a key"));
+        let data = caller.add(rt, bookie, entry);
         assert!(rt;
-            is_cached(&taken, &payload(1, entry, data)),
+            caller.finds(rt, alloc, bookie, entry, data),
             "entry {entry}"
         );
     }
-    Caller {
-        pass,
-        own,
-        receipts,
-    }
+    caller
 }
 
-/// A bookie that two callers called, and what they have.
-#[derive(Drop)]
-struct Called<L: AddLedger> {
-    bookie: Bookie<L, MemDisk>,
-    first: Caller<L>,
-    second: Caller<L>,
+/// The two callers that a bookie of two passes has.
+fn two_callers<L: AddLedger, R: Wait + Abort>(
+    rt: &R,
+    alloc: Global,
+    bookie: &Bookie<L, MemDisk>,
+) -> (Caller<L>, Caller<L>) {
+    let first = Caller {
+        pass: pass(rt, bookie),
+        own: b'a',
+        other: b'b',
+        receipts: Vec::new(alloc),
+    };
+    let second = Caller {
+        pass: pass(rt, bookie),
+        own: b'b',
+        other: b'a',
+        receipts: Vec::new(alloc),
+    };
+    assert!(rt; has_no_pass(rt, bookie));
+    (first, second)
 }
 
-/// Opens a bookie of two passes, where ledger 9 is dead, and lets two callers call it at once.
+/// Lets both call at once.
 fn let_both_call<L: AddLedger + Send + Sync, R: Threads + Wait + Abort + Sync>(
     rt: &R,
     alloc: Global,
-    blank: Blank,
-) -> Called<L>
-    requires name { blank.name ≡ L.name }
-    requires parts { blank.parts ≡ L.parts }
-    requires each { blank.parts ≡ 3 }
-    requires honest { L.honest ≡ true }
-{
-    let bookie = open::<L, R>(rt, alloc, blank, 2);
-    let first = bookie.pass(rt).expect(rt, "a first pass");
-    let second = bookie.pass(rt).expect(rt, "a second pass");
-    assert!(rt; matches!(bookie.pass(rt), Err(NoPass)));
-    let shared = &bookie;
-    let (first, second) = thread::join(
+    bookie: &Bookie<L, MemDisk>,
+    first: Caller<L>,
+    second: Caller<L>,
+) -> (Caller<L>, Caller<L>) {
+    thread::join(
         rt,
-        move || call(rt, alloc, shared, first, b'a', b'b'),
-        move || call(rt, alloc, shared, second, b'b', b'a'),
-    );
-    Called {
-        bookie,
-        first,
-        second,
+        move || call(rt, alloc, bookie, first),
+        move || call(rt, alloc, bookie, second),
+    )
+}
+
+/// Notes that a number was found; whether it is below 100 and was not found before.
+fn is_new(found: &mut [bool; 100], number: u64) -> bool {
+    if number >= 100 {
+        return false;
     }
+    let was_found = found[number as usize];
+    found[number as usize] = true;
+    !was_found
 }
 
 /// Reads each receipt of a caller back, by any pass: its payload has the caller's byte. No number is below 100 twice.
 fn read_all<L: AddLedger, R: Wait + Abort>(
     rt: &R,
+    alloc: Global,
     bookie: &Bookie<L, MemDisk>,
     pass: &mut Pass<L>,
-    receipts: &[Receipt],
-    own: u8,
+    (receipts, own): (&[Receipt], u8),
     found: &mut [bool; 100],
 ) {
     for receipt in receipts {
-        let taken = bookie.read_back(rt, pass, receipt);
-        let entry = u16::try_from(receipt.key.entry()).expect(rt, "an entry");
-        assert!(rt; is_cached(&taken, &payload(1, entry, own)), "entry {entry}");
-        let number = usize::try_from(receipt.number).expect(rt, "a number");
-        let found = found.get_mut(number).expect(rt, "a number below 100");
-        assert!(rt; !*found, "number {number} was found before");
-        *found = true;
+        assert!(rt; Caller::reads_back(pass, rt, alloc, bookie, receipt, own));
+        assert!(rt; is_new(found, receipt.number));
     }
 }
 
-/// The receipt with another digest.
-fn with_other_digest(receipt: &Receipt) -> Receipt {
-    Receipt {
-        number: receipt.number,
-        key: receipt.key,
-        digest: [7; 32],
-    }
-}
-
-/// The receipt of number 0.
-fn first_of<'a, R: Abort>(rt: &R, receipts: &'a [Receipt]) -> &'a Receipt {
-    for receipt in receipts {
-        if receipt.number == 0 {
-            return receipt;
-        }
-    }
-    panic!(rt; "no receipt of number 0")
-}
-
-/// What is told of strangers: a key of a dead ledger, a receipt past the trail, one with another digest.
-fn ask_others<L: AddLedger, R: Wait + Abort>(
+/// Whether strangers are told: a key of a dead ledger, a receipt past the trail, one with another digest.
+fn are_told<L: AddLedger, R: Wait + Abort>(
     rt: &R,
+    alloc: Global,
     bookie: &Bookie<L, MemDisk>,
     pass: &mut Pass<L>,
     receipt: &Receipt,
-) {
-    let dead = bookie.take(rt, pass, key(9, 0).expect(rt, "a key"));
-    assert!(rt; matches!(dead, Ok(Taken::Deleted)));
-    let beyond = Receipt {
-        number: 100,
-        key: receipt.key,
-        digest: receipt.digest,
-    };
-    let missing = bookie.read_back(rt, pass, &beyond);
-    assert!(rt; matches!(missing, Err(ReadBackFault::Missing(100))));
-    match bookie.read_back(rt, pass, &with_other_digest(receipt)) {
-        Err(ReadBackFault::Differs(mark)) => assert_eq!(rt; mark, mark_of(receipt)),
-        _ => panic!(rt; "another answer"),
-    }
-}
-
-/// A bookie, and its passes.
-#[derive(Drop)]
-struct Held<L: AddLedger> {
-    bookie: Bookie<L, MemDisk>,
-    passes: Vec<Pass<L>>,
-}
-
-impl<L: AddLedger> Held<L> {
-    /// Ends the bookie, which is refused with this fault and handed back.
-    fn is_refused<R: Abort>(self, rt: &R, receipts: &[Receipt], fault: FinishFault) -> Held<L> {
-        let Held { bookie, passes } = self;
-        match bookie.finish(passes, receipts) {
-            Ok(_) => panic!(rt; "ended"),
-            Err(refused) => {
-                assert_eq!(rt; refused.fault, fault);
-                Held {
-                    bookie: refused.bookie,
-                    passes: refused.passes,
-                }
-            }
-        }
-    }
-}
-
-/// Ends the bookie after three refusals, the first with one pass kept back.
-fn end<L: AddLedger, R: Abort>(
-    rt: &R,
-    alloc: Global,
-    bookie: Bookie<L, MemDisk>,
-    first: Pass<L>,
-    second: Pass<L>,
-    receipts: &[Receipt],
-) -> Finished<MemDisk> {
-    let mut passes = Vec::new(alloc);
-    passes.push(first).expect(rt, "memory");
-    let held = Held { bookie, passes };
-    let mut held = held.is_refused(rt, receipts, FinishFault::PassesOut(1));
-    held.passes.push(second).expect(rt, "memory");
-    let receipt = first_of(rt, receipts);
-    let beyond = Receipt {
-        number: 100,
-        key: receipt.key,
-        digest: receipt.digest,
-    };
-    let held = held.is_refused(rt, &[*receipt, beyond], FinishFault::Missing(100));
+) -> bool {
+    let past = beyond(receipt);
     let other = with_other_digest(receipt);
-    let held = held.is_refused(rt, &[*receipt, other], FinishFault::Differs(0));
-    let Ok(finished) = held.bookie.finish(held.passes, receipts) else {
-        panic!(rt; "not ended")
-    };
-    finished
+    let mark = mark_of(receipt);
+    let dead = take(rt, alloc, bookie, pass, (9, 0), b"");
+    let missing = read_back(rt, alloc, bookie, pass, &past, b"");
+    let differs = read_back(rt, alloc, bookie, pass, &other, b"");
+    is_deleted(dead) && is_missing(missing, 100) && is_other(differs, &mark)
+}
+
+/// Refuses to end the bookie three times, the first with one pass kept back.
+fn refuse_to_end<L: AddLedger, R: Abort>(
+    rt: &R,
+    held: Held<L>,
+    kept_back: Pass<L>,
+    receipts: &[Receipt],
+) -> Held<L> {
+    let receipt = receipts.first().expect(rt, "a receipt");
+    let past = beyond(receipt);
+    let other = with_other_digest(receipt);
+    let held = held.is_refused(rt, receipts, FinishFault::PassesOut(1));
+    let held = held.with(rt, kept_back);
+    let held = held.is_refused(rt, &[*receipt, past], FinishFault::Missing(100));
+    held.is_refused(rt, &[*receipt, other], FinishFault::Differs(receipt.number))
 }
 
 /// All receipts of two callers.
@@ -219,6 +196,71 @@ fn together<R: Abort>(
     receipts
 }
 
+/// Whether the passes count what the callers have, 100 together.
+fn are_counted<L: AddLedger>(first: &Caller<L>, second: &Caller<L>) -> bool {
+    first.pass.adds() == first.receipts.len() as u64
+        && second.pass.adds() == second.receipts.len() as u64
+        && first.pass.adds().saturating_add(second.pass.adds()) == 100
+}
+
+/// Reads back what two callers have, by one pass.
+fn read_both<L: AddLedger, R: Wait + Abort>(
+    rt: &R,
+    alloc: Global,
+    bookie: &Bookie<L, MemDisk>,
+    pass: &mut Pass<L>,
+    first: (&[Receipt], u8),
+    second: (&[Receipt], u8),
+) {
+    let mut found = [false; 100];
+    read_all(rt, alloc, bookie, pass, first, &mut found);
+    read_all(rt, alloc, bookie, pass, second, &mut found);
+}
+
+/// Ends the bookie, after three refusals.
+fn end_at_last<L: AddLedger, R: Abort>(
+    rt: &R,
+    held: Held<L>,
+    kept_back: Pass<L>,
+    receipts: &[Receipt],
+) {
+    let held = refuse_to_end(rt, held, kept_back, receipts);
+    assert!(rt; has_ended_with(&held.end(rt, receipts), 100, 100));
+}
+
+/// Reads back what two callers have, and ends their bookie.
+fn end<L: AddLedger, R: Wait + Abort>(
+    rt: &R,
+    alloc: Global,
+    bookie: Bookie<L, MemDisk>,
+    first: Caller<L>,
+    second: Caller<L>,
+) {
+    let Caller {
+        mut pass,
+        own,
+        other,
+        receipts: of_first,
+    } = first;
+    let Caller {
+        pass: kept_back,
+        receipts: of_second,
+        ..
+    } = second;
+    read_both(
+        rt,
+        alloc,
+        &bookie,
+        &mut pass,
+        (&of_first, own),
+        (&of_second, other),
+    );
+    let receipts = together(rt, alloc, &of_first, &of_second);
+    let receipt = receipts.first().expect(rt, "a receipt");
+    assert!(rt; are_told(rt, alloc, &bookie, &mut pass, receipt));
+    end_at_last(rt, Held::new(rt, alloc, bookie, pass), kept_back, &receipts);
+}
+
 /// The whole life of a bookie with two callers.
 fn run<L: AddLedger + Send + Sync, R: Threads + Wait + Abort + Sync>(
     rt: &R,
@@ -230,37 +272,11 @@ fn run<L: AddLedger + Send + Sync, R: Threads + Wait + Abort + Sync>(
     requires each { blank.parts ≡ 3 }
     requires honest { L.honest ≡ true }
 {
-    let Called {
-        bookie,
-        first,
-        second,
-    } = let_both_call::<L, R>(rt, alloc, blank);
-    assert_eq!(rt; first.pass.adds(), first.receipts.len() as u64);
-    assert_eq!(rt; second.pass.adds(), second.receipts.len() as u64);
-    assert_eq!(rt; first.receipts.len() + second.receipts.len(), 100);
-    let mut pass = first.pass;
-    let mut found = [false; 100];
-    read_all(
-        rt,
-        &bookie,
-        &mut pass,
-        &first.receipts,
-        first.own,
-        &mut found,
-    );
-    read_all(
-        rt,
-        &bookie,
-        &mut pass,
-        &second.receipts,
-        second.own,
-        &mut found,
-    );
-    let receipts = together(rt, alloc, &first.receipts, &second.receipts);
-    ask_others(rt, &bookie, &mut pass, first_of(rt, &receipts));
-    let finished = end(rt, alloc, bookie, pass, second.pass, &receipts);
-    assert_eq!(rt; finished.adds, 100);
-    assert_eq!(rt; finished.store.trail().len(), 100);
+    let bookie = open::<L, R>(rt, alloc, blank, 2, SETTINGS, &[9]);
+    let (first, second) = two_callers(rt, alloc, &bookie);
+    let (first, second) = let_both_call(rt, alloc, &bookie, first, second);
+    assert!(rt; are_counted(&first, &second));
+    end(rt, alloc, bookie, first, second);
 }
 
 #[test]

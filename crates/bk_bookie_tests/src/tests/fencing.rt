@@ -2,22 +2,70 @@
 
 ghost use Rattle.std.specs.Prelude.{◌≡◌, true};
 
-use super::{mark_of, open, payload};
-use bk_bookie::{AddLedger, Bookie, CallFault};
+use super::calls::{AddTold, Held, accepted, add, add_recovery, fence, pass};
+use super::{SETTINGS, mark_of, open, payload};
+use bk_bookie::{AddLedger, Bookie, Finished, Pass};
 use bk_disk::MemDisk;
-use bk_store::{AddFault, Added, Fence, Mark, Receipt};
+use bk_store::{Fence, Mark, Receipt};
 use std::alloc::Global;
 use std::marker::Brand;
 use std::process::Abort;
 use std::sync::Wait;
 use std::sync::ledger::Blank;
 
-/// The receipt of an add that was accepted.
-fn receipt_of<R: Abort>(rt: &R, answer: Result<Added, CallFault<AddFault>>) -> Receipt {
-    match answer {
-        Ok(Added::Accepted(receipt)) => receipt,
-        _ => panic!(rt; "{answer:?}"),
-    }
+/// Fences ledger 1, which no fence was for. Then an ordinary add is refused, and a recovery add of an entry that is there is
+/// held.
+fn is_fenced<L: AddLedger, R: Wait>(
+    rt: &R,
+    bookie: &Bookie<L, MemDisk>,
+    pass: &mut Pass<L>,
+) -> bool {
+    matches!(fence(rt, bookie, pass, 1), Some(Fence::Fenced))
+        && matches!(add(rt, bookie, pass, &payload(1, 1, b'b')), AddTold::Fenced)
+        && matches!(
+            add_recovery(rt, bookie, pass, &payload(1, 0, b'z')),
+            AddTold::Held
+        )
+}
+
+/// An ordinary add before the fence and a recovery add after it are accepted.
+fn add_two<L: AddLedger, R: Wait + Abort>(
+    rt: &R,
+    bookie: &Bookie<L, MemDisk>,
+    pass: &mut Pass<L>,
+) -> [Receipt; 2] {
+    let first = accepted(rt, add(rt, bookie, pass, &payload(1, 0, b'a')));
+    assert!(rt; is_fenced(rt, bookie, pass));
+    let second = accepted(rt, add_recovery(rt, bookie, pass, &payload(1, 1, b'b')));
+    assert!(rt; matches!(fence(rt, bookie, pass, 1), Some(Fence::AlreadyFenced)));
+    [first, second]
+}
+
+/// Whether a trail has these marks.
+fn are_marks(trail: &[Mark], marks: &[Mark]) -> bool {
+    trail == marks
+}
+
+/// Whether the receipts have numbers 0 and 2, and the trail has their marks and the fence's between them.
+fn stand(finished: &Finished<MemDisk>, first: &Receipt, second: &Receipt) -> bool {
+    let marks = [mark_of(first), Mark::Fence { ledger: 1 }, mark_of(second)];
+    first.number == 0
+        && second.number == 2
+        && finished.adds == 2
+        && are_marks(finished.store.trail(), &marks)
+}
+
+/// Ends the bookie with the receipts of both adds.
+fn end<L: AddLedger, R: Abort>(rt: &R, held: Held<L>, receipts: &[Receipt; 2]) {
+    let finished = held.end(rt, receipts);
+    assert!(rt; stand(&finished, &receipts[0], &receipts[1]));
+}
+
+/// The life of the bookie.
+fn live<L: AddLedger, R: Wait + Abort>(rt: &R, alloc: Global, bookie: Bookie<L, MemDisk>) {
+    let mut pass = pass(rt, &bookie);
+    let receipts = add_two(rt, &bookie, &mut pass);
+    end(rt, Held::new(rt, alloc, bookie, pass), &receipts);
 }
 
 /// An ordinary add before the fence and a recovery add after it are accepted; between them an ordinary one is refused.
@@ -27,24 +75,7 @@ fn run<L: AddLedger, R: Wait + Abort>(rt: &R, alloc: Global, blank: Blank)
     requires each { blank.parts ≡ 2 }
     requires honest { L.honest ≡ true }
 {
-    let bookie = open::<L, R>(rt, alloc, blank, 1);
-    let mut pass = bookie.pass(rt).expect(rt, "a pass");
-    let first = receipt_of(rt, bookie.add(rt, &mut pass, &payload(1, 0, b'a')));
-    assert_eq!(rt; bookie.fence(rt, &mut pass, 1), Ok(Fence::Fenced));
-    let fenced = bookie.add(rt, &mut pass, &payload(1, 1, b'b'));
-    assert_eq!(rt; fenced, Err(CallFault::Of(AddFault::Fenced)));
-    let held = bookie.add_recovery(rt, &mut pass, &payload(1, 0, b'z'));
-    assert_eq!(rt; held, Ok(Added::Held));
-    let second = receipt_of(rt, bookie.add_recovery(rt, &mut pass, &payload(1, 1, b'b')));
-    assert_eq!(rt; bookie.fence(rt, &mut pass, 1), Ok(Fence::AlreadyFenced));
-    assert_eq!(rt; (first.number, second.number), (0, 2));
-    let marks = [mark_of(&first), Mark::Fence { ledger: 1 }, mark_of(&second)];
-    let passes = Vec::from_array(alloc, [pass]).expect(rt, "memory");
-    let Ok(finished) = bookie.finish(passes, &[first, second]) else {
-        panic!(rt; "not ended")
-    };
-    assert_eq!(rt; finished.adds, 2);
-    assert_eq!(rt; finished.store.trail(), marks.as_slice());
+    live(rt, alloc, open::<L, R>(rt, alloc, blank, 1, SETTINGS, &[9]));
 }
 
 #[test]

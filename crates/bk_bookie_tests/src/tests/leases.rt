@@ -2,14 +2,14 @@
 
 ghost use Rattle.std.specs.Prelude.{◌≡◌, true};
 
-use super::{key, open};
+use super::calls::{Held, View, accepted, add, delete, disk_of, pass, shows, take_steps};
+use super::{SETTINGS, key, open};
 use bk_bookie::{AddLedger, Bookie, Pass};
-use bk_disk::{LogDisk, MemDisk};
+use bk_disk::MemDisk;
 use bk_drive::{Answer, CloseAnswer, RetireAnswer, RollAnswer, Work};
 use bk_lease::Lease;
-use bk_log::fetch;
 use bk_record::{Key, Location};
-use bk_store::{Added, Store, Taken};
+use bk_store::{Store, Taken};
 use std::alloc::Global;
 use std::marker::Brand;
 use std::process::Abort;
@@ -21,21 +21,18 @@ use std::thread::Threads;
 /// The payload of entry 0 of ledger 1.
 const HELLO: &[u8] = b"\0\0\0\0\0\0\0\x01\0\0\0\0\0\0\0\0hello";
 
-/// A lease of a log, and where the entry stands in it.
+/// A lease of a log, and where the entry of this key stands in it.
 #[derive(Drop)]
 struct Leased {
-    lease: Lease<<MemDisk as LogDisk>::View>,
+    lease: Lease<View>,
     location: Location,
+    key: Key,
 }
 
 impl Leased {
-    /// What is read by the lease.
-    fn read<R: Abort>(&self, rt: &R, alloc: Global) -> Vec<u8> {
-        let key = key(1, 0).expect(rt, "a key");
-        match fetch(self.lease.view(), alloc, self.location, key) {
-            Ok(payload) => payload,
-            Err(fault) => panic!(rt; "{fault}"),
-        }
+    /// Whether the entry is read by the lease.
+    fn shows_hello(&self, alloc: Global) -> bool {
+        shows(alloc, &self.lease, self.location, self.key, HELLO)
     }
 }
 
@@ -45,9 +42,13 @@ fn lease<L: AddLedger, R: Wait + Abort>(
     bookie: &Bookie<L, MemDisk>,
     pass: &mut Pass<L>,
 ) -> Leased {
-    let key = key(1, 0).expect(rt, "a key");
+    let key = key(rt, 1, 0);
     match bookie.take(rt, pass, key) {
-        Ok(Taken::Leased(lease, location)) => Leased { lease, location },
+        Ok(Taken::Leased(lease, location)) => Leased {
+            lease,
+            location,
+            key,
+        },
         _ => panic!(rt; "no lease"),
     }
 }
@@ -82,48 +83,180 @@ fn release_all(leases: Vec<Leased>) {
     }
 }
 
-/// Whether a payload is empty; one that is not is handed back.
-fn is_empty(payload: Vec<u8>) -> Result<bool, Vec<u8>> {
-    if payload.is_empty() {
-        Ok(true)
+/// The entry was read.
+#[derive(Drop)]
+struct Read;
+
+/// Nothing where the entry is not read by the lease; else an error.
+fn is_not_read(leased: &Leased, alloc: Global) -> Result<(), Read> {
+    if leased.shows_hello(alloc) {
+        Err(Read)
     } else {
-        Err(payload)
+        Ok(())
     }
 }
 
 /// Reads by the first lease, and leaves by `?`, which drops them all.
-fn leave<R: Abort>(rt: &R, alloc: Global, leases: Vec<Leased>) -> Result<bool, Vec<u8>> {
-    let payload = leases.first().expect(rt, "a lease").read(rt, alloc);
-    let is_empty = is_empty(payload)?;
+fn leave<R: Abort>(rt: &R, alloc: Global, leases: Vec<Leased>) -> Result<(), Read> {
+    is_not_read(leases.first().expect(rt, "a lease"), alloc)?;
     release_all(leases);
-    Ok(is_empty)
+    Ok(())
+}
+
+/// Whether the next step seals log 0.
+fn seals<L: AddLedger, R: Wait>(rt: &R, bookie: &Bookie<L, MemDisk>) -> bool {
+    matches!(
+        bookie.step(rt, Work::Roll),
+        Answer::Roll(Ok(RollAnswer::Sealed(0)))
+    )
+}
+
+/// Whether the next step retires log 0.
+fn retires<L: AddLedger, R: Wait>(rt: &R, bookie: &Bookie<L, MemDisk>) -> bool {
+    matches!(
+        bookie.step(rt, Work::Retire(0)),
+        Answer::Retire(RetireAnswer::Retired(0))
+    )
+}
+
+/// How many leases of log 0 are out where it is to be closed.
+fn leases_out<L: AddLedger, R: Wait>(rt: &R, bookie: &Bookie<L, MemDisk>) -> Option<u64> {
+    match bookie.step(rt, Work::Close(0)) {
+        Answer::Close(CloseAnswer::Leased(count)) => Some(count),
+        _ => None,
+    }
 }
 
 /// Adds the entry, flushes it into log 0, and seals the log.
 fn fill<L: AddLedger, R: Wait + Abort>(rt: &R, bookie: &Bookie<L, MemDisk>, pass: &mut Pass<L>) {
-    let added = bookie.add(rt, pass, HELLO);
-    assert!(rt; matches!(added, Ok(Added::Accepted(_))));
-    for work in [Work::Swap, Work::WriteOne, Work::Publish] {
-        let _ = bookie.step(rt, work);
+    let _ = accepted(rt, add(rt, bookie, pass, HELLO));
+    take_steps(rt, bookie, &[Work::Swap, Work::WriteOne, Work::Publish]);
+    assert!(rt; seals(rt, bookie));
+}
+
+/// Asks for the disk while one lease is out, and is given the store.
+fn ask_in_vain<R: Abort>(rt: &R, store: Store<MemDisk>) -> Store<MemDisk> {
+    match store.into_disk() {
+        Ok(_) => panic!(rt; "the disk, with a lease out"),
+        Err(refused) => {
+            assert!(rt; refused.log == 0 && refused.count == 1);
+            refused.store
+        }
     }
-    let rolled = bookie.step(rt, Work::Roll);
-    assert!(rt; matches!(rolled, Answer::Roll(Ok(RollAnswer::Sealed(0)))));
 }
 
 /// The store gives its disk back once the last lease is.
 fn ask_for_disk<R: Abort>(rt: &R, alloc: Global, store: Store<MemDisk>, last: Leased) {
-    let refused = match store.into_disk() {
-        Ok(_) => panic!(rt; "the disk, with a lease out"),
-        Err(refused) => refused,
-    };
-    assert_eq!(rt; (refused.log, refused.count), (0, 1));
-    assert_eq!(rt; last.read(rt, alloc).as_slice(), HELLO);
+    let store = ask_in_vain(rt, store);
+    assert!(rt; last.shows_hello(alloc));
     last.lease.release().end();
-    assert!(rt; refused.store.into_disk().is_ok());
+    let _disk = disk_of(rt, store);
+}
+
+/// Two callers lease the entry a hundred times each, at once.
+fn lease_by_both<L: AddLedger + Send + Sync, R: Threads + Wait + Abort + Sync>(
+    rt: &R,
+    alloc: Global,
+    bookie: &Bookie<L, MemDisk>,
+) -> (Caller<L>, Caller<L>) {
+    let first = pass(rt, bookie);
+    let second = pass(rt, bookie);
+    thread::join(
+        rt,
+        move || lease_many(rt, alloc, bookie, first),
+        move || lease_many(rt, alloc, bookie, second),
+    )
+}
+
+/// One caller gives its leases back, and one drops them, at once.
+fn let_go<R: Threads + Wait + Abort + Sync>(
+    rt: &R,
+    alloc: Global,
+    given: Vec<Leased>,
+    dropped: Vec<Leased>,
+) {
+    let (_, left) = thread::join(
+        rt,
+        move || release_all(given),
+        move || leave(rt, alloc, dropped).is_err(),
+    );
+    assert!(rt; left);
+}
+
+/// Whether the ledger goes with its entry and its log is retired, but not closed.
+fn goes<L: AddLedger, R: Wait>(rt: &R, bookie: &Bookie<L, MemDisk>, pass: &mut Pass<L>) -> bool {
+    matches!(delete(rt, bookie, pass, 1), Some(1))
+        && retires(rt, bookie)
+        && matches!(leases_out(rt, bookie), Some(201))
+}
+
+/// Adds the entry, and leases it for main from the log that it is flushed into.
+fn lease_main<L: AddLedger, R: Wait + Abort>(
+    rt: &R,
+    bookie: &Bookie<L, MemDisk>,
+    pass: &mut Pass<L>,
+) -> Leased {
+    fill(rt, bookie, pass);
+    let main = lease(rt, bookie, pass);
+    assert!(rt; main.location.value() == 1028);
+    main
+}
+
+/// Lets two callers have their leases while the ledger goes, and then give them back. Their passes.
+fn lend_to_both<L: AddLedger + Send + Sync, R: Threads + Wait + Abort + Sync>(
+    rt: &R,
+    alloc: Global,
+    bookie: &Bookie<L, MemDisk>,
+    pass: &mut Pass<L>,
+) -> (Pass<L>, Pass<L>) {
+    let (first, second) = lease_by_both(rt, alloc, bookie);
+    assert!(rt; goes(rt, bookie, pass));
+    let Caller {
+        pass: one,
+        leases: given,
+    } = first;
+    let Caller {
+        pass: other,
+        leases: dropped,
+    } = second;
+    let_go(rt, alloc, given, dropped);
+    (one, other)
+}
+
+/// Whether main's lease is the only one, and the entry is read by it.
+fn is_last<L: AddLedger, R: Wait>(
+    rt: &R,
+    alloc: Global,
+    bookie: &Bookie<L, MemDisk>,
+    main: &Leased,
+) -> bool {
+    matches!(leases_out(rt, bookie), Some(1)) && main.shows_hello(alloc)
+}
+
+/// Ends the bookie while main has its lease.
+fn end<L: AddLedger, R: Abort>(rt: &R, alloc: Global, held: Held<L>, main: Leased) {
+    let finished = held.end(rt, &[]);
+    assert!(rt; finished.adds == 1);
+    ask_for_disk(rt, alloc, finished.store, main);
 }
 
 /// Main leases the entry once, and two callers a hundred times each. Then the ledger goes and its log is retired; the callers
 /// give their leases back, and main's outlives the bookie.
+fn live<L: AddLedger + Send + Sync, R: Threads + Wait + Abort + Sync>(
+    rt: &R,
+    alloc: Global,
+    bookie: Bookie<L, MemDisk>,
+) {
+    let mut third = pass(rt, &bookie);
+    let main = lease_main(rt, &bookie, &mut third);
+    let (first, second) = lend_to_both(rt, alloc, &bookie, &mut third);
+    assert!(rt; is_last(rt, alloc, &bookie, &main));
+    let held = Held::new(rt, alloc, bookie, third);
+    let held = held.with(rt, first).with(rt, second);
+    end(rt, alloc, held, main);
+}
+
+/// The whole run.
 fn run<L: AddLedger + Send + Sync, R: Threads + Wait + Abort + Sync>(
     rt: &R,
     alloc: Global,
@@ -134,53 +267,7 @@ fn run<L: AddLedger + Send + Sync, R: Threads + Wait + Abort + Sync>(
     requires each { blank.parts ≡ 4 }
     requires honest { L.honest ≡ true }
 {
-    let bookie = open::<L, R>(rt, alloc, blank, 3);
-    let first = bookie.pass(rt).expect(rt, "a first pass");
-    let second = bookie.pass(rt).expect(rt, "a second pass");
-    let mut third = bookie.pass(rt).expect(rt, "a third pass");
-    fill(rt, &bookie, &mut third);
-    let main = lease(rt, &bookie, &mut third);
-    assert_eq!(rt; main.location.value(), 1028);
-    let shared = &bookie;
-    let (first, second) = thread::join(
-        rt,
-        move || lease_many(rt, alloc, shared, first),
-        move || lease_many(rt, alloc, shared, second),
-    );
-    assert_eq!(rt; bookie.delete(rt, &mut third, 1), Ok(1));
-    assert!(rt;
-        matches!(
-            bookie.step(rt, Work::Retire(0)),
-            Answer::Retire(RetireAnswer::Retired(0))
-        )
-    );
-    assert!(rt;
-        matches!(
-            bookie.step(rt, Work::Close(0)),
-            Answer::Close(CloseAnswer::Leased(201))
-        )
-    );
-    let given = first.leases;
-    let dropped = second.leases;
-    let (_, left) = thread::join(
-        rt,
-        move || release_all(given),
-        move || leave(rt, alloc, dropped),
-    );
-    assert!(rt; matches!(&left, Err(payload) if payload.as_slice() == HELLO));
-    assert!(rt;
-        matches!(
-            bookie.step(rt, Work::Close(0)),
-            Answer::Close(CloseAnswer::Leased(1))
-        )
-    );
-    assert_eq!(rt; main.read(rt, alloc).as_slice(), HELLO);
-    let passes = Vec::from_array(alloc, [first.pass, second.pass, third]).expect(rt, "memory");
-    let Ok(finished) = bookie.finish(passes, &[]) else {
-        panic!(rt; "not ended")
-    };
-    assert_eq!(rt; finished.adds, 1);
-    ask_for_disk(rt, alloc, finished.store, main);
+    live(rt, alloc, open::<L, R>(rt, alloc, blank, 3, SETTINGS, &[9]));
 }
 
 #[test]

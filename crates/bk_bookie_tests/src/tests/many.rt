@@ -4,14 +4,13 @@
 
 ghost use Rattle.std.specs.Prelude.{◌≡◌, true};
 
-use super::{is_cached, key, payload};
-use bk_bookie::{AddLedger, Bookie, CallFault, Gate, Pass};
+use super::calls::{AddTold, TakeTold, add, delete, pass, take};
+use super::{open, payload};
+use bk_bookie::{AddLedger, Bookie, Gate, Pass, WorkReport};
 use bk_disk::MemDisk;
 use bk_drive::{Kind, Work};
-use bk_log::fetch;
-use bk_record::Key;
-use bk_store::{AddFault, Added, Receipt, Settings, Taken};
-use crossbeam_channel::{Receiver, Sender, bounded};
+use bk_store::{Receipt, Settings};
+use crossbeam_channel::{Sender, bounded};
 use std::alloc::Global;
 use std::marker::Brand;
 use std::process::Abort;
@@ -140,38 +139,53 @@ impl<L: AddLedger> Caller<L> {
         entry: u16,
     ) -> Option<u8> {
         let payload = payload(self.part.ledger, entry, self.part.own);
-        match bookie.add(rt, &mut self.pass, &payload) {
-            Ok(Added::Accepted(receipt)) => {
+        match add(rt, bookie, &mut self.pass, &payload) {
+            AddTold::Accepted(receipt) => {
                 self.receipts.push(receipt).expect(rt, "memory");
                 Some(self.part.own)
             }
-            Ok(Added::Held) => Some(self.part.other),
-            Err(fault) => {
-                assert_eq!(rt; fault, CallFault::Of(AddFault::Deleted));
-                None
-            }
+            AddTold::Held => Some(self.part.other),
+            AddTold::Deleted => None,
+            _ => panic!(rt; "entry {entry} was refused"),
         }
     }
 
-    /// Takes an entry that has this byte, or of which the ledger was deleted.
-    fn take<R: Wait + Abort>(
+    /// Whether a take of an entry gives it with this byte, or tells that its ledger is the one which is deleted.
+    fn finds<R: Wait + Abort>(
         &mut self,
         rt: &R,
         alloc: Global,
         bookie: &Bookie<L, MemDisk>,
         entry: u16,
         data: u8,
-    ) {
+    ) -> bool {
         let ledger = self.part.ledger;
-        let key = key(ledger, entry).expect(rt, "a key");
         let payload = payload(ledger, entry, data);
-        match bookie.take(rt, &mut self.pass, key) {
-            Ok(Taken::Deleted) => assert_eq!(rt; ledger, DELETED),
-            Ok(Taken::Leased(lease, location)) => {
-                let read = fetch(lease.view(), alloc, location, key);
-                assert_eq!(rt; read.as_deref(), Ok(payload.as_slice()));
-            }
-            taken => assert!(rt; is_cached(&taken, &payload), "entry {entry} of {ledger}"),
+        match take(rt, alloc, bookie, &mut self.pass, (ledger, entry), &payload) {
+            TakeTold::Deleted => ledger == DELETED,
+            TakeTold::Cached | TakeTold::Logged => true,
+            _ => false,
+        }
+    }
+
+    /// Adds an entry, and takes it.
+    fn add_and_take<R: Wait + Abort>(
+        &mut self,
+        rt: &R,
+        alloc: Global,
+        bookie: &Bookie<L, MemDisk>,
+        entry: u16,
+    ) {
+        if let Some(data) = self.add(rt, bookie, entry) {
+            assert!(rt; self.finds(rt, alloc, bookie, entry, data), "entry {entry}");
+        }
+    }
+
+    /// Whether the deletion of the ledger takes more than its first entries.
+    fn deletes<R: Wait>(&mut self, rt: &R, bookie: &Bookie<L, MemDisk>) -> bool {
+        match delete(rt, bookie, &mut self.pass, DELETED) {
+            Some(entries) => entries > u64::from(LAST),
+            None => false,
         }
     }
 
@@ -181,26 +195,38 @@ impl<L: AddLedger> Caller<L> {
         self.asked = self.asked.saturating_add(1);
     }
 
-    /// Asks for what is to be done after this entry: a write, and now and then a flush, a new log or a compaction.
+    /// Asks for what is to be done after this entry.
     fn ask_on<R: Wait + Abort>(&mut self, rt: &R, works: &Sender<Work>, entry: u16) {
         self.ask(rt, works, Work::WriteOne);
-        match entry % 32 {
-            0 => self.ask(rt, works, Work::Swap),
-            15 => self.ask(rt, works, Work::Publish),
-            20 => self.ask(rt, works, Work::Roll),
-            21 => self.ask(rt, works, Work::Begin(Kind::Minor)),
-            22 => self.ask(rt, works, Work::Copy(1000)),
-            23 => self.ask(rt, works, Work::EndCopy),
-            24 => self.ask(rt, works, Work::Switch(1000)),
-            25 => self.ask(rt, works, Work::Finish),
-            _ => {}
+        if let Some(work) = rare_work(entry) {
+            self.ask(rt, works, work);
         }
-        let log = u32::from(entry % 16);
-        match entry % 3 {
-            0 => self.ask(rt, works, Work::Retire(log)),
-            1 => self.ask(rt, works, Work::Close(log)),
-            _ => self.ask(rt, works, Work::Remove(log)),
-        }
+        self.ask(rt, works, last_work(entry));
+    }
+}
+
+/// A step of a flush, of a new log or of a compaction, which is asked for now and then.
+fn rare_work(entry: u16) -> Option<Work> {
+    match entry % 32 {
+        0 => Some(Work::Swap),
+        15 => Some(Work::Publish),
+        20 => Some(Work::Roll),
+        21 => Some(Work::Begin(Kind::Minor)),
+        22 => Some(Work::Copy(1000)),
+        23 => Some(Work::EndCopy),
+        24 => Some(Work::Switch(1000)),
+        25 => Some(Work::Finish),
+        _ => None,
+    }
+}
+
+/// A step towards the removal of a log, which is asked for after each entry.
+fn last_work(entry: u16) -> Work {
+    let log = u32::from(entry % 16);
+    match entry % 3 {
+        0 => Work::Retire(log),
+        1 => Work::Close(log),
+        _ => Work::Remove(log),
     }
 }
 
@@ -219,12 +245,9 @@ fn call<L: AddLedger, R: Wait + Abort>(
         asked: 0,
     };
     for entry in 0..ENTRIES {
-        if let Some(data) = caller.add(rt, bookie, entry) {
-            caller.take(rt, alloc, bookie, entry, data);
-        }
+        caller.add_and_take(rt, alloc, bookie, entry);
         if caller.part.deletes && entry == LAST {
-            let dropped = bookie.delete(rt, &mut caller.pass, u64::from(DELETED));
-            assert!(rt; matches!(dropped, Ok(entries) if entries > u64::from(LAST)));
+            assert!(rt; caller.deletes(rt, bookie));
         }
         caller.ask_on(rt, works, entry);
     }
@@ -255,11 +278,43 @@ fn pass_all<L: AddLedger, R: Wait + Abort>(
     bookie: &Bookie<L, MemDisk>,
 ) -> Vec<Waiting<L>> {
     let mut waiting = Vec::new(alloc);
-    for part in PARTS {
-        let pass = bookie.pass(rt).expect(rt, "a pass");
-        waiting.push(Waiting { pass, part }).expect(rt, "memory");
+    for part in &PARTS {
+        let waiter = Waiting {
+            pass: pass(rt, bookie),
+            part: *part,
+        };
+        waiting.push(waiter).expect(rt, "memory");
     }
     waiting
+}
+
+/// How many works all callers asked for.
+fn asked_of<L: AddLedger>(callers: &[Caller<L>]) -> u64 {
+    let mut asked = 0_u64;
+    for caller in callers {
+        asked = asked.saturating_add(caller.asked);
+    }
+    asked
+}
+
+/// Lets all callers call, and two workers do the works that they ask for. Each is done, and none is answered by a fault.
+fn let_all_call<L: AddLedger + Send + Sync, R: Threads + Wait + Abort + Sync>(
+    rt: &R,
+    alloc: Global,
+    bookie: &Bookie<L, MemDisk>,
+) -> Vec<Caller<L>> {
+    let waiting = pass_all(rt, alloc, bookie);
+    let (sender, works) = bounded(alloc, 64).expect(rt, "memory");
+    let (report, callers) = thread::join(
+        rt,
+        || bookie.workers(rt, alloc, 2, &works, &OpenGate),
+        || call_all(rt, alloc, bookie, waiting, sender),
+    );
+    let Ok(WorkReport { answered, faults }) = report else {
+        panic!(rt; "no workers")
+    };
+    assert!(rt; faults == 0 && answered == asked_of(&callers));
+    callers
 }
 
 /// The whole run.
@@ -273,27 +328,8 @@ fn run<L: AddLedger + Send + Sync, R: Threads + Wait + Abort + Sync>(
     requires each { blank.parts ≡ 9 }
     requires honest { L.honest ≡ true }
 {
-    let disk = MemDisk::new(alloc);
-    let Ok(bookie) = Bookie::<L, MemDisk>::open(alloc, blank, 8, disk, SETTINGS, &[]) else {
-        panic!(rt; "not opened")
-    };
-    let waiting = pass_all(rt, alloc, &bookie);
-    let (sender, works) = bounded(alloc, 64).expect(rt, "memory");
-    let shared = &bookie;
-    let (report, callers) = thread::join(
-        rt,
-        || shared.workers(rt, alloc, 2, &works, &OpenGate),
-        || call_all(rt, alloc, shared, waiting, sender),
-    );
-    let Ok(report) = report else {
-        panic!(rt; "no workers")
-    };
-    assert_eq!(rt; report.faults, 0);
-    let mut asked = 0_u64;
-    for caller in &callers {
-        asked = asked.saturating_add(caller.asked);
-    }
-    assert_eq!(rt; report.answered, asked);
+    let bookie = open::<L, R>(rt, alloc, blank, 8, SETTINGS, &[]);
+    let callers = let_all_call(rt, alloc, &bookie);
     end(rt, alloc, bookie, callers);
 }
 

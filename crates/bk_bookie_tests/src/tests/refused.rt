@@ -3,20 +3,21 @@
 //!
 //! In a plain run no allocation is refused. `rt try --test --fail-alloc N -- each_allocation` refuses the Nth one.
 
-ghost use Rattle.std.specs.Prelude.{◌≡◌, true};
+ghost use Rattle.std.specs.Prelude.{◌≡◌, ◌+◌, true, IfErr};
 
-use super::{SETTINGS, is_cached, key, payload};
-use bk_bookie::{AddLedger, Bookie, CallFault, FinishFault, OpenRefused, Pass, ReadBackFault};
-use bk_disk::{LogDisk, MemDisk};
-use bk_store::{AddFault, Added, OpenFault, Receipt, TakeFault, Taken};
+use super::calls::{
+    AddTold, Held, TakeTold, accepted, add, has_ended_with, is_deleted, is_missing, is_other, pass,
+    read_back, take,
+};
+use super::{SETTINGS, beyond, mark_of, payload, with_other_digest};
+use bk_bookie::{AddLedger, Bookie, FinishFault, OpenRefused, Pass};
+use bk_disk::MemDisk;
+use bk_store::{OpenFault, Receipt};
 use std::alloc::Global;
 use std::marker::Brand;
 use std::process::Abort;
 use std::sync::Wait;
 use std::sync::ledger::Blank;
-
-/// What a take gives here.
-type Given = Taken<<MemDisk as LogDisk>::View>;
 
 /// A bookie, the pass of its one caller, and how many calls were refused.
 #[derive(Drop)]
@@ -26,131 +27,132 @@ struct Trial<L: AddLedger> {
     refused: u32,
 }
 
+/// A bookie of one pass over a new disk, where ledger 9 is dead.
+fn open<L: AddLedger>(alloc: Global, blank: Blank) -> Result<Bookie<L, MemDisk>, OpenRefused>
+    requires name { blank.name ≡ L.name }
+    requires parts { blank.parts ≡ L.parts }
+    requires each { blank.parts ≡ 2 }
+    requires honest { L.honest ≡ true }
+    ensures blank { IfErr result (λ refused. refused.blank ≡ blank) }
+{
+    Bookie::open(alloc, blank, 1, MemDisk::new(alloc), SETTINGS, &[9])
+}
+
+/// A bookie of one pass, and how many openings were refused: one that was is made again.
+fn open_again<L: AddLedger, R: Abort>(
+    rt: &R,
+    alloc: Global,
+    blank: Blank,
+) -> (Bookie<L, MemDisk>, u32)
+    requires name { blank.name ≡ L.name }
+    requires parts { blank.parts ≡ L.parts }
+    requires each { blank.parts ≡ 2 }
+    requires honest { L.honest ≡ true }
+{
+    let OpenRefused { fault, blank } = match open::<L>(alloc, blank) {
+        Ok(bookie) => return (bookie, 0),
+        Err(refused) => refused,
+    };
+    assert!(rt; matches!(fault, OpenFault::Memory));
+    match open::<L>(alloc, blank) {
+        Ok(bookie) => (bookie, 1),
+        Err(_) => panic!(rt; "not opened"),
+    }
+}
+
 impl<L: AddLedger> Trial<L> {
     /// Notes that a call was refused.
     fn note_refusal(&mut self) {
         self.refused = self.refused.saturating_add(1);
     }
 
-    /// Opens a bookie of one pass, where ledger 9 is dead: a refused opening is made again on a new disk.
-    fn open<R: Wait + Abort>(rt: &R, alloc: Global, blank: Blank) -> Trial<L>
-        requires name { blank.name ≡ L.name }
-        requires parts { blank.parts ≡ L.parts }
-        requires each { blank.parts ≡ 2 }
-        requires honest { L.honest ≡ true }
-    {
-        let mut refused = 0;
-        let bookie = match Bookie::open(alloc, blank, 1, MemDisk::new(alloc), SETTINGS, &[9]) {
-            Ok(bookie) => bookie,
-            Err(OpenRefused { fault, blank }) => {
-                assert_eq!(rt; fault, OpenFault::Memory);
-                refused = 1;
-                match Bookie::open(alloc, blank, 1, MemDisk::new(alloc), SETTINGS, &[9]) {
-                    Ok(bookie) => bookie,
-                    Err(again) => panic!(rt; "{}", again.fault),
-                }
-            }
-        };
-        let pass = bookie.pass(rt).expect(rt, "a pass");
-        Trial {
-            bookie,
-            pass,
-            refused,
-        }
-    }
-
-    fn add<R: Wait>(&mut self, rt: &R, payload: &[u8]) -> Result<Added, CallFault<AddFault>> {
-        let answer = self.bookie.add(rt, &mut self.pass, payload);
-        if answer != Err(CallFault::Of(AddFault::Memory)) {
-            return answer;
+    fn add<R: Wait>(&mut self, rt: &R, payload: &[u8]) -> AddTold {
+        match add(rt, &self.bookie, &mut self.pass, payload) {
+            AddTold::Memory => {}
+            told => return told,
         }
         self.note_refusal();
-        self.bookie.add(rt, &mut self.pass, payload)
+        add(rt, &self.bookie, &mut self.pass, payload)
     }
 
     fn take<R: Wait + Abort>(
         &mut self,
         rt: &R,
-        ledger: u8,
-        entry: u16,
-    ) -> Result<Given, CallFault<TakeFault>> {
-        let key = key(ledger, entry).expect(rt, "a key");
-        match self.bookie.take(rt, &mut self.pass, key) {
-            Err(CallFault::Of(TakeFault::Memory)) => {}
-            answer => return answer,
+        alloc: Global,
+        entry: (u8, u16),
+        payload: &[u8],
+    ) -> TakeTold {
+        match take(rt, alloc, &self.bookie, &mut self.pass, entry, payload) {
+            TakeTold::Memory => {}
+            told => return told,
         }
         self.note_refusal();
-        self.bookie.take(rt, &mut self.pass, key)
+        take(rt, alloc, &self.bookie, &mut self.pass, entry, payload)
     }
 
-    fn read_back<R: Wait>(&mut self, rt: &R, receipt: &Receipt) -> Result<Given, ReadBackFault> {
-        match self.bookie.read_back(rt, &mut self.pass, receipt) {
-            Err(ReadBackFault::Of(TakeFault::Memory)) => {}
-            answer => return answer,
+    fn read_back<R: Wait>(
+        &mut self,
+        rt: &R,
+        alloc: Global,
+        receipt: &Receipt,
+        payload: &[u8],
+    ) -> TakeTold {
+        match read_back(rt, alloc, &self.bookie, &mut self.pass, receipt, payload) {
+            TakeTold::Memory => {}
+            told => return told,
         }
         self.note_refusal();
-        self.bookie.read_back(rt, &mut self.pass, receipt)
+        read_back(rt, alloc, &self.bookie, &mut self.pass, receipt, payload)
+    }
+
+    /// Whether a take of an entry of ledger 1 gives its first payload from a cache.
+    fn finds<R: Wait + Abort>(&mut self, rt: &R, alloc: Global, entry: u16) -> bool {
+        let told = self.take(rt, alloc, (1, entry), &payload(1, entry, b'a'));
+        matches!(told, TakeTold::Cached)
     }
 
     /// Adds an entry of ledger 1, which is accepted, and another one of the same key, which is held. A take gives the first.
-    fn add_twice<R: Wait + Abort>(&mut self, rt: &R, entry: u16) -> Receipt {
-        let receipt = match self.add(rt, &payload(1, entry, b'a')) {
-            Ok(Added::Accepted(receipt)) => receipt,
-            answer => panic!(rt; "{answer:?}"),
-        };
-        let taken = self.take(rt, 1, entry);
-        assert!(rt;
-            is_cached(&taken, &payload(1, entry, b'a')),
-            "entry {entry}"
-        );
+    fn add_twice<R: Wait + Abort>(&mut self, rt: &R, alloc: Global, entry: u16) -> Receipt {
+        let receipt = accepted(rt, self.add(rt, &payload(1, entry, b'a')));
+        assert!(rt; self.finds(rt, alloc, entry));
         let held = self.add(rt, &payload(1, entry, b'b'));
-        assert_eq!(rt; held, Ok(Added::Held));
-        let taken = self.take(rt, 1, entry);
-        assert!(rt;
-            is_cached(&taken, &payload(1, entry, b'a')),
-            "entry {entry}"
-        );
+        assert!(rt; matches!(held, AddTold::Held));
+        assert!(rt; self.finds(rt, alloc, entry));
         receipt
     }
 
     /// Adds entries 0 to 99. Their receipts have the numbers 0 to 99.
-    fn add_all<R: Wait + Abort>(&mut self, rt: &R) -> [Receipt; 100] {
-        let mut receipts = [self.add_twice(rt, 0); 100];
+    fn add_all<R: Wait + Abort>(&mut self, rt: &R, alloc: Global) -> [Receipt; 100] {
+        let mut receipts = [self.add_twice(rt, alloc, 0); 100];
         for entry in 1..100 {
-            receipts[entry as usize] = self.add_twice(rt, entry);
+            receipts[entry as usize] = self.add_twice(rt, alloc, entry);
         }
         receipts
     }
 
+    /// Whether a receipt has this number, and is read back with the payload of its entry from a cache.
+    fn reads_back<R: Wait>(&mut self, rt: &R, alloc: Global, receipt: Receipt, entry: u16) -> bool {
+        let told = self.read_back(rt, alloc, &receipt, &payload(1, entry, b'a'));
+        receipt.number == u64::from(entry) && matches!(told, TakeTold::Cached)
+    }
+
     /// Reads all receipts back.
-    fn read_all<R: Wait + Abort>(&mut self, rt: &R, receipts: &[Receipt; 100]) {
+    fn read_all<R: Wait + Abort>(&mut self, rt: &R, alloc: Global, receipts: &[Receipt; 100]) {
         for entry in 0..100 {
             let receipt = receipts[entry as usize];
-            assert_eq!(rt; receipt.number, u64::from(entry));
-            let taken = self.read_back(rt, &receipt);
-            assert!(rt;
-                is_cached(&taken, &payload(1, entry, b'a')),
-                "entry {entry}"
-            );
+            assert!(rt; self.reads_back(rt, alloc, receipt, entry), "entry {entry}");
         }
     }
 
-    /// The other answers of the run: a key of a dead ledger, receipts past the trail and of another digest.
-    fn ask_others<R: Wait + Abort>(&mut self, rt: &R, receipt: Receipt) {
-        let dead = self.take(rt, 9, 0);
-        assert!(rt; matches!(dead, Ok(Taken::Deleted)));
-        let beyond = Receipt {
-            number: 100,
-            ..receipt
-        };
-        let missing = self.read_back(rt, &beyond);
-        assert!(rt; matches!(missing, Err(ReadBackFault::Missing(100))));
-        let other = Receipt {
-            digest: [7; 32],
-            ..receipt
-        };
-        let differs = self.read_back(rt, &other);
-        assert!(rt; matches!(differs, Err(ReadBackFault::Differs(_))));
+    /// Whether the other answers of the run are right: a key of a dead ledger, receipts past the trail and of another digest.
+    fn are_told<R: Wait + Abort>(&mut self, rt: &R, alloc: Global, receipt: &Receipt) -> bool {
+        let past = beyond(receipt);
+        let other = with_other_digest(receipt);
+        let mark = mark_of(receipt);
+        let dead = self.take(rt, alloc, (9, 0), b"");
+        let missing = self.read_back(rt, alloc, &past, b"");
+        let differs = self.read_back(rt, alloc, &other, b"");
+        is_deleted(dead) && is_missing(missing, 100) && is_other(differs, &mark)
     }
 
     /// Ends the bookie, after a refusal with no pass. Only the list of passes takes memory.
@@ -160,23 +162,28 @@ impl<L: AddLedger> Trial<L> {
             pass,
             mut refused,
         } = self;
-        let Err(kept) = bookie.finish(Vec::new(alloc), receipts) else {
-            panic!(rt; "ended")
+        let held = Held {
+            bookie,
+            passes: Vec::new(alloc),
         };
-        assert_eq!(rt; kept.fault, FinishFault::PassesOut(1));
-        let mut passes = kept.passes;
-        if passes.reserve(1).is_err() {
+        let mut held = held.is_refused(rt, receipts, FinishFault::PassesOut(1));
+        if held.passes.reserve(1).is_err() {
             refused = refused.saturating_add(1);
-            passes.reserve(1).expect(rt, "memory");
+            held.passes.reserve(1).expect(rt, "memory");
         }
-        passes.push_reserved(pass);
-        let Ok(finished) = kept.bookie.finish(passes, receipts) else {
-            panic!(rt; "not ended")
-        };
-        assert_eq!(rt; finished.adds, 100);
-        assert_eq!(rt; finished.store.trail().len(), 100);
+        held.passes.push_reserved(pass);
+        assert!(rt; has_ended_with(&held.end(rt, receipts), 100, 100));
         refused
     }
+}
+
+/// The run of an opened bookie.
+fn try_all<L: AddLedger, R: Wait + Abort>(rt: &R, alloc: Global, mut trial: Trial<L>) {
+    let receipts = trial.add_all(rt, alloc);
+    trial.read_all(rt, alloc, &receipts);
+    assert!(rt; trial.are_told(rt, alloc, &receipts[0]));
+    let refused = trial.end(rt, alloc, &receipts);
+    assert!(rt; refused <= 1, "{refused} calls were refused");
 }
 
 /// The whole run.
@@ -186,12 +193,17 @@ fn run<L: AddLedger, R: Wait + Abort>(rt: &R, alloc: Global, blank: Blank)
     requires each { blank.parts ≡ 2 }
     requires honest { L.honest ≡ true }
 {
-    let mut trial = Trial::<L>::open(rt, alloc, blank);
-    let receipts = trial.add_all(rt);
-    trial.read_all(rt, &receipts);
-    trial.ask_others(rt, receipts[0]);
-    let refused = trial.end(rt, alloc, &receipts);
-    assert!(rt; refused <= 1, "{refused} calls were refused");
+    let (bookie, refused) = open_again::<L, R>(rt, alloc, blank);
+    let pass = pass(rt, &bookie);
+    try_all(
+        rt,
+        alloc,
+        Trial {
+            bookie,
+            pass,
+            refused,
+        },
+    );
 }
 
 #[test]

@@ -2,10 +2,10 @@
 
 ghost use Rattle.std.specs.Prelude.{◌≡◌, true};
 
-use super::{open, payload};
-use bk_bookie::{AddLedger, Bookie, FinishFault, Pass};
-use bk_disk::MemDisk;
-use bk_store::{Added, Receipt};
+use super::calls::{Held, accepted, add, pass};
+use super::{SETTINGS, open, payload};
+use bk_bookie::{AddLedger, FinishFault};
+use bk_store::Receipt;
 use std::alloc::Global;
 use std::marker::Brand;
 use std::process::Abort;
@@ -24,25 +24,11 @@ const FALLING: Order = [(1, b'b'), (0, b'a')];
 /// A third one accepts it first, and then other bytes.
 const OTHER: Order = [(0, b'a'), (1, b'c')];
 
-/// An opened bookie with its one pass, and the receipts of the two entries that it accepted.
+/// A bookie with its one pass, and the receipt of the first of the two entries that it accepted.
 #[derive(Drop)]
 struct Opened<L: AddLedger> {
-    bookie: Bookie<L, MemDisk>,
-    passes: Vec<Pass<L>>,
-    receipts: [Receipt; 2],
-}
-
-/// The receipt of an entry that is accepted.
-fn add<L: AddLedger, R: Wait + Abort>(
-    rt: &R,
-    bookie: &Bookie<L, MemDisk>,
-    pass: &mut Pass<L>,
-    entry: (u16, u8),
-) -> Receipt {
-    match bookie.add(rt, pass, &payload(1, entry.0, entry.1)) {
-        Ok(Added::Accepted(receipt)) => receipt,
-        answer => panic!(rt; "{answer:?}"),
-    }
+    held: Held<L>,
+    first: Receipt,
 }
 
 /// A bookie that accepts two entries in this order.
@@ -57,70 +43,68 @@ fn open_with<L: AddLedger, R: Wait + Abort>(
     requires each { blank.parts ≡ 2 }
     requires honest { L.honest ≡ true }
 {
-    let bookie = open::<L, R>(rt, alloc, blank, 1);
-    let mut pass = bookie.pass(rt).expect(rt, "a pass");
-    let receipts = [
-        add(rt, &bookie, &mut pass, order[0]),
-        add(rt, &bookie, &mut pass, order[1]),
-    ];
+    let bookie = open::<L, R>(rt, alloc, blank, 1, SETTINGS, &[9]);
+    let mut pass = pass(rt, &bookie);
+    let [(early, one), (late, other)] = order;
+    let first = accepted(rt, add(rt, &bookie, &mut pass, &payload(1, early, one)));
+    let _second = accepted(rt, add(rt, &bookie, &mut pass, &payload(1, late, other)));
     Opened {
-        bookie,
-        passes: Vec::from_array(alloc, [pass]).expect(rt, "memory"),
-        receipts,
+        held: Held::new(rt, alloc, bookie, pass),
+        first,
     }
 }
 
-/// The receipts of a bookie that accepts two entries in this order.
-fn receipts<L: AddLedger, R: Wait + Abort>(
+/// The first receipt of a bookie that accepts two entries in this order.
+fn first_receipt<L: AddLedger, R: Wait + Abort>(
     rt: &R,
     alloc: Global,
     blank: Blank,
     order: Order,
-) -> [Receipt; 2]
+) -> Receipt
     requires name { blank.name ≡ L.name }
     requires parts { blank.parts ≡ L.parts }
     requires each { blank.parts ≡ 2 }
     requires honest { L.honest ≡ true }
 {
-    open_with::<L, R>(rt, alloc, blank, order).receipts
+    open_with::<L, R>(rt, alloc, blank, order).first
 }
 
 /// Ends a bookie with a receipt of another one, which it refuses, and then with its own first receipt twice and one of a third
 /// bookie, which are as good.
+fn end<L: AddLedger, R: Abort>(rt: &R, opened: Opened<L>, strange: Receipt, same: Receipt) {
+    let held = opened
+        .held
+        .is_refused(rt, &[strange], FinishFault::Differs(0));
+    let finished = held.end(rt, &[opened.first, opened.first, same]);
+    assert!(rt; finished.adds == 2);
+}
+
+/// Opens a bookie, and ends it with receipts of two others.
 fn run<L: AddLedger, R: Wait + Abort>(
     rt: &R,
     alloc: Global,
     blank: Blank,
-    strange: &Receipt,
-    same: &Receipt,
+    strange: Receipt,
+    same: Receipt,
 )
     requires name { blank.name ≡ L.name }
     requires parts { blank.parts ≡ L.parts }
     requires each { blank.parts ≡ 2 }
     requires honest { L.honest ≡ true }
 {
-    let Opened {
-        bookie,
-        passes,
-        receipts,
-    } = open_with::<L, R>(rt, alloc, blank, RISING);
-    let refused = match bookie.finish(passes, &[*strange]) {
-        Ok(_) => panic!(rt; "ended"),
-        Err(refused) => refused,
-    };
-    assert_eq!(rt; refused.fault, FinishFault::Differs(0));
-    let receipts = [receipts[0], receipts[0], *same];
-    match refused.bookie.finish(refused.passes, &receipts) {
-        Ok(finished) => assert_eq!(rt; finished.adds, 2),
-        Err(refused) => panic!(rt; "{}", refused.fault),
-    }
+    end(
+        rt,
+        open_with::<L, R>(rt, alloc, blank, RISING),
+        strange,
+        same,
+    );
 }
 
 #[test]
 fn receipts_of_other_bookies_say_what_stands_at_a_number(rt: HostRuntime) {
     let alloc = rt.alloc();
-    let falling = receipts::<Brand, HostRuntime>(&rt, alloc, Blank::new(2), FALLING);
-    let other = receipts::<Brand, HostRuntime>(&rt, alloc, Blank::new(2), OTHER);
-    assert_eq!(rt; falling[0].number, 0);
-    run::<Brand, HostRuntime>(&rt, alloc, Blank::new(2), &falling[0], &other[0]);
+    let falling = first_receipt::<Brand, HostRuntime>(&rt, alloc, Blank::new(2), FALLING);
+    let other = first_receipt::<Brand, HostRuntime>(&rt, alloc, Blank::new(2), OTHER);
+    assert!(rt; falling.number == 0);
+    run::<Brand, HostRuntime>(&rt, alloc, Blank::new(2), falling, other);
 }

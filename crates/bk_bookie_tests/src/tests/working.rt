@@ -2,11 +2,11 @@
 
 ghost use Rattle.std.specs.Prelude.{◌≡◌, true};
 
-use super::{open, payload};
-use bk_bookie::{AddLedger, Bookie, Gate, WorkReport};
+use super::calls::{accepted, add, pass};
+use super::{SETTINGS, open, payload};
+use bk_bookie::{AddLedger, Bookie, Gate};
 use bk_disk::MemDisk;
 use bk_drive::{Answer, PublishAnswer, SwapAnswer, Work};
-use bk_store::Added;
 use crossbeam_channel::{Receiver, bounded};
 use std::alloc::Global;
 use std::marker::Brand;
@@ -44,12 +44,28 @@ impl Gate for Turnstile {
     }
 }
 
-/// A channel with two swaps, which is closed.
-fn two_swaps<R: Wait + Abort>(rt: &R, alloc: Global) -> Receiver<Work> {
-    let (sender, works) = bounded(alloc, 2).expect(rt, "memory");
-    assert!(rt; sender.send(rt, Work::Swap).is_ok());
-    assert!(rt; sender.send(rt, Work::Swap).is_ok());
+/// A channel with so many swaps, which is closed.
+fn swaps<R: Wait + Abort>(rt: &R, alloc: Global, count: usize) -> Receiver<Work> {
+    let (sender, works) = bounded(alloc, count).expect(rt, "memory");
+    for _ in 0..count {
+        assert!(rt; sender.send(rt, Work::Swap).is_ok());
+    }
     works
+}
+
+/// How many works so many workers did; none where one of them was answered by a fault.
+fn work<L: AddLedger + Send + Sync, R: Threads + Wait + Sync, G: Gate>(
+    rt: &R,
+    alloc: Global,
+    bookie: &Bookie<L, MemDisk>,
+    count: u32,
+    works: &Receiver<Work>,
+    gate: &G,
+) -> Option<u64> {
+    match bookie.workers(rt, alloc, count, works, gate) {
+        Ok(report) if report.faults == 0 => Some(report.answered),
+        _ => None,
+    }
 }
 
 /// A bookie with one entry, in its active cache.
@@ -63,11 +79,48 @@ fn open_with_entry<L: AddLedger, R: Wait + Abort>(
     requires each { blank.parts ≡ 2 }
     requires honest { L.honest ≡ true }
 {
-    let bookie = open::<L, R>(rt, alloc, blank, 1);
-    let mut pass = bookie.pass(rt).expect(rt, "a pass");
-    let added = bookie.add(rt, &mut pass, &payload(1, 0, b'a'));
-    assert!(rt; matches!(added, Ok(Added::Accepted(_))));
+    let bookie = open::<L, R>(rt, alloc, blank, 1, SETTINGS, &[9]);
+    let mut pass = pass(rt, &bookie);
+    let _receipt = accepted(rt, add(rt, &bookie, &mut pass, &payload(1, 0, b'a')));
     bookie
+}
+
+/// Whether a flush runs: a swap says so.
+fn has_flush<L: AddLedger, R: Wait>(rt: &R, bookie: &Bookie<L, MemDisk>) -> bool {
+    matches!(
+        bookie.step(rt, Work::Swap),
+        Answer::Swap(SwapAnswer::Running)
+    )
+}
+
+/// Whether no flush runs: a publication says so.
+fn has_no_flush<L: AddLedger, R: Wait>(rt: &R, bookie: &Bookie<L, MemDisk>) -> bool {
+    matches!(
+        bookie.step(rt, Work::Publish),
+        Answer::Publish(Ok(PublishAnswer::NoFlush))
+    )
+}
+
+/// Whether an entry is written.
+fn writes<L: AddLedger, R: Wait>(rt: &R, bookie: &Bookie<L, MemDisk>) -> bool {
+    matches!(bookie.step(rt, Work::WriteOne), Answer::Write(Ok(_)))
+}
+
+/// Two workers do two swaps of a bookie of one entry, and meet at the gate.
+fn work_by_two<L: AddLedger + Send + Sync, R: Threads + Wait + Abort + Sync>(
+    rt: &R,
+    alloc: Global,
+    bookie: &Bookie<L, MemDisk>,
+) {
+    let gate = Turnstile {
+        entered: AtomicU32::new(0),
+        left: AtomicU32::new(0),
+        has_waited_in_vain: AtomicBool::new(false),
+    };
+    let works = swaps(rt, alloc, 2);
+    assert!(rt; matches!(work(rt, alloc, bookie, 2, &works, &gate), Some(2)));
+    assert!(rt; !gate.has_waited_in_vain.load(Ordering::SeqCst));
+    assert!(rt; gate.left.load(Ordering::SeqCst) == 2);
 }
 
 /// Two workers do two swaps of one entry: one of them makes the flush, and it runs at the other.
@@ -82,29 +135,8 @@ fn run<L: AddLedger + Send + Sync, R: Threads + Wait + Abort + Sync>(
     requires honest { L.honest ≡ true }
 {
     let bookie = open_with_entry::<L, R>(rt, alloc, blank);
-    let gate = Turnstile {
-        entered: AtomicU32::new(0),
-        left: AtomicU32::new(0),
-        has_waited_in_vain: AtomicBool::new(false),
-    };
-    let works = two_swaps(rt, alloc);
-    let report = bookie.workers(rt, alloc, 2, &works, &gate);
-    assert_eq!(rt;
-        report,
-        Ok(WorkReport {
-            answered: 2,
-            faults: 0
-        })
-    );
-    assert!(rt; !gate.has_waited_in_vain.load(Ordering::SeqCst));
-    assert_eq!(rt; gate.left.load(Ordering::SeqCst), 2);
-    assert!(rt;
-        matches!(
-            bookie.step(rt, Work::Swap),
-            Answer::Swap(SwapAnswer::Running)
-        )
-    );
-    assert!(rt; matches!(bookie.step(rt, Work::WriteOne), Answer::Write(Ok(_))));
+    work_by_two(rt, alloc, &bookie);
+    assert!(rt; has_flush(rt, &bookie) && writes(rt, &bookie));
 }
 
 /// A gate that looks at the bookie as a swap is done: no flush runs yet where the worker enters, and one does where it leaves.
@@ -118,20 +150,37 @@ struct Witness<'a, L: AddLedger, R: Wait> {
 
 impl<L: AddLedger + Send + Sync, R: Wait + Sync> Gate for Witness<'_, L, R> {
     fn enter(&self, _worker: u32) {
-        let published = self.bookie.step(self.rt, Work::Publish);
-        if let Answer::Publish(Ok(PublishAnswer::NoFlush)) = published {
+        if has_no_flush(self.rt, self.bookie) {
             self.before.fetch_add(1, Ordering::SeqCst);
         }
     }
 
     fn leave(&self, _worker: u32) {
-        if let Answer::Swap(SwapAnswer::Running) = self.bookie.step(self.rt, Work::Swap) {
+        if has_flush(self.rt, self.bookie) {
             self.after.fetch_add(1, Ordering::SeqCst);
         }
     }
 }
 
 /// One worker does a swap between its way in and its way out, and holds no lock on either.
+fn work_watched<L: AddLedger + Send + Sync, R: Threads + Wait + Abort + Sync>(
+    rt: &R,
+    alloc: Global,
+    bookie: &Bookie<L, MemDisk>,
+) {
+    let gate = Witness {
+        rt,
+        bookie,
+        before: AtomicU32::new(0),
+        after: AtomicU32::new(0),
+    };
+    let works = swaps(rt, alloc, 1);
+    assert!(rt; matches!(work(rt, alloc, bookie, 1, &works, &gate), Some(1)));
+    assert!(rt; gate.before.load(Ordering::SeqCst) == 1);
+    assert!(rt; gate.after.load(Ordering::SeqCst) == 1);
+}
+
+/// A bookie of one entry, of which a swap is watched.
 fn run_watched<L: AddLedger + Send + Sync, R: Threads + Wait + Abort + Sync>(
     rt: &R,
     alloc: Global,
@@ -143,25 +192,7 @@ fn run_watched<L: AddLedger + Send + Sync, R: Threads + Wait + Abort + Sync>(
     requires honest { L.honest ≡ true }
 {
     let bookie = open_with_entry::<L, R>(rt, alloc, blank);
-    let gate = Witness {
-        rt,
-        bookie: &bookie,
-        before: AtomicU32::new(0),
-        after: AtomicU32::new(0),
-    };
-    let (sender, works) = bounded(alloc, 1).expect(rt, "memory");
-    assert!(rt; sender.send(rt, Work::Swap).is_ok());
-    drop(sender);
-    let report = bookie.workers(rt, alloc, 1, &works, &gate);
-    assert_eq!(rt;
-        report,
-        Ok(WorkReport {
-            answered: 1,
-            faults: 0
-        })
-    );
-    assert_eq!(rt; gate.before.load(Ordering::SeqCst), 1);
-    assert_eq!(rt; gate.after.load(Ordering::SeqCst), 1);
+    work_watched(rt, alloc, &bookie);
 }
 
 #[test]

@@ -1,12 +1,13 @@
 //! What a run of many callers leaves: receipts, counts, and what stands in the files.
 
-use super::super::{is_cached, payload};
-use super::{Caller, DELETED, ENTRIES, LAST, SETTINGS};
-use bk_bookie::{AddLedger, Bookie, Finished, Pass, ReadBackFault};
+use super::super::calls::{Held, TakeTold, View, disk_of, read_back, take_steps};
+use super::super::payload;
+use super::{Caller, DELETED, ENTRIES, LAST, Part, SETTINGS};
+use bk_bookie::{AddLedger, Bookie, Finished, Pass};
 use bk_disk::{LogDisk, LogView, MemDisk};
 use bk_drive::{Answer, BeginAnswer, Kind, PublishAnswer, Work, WriteAnswer};
-use bk_log::{Scanner, fetch};
-use bk_record::HEADER_LENGTH;
+use bk_log::Scanner;
+use bk_record::{HEADER_LENGTH, Key};
 use bk_store::{Mark, Receipt, Store, Taken};
 use std::alloc::Global;
 use std::process::Abort;
@@ -15,76 +16,120 @@ use std::sync::Wait;
 /// How many entries of the ledgers that live there are.
 const LIVING: usize = 3 * ENTRIES as usize;
 
-/// Brings a compaction that runs to its end.
-fn end_job<L: AddLedger, R: Wait>(rt: &R, bookie: &Bookie<L, MemDisk>) {
-    for work in [
-        Work::Copy(100_000),
-        Work::Copy(1),
-        Work::EndCopy,
-        Work::Switch(100_000),
-        Work::Finish,
-    ] {
-        let _ = bookie.step(rt, work);
+/// The steps that bring a compaction that runs to its end.
+const JOB: [Work; 5] = [
+    Work::Copy(100_000),
+    Work::Copy(1),
+    Work::EndCopy,
+    Work::Switch(100_000),
+    Work::Finish,
+];
+
+/// Whether an entry was written.
+fn writes<L: AddLedger, R: Wait>(rt: &R, bookie: &Bookie<L, MemDisk>) -> bool {
+    matches!(
+        bookie.step(rt, Work::WriteOne),
+        Answer::Write(Ok(WriteAnswer::Wrote(_)))
+    )
+}
+
+/// Writes all that a flush has.
+fn write_all<L: AddLedger, R: Wait>(rt: &R, bookie: &Bookie<L, MemDisk>) {
+    for _ in 0..100_000 {
+        if !writes(rt, bookie) {
+            return;
+        }
     }
+}
+
+/// Whether no flush runs.
+fn has_no_flush<L: AddLedger, R: Wait>(rt: &R, bookie: &Bookie<L, MemDisk>) -> bool {
+    matches!(
+        bookie.step(rt, Work::Publish),
+        Answer::Publish(Ok(PublishAnswer::NoFlush))
+    )
 }
 
 /// Writes what comes in to the logs: a flush that runs, and the next one.
 fn flush<L: AddLedger, R: Wait + Abort>(rt: &R, bookie: &Bookie<L, MemDisk>) {
     for _ in 0..2 {
-        for _ in 0..100_000 {
-            match bookie.step(rt, Work::WriteOne) {
-                Answer::Write(Ok(WriteAnswer::Wrote(_))) => {}
-                _ => break,
-            }
-        }
-        let _ = bookie.step(rt, Work::Publish);
-        let _ = bookie.step(rt, Work::Swap);
+        write_all(rt, bookie);
+        take_steps(rt, bookie, &[Work::Publish, Work::Swap]);
     }
-    let published = bookie.step(rt, Work::Publish);
-    assert!(rt; matches!(published, Answer::Publish(Ok(PublishAnswer::NoFlush))));
-    let _ = bookie.step(rt, Work::Roll);
+    assert!(rt; has_no_flush(rt, bookie));
+    take_steps(rt, bookie, &[Work::Roll]);
 }
 
-/// Compacts until nothing is left to be done, and removes all logs that no key names.
-fn clean<L: AddLedger, R: Wait + Abort>(rt: &R, bookie: &Bookie<L, MemDisk>) {
+/// Whether a compaction began; `None` where there was a fault.
+fn begins<L: AddLedger, R: Wait>(rt: &R, bookie: &Bookie<L, MemDisk>) -> Option<bool> {
+    match bookie.step(rt, Work::Begin(Kind::Major)) {
+        Answer::Begin(Ok(BeginAnswer::NothingToDo)) => Some(false),
+        Answer::Begin(Ok(BeginAnswer::Chosen(_))) => Some(true),
+        _ => None,
+    }
+}
+
+/// Compacts until nothing is left to be done, at most a thousand times.
+fn compact<L: AddLedger, R: Wait + Abort>(rt: &R, bookie: &Bookie<L, MemDisk>) {
     for _ in 0..1000 {
-        match bookie.step(rt, Work::Begin(Kind::Major)) {
-            Answer::Begin(Ok(BeginAnswer::NothingToDo)) => break,
-            begun => assert!(rt; matches!(begun, Answer::Begin(Ok(BeginAnswer::Chosen(_))))),
+        if !begins(rt, bookie).expect(rt, "a compaction, or none") {
+            return;
         }
-        end_job(rt, bookie);
-    }
-    for log in 0..1000 {
-        for work in [Work::Retire(log), Work::Close(log), Work::Remove(log)] {
-            let _ = bookie.step(rt, work);
-        }
+        take_steps(rt, bookie, &JOB);
     }
 }
 
-/// Reads a receipt back: its payload has the byte of the caller that added it, where its ledger lives.
-fn read_back<L: AddLedger, R: Wait + Abort>(
+/// Removes all logs that no key names.
+fn remove_all<L: AddLedger, R: Wait>(rt: &R, bookie: &Bookie<L, MemDisk>) {
+    for log in 0..1000 {
+        take_steps(
+            rt,
+            bookie,
+            &[Work::Retire(log), Work::Close(log), Work::Remove(log)],
+        );
+    }
+}
+
+/// Whether a receipt has its caller's ledger and is read back: its payload has the byte of the caller, where its ledger lives.
+fn is_read<L: AddLedger, R: Wait>(
     rt: &R,
     alloc: Global,
     bookie: &Bookie<L, MemDisk>,
     pass: &mut Pass<L>,
     receipt: &Receipt,
-    ledger: u8,
-    own: u8,
-) {
-    let entry = u16::try_from(receipt.key.entry()).expect(rt, "an entry");
-    let payload = payload(ledger, entry, own);
-    match bookie.read_back(rt, pass, receipt) {
-        Ok(Taken::Deleted) => assert_eq!(rt; ledger, DELETED),
-        Ok(Taken::Leased(lease, location)) => {
-            assert!(rt; ledger != DELETED);
-            let read = fetch(lease.view(), alloc, location, receipt.key);
-            assert_eq!(rt; read.as_deref(), Ok(payload.as_slice()));
-        }
-        taken => assert!(rt; ledger != DELETED && is_cached(&taken, &payload)),
+    part: Part,
+) -> bool {
+    let Ok(entry) = u16::try_from(receipt.key.entry()) else {
+        return false;
+    };
+    if receipt.key.ledger() != u64::from(part.ledger) {
+        return false;
+    }
+    let payload = payload(part.ledger, entry, part.own);
+    match read_back(rt, alloc, bookie, pass, receipt, &payload) {
+        TakeTold::Deleted => part.ledger == DELETED,
+        TakeTold::Cached | TakeTold::Logged => part.ledger != DELETED,
+        _ => false,
     }
 }
 
-/// The payloads that live, by their callers' receipts, and the receipts of all; each is read back.
+/// Whether each receipt of a caller is read back, and its pass counts as many.
+fn are_read<L: AddLedger, R: Wait>(
+    rt: &R,
+    alloc: Global,
+    bookie: &Bookie<L, MemDisk>,
+    caller: &mut Caller<L>,
+) -> bool {
+    let part = caller.part;
+    for receipt in caller.receipts.as_slice() {
+        if !is_read(rt, alloc, bookie, &mut caller.pass, receipt, part) {
+            return false;
+        }
+    }
+    caller.pass.adds() == caller.receipts.len() as u64
+}
+
+/// The receipts of all callers; each is read back.
 fn read_all<L: AddLedger, R: Wait + Abort>(
     rt: &R,
     alloc: Global,
@@ -92,74 +137,115 @@ fn read_all<L: AddLedger, R: Wait + Abort>(
     callers: &mut [Caller<L>],
 ) -> Vec<Receipt> {
     let mut receipts = Vec::new(alloc);
-    let mut living = 0_usize;
     for caller in callers {
-        let Caller {
-            pass,
-            part,
-            receipts: own,
-            asked: _,
-        } = caller;
-        assert_eq!(rt; pass.adds(), own.len() as u64);
-        for receipt in own.as_slice() {
-            assert_eq!(rt; receipt.key.ledger(), u64::from(part.ledger));
-            read_back(rt, alloc, bookie, pass, receipt, part.ledger, part.own);
-        }
-        if part.ledger != DELETED {
-            living = living.saturating_add(own.len());
-        }
-        receipts.extend_from_slice(own).expect(rt, "memory");
+        assert!(rt; are_read(rt, alloc, bookie, caller));
+        receipts
+            .extend_from_slice(&caller.receipts)
+            .expect(rt, "memory");
     }
-    assert_eq!(rt; living, LIVING);
-    assert!(rt; receipts.len() > LIVING + LAST as usize);
-    assert!(rt; receipts.len() <= LIVING + ENTRIES as usize);
+    assert!(rt; are_all(&receipts));
     receipts
+}
+
+/// Whether a key's ledger lives.
+fn lives(key: Key) -> bool {
+    key.ledger() != u64::from(DELETED)
+}
+
+/// How many receipts are of ledgers that live.
+fn count_living(receipts: &[Receipt]) -> usize {
+    let mut living = 0_usize;
+    for receipt in receipts {
+        if lives(receipt.key) {
+            living = living.saturating_add(1);
+        }
+    }
+    living
+}
+
+/// Whether the receipts are of all entries that live, and of those which were added before their ledger was deleted.
+fn are_all(receipts: &[Receipt]) -> bool {
+    count_living(receipts) == LIVING
+        && receipts.len() > LIVING + LAST as usize
+        && receipts.len() <= LIVING + ENTRIES as usize
+}
+
+/// How many entries stand in a log, all of ledgers that live.
+fn scan<R: Abort>(rt: &R, alloc: Global, view: &View) -> usize {
+    let mut found = 0_usize;
+    let mut scanner = Scanner::new(view, alloc, HEADER_LENGTH as u64, view.end());
+    for _ in 0..100_000 {
+        let Some(entry) = scanner.next().expect(rt, "an entry") else {
+            break;
+        };
+        assert!(rt; lives(entry.key));
+        found = found.saturating_add(1);
+    }
+    found
+}
+
+/// The view of a log.
+fn view_of<D: LogDisk, R: Abort>(rt: &R, alloc: Global, disk: &mut D, log: u32) -> D::View {
+    match disk.view(alloc, log) {
+        Ok(view) => view,
+        Err(_) => panic!(rt; "no view"),
+    }
+}
+
+/// The logs of a disk.
+fn logs_of<D: LogDisk, R: Abort>(rt: &R, alloc: Global, disk: &mut D) -> Vec<u32> {
+    match disk.list(alloc) {
+        Ok(logs) => logs,
+        Err(_) => panic!(rt; "no list"),
+    }
 }
 
 /// How many entries stand in the logs, all of ledgers that live.
 fn scan_all<R: Abort>(rt: &R, alloc: Global, disk: &mut MemDisk) -> usize {
     let mut found = 0_usize;
-    for log in disk.list(alloc).expect(rt, "the logs") {
-        let view = disk.view(alloc, log).expect(rt, "a view");
-        let mut scanner = Scanner::new(&view, alloc, HEADER_LENGTH as u64, view.end());
-        for _ in 0..100_000 {
-            let Some(entry) = scanner.next().expect(rt, "an entry") else {
-                break;
-            };
-            assert!(rt; entry.key.ledger() != u64::from(DELETED));
-            found = found.saturating_add(1);
-        }
+    for log in logs_of(rt, alloc, disk) {
+        let view = view_of(rt, alloc, disk, log);
+        found = found.saturating_add(scan(rt, alloc, &view));
     }
     found
 }
 
-/// Whether each receipt of a ledger that lives is of an entry of the store, and each other one of none.
-fn find_all<R: Abort>(rt: &R, store: &mut Store<MemDisk>, receipts: &[Receipt]) {
-    for receipt in receipts {
-        let taken = store.take(receipt.key);
-        if receipt.key.ledger() == u64::from(DELETED) {
-            assert!(rt; matches!(taken, Ok(Taken::Deleted)));
-        } else {
-            assert!(rt; matches!(taken, Ok(Taken::Leased(_, _))));
-        }
+/// Whether a take of the store gives a lease on an entry that lives, and tells that the ledger of another one is deleted.
+fn is_found(store: &mut Store<MemDisk>, key: Key) -> bool {
+    match store.take(key) {
+        Ok(Taken::Deleted) => !lives(key),
+        Ok(Taken::Leased(_, _)) => lives(key),
+        _ => false,
     }
 }
 
-/// The trail has a mark for each receipt, and one of the deletion.
-fn count_marks<R: Abort>(rt: &R, trail: &[Mark], receipts: usize) {
+/// Whether each receipt of a ledger that lives is of an entry of the store, and each other one of none.
+fn are_found(store: &mut Store<MemDisk>, receipts: &[Receipt]) -> bool {
+    for receipt in receipts {
+        if !is_found(store, receipt.key) {
+            return false;
+        }
+    }
+    true
+}
+
+/// Whether the trail has a mark for each receipt, and one of the deletion.
+fn has_marks(trail: &[Mark], receipts: usize) -> bool {
     let mut adds = 0_usize;
     let mut deletes = 0_usize;
     for mark in trail {
         match mark {
             Mark::Add { .. } => adds = adds.saturating_add(1),
             Mark::Delete { ledger } => {
-                assert_eq!(rt; *ledger, u64::from(DELETED));
+                if *ledger != u64::from(DELETED) {
+                    return false;
+                }
                 deletes = deletes.saturating_add(1);
             }
-            Mark::Fence { .. } => panic!(rt; "a fence"),
+            Mark::Fence { .. } => return false,
         }
     }
-    assert_eq!(rt; (adds, deletes), (receipts, 1));
+    adds == receipts && deletes == 1
 }
 
 /// The passes of the callers.
@@ -175,31 +261,54 @@ fn passes_of<L: AddLedger, R: Abort>(
     passes
 }
 
-/// Brings the bookie to rest and ends it; then looks at what stands in its files, and opens a store on them.
+/// A store that is opened on the logs of a disk.
+fn open_again<R: Abort>(rt: &R, alloc: Global, disk: MemDisk) -> Store<MemDisk> {
+    match Store::open(alloc, disk, SETTINGS, &[u64::from(DELETED)]) {
+        Ok(store) => store,
+        Err(_) => panic!(rt; "not opened again"),
+    }
+}
+
+/// Whether the bookie counted the receipts, and its trail and its index have them.
+fn is_left(finished: &Finished<MemDisk>, receipts: &[Receipt]) -> bool {
+    finished.adds == receipts.len() as u64
+        && has_marks(finished.store.trail(), receipts.len())
+        && finished.store.index().len() == LIVING
+}
+
+/// Looks at what stands in the files of a store, and opens a store on them.
+fn look_at_files<R: Abort>(rt: &R, alloc: Global, store: Store<MemDisk>, receipts: &[Receipt]) {
+    let mut disk = disk_of(rt, store);
+    assert!(rt; scan_all(rt, alloc, &mut disk) == LIVING);
+    let mut again = open_again(rt, alloc, disk);
+    assert!(rt; again.index().len() == LIVING);
+    assert!(rt; are_found(&mut again, receipts));
+}
+
+/// Brings the bookie to rest.
+fn settle<L: AddLedger, R: Wait + Abort>(rt: &R, bookie: &Bookie<L, MemDisk>) {
+    take_steps(rt, bookie, &JOB);
+    flush(rt, bookie);
+    compact(rt, bookie);
+    remove_all(rt, bookie);
+}
+
+/// Ends the bookie, and looks at what it left.
+fn look_at_end<L: AddLedger, R: Abort>(rt: &R, alloc: Global, held: Held<L>, receipts: &[Receipt]) {
+    let finished = held.end(rt, receipts);
+    assert!(rt; is_left(&finished, receipts));
+    look_at_files(rt, alloc, finished.store, receipts);
+}
+
+/// Brings the bookie to rest and ends it; then looks at what it left.
 pub(super) fn end<L: AddLedger, R: Wait + Abort>(
     rt: &R,
     alloc: Global,
     bookie: Bookie<L, MemDisk>,
     mut callers: Vec<Caller<L>>,
 ) {
-    end_job(rt, &bookie);
-    flush(rt, &bookie);
-    clean(rt, &bookie);
+    settle(rt, &bookie);
     let receipts = read_all(rt, alloc, &bookie, callers.as_mut_slice());
     let passes = passes_of(rt, alloc, callers);
-    let Ok(Finished { store, adds }) = bookie.finish(passes, &receipts) else {
-        panic!(rt; "not ended")
-    };
-    assert_eq!(rt; adds, receipts.len() as u64);
-    count_marks(rt, store.trail(), receipts.len());
-    assert_eq!(rt; store.index().len(), LIVING);
-    let Ok(mut disk) = store.into_disk() else {
-        panic!(rt; "a lease is out")
-    };
-    assert_eq!(rt; scan_all(rt, alloc, &mut disk), LIVING);
-    let Ok(mut again) = Store::open(alloc, disk, SETTINGS, &[u64::from(DELETED)]) else {
-        panic!(rt; "not opened again")
-    };
-    assert_eq!(rt; again.index().len(), LIVING);
-    find_all(rt, &mut again, &receipts);
+    look_at_end(rt, alloc, Held { bookie, passes }, &receipts);
 }
