@@ -133,7 +133,7 @@ impl Owed {
             payload: Vec::from_slice(alloc, payload)?,
             stage: Stage::Added,
         };
-        self.entries.push(entry)?;
+        push(&mut self.entries, entry)?;
         Ok(())
     }
 
