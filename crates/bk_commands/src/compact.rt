@@ -7,6 +7,7 @@ mod rows;
 
 use crate::cli::{CompactAsk, DEFAULTS};
 use crate::dead::dead_ledgers;
+use crate::opening::OpeningDisk;
 use crate::progress::Progress;
 use bk_dir::{Form, unlisted};
 use bk_disk::{DirDisk, DiskFault, LogDisk};
@@ -64,10 +65,11 @@ fn compact<W: Write, E: Write>(
         let _ = write_row(rt.alloc(), form, &row, errors);
         still(size_of(&logs))
     } else if ask.is_dry {
+        let disk = OpeningDisk::new(rt, disk);
         show_plan(rt.alloc(), form, disk, &logs, ask, &dead, writer)?
     } else {
         drop(disk);
-        sweep_folder(rt, path, ask.below, &dead, errors)?
+        sweep_folder(rt, path, ask.below, &dead)?
     };
     write_summary(rt.alloc(), form, &summary, writer)
 }
@@ -121,20 +123,20 @@ fn size_of(lengths: &BTreeMap<u32, u64>) -> Size {
 }
 
 /// Compacts the folder, of which this is the one writer meanwhile.
-fn sweep_folder<E: Write>(
+fn sweep_folder(
     rt: &HostRuntime,
     path: &str,
     below: u32,
     dead: &[u64],
-    errors: &mut E,
 ) -> Result<Summary, CompactFault> {
     let alloc = rt.alloc();
     let mut disk = DirDisk::open_to_write(rt, path)?;
     let before = size_of(&lengths_of(alloc, &mut disk)?);
-    let mut progress = Progress::new(rt, errors);
+    let disk = OpeningDisk::new(rt, disk);
+    let mut progress = Progress::new(rt);
     let settings = settings_below(below);
     let swept = sweep_disk(alloc, disk, settings, dead, Kind::Major, &mut progress);
-    progress.end();
+    drop(progress);
     let done = swept?;
     let mut disk = DirDisk::open_to_read(rt, path)?;
     let after = size_of(&lengths_of(alloc, &mut disk)?);
@@ -149,7 +151,7 @@ fn sweep_folder<E: Write>(
 fn show_plan<W: Write>(
     alloc: Global,
     form: Form,
-    disk: DirDisk,
+    disk: OpeningDisk,
     lengths: &BTreeMap<u32, u64>,
     ask: &CompactAsk<'_>,
     dead: &[u64],
@@ -159,8 +161,11 @@ fn show_plan<W: Write>(
         Ok(store) => store,
         Err(fault) => return Err(CompactFault::Sweep(SweepFault::Open(fault))),
     };
+    let planned = plan(&store, Kind::Major)?;
+    // With the store goes what stands on the terminal.
+    drop(store);
     let mut summary = still(size_of(lengths));
-    for planned in plan(&store, Kind::Major)?.iter() {
+    for planned in planned.iter() {
         let length = lengths.get(&planned.log).copied().unwrap_or(0);
         write_row(alloc, form, &planned_row(planned, length), writer)?;
         take_in(&mut summary, planned.fate, length);

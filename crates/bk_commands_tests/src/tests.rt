@@ -2,6 +2,7 @@ mod calls;
 mod compact;
 mod folder;
 mod json;
+mod opening;
 mod over;
 
 use bk_commands::{StartFault, run_words, words_of};
