@@ -1,5 +1,6 @@
 mod calls;
 mod compact;
+mod disk;
 mod folder;
 mod json;
 mod opening;
