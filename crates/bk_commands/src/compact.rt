@@ -1,17 +1,21 @@
 //! A folder is compacted, or it is told what that would do.
 
-ghost use Rattle.std.specs.Prelude.{◌≤◌};
+ghost use Rattle.std.specs.Prelude.{◌≡◌, ◌≤◌, IfOk, IfSome, IsTrue};
+ghost use Rattle.bk_store.specs.Turns.{valid_ledgers};
+ghost use Rattle.bk_sweep.specs.Sweeping.{MeanTheSame};
+ghost use Rattle.bk_dir.specs.Reading.{OnlyReads};
 
 mod fault;
 mod rows;
 
 use crate::cli::{CompactAsk, DEFAULTS};
 use crate::dead::dead_ledgers;
+use crate::opening::OpeningDisk;
 use crate::progress::Progress;
 use bk_dir::{Form, unlisted};
 use bk_disk::{DirDisk, DiskFault, LogDisk};
 use bk_drive::Settings;
-use bk_sweep::{Fate, Kind, Planned, Store, SweepFault, plan, sweep_disk};
+use bk_sweep::{Done, Fate, Kind, Planned, Store, SweepFault, plan, sweep_disk};
 use fault::{CompactFault, tell};
 use rows::{EmptyRow, PlannedRow, Size, Summary, write_row, write_summary};
 use std::alloc::Global;
@@ -31,45 +35,97 @@ pub(crate) fn run_compact<W: Write, E: Write>(
 ) -> u8
     ensures { result ≤ 1 }
 {
-    match compact(rt, form, path, ask, writer, errors) {
-        Ok(()) => 0,
-        Err(CompactFault::Output(error)) if error.kind() == io::ErrorKind::BrokenPipe => 1,
+    let alloc = rt.alloc();
+    match find_work(rt, form, path, ask, writer, errors) {
+        Ok(None) => 0,
+        Ok(Some(Work { disk, dead })) => {
+            match compact_disk(rt, form, disk, ask.below, &dead, writer, errors) {
+                Some(_) => 0,
+                None => 1,
+            }
+        }
         Err(fault) => {
-            tell(rt.alloc(), form, &fault, errors);
+            end_early(alloc, form, &fault, errors);
             1
         }
     }
 }
 
-/// Does what is asked, and writes the summary, and what the writer has kept back.
-fn compact<W: Write, E: Write>(
+/// Compacts the logs of a disk, log after log, until none is left of which fewer thousandths live than `below`, removes those
+/// that no key names, and prints the summary. `dead` are the ledgers that were deleted before: their entries are left behind.
+/// Gives the disk as it is then, where the program's status is 0. It is 1, and `None` given, where it ends early: with a line
+/// `fault TEXT` on the error stream, but where nobody reads the output any more. A line on the terminal tells how far it is.
+pub fn compact_disk<D: LogDisk, W: Write, E: Write>(
+    rt: &HostRuntime,
+    form: Form,
+    disk: D,
+    below: u32,
+    dead: &[u64],
+    writer: &mut W,
+    errors: &mut E,
+) -> Option<D>
+    ensures honest { IfSome result (λ left. D.honest left ≡ D.honest disk) }
+    ensures same { IsTrue (D.honest disk)
+        → IfSome result (λ left. MeanTheSame (valid_ledgers dead.now) (D.files disk) (D.files left)) }
+{
+    match compact_and_show(rt, form, disk, below, dead, writer) {
+        Ok(left) => Some(left),
+        Err(fault) => {
+            end_early(rt.alloc(), form, &fault, errors);
+            None
+        }
+    }
+}
+
+/// Tells why a compaction ends early; nothing where nobody reads the output any more.
+fn end_early<E: Write>(alloc: Global, form: Form, fault: &CompactFault, errors: &mut E) {
+    match fault {
+        CompactFault::Output(error) if error.kind() == io::ErrorKind::BrokenPipe => {}
+        _ => tell(alloc, form, fault, errors),
+    }
+}
+
+/// A folder that is to be compacted, and the ledgers that were deleted before.
+#[derive(Drop)]
+struct Work {
+    disk: OpeningDisk,
+    dead: Vec<u64>,
+}
+
+/// Opens a folder that is to be compacted, as its one writer. `None` where it has no log, or where it is only asked what a
+/// compaction would do: this is shown then, and what the writer has kept back is written.
+fn find_work<W: Write, E: Write>(
     rt: &HostRuntime,
     form: Form,
     path: &str,
     ask: &CompactAsk<'_>,
     writer: &mut W,
     errors: &mut E,
-) -> Result<(), CompactFault> {
+) -> Result<Option<Work>, CompactFault> {
     let dead = dead_ledgers(rt, ask)?;
     let mut disk = DirDisk::open_to_read(rt, path)?;
     if let Some(fault) = unlisted(rt, path) {
         return Err(CompactFault::Folder(fault));
     }
     let logs = lengths_of(rt.alloc(), &mut disk)?;
-    let summary = if logs.is_empty() {
+    if logs.is_empty() {
         let row = EmptyRow {
             note: "no log found",
             folder: path,
         };
         let _ = write_row(rt.alloc(), form, &row, errors);
-        still(size_of(&logs))
-    } else if ask.is_dry {
-        show_plan(rt.alloc(), form, disk, &logs, ask, &dead, writer)?
-    } else {
-        drop(disk);
-        sweep_folder(rt, path, ask.below, &dead, errors)?
-    };
-    write_summary(rt.alloc(), form, &summary, writer)
+        write_summary(rt.alloc(), form, &still(size_of(&logs)), writer)?;
+        return Ok(None);
+    }
+    if ask.is_dry {
+        let disk = OpeningDisk::new(rt, disk);
+        let summary = show_plan(rt.alloc(), form, disk, &logs, ask, &dead, writer)?;
+        write_summary(rt.alloc(), form, &summary, writer)?;
+        return Ok(None);
+    }
+    drop(disk);
+    let disk = OpeningDisk::new(rt, DirDisk::open_to_write(rt, path)?);
+    Ok(Some(Work { disk, dead }))
 }
 
 /// Nothing is done.
@@ -92,7 +148,9 @@ fn settings_below(below: u32) -> Settings {
 }
 
 /// The length of each log.
-fn lengths_of(alloc: Global, disk: &mut DirDisk) -> Result<BTreeMap<u32, u64>, CompactFault> {
+fn lengths_of<D: LogDisk>(alloc: Global, disk: &mut D) -> Result<BTreeMap<u32, u64>, CompactFault>
+    ensures { OnlyReads (D.honest disk.old) (D.files disk.old) (D.honest disk.new) (D.files disk.new) }
+{
     let mut lengths = BTreeMap::new(alloc);
     for log in disk.list(alloc)?.iter() {
         let length = match disk.length(alloc, *log) {
@@ -120,36 +178,73 @@ fn size_of(lengths: &BTreeMap<u32, u64>) -> Size {
     }
 }
 
-/// Compacts the folder, of which this is the one writer meanwhile.
-fn sweep_folder<E: Write>(
+/// How many logs a disk has, and their bytes.
+fn size_on<D: LogDisk>(alloc: Global, disk: &mut D) -> Result<Size, CompactFault>
+    ensures { OnlyReads (D.honest disk.old) (D.files disk.old) (D.honest disk.new) (D.files disk.new) }
+{
+    Ok(size_of(&lengths_of(alloc, disk)?))
+}
+
+/// Compacts the logs of a disk, and writes the summary, and what the writer has kept back. Gives the disk.
+fn compact_and_show<D: LogDisk, W: Write>(
     rt: &HostRuntime,
-    path: &str,
+    form: Form,
+    disk: D,
     below: u32,
     dead: &[u64],
-    errors: &mut E,
-) -> Result<Summary, CompactFault> {
+    writer: &mut W,
+) -> Result<D, CompactFault>
+    ensures honest { IfOk result (λ left. D.honest left ≡ D.honest disk) }
+    ensures same { IsTrue (D.honest disk)
+        → IfOk result (λ left. MeanTheSame (valid_ledgers dead.now) (D.files disk) (D.files left)) }
+{
     let alloc = rt.alloc();
-    let mut disk = DirDisk::open_to_write(rt, path)?;
-    let before = size_of(&lengths_of(alloc, &mut disk)?);
-    let mut progress = Progress::new(rt, errors);
-    let settings = settings_below(below);
-    let swept = sweep_disk(alloc, disk, settings, dead, Kind::Major, &mut progress);
-    progress.end();
-    let done = swept?;
-    let mut disk = DirDisk::open_to_read(rt, path)?;
-    let after = size_of(&lengths_of(alloc, &mut disk)?);
-    Ok(Summary {
+    let mut disk = disk;
+    let before = size_on(alloc, &mut disk)?;
+    let (mut disk, moved) = sweep_on(rt, disk, below, dead)?;
+    let after = size_on(alloc, &mut disk)?;
+    let summary = Summary {
         before,
         after,
-        moved: done.swept.moved,
-    })
+        moved,
+    };
+    write_summary(alloc, form, &summary, writer)?;
+    Ok(disk)
+}
+
+/// Compacts the logs of a disk, and tells on the terminal how far it is. Gives the disk, and how many entries were copied.
+fn sweep_on<D: LogDisk>(
+    rt: &HostRuntime,
+    disk: D,
+    below: u32,
+    dead: &[u64],
+) -> Result<(D, u64), CompactFault>
+    ensures honest { IfOk result (λ left. D.honest left.0 ≡ D.honest disk) }
+    ensures same { IsTrue (D.honest disk)
+        → IfOk result (λ left. MeanTheSame (valid_ledgers dead.now) (D.files disk) (D.files left.0)) }
+{
+    let settings = settings_below(below);
+    let mut progress = Progress::new(rt);
+    let Done { store, swept } = sweep_disk(
+        rt.alloc(),
+        disk,
+        settings,
+        dead,
+        Kind::Major,
+        &mut progress,
+    )?;
+    match store.into_disk() {
+        Ok(disk) => Ok((disk, swept.moved)),
+        // No lease was given.
+        Err(_) => Err(CompactFault::Sweep(SweepFault::Odd)),
+    }
 }
 
 /// Writes a line for each log that a compaction would take.
 fn show_plan<W: Write>(
     alloc: Global,
     form: Form,
-    disk: DirDisk,
+    disk: OpeningDisk,
     lengths: &BTreeMap<u32, u64>,
     ask: &CompactAsk<'_>,
     dead: &[u64],
@@ -159,8 +254,11 @@ fn show_plan<W: Write>(
         Ok(store) => store,
         Err(fault) => return Err(CompactFault::Sweep(SweepFault::Open(fault))),
     };
+    let planned = plan(&store, Kind::Major)?;
+    // With the store goes what stands on the terminal.
+    drop(store);
     let mut summary = still(size_of(lengths));
-    for planned in plan(&store, Kind::Major)?.iter() {
+    for planned in planned.iter() {
         let length = lengths.get(&planned.log).copied().unwrap_or(0);
         write_row(alloc, form, &planned_row(planned, length), writer)?;
         take_in(&mut summary, planned.fate, length);

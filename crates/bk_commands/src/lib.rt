@@ -4,6 +4,8 @@
 mod cli;
 mod compact;
 mod dead;
+mod line;
+mod opening;
 mod program;
 mod progress;
 mod script;
@@ -13,5 +15,7 @@ pub use cli::{
     COMMANDS, CompactAsk, DEFAULTS, FolderAsk, FolderCall, ScriptCall, command_of, folder_call,
     form_of, is_folder_call, json_arg, script_call, text_of,
 };
+pub use compact::compact_disk;
+pub use opening::{Opened, OpeningDisk};
 pub use program::{StartFault, run_words, tell, tell_fault, words_of};
 pub use script::open_or_make;

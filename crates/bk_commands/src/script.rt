@@ -5,6 +5,7 @@ ghost use Rattle.bk_script.specs.Run.{RunsScript};
 ghost use Rattle.bk_commands.specs.Folder.{RunsOverFolder};
 
 use crate::cli::ScriptCall;
+use crate::opening::OpeningDisk;
 use crate::told::Told;
 use bk_dir::unlisted;
 use bk_disk::{DirDisk, FolderFault};
@@ -63,7 +64,7 @@ pub(crate) fn run_over_folder<R: Read, W: Write, E: Write>(
 /// Runs the script over a folder that is there.
 fn run_on_folder<R: Read, W: Write, E: Write>(
     alloc: Global,
-    disk: DirDisk,
+    disk: OpeningDisk,
     call: &ScriptCall<'_>,
     reader: &mut R,
     writer: &mut W,
@@ -91,9 +92,15 @@ fn run_on_folder<R: Read, W: Write, E: Write>(
 }
 
 /// The disk of the folder at a path, to be written, of which it is the one writer until it is dropped. Where nothing is there, the
-/// folder is made, if its parent is there. `Refused` where the system refuses the folder, or can't list it, with the path and the
-/// system's reason; `InUse` where another disk writes there, of this process or of another one; `Memory`.
-pub fn open_or_make(rt: &HostRuntime, path: &str) -> Result<DirDisk, FolderFault> {
+/// folder is made, if its parent is there. It tells how far an opening of a store on it is (`OpeningDisk`). `Refused` where the
+/// system refuses the folder, or can't list it, with the path and the system's reason; `InUse` where another disk writes there,
+/// of this process or of another one; `Memory`.
+pub fn open_or_make(rt: &HostRuntime, path: &str) -> Result<OpeningDisk, FolderFault> {
+    Ok(OpeningDisk::new(rt, dir_disk(rt, path)?))
+}
+
+/// The same, without a word of how far an opening is.
+fn dir_disk(rt: &HostRuntime, path: &str) -> Result<DirDisk, FolderFault> {
     let fault = match DirDisk::open_to_write(rt, path) {
         Ok(disk) => {
             return match unlisted(rt, path) {

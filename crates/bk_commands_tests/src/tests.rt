@@ -1,7 +1,9 @@
 mod calls;
 mod compact;
+mod disk;
 mod folder;
 mod json;
+mod opening;
 mod over;
 
 use bk_commands::{StartFault, run_words, words_of};

@@ -3,6 +3,7 @@
 ghost use Rattle.std.specs.Prelude.{◌<◌, ◌^◌};
 
 mod amounts;
+mod cut;
 mod cut_folder;
 mod digests;
 mod every_byte;

@@ -132,7 +132,8 @@ retired log goes by `close` and `remove`.
 With --folder the store is opened on the logs of DIR, and what is published is there at the next call. DIR is made where
 nothing is there, and its parent is; its entries stay until a compaction leaves them behind. Who deleted ledgers before has
 to name them again, as words: a folder does not tell which they were. One program writes in a folder at a time: a second one
-is refused, and told which process writes there. Without a fault the answers are those of a store in memory.
+is refused, and told which process writes there. Without a fault the answers are those of a store in memory. Where the error
+stream is a terminal and the opening takes longer than a second, a line there tells how many of the logs are read.
 
 The status is 0 where every step was answered. It is 1 where a read fails, the input has more than 16777216 bytes or
 takes more than 1048576 reads, or a line spells no step; where the store is not opened, or the folder can't be written;
@@ -184,7 +185,7 @@ With --dry-run the folder is only read. Printed is for each log that would be ta
 One program writes in a folder at a time: where another one does, the command is refused, and told which process it is. It
 may be ended at any moment, by SIGKILL too: every entry of a ledger that is not named is still found, and the next call goes
 on. A bookie that runs on the folder does not ask for the lock: stop it first. Where the error stream is a terminal, a line
-there tells how far it is.
+there tells how far it is; how far the opening of DIR is, with --dry-run too, once that takes longer than a second.
 
 The status is 0 where all was done. It is 1 where it ends early, with a line `fault TEXT` on the error stream: what was done
 before stays done. It is 2 where the command line is wrong.

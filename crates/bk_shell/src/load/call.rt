@@ -21,7 +21,8 @@ Opens a bookie, in memory or with --folder on the logs of DIR, and lets N thread
 17 to 256 bytes to eight ledgers, the next eight after a thousand adds, and takes one of its entries back after every fourth;
 one of the eight is deleted each time. Two workers flush meanwhile, and a keeper compacts the logs and removes those that are
 not read. Then the bookie is ended with the receipts of all adds, and its files are opened and searched for each entry that
-was accepted. Where the error stream is a terminal, a line there tells how far it is.
+was accepted. Where the error stream is a terminal, a line there tells how far it is; how far an opening of DIR is, once that
+takes longer than a second.
 
 Printed is
   adds N bytes N held N refused N milliseconds N   adds that were accepted, and their bytes; those that found their entry

@@ -1,0 +1,60 @@
+//! A compaction of a disk in memory.
+
+use bk_commands::compact_disk;
+use bk_dir::Form;
+use bk_disk::{LogDisk, MemDisk};
+use std::alloc::Global;
+use std::test::Fail;
+
+/// A record each of ledger 1 and of ledger 2.
+const RECORDS: &[u8] = b"\0\0\0\x15\0\0\0\0\0\0\0\x01\0\0\0\0\0\0\0\0hello\
+\0\0\0\x15\0\0\0\0\0\0\0\x02\0\0\0\0\0\0\0\0other";
+
+/// A disk whose log 0 has these records.
+fn disk_of(alloc: Global) -> Result<MemDisk, Fail> {
+    let mut bytes = Vec::from_slice(alloc, b"BKLO\0\0\0\x01")?;
+    bytes.resize(1024, 0)?;
+    bytes.extend_from_slice(RECORDS)?;
+    let mut disk = MemDisk::new(alloc);
+    disk.create(alloc, 0)?;
+    disk.append(alloc, 0, &bytes)?;
+    Ok(disk)
+}
+
+/// The ids of a disk's logs, and the record behind the header of log 1.
+fn found_on(alloc: Global, disk: &mut MemDisk) -> Result<(Vec<u32>, Vec<u8>), Fail> {
+    let ids = disk.list(alloc)?;
+    let record = disk.read_at(alloc, 1, 1024, 25)?;
+    Ok((ids, record))
+}
+
+#[test]
+fn what_lives_in_a_log_is_copied_and_the_log_goes(rt: HostRuntime) -> Result<(), Fail> {
+    let alloc = rt.alloc();
+    let mut output = Vec::new(alloc);
+    let mut errors = Vec::new(alloc);
+    let disk = disk_of(alloc)?;
+    let left = compact_disk(&rt, Form::Text, disk, 800, &[2], &mut output, &mut errors);
+    let Some(mut left) = left else {
+        return Err(Fail::new("the status is 1"));
+    };
+    assert!(rt; output.as_slice() == b"before 1 after 1 freed -15 moved 1\n".as_slice());
+    assert!(rt; errors.is_empty());
+    let (ids, record) = found_on(alloc, &mut left)?;
+    assert!(rt; ids.as_slice() == [1].as_slice());
+    assert!(rt; record.as_slice() == &RECORDS[..25]);
+    Ok(())
+}
+
+#[test]
+fn a_log_that_can_not_be_read_ends_a_compaction(rt: HostRuntime) -> Result<(), Fail> {
+    let alloc = rt.alloc();
+    let mut output = Vec::new(alloc);
+    let mut errors = Vec::new(alloc);
+    let mut disk = disk_of(alloc)?;
+    disk.append(alloc, 0, b"\0\0\0\x07")?;
+    let left = compact_disk(&rt, Form::Text, disk, 800, &[], &mut output, &mut errors);
+    assert!(rt; left.is_none() && output.is_empty());
+    assert!(rt; errors.as_slice() == b"fault log 0: bad length 1074 7\n".as_slice());
+    Ok(())
+}
