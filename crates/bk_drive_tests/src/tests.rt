@@ -9,6 +9,7 @@ use bk_drive::{
     PublishAnswer, ReleaseAnswer, RemoveAnswer, RetireAnswer, RollAnswer, Settings, Step,
     SwapAnswer, SwitchAnswer, TakeAnswer, TakeFault, Work, WriteAnswer,
 };
+use bk_log::FetchFault;
 use bk_record::Key;
 use std::alloc::{AllocError, Global};
 
@@ -79,46 +80,92 @@ fn zeros(alloc: Global, ledger: u8, entry: u8, size: usize) -> Result<Vec<u8>, A
     Ok(payload)
 }
 
+/// What a refusal tells that has no word of its own.
+const OTHER: Told = ("another fault", 0);
+
 fn told(answer: &Answer) -> Told {
     match answer {
         Answer::Add(added) => told_of_add(added),
-        Answer::Take(Ok(taken)) => told_of_take(taken),
-        Answer::Take(Err(TakeFault::TooMany)) => ("too many leases", 0),
-        Answer::Fetch(Ok(fetched)) => told_of_fetch(fetched),
-        Answer::Release(ReleaseAnswer::NoReader) => ("no reader", 0),
-        Answer::Release(ReleaseAnswer::NoLease) => ("no lease", 0),
-        Answer::Release(ReleaseAnswer::Released) => ("released", 0),
-        Answer::Delete(Ok(dropped)) => ("dropped", *dropped),
-        Answer::Delete(Err(DeleteFault::AlreadyDeleted)) => ("already deleted", 0),
-        Answer::Fence(Ok(Fence::Fenced)) => ("fenced", 1),
-        Answer::Fence(Ok(Fence::AlreadyFenced)) => ("already fenced", 0),
-        Answer::Fence(Err(FenceFault::Deleted)) => ("deleted", 0),
-        Answer::Swap(SwapAnswer::Running) => ("running", 0),
-        Answer::Swap(SwapAnswer::Nothing) => ("nothing", 0),
-        Answer::Swap(SwapAnswer::Swapped(entries)) => ("swapped", *entries),
-        Answer::Write(Ok(WriteAnswer::NoFlush)) => ("no flush", 0),
-        Answer::Write(Ok(WriteAnswer::AllWritten)) => ("all written", 0),
-        Answer::Write(Ok(WriteAnswer::Wrote(location))) => ("wrote", location.value()),
-        Answer::Write(Err(FlushFault::LogsFull)) => ("logs full", 0),
-        Answer::Publish(Ok(PublishAnswer::NoFlush)) => ("no flush", 0),
-        Answer::Publish(Ok(PublishAnswer::NotAllWritten)) => ("not all written", 0),
-        Answer::Publish(Ok(PublishAnswer::Published(entries))) => ("published", *entries),
-        Answer::Roll(Ok(RollAnswer::FlushRunning)) => ("flush running", 0),
-        Answer::Roll(Ok(RollAnswer::NothingOpen)) => ("nothing open", 0),
-        Answer::Roll(Ok(RollAnswer::Sealed(log))) => ("sealed", u64::from(*log)),
+        Answer::Take(taken) => told_of_take(taken),
+        Answer::Fetch(fetched) => told_of_fetch(fetched),
+        Answer::Release(released) => told_of_release(released),
+        Answer::Delete(deleted) => told_of_delete(deleted),
+        Answer::Fence(fenced) => told_of_fence(fenced),
+        Answer::Swap(swapped) => told_of_swap(swapped),
+        Answer::Write(written) => told_of_write(written),
+        Answer::Publish(published) => told_of_publish(published),
+        Answer::Roll(rolled) => told_of_roll(rolled),
         Answer::Retire(retired) => told_of_retire(retired),
-        Answer::Rebuild(Ok(keys)) => ("rebuilt", *keys),
+        Answer::Rebuild(rebuilt) => told_of_rebuild(rebuilt),
         Answer::Close(closed) => told_of_close(closed),
-        Answer::Remove(Ok(removed)) => told_of_remove(removed),
-        Answer::Begin(Ok(begun)) => told_of_begin(begun),
-        Answer::Begin(Err(CompactFault::LogsFull)) => ("logs full", 0),
-        Answer::Copy(Ok(copied)) => told_of_copy(copied),
-        Answer::EndCopy(Ok(ended)) => told_of_end(ended),
+        Answer::Remove(removed) => told_of_remove(removed),
+        Answer::Begin(begun) => told_of_begin(begun),
+        Answer::Copy(copied) => told_of_copy(copied),
+        Answer::EndCopy(ended) => told_of_end(ended),
         Answer::Switch(switched) => told_of_switch(switched),
         Answer::Finish(finished) => told_of_finish(finished),
-        Answer::GiveUp(GiveUpAnswer::NoJob) => ("no job", 0),
-        Answer::GiveUp(GiveUpAnswer::GivenUp) => ("given up", 0),
-        _ => ("another fault", 0),
+        Answer::GiveUp(given_up) => told_of_giving_up(given_up),
+    }
+}
+
+fn told_of_release(released: &ReleaseAnswer) -> Told {
+    match released {
+        ReleaseAnswer::NoReader => ("no reader", 0),
+        ReleaseAnswer::NoLease => ("no lease", 0),
+        ReleaseAnswer::Released => ("released", 0),
+    }
+}
+
+fn told_of_delete(deleted: &Result<u64, DeleteFault>) -> Told {
+    match deleted {
+        Ok(dropped) => ("dropped", *dropped),
+        Err(DeleteFault::AlreadyDeleted) => ("already deleted", 0),
+        Err(DeleteFault::Memory) => OTHER,
+    }
+}
+
+fn told_of_fence(fenced: &Result<Fence, FenceFault>) -> Told {
+    match fenced {
+        Ok(Fence::Fenced) => ("fenced", 1),
+        Ok(Fence::AlreadyFenced) => ("already fenced", 0),
+        Err(FenceFault::Deleted) => ("deleted", 0),
+        Err(FenceFault::Memory) => OTHER,
+    }
+}
+
+fn told_of_swap(swapped: &SwapAnswer) -> Told {
+    match swapped {
+        SwapAnswer::Running => ("running", 0),
+        SwapAnswer::Nothing => ("nothing", 0),
+        SwapAnswer::Swapped(entries) => ("swapped", *entries),
+    }
+}
+
+fn told_of_write(written: &Result<WriteAnswer, FlushFault>) -> Told {
+    match written {
+        Ok(WriteAnswer::NoFlush) => ("no flush", 0),
+        Ok(WriteAnswer::AllWritten) => ("all written", 0),
+        Ok(WriteAnswer::Wrote(location)) => ("wrote", location.value()),
+        Err(FlushFault::LogsFull) => ("logs full", 0),
+        Err(_) => OTHER,
+    }
+}
+
+fn told_of_publish(published: &Result<PublishAnswer, FlushFault>) -> Told {
+    match published {
+        Ok(PublishAnswer::NoFlush) => ("no flush", 0),
+        Ok(PublishAnswer::NotAllWritten) => ("not all written", 0),
+        Ok(PublishAnswer::Published(entries)) => ("published", *entries),
+        Err(_) => OTHER,
+    }
+}
+
+fn told_of_roll(rolled: &Result<RollAnswer, FlushFault>) -> Told {
+    match rolled {
+        Ok(RollAnswer::FlushRunning) => ("flush running", 0),
+        Ok(RollAnswer::NothingOpen) => ("nothing open", 0),
+        Ok(RollAnswer::Sealed(log)) => ("sealed", u64::from(*log)),
+        Err(_) => OTHER,
     }
 }
 
@@ -131,37 +178,49 @@ fn told_of_retire(retired: &RetireAnswer) -> Told {
     }
 }
 
-fn told_of_remove(removed: &RemoveAnswer) -> Told {
+fn told_of_rebuild(rebuilt: &Result<u64, CollectFault>) -> Told {
+    match rebuilt {
+        Ok(keys) => ("rebuilt", *keys),
+        Err(_) => OTHER,
+    }
+}
+
+fn told_of_remove(removed: &Result<RemoveAnswer, CollectFault>) -> Told {
     match removed {
-        RemoveAnswer::NoLog => ("no log", 0),
-        RemoveAnswer::NotClosed => ("not closed", 0),
-        RemoveAnswer::Removed => ("removed", 0),
+        Ok(RemoveAnswer::NoLog) => ("no log", 0),
+        Ok(RemoveAnswer::NotClosed) => ("not closed", 0),
+        Ok(RemoveAnswer::Removed) => ("removed", 0),
+        Err(_) => OTHER,
     }
 }
 
-fn told_of_begin(begun: &BeginAnswer) -> Told {
+fn told_of_begin(begun: &Result<BeginAnswer, CompactFault>) -> Told {
     match begun {
-        BeginAnswer::JobRunning => ("job running", 0),
-        BeginAnswer::NothingToDo => ("nothing to do", 0),
-        BeginAnswer::Chosen(log) => ("chosen", u64::from(*log)),
+        Ok(BeginAnswer::JobRunning) => ("job running", 0),
+        Ok(BeginAnswer::NothingToDo) => ("nothing to do", 0),
+        Ok(BeginAnswer::Chosen(log)) => ("chosen", u64::from(*log)),
+        Err(CompactFault::LogsFull) => ("logs full", 0),
+        Err(_) => OTHER,
     }
 }
 
-fn told_of_copy(copied: &CopyAnswer) -> Told {
+fn told_of_copy(copied: &Result<CopyAnswer, CompactFault>) -> Told {
     match copied {
-        CopyAnswer::NoJob => ("no job", 0),
-        CopyAnswer::NotNow => ("not now", 0),
-        CopyAnswer::AtEnd => ("at end", 0),
-        CopyAnswer::Copied(entries) => ("copied", *entries),
+        Ok(CopyAnswer::NoJob) => ("no job", 0),
+        Ok(CopyAnswer::NotNow) => ("not now", 0),
+        Ok(CopyAnswer::AtEnd) => ("at end", 0),
+        Ok(CopyAnswer::Copied(entries)) => ("copied", *entries),
+        Err(_) => OTHER,
     }
 }
 
-fn told_of_end(ended: &EndAnswer) -> Told {
+fn told_of_end(ended: &Result<EndAnswer, CompactFault>) -> Told {
     match ended {
-        EndAnswer::NoJob => ("no job", 0),
-        EndAnswer::NotNow => ("not now", 0),
-        EndAnswer::NotAtEnd => ("not at end", 0),
-        EndAnswer::Ended(moves) => ("ended", *moves),
+        Ok(EndAnswer::NoJob) => ("no job", 0),
+        Ok(EndAnswer::NotNow) => ("not now", 0),
+        Ok(EndAnswer::NotAtEnd) => ("not at end", 0),
+        Ok(EndAnswer::Ended(moves)) => ("ended", *moves),
+        Err(_) => OTHER,
     }
 }
 
@@ -187,6 +246,13 @@ fn told_of_finish(finished: &FinishAnswer) -> Told {
     }
 }
 
+fn told_of_giving_up(given_up: &GiveUpAnswer) -> Told {
+    match given_up {
+        GiveUpAnswer::NoJob => ("no job", 0),
+        GiveUpAnswer::GivenUp => ("given up", 0),
+    }
+}
+
 fn told_of_add(added: &Result<Added, AddFault>) -> Told {
     match added {
         Ok(Added::Accepted(_)) => ("accepted", 0),
@@ -194,18 +260,20 @@ fn told_of_add(added: &Result<Added, AddFault>) -> Told {
         Err(AddFault::Deleted) => ("deleted", 0),
         Err(AddFault::Fenced) => ("fenced", 0),
         Err(AddFault::Full { used, .. }) => ("full", *used),
-        Err(AddFault::Bad(_) | AddFault::Memory) => ("another fault", 0),
+        Err(AddFault::Bad(_) | AddFault::Memory) => OTHER,
     }
 }
 
-fn told_of_take(taken: &TakeAnswer) -> Told {
+fn told_of_take(taken: &Result<TakeAnswer, TakeFault>) -> Told {
     match taken {
-        TakeAnswer::NoReader => ("no reader", 0),
-        TakeAnswer::ReaderBusy => ("reader busy", 0),
-        TakeAnswer::Deleted => ("deleted", 0),
-        TakeAnswer::NotHeld => ("not held", 0),
-        TakeAnswer::Cached(payload) => ("cached", payload.len() as u64),
-        TakeAnswer::Leased(location) => ("leased", location.value()),
+        Ok(TakeAnswer::NoReader) => ("no reader", 0),
+        Ok(TakeAnswer::ReaderBusy) => ("reader busy", 0),
+        Ok(TakeAnswer::Deleted) => ("deleted", 0),
+        Ok(TakeAnswer::NotHeld) => ("not held", 0),
+        Ok(TakeAnswer::Cached(payload)) => ("cached", payload.len() as u64),
+        Ok(TakeAnswer::Leased(location)) => ("leased", location.value()),
+        Err(TakeFault::TooMany) => ("too many leases", 0),
+        Err(_) => OTHER,
     }
 }
 
@@ -218,24 +286,30 @@ fn told_of_close(closed: &CloseAnswer) -> Told {
     }
 }
 
-fn told_of_fetch(fetched: &FetchAnswer) -> Told {
+fn told_of_fetch(fetched: &Result<FetchAnswer, FetchFault>) -> Told {
     match fetched {
-        FetchAnswer::NoReader => ("no reader", 0),
-        FetchAnswer::NoLease => ("no lease", 0),
-        FetchAnswer::Bytes(payload) => ("bytes", payload.len() as u64),
+        Ok(FetchAnswer::NoReader) => ("no reader", 0),
+        Ok(FetchAnswer::NoLease) => ("no lease", 0),
+        Ok(FetchAnswer::Bytes(payload)) => ("bytes", payload.len() as u64),
+        Err(_) => OTHER,
     }
 }
 
 /// Whether a step of the store was answered by `Disk`.
 fn is_disk_fault(answer: &Answer) -> bool {
-    matches!(
-        answer,
-        Answer::Write(Err(FlushFault::Disk))
-            | Answer::Publish(Err(FlushFault::Disk))
-            | Answer::Roll(Err(FlushFault::Disk))
-            | Answer::Remove(Err(CollectFault::Disk))
-            | Answer::Begin(Err(CompactFault::Disk))
-            | Answer::Copy(Err(CompactFault::Disk))
-            | Answer::EndCopy(Err(CompactFault::Disk))
-    )
+    match answer {
+        Answer::Write(written) => matches!(written, Err(FlushFault::Disk)),
+        Answer::Publish(published) => matches!(published, Err(FlushFault::Disk)),
+        Answer::Roll(rolled) => matches!(rolled, Err(FlushFault::Disk)),
+        Answer::Remove(removed) => matches!(removed, Err(CollectFault::Disk)),
+        Answer::Begin(begun) => matches!(begun, Err(CompactFault::Disk)),
+        Answer::Copy(copied) => matches!(copied, Err(CompactFault::Disk)),
+        Answer::EndCopy(ended) => matches!(ended, Err(CompactFault::Disk)),
+        _ => false,
+    }
+}
+
+/// Whether an answer tells this.
+fn is_told(answer: &Answer, expected: Told) -> bool {
+    told(answer) == expected
 }

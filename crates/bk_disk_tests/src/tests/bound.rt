@@ -3,7 +3,7 @@
 ghost use Rattle.std.specs.Prelude.{◌≡◌, ◌≤◌, ◌<◌, ◌^◌, ◌++◌, IsTrue, IfOk, length, drop};
 ghost use Rattle.std.specs.FinMap as map;
 
-use super::table::{Call, Want, check};
+use super::table::{Call, Row, Want, check};
 use bk_disk::{DiskFault, LogDisk, LogView, MemDisk};
 use std::alloc::Global;
 use std::process::Abort;
@@ -33,16 +33,12 @@ pub(super) fn view_between<D: LogDisk>(
     view.read_at(alloc, 1024, first.len() as u64 - 1024)
 }
 
+const SECOND: [Row; 1] = [(Call::Read(5, 1026, 3), Want::Bytes(&[7, 8, 9]))];
+
 #[test]
 fn a_view_made_between_two_appends_reads_the_first(rt: HostRuntime) {
-    let alloc = rt.alloc();
-    let mut disk = MemDisk::new(alloc);
-    let read = view_between(alloc, &mut disk, 5, &FIRST, &[8, 9]).expect(&rt, "a read");
-    assert_eq!(rt; read.as_slice(), [7, 7, 7].as_slice());
-    check(
-        &rt,
-        alloc,
-        &mut disk,
-        &[(Call::Read(5, 1026, 3), Want::Bytes(&[7, 8, 9]))],
-    );
+    let mut disk = MemDisk::new(rt.alloc());
+    let read = view_between(rt.alloc(), &mut disk, 5, &FIRST, &[8, 9]).expect(&rt, "a read");
+    assert!(rt; read.as_slice() == [7, 7, 7].as_slice());
+    check(&rt, rt.alloc(), &mut disk, &SECOND);
 }

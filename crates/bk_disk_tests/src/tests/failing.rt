@@ -1,7 +1,7 @@
 //! A disk one of whose calls fails, or one of whose views is broken.
 
 use super::bound::{FIRST, view_between};
-use super::table::{Call, Want, check, make};
+use super::table::{Call, Row, Want, check, make};
 use bk_disk::{DiskFault, FaultDisk, LogDisk, LogView, MemDisk};
 use std::alloc::Global;
 use std::process::Abort;
@@ -21,14 +21,15 @@ const CALLS: [Call<'static>; 9] = [
     Call::Remove(4),
 ];
 
+const ONE_LOG: [Row; 2] = [
+    (Call::Create(4), Want::Done),
+    (Call::Append(4, BYTES), Want::Done),
+];
+
 // A disk of log 4.
 fn one_log(rt: &impl Abort, alloc: Global) -> MemDisk {
     let mut disk = MemDisk::new(alloc);
-    let calls = [
-        (Call::Create(4), Want::Done),
-        (Call::Append(4, BYTES), Want::Done),
-    ];
-    check(rt, alloc, &mut disk, &calls);
+    check(rt, alloc, &mut disk, &ONE_LOG);
     disk
 }
 
@@ -53,96 +54,125 @@ fn the_kth_of_all_calls_fails_and_no_other(rt: HostRuntime) {
     }
 }
 
+const LEFT: [Row; 3] = [
+    (Call::List, Want::Ids(&[4])),
+    (Call::Read(4, 0, 24), Want::Bytes(BYTES)),
+    (Call::Length(4), Want::Number(24)),
+];
+
+// Whether a call fails at first, then leaves the files, and is made again.
+fn fails_once(rt: &impl Abort, alloc: Global, call: Call<'_>) -> bool {
+    let mut disk = FaultDisk::new(one_log(rt, alloc), 1, 0);
+    let fails = make(alloc, &mut disk, call).fault() == Some(DiskFault::Disk);
+    check(rt, alloc, &mut disk, &LEFT);
+    fails && make(alloc, &mut disk, call).fault().is_none()
+}
+
 #[test]
 fn a_failing_call_leaves_the_files_and_the_next_goes_on(rt: HostRuntime) {
-    for call in &CALLS {
-        let mut disk = FaultDisk::new(one_log(&rt, rt.alloc()), 1, 0);
-        let fails = [
-            (*call, Want::Fault(DiskFault::Disk)),
-            (Call::List, Want::Ids(&[4])),
-            (Call::Read(4, 0, 24), Want::Bytes(BYTES)),
-            (Call::Length(4), Want::Number(24)),
-        ];
-        check(&rt, rt.alloc(), &mut disk, &fails);
-        assert!(rt; make(rt.alloc(), &mut disk, *call).fault().is_none());
+    for (number, call) in CALLS.iter().enumerate() {
+        let goes_on = fails_once(&rt, rt.alloc(), *call);
+        assert!(rt; goes_on, "call {number}");
     }
+}
+
+// How many bytes of an append are kept, and what the log has then.
+const KEPT: [(usize, &[u8]); 5] = [
+    (0, b"0123456789abcdefghijklmn"),
+    (7, b"0123456789abcdefghijklmnappende"),
+    (8, b"0123456789abcdefghijklmnappended"),
+    (9, b"0123456789abcdefghijklmnappended"),
+    (usize::MAX, b"0123456789abcdefghijklmnappended"),
+];
+
+fn check_kept(rt: &impl Abort, alloc: Global, kept: usize, left: &[u8]) {
+    let mut disk = FaultDisk::new(one_log(rt, alloc), 1, kept);
+    let length = left.len() as u64;
+    let calls = [
+        (Call::Append(4, b"appended"), Want::Fault(DiskFault::Disk)),
+        (Call::Length(4), Want::Number(length)),
+        (Call::Read(4, 0, length), Want::Bytes(left)),
+        (Call::Append(4, b"appended"), Want::Done),
+    ];
+    check(rt, alloc, &mut disk, &calls);
 }
 
 #[test]
 fn a_failing_append_keeps_the_first_bytes(rt: HostRuntime) {
-    let all = b"0123456789abcdefghijklmnappended";
-    for (kept, left) in [(0, 24usize), (7, 31), (8, 32), (9, 32), (usize::MAX, 32)] {
-        let mut disk = FaultDisk::new(one_log(&rt, rt.alloc()), 1, kept);
-        let calls = [
-            (Call::Append(4, b"appended"), Want::Fault(DiskFault::Disk)),
-            (Call::Length(4), Want::Number(left as u64)),
-            (Call::Read(4, 0, left as u64), Want::Bytes(&all[..left])),
-            (Call::Append(4, b"appended"), Want::Done),
-        ];
-        check(&rt, rt.alloc(), &mut disk, &calls);
+    for (kept, left) in &KEPT {
+        check_kept(&rt, rt.alloc(), *kept, left);
     }
 }
+
+const NO_LOG: [Row; 3] = [
+    (Call::Append(9, b"appended"), Want::Fault(DiskFault::Disk)),
+    (Call::List, Want::Ids(&[4])),
+    (Call::Append(9, b"appended"), Want::Fault(DiskFault::NoLog)),
+];
 
 #[test]
 fn a_failing_append_of_no_log_leaves_none(rt: HostRuntime) {
     let mut disk = FaultDisk::new(one_log(&rt, rt.alloc()), 1, 7);
-    let calls = [
-        (Call::Append(9, b"appended"), Want::Fault(DiskFault::Disk)),
-        (Call::List, Want::Ids(&[4])),
-        (Call::Append(9, b"appended"), Want::Fault(DiskFault::NoLog)),
-    ];
-    check(&rt, rt.alloc(), &mut disk, &calls);
+    check(&rt, rt.alloc(), &mut disk, &NO_LOG);
 }
+
+const FEWER: [Row; 3] = [
+    (Call::Append(4, b"appended"), Want::Fault(DiskFault::Disk)),
+    (Call::Read(4, 20, 6), Want::Bytes(b"klmnap")),
+    (Call::Length(4), Want::Number(26)),
+];
 
 #[test]
 fn an_append_that_fails_on_two_disks_keeps_the_fewer_bytes(rt: HostRuntime) {
-    let calls = [
-        (Call::Append(4, b"appended"), Want::Fault(DiskFault::Disk)),
-        (Call::Read(4, 20, 6), Want::Bytes(b"klmnap")),
-        (Call::Length(4), Want::Number(26)),
-    ];
-    for (outer, inner) in [(2, 5), (5, 2)] {
-        let underneath = FaultDisk::new(one_log(&rt, rt.alloc()), 1, inner);
-        let mut disk = FaultDisk::new(underneath, 1, outer);
-        check(&rt, rt.alloc(), &mut disk, &calls);
+    for (outer, inner) in &[(2, 5), (5, 2)] {
+        let underneath = FaultDisk::new(one_log(&rt, rt.alloc()), 1, *inner);
+        let mut disk = FaultDisk::new(underneath, 1, *outer);
+        check(&rt, rt.alloc(), &mut disk, &FEWER);
     }
 }
 
-// What the next view of log 4 tells: of a read of no bytes at its begin, of one into a buffer, and of one before its begin.
-fn told_by_view(alloc: Global, disk: &mut FaultDisk<MemDisk>) -> Option<[Option<DiskFault>; 3]> {
-    let Ok(view) = disk.view(alloc, 4) else {
-        return None;
-    };
-    Some([
+// What a view tells: of a read of no bytes at its begin, of one into a buffer, and of one before its begin.
+fn told_by(alloc: Global, view: &impl LogView) -> [Option<DiskFault>; 3] {
+    [
         view.read_at(alloc, 1024, 0).err(),
         view.read_into(1024, &mut []).err(),
         view.read_at(alloc, 0, 0).err(),
-    ])
+    ]
 }
 
-const BROKEN: [Option<DiskFault>; 3] = [Some(DiskFault::Disk); 3];
-
-const WHOLE: [Option<DiskFault>; 3] = [None, None, Some(DiskFault::PastEnd)];
+// Whether the next view of log 4 is broken, or whole.
+fn is_view(alloc: Global, disk: &mut FaultDisk<MemDisk>, is_broken: bool) -> bool {
+    let Ok(view) = disk.view(alloc, 4) else {
+        return false;
+    };
+    let disk = Some(DiskFault::Disk);
+    match told_by(alloc, &view) {
+        [first, second, third] if is_broken => first == disk && second == disk && third == disk,
+        [first, second, third] => {
+            first.is_none() && second.is_none() && third == Some(DiskFault::PastEnd)
+        }
+    }
+}
 
 // Whether of four views the one of this number is broken, and no other.
 fn is_broken_alone(alloc: Global, disk: &mut FaultDisk<MemDisk>, j: u64) -> bool {
     for number in 1..=4u64 {
-        let expected = if number == j { BROKEN } else { WHOLE };
-        if told_by_view(alloc, disk) != Some(expected) {
+        if !is_view(alloc, disk, number == j) {
             return false;
         }
     }
     true
 }
 
+const NO_VIEW: [Row; 1] = [(Call::View(9), Want::Fault(DiskFault::NoLog))];
+
 #[test]
 fn the_chosen_view_is_broken_and_no_other(rt: HostRuntime) {
     for j in 0..4u64 {
         let mut disk = FaultDisk::broken_view(one_log(&rt, rt.alloc()), j);
-        let none = [(Call::View(9), Want::Fault(DiskFault::NoLog))];
-        check(&rt, rt.alloc(), &mut disk, &none);
-        assert!(rt; is_broken_alone(rt.alloc(), &mut disk, j), "view {j}");
-        assert!(rt; !disk.has_failed());
+        check(&rt, rt.alloc(), &mut disk, &NO_VIEW);
+        let is_alone = is_broken_alone(rt.alloc(), &mut disk, j) && !disk.has_failed();
+        assert!(rt; is_alone, "view {j}");
     }
 }
 

@@ -1,9 +1,10 @@
 //! A disk over a real folder, which each test makes and takes away.
 
-use super::table::{Call, Want, check};
+use super::table::{Call, Row, Want, check};
 use bk_disk::{DirDisk, DirView, DiskFault, LogDisk, LogView};
 use std::alloc::Global;
 use std::fs::{self, OpenOptions};
+use std::io;
 use std::os::unix::fs::symlink;
 use std::process::Abort;
 
@@ -14,99 +15,113 @@ fn anew(rt: &HostRuntime, folder: &str) -> Result<DirDisk, DiskFault> {
     DirDisk::open(rt, folder)
 }
 
+const CALLS: [Row; 18] = [
+    (Call::Create(31), Want::Done),
+    (Call::Create(31), Want::Fault(DiskFault::Exists)),
+    (Call::Append(31, b"0123456789"), Want::Done),
+    (
+        Call::Patch(31, b"twelve bytes"),
+        Want::Fault(DiskFault::PastEnd),
+    ),
+    (Call::Append(31, b"0123456789abc"), Want::Done),
+    (Call::Patch(31, b"twelve bytes"), Want::Done),
+    (Call::Sync(31), Want::Done),
+    (
+        Call::Read(31, 0, 23),
+        Want::Bytes(b"01234567twelve bytesabc"),
+    ),
+    (Call::Read(31, 20, 4), Want::Fault(DiskFault::PastEnd)),
+    (Call::Length(31), Want::Number(23)),
+    (Call::View(31), Want::Bytes(b"")),
+    (Call::Create(2), Want::Done),
+    (Call::List, Want::Ids(&[2, 31])),
+    (Call::Remove(31), Want::Done),
+    (Call::Remove(31), Want::Fault(DiskFault::NoLog)),
+    (Call::Length(31), Want::Fault(DiskFault::NoLog)),
+    (Call::Append(31, b"a"), Want::Fault(DiskFault::NoLog)),
+    (Call::List, Want::Ids(&[2])),
+];
+
 #[test]
 fn calls_on_a_folder(rt: HostRuntime) {
-    let calls = [
-        (Call::Create(31), Want::Done),
-        (Call::Create(31), Want::Fault(DiskFault::Exists)),
-        (Call::Append(31, b"0123456789"), Want::Done),
-        (
-            Call::Patch(31, b"twelve bytes"),
-            Want::Fault(DiskFault::PastEnd),
-        ),
-        (Call::Append(31, b"0123456789abc"), Want::Done),
-        (Call::Patch(31, b"twelve bytes"), Want::Done),
-        (Call::Sync(31), Want::Done),
-        (
-            Call::Read(31, 0, 23),
-            Want::Bytes(b"01234567twelve bytesabc"),
-        ),
-        (Call::Read(31, 20, 4), Want::Fault(DiskFault::PastEnd)),
-        (Call::Length(31), Want::Number(23)),
-        (Call::View(31), Want::Bytes(b"")),
-        (Call::Create(2), Want::Done),
-        (Call::List, Want::Ids(&[2, 31])),
-        (Call::Remove(31), Want::Done),
-        (Call::Remove(31), Want::Fault(DiskFault::NoLog)),
-        (Call::Length(31), Want::Fault(DiskFault::NoLog)),
-        (Call::Append(31, b"a"), Want::Fault(DiskFault::NoLog)),
-        (Call::List, Want::Ids(&[2])),
-    ];
     let mut disk = anew(&rt, "bk_disk_calls").expect(&rt, "a disk");
-    check(&rt, rt.alloc(), &mut disk, &calls);
+    check(&rt, rt.alloc(), &mut disk, &CALLS);
     fs::remove_dir_all(&rt, "bk_disk_calls").expect(&rt, "no folder");
 }
 
+const FILES: [&str; 11] = [
+    "bk_disk_names/0.log",
+    "bk_disk_names/1f.log",
+    "bk_disk_names/7fffffff.log",
+    "bk_disk_names/80000000.log",
+    "bk_disk_names/01f.log",
+    "bk_disk_names/00.log",
+    "bk_disk_names/1F.log",
+    "bk_disk_names/+1.log",
+    "bk_disk_names/.log",
+    "bk_disk_names/0.log.compacted",
+    "bk_disk_names/notes",
+];
+
+// Files of five bytes, a folder, and links to a file and to the folder.
+fn fill(rt: &HostRuntime) -> io::Result<()> {
+    for path in &FILES {
+        fs::write(rt, path, b"bytes".as_slice())?;
+    }
+    fs::create_dir(rt, "bk_disk_names/2.log")?;
+    symlink(rt, "1f.log", "bk_disk_names/3.log")?;
+    symlink(rt, "2.log", "bk_disk_names/4.log")
+}
+
+const LISTED: [Row; 4] = [
+    (Call::List, Want::Ids(&[0, 3, 31, 2_147_483_647])),
+    (Call::Length(3), Want::Number(5)),
+    (Call::Length(2), Want::Fault(DiskFault::NoLog)),
+    (Call::View(4), Want::Fault(DiskFault::NoLog)),
+];
+
 #[test]
 fn only_files_of_logs_are_listed(rt: HostRuntime) {
-    let files = [
-        "bk_disk_names/0.log",
-        "bk_disk_names/1f.log",
-        "bk_disk_names/7fffffff.log",
-        "bk_disk_names/80000000.log",
-        "bk_disk_names/01f.log",
-        "bk_disk_names/00.log",
-        "bk_disk_names/1F.log",
-        "bk_disk_names/+1.log",
-        "bk_disk_names/.log",
-        "bk_disk_names/0.log.compacted",
-        "bk_disk_names/notes",
-    ];
     let mut disk = anew(&rt, "bk_disk_names").expect(&rt, "a disk");
-    for path in files {
-        fs::write(&rt, path, b"bytes".as_slice()).expect(&rt, "a file");
-    }
-    fs::create_dir(&rt, "bk_disk_names/2.log").expect(&rt, "a folder");
-    symlink(&rt, "1f.log", "bk_disk_names/3.log").expect(&rt, "a link");
-    symlink(&rt, "2.log", "bk_disk_names/4.log").expect(&rt, "a link");
-    let calls = [
-        (Call::List, Want::Ids(&[0, 3, 31, 2_147_483_647])),
-        (Call::Length(3), Want::Number(5)),
-        (Call::Length(2), Want::Fault(DiskFault::NoLog)),
-        (Call::View(4), Want::Fault(DiskFault::NoLog)),
-    ];
-    check(&rt, rt.alloc(), &mut disk, &calls);
+    fill(&rt).expect(&rt, "files");
+    check(&rt, rt.alloc(), &mut disk, &LISTED);
     fs::remove_dir_all(&rt, "bk_disk_names").expect(&rt, "no folder");
 }
+
+const REFUSED: [Row; 2] = [
+    (Call::List, Want::Fault(DiskFault::Disk)),
+    (Call::Length(5), Want::Fault(DiskFault::NoLog)),
+];
+
+const GONE: [Row; 2] = [
+    (Call::List, Want::Fault(DiskFault::Disk)),
+    (Call::Create(1), Want::Fault(DiskFault::Disk)),
+];
 
 #[test]
 fn what_the_system_refuses_is_disk(rt: HostRuntime) {
     let folder = "bk_disk_refused";
     let mut disk = anew(&rt, folder).expect(&rt, "a disk");
     symlink(&rt, "nowhere", "bk_disk_refused/5.log").expect(&rt, "a link");
-    let fails = [
-        (Call::List, Want::Fault(DiskFault::Disk)),
-        (Call::Length(5), Want::Fault(DiskFault::NoLog)),
-    ];
-    check(&rt, rt.alloc(), &mut disk, &fails);
+    check(&rt, rt.alloc(), &mut disk, &REFUSED);
     fs::remove_dir_all(&rt, folder).expect(&rt, "no folder");
-    let gone = [
-        (Call::List, Want::Fault(DiskFault::Disk)),
-        (Call::Create(1), Want::Fault(DiskFault::Disk)),
-    ];
-    check(&rt, rt.alloc(), &mut disk, &gone);
-    let opened = DirDisk::open(&rt, folder).err();
-    assert_eq!(rt; opened, Some(DiskFault::Disk));
+    check(&rt, rt.alloc(), &mut disk, &GONE);
+    let opened = DirDisk::open(&rt, folder);
+    assert!(rt; matches!(opened, Err(DiskFault::Disk)));
 }
 
 // What a read of so many bytes behind the header finds.
 fn finds(alloc: Global, view: &DirView, n: u64, want: Result<&[u8], DiskFault>) -> bool {
-    match (view.read_at(alloc, 1024, n), want) {
-        (Ok(bytes), Ok(want)) => bytes.as_slice() == want,
-        (Err(fault), Err(want)) => fault == want,
-        _ => false,
+    match view.read_at(alloc, 1024, n) {
+        Ok(bytes) => want == Ok(bytes.as_slice()),
+        Err(fault) => want.err() == Some(fault),
     }
 }
+
+const GROWN_AND_GONE: [Row; 2] = [
+    (Call::Append(9, b"more"), Want::Done),
+    (Call::Remove(9), Want::Done),
+];
 
 #[test]
 fn a_view_keeps_its_file_and_its_end(rt: HostRuntime) {
@@ -118,11 +133,7 @@ fn a_view_keeps_its_file_and_its_end(rt: HostRuntime) {
         .write(true)
         .open(&rt, path)
         .expect(&rt, "a file");
-    let calls = [
-        (Call::Append(9, b"more"), Want::Done),
-        (Call::Remove(9), Want::Done),
-    ];
-    check(&rt, rt.alloc(), &mut disk, &calls);
+    check(&rt, rt.alloc(), &mut disk, &GROWN_AND_GONE);
     assert!(rt; view.end() == 1030);
     assert!(rt; finds(rt.alloc(), &view, 6, Ok(&[5; 6])));
     assert!(rt; finds(rt.alloc(), &view, 7, Err(DiskFault::PastEnd)));

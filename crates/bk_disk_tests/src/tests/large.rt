@@ -1,6 +1,6 @@
 //! A log of more than 16 MiB, and hundreds of logs.
 
-use super::table::{Call, Want, check};
+use super::table::{Call, Row, Want, check};
 use bk_disk::{DiskFault, LogDisk, LogView, MemDisk, MemView};
 use std::alloc::Global;
 use std::process::Abort;
@@ -26,6 +26,14 @@ fn check_border(rt: &impl Abort, alloc: Global, disk: &mut MemDisk, number: u8) 
     );
 }
 
+const PATCHED: [Row; 5] = [
+    (Call::Length(7), Want::Number(20_000_020)),
+    (Call::Patch(7, b"twelve bytes"), Want::Done),
+    (Call::Read(7, 6, 16), Want::Bytes(b"\0\0twelve bytes\0\0")),
+    (Call::Append(7, b"end"), Want::Done),
+    (Call::Read(7, 20_000_019, 4), Want::Bytes(b"\x13end")),
+];
+
 #[test]
 fn a_log_of_twenty_million_bytes(rt: HostRuntime) {
     let alloc = rt.alloc();
@@ -38,16 +46,8 @@ fn a_log_of_twenty_million_bytes(rt: HostRuntime) {
     for number in 1..20u8 {
         check_border(&rt, alloc, &mut disk, number);
     }
-    let calls = [
-        (Call::Length(7), Want::Number(20_000_020)),
-        (Call::Patch(7, b"twelve bytes"), Want::Done),
-        (Call::Read(7, 6, 16), Want::Bytes(b"\0\0twelve bytes\0\0")),
-        (Call::Append(7, b"end"), Want::Done),
-        (Call::Read(7, 20_000_019, 4), Want::Bytes(b"\x13end")),
-    ];
-    check(&rt, alloc, &mut disk, &calls);
-    assert!(rt; early.end() == 20_000_020);
-    assert!(rt; has_at(&early, 19_000_018, [18, 19]));
+    check(&rt, alloc, &mut disk, &PATCHED);
+    assert!(rt; early.end() == 20_000_020 && has_at(&early, 19_000_018, [18, 19]));
 }
 
 // Whether a view has these two bytes at a position.

@@ -5,7 +5,7 @@
 use super::listing::two_files;
 use super::table::{Answer, Call, Want, check_answer, make};
 use bk_disk::{DiskFault, MemDisk};
-use std::alloc::Global;
+use std::alloc::{AllocError, Global};
 use std::process::Abort;
 
 static SEVENS: [u8; 70_000] = [7; 70_000];
@@ -58,41 +58,68 @@ fn check_state(rt: &impl Abort, alloc: Global, disk: &mut MemDisk, state: State)
     }
 }
 
+// An append of so many sevens to log 1, or another call.
+#[derive(Clone, Copy)]
+enum Act {
+    Append(usize),
+    Do(Call<'static>),
+}
+
+fn call_of(act: Act) -> Call<'static> {
+    match act {
+        Act::Append(n) => Call::Append(1, SEVENS.get(..n).unwrap_or(&[])),
+        Act::Do(call) => call,
+    }
+}
+
+const PATCH: Act = Act::Do(Call::Patch(1, b"twelve bytes"));
+
+// Each call, and what log 1 is after it.
+const ACTS: [(Act, State); 10] = [
+    (Act::Do(Call::Create(1)), State::Sevens(0)),
+    (Act::Append(100), State::Sevens(100)),
+    (PATCH, State::Patched(100)),
+    (Act::Append(69_000), State::Patched(69_100)),
+    (Act::Do(Call::List), State::Patched(69_100)),
+    (Act::Append(900), State::Patched(70_000)),
+    (Act::Do(Call::View(1)), State::Patched(70_000)),
+    (PATCH, State::Patched(70_000)),
+    (Act::Do(Call::Read(1, 0, 70_000)), State::Patched(70_000)),
+    (Act::Do(Call::Remove(1)), State::Gone),
+];
+
+// Makes a call, and where memory is refused looks at the files, which are as before, and makes it again.
+fn check_call(rt: &impl Abort, alloc: Global, disk: &mut MemDisk, call: Call<'_>, before: State) {
+    if let Some(fault) = make(alloc, disk, call).fault() {
+        assert!(rt; fault == DiskFault::Memory);
+        check_state(rt, alloc, disk, before);
+        assert!(rt; make(alloc, disk, call).fault().is_none());
+    }
+}
+
 #[test]
 fn a_call_without_memory_leaves_the_files(rt: HostRuntime) {
-    let alloc = rt.alloc();
-    let mut disk = MemDisk::new(alloc);
+    let mut disk = MemDisk::new(rt.alloc());
     let mut state = State::Gone;
-    let calls = [
-        (Call::Create(1), State::Sevens(0)),
-        (Call::Append(1, &SEVENS[..100]), State::Sevens(100)),
-        (Call::Patch(1, b"twelve bytes"), State::Patched(100)),
-        (Call::Append(1, &SEVENS[..69_000]), State::Patched(69_100)),
-        (Call::List, State::Patched(69_100)),
-        (Call::Append(1, &SEVENS[..900]), State::Patched(70_000)),
-        (Call::View(1), State::Patched(70_000)),
-        (Call::Patch(1, b"twelve bytes"), State::Patched(70_000)),
-        (Call::Read(1, 0, 70_000), State::Patched(70_000)),
-        (Call::Remove(1), State::Gone),
-    ];
-    for (call, after) in calls {
-        if let Some(fault) = make(alloc, &mut disk, call).fault() {
-            assert_eq!(rt; fault, DiskFault::Memory);
-            check_state(&rt, alloc, &mut disk, state);
-            assert_eq!(rt; make(alloc, &mut disk, call).fault(), None);
-        }
-        check_state(&rt, alloc, &mut disk, after);
-        state = after;
+    for (act, after) in &ACTS {
+        check_call(&rt, rt.alloc(), &mut disk, call_of(*act), state);
+        check_state(&rt, rt.alloc(), &mut disk, *after);
+        state = *after;
+    }
+}
+
+// A disk of two files, made again where memory is refused.
+fn two_files_again(alloc: Global) -> Result<MemDisk, AllocError> {
+    match two_files(alloc, &SEVENS, PATCHED) {
+        Ok(disk) => Ok(disk),
+        Err(_) => two_files(alloc, &SEVENS, PATCHED),
     }
 }
 
 #[test]
 fn a_disk_of_files_without_memory_is_none(rt: HostRuntime) {
     let alloc = rt.alloc();
-    let mut disk = match two_files(alloc, &SEVENS, PATCHED) {
-        Ok(disk) => disk,
-        Err(_) => two_files(alloc, &SEVENS, PATCHED).expect(&rt, "a disk"),
-    };
+    let mut disk = two_files_again(alloc).expect(&rt, "a disk");
     check_state(&rt, alloc, &mut disk, State::Sevens(70_000));
     check(
         &rt,

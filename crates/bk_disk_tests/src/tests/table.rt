@@ -74,14 +74,37 @@ fn view_all<D: LogDisk>(alloc: Global, disk: &mut D, log: u32) -> Result<Vec<u8>
     }
 }
 
+/// A row of a table: a call, and what it is to answer.
+pub(super) type Row = (Call<'static>, Want<'static>);
+
 /// Whether an answer is the one that is wanted.
 fn is_wanted(answer: &Answer, want: Want<'_>) -> bool {
-    match (answer, want) {
-        (_, Want::Fault(told)) => answer.fault() == Some(told),
-        (Answer::Done(Ok(())), Want::Done) => true,
-        (Answer::Number(Ok(n)), Want::Number(m)) => *n == m,
-        (Answer::Ids(Ok(ids)), Want::Ids(all)) => ids.as_slice() == all,
-        (Answer::Bytes(Ok(bytes)), Want::Bytes(all)) => bytes.as_slice() == all,
+    match want {
+        Want::Done => matches!(answer, Answer::Done(Ok(()))),
+        Want::Number(number) => is_number(answer, number),
+        Want::Ids(ids) => has_ids(answer, ids),
+        Want::Bytes(bytes) => has_bytes(answer, bytes),
+        Want::Fault(told) => answer.fault() == Some(told),
+    }
+}
+
+fn is_number(answer: &Answer, wanted: u64) -> bool {
+    match answer {
+        Answer::Number(Ok(number)) => *number == wanted,
+        _ => false,
+    }
+}
+
+fn has_ids(answer: &Answer, wanted: &[u32]) -> bool {
+    match answer {
+        Answer::Ids(Ok(ids)) => ids.as_slice() == wanted,
+        _ => false,
+    }
+}
+
+fn has_bytes(answer: &Answer, wanted: &[u8]) -> bool {
+    match answer {
+        Answer::Bytes(Ok(bytes)) => bytes.as_slice() == wanted,
         _ => false,
     }
 }

@@ -1,9 +1,9 @@
 //! Calls that no script has: an index made anew over a log that is shown again, and the greatest number as a ledger.
 
-use super::series::found;
-use super::{SETTINGS, Told, is_disk_fault, told};
+use super::series::{found, make};
+use super::{SETTINGS, Told, is_disk_fault, told, told_of_delete};
 use bk_disk::{DiskFault, FaultDisk, LogDisk, MemDisk};
-use bk_drive::{Answer, CollectFault, OpenFault, Settings, Store, Work, apply};
+use bk_drive::{Answer, CollectFault, DeleteFault, OpenFault, Settings, Store, Work, apply};
 use bk_record::Key;
 use bk_store::{LogState, Taken};
 use std::alloc::Global;
@@ -29,11 +29,15 @@ const REBUILD: Call = Call::Do(Work::Rebuild);
 /// What a call tells.
 fn told_by(store: &mut Store<Disk>, call: Call) -> Told {
     match call {
-        Call::Do(work) => worked(&apply(store, work)),
+        Call::Do(work) => worked(&applied(store, work)),
         Call::Take(ledger) => taken(store, ledger),
-        Call::Delete(ledger) => told(&Answer::Delete(store.delete(ledger))),
+        Call::Delete(ledger) => told_of_delete(&deleted(store, ledger)),
         Call::Show(log) => shown(store, log),
     }
+}
+
+fn applied(store: &mut Store<Disk>, work: Work) -> Answer {
+    apply(store, work)
 }
 
 /// What a step tells, also where the device failed.
@@ -55,6 +59,10 @@ fn taken(store: &mut Store<Disk>, ledger: u64) -> Told {
     }
 }
 
+fn deleted(store: &mut Store<Disk>, ledger: u64) -> Result<u64, DeleteFault> {
+    store.delete(ledger)
+}
+
 fn shown(store: &mut Store<Disk>, log: u32) -> Told {
     let None = store.job() else {
         return ("job running", 0);
@@ -65,36 +73,36 @@ fn shown(store: &mut Store<Disk>, log: u32) -> Told {
     }
 }
 
-/// The number of the first call that tells something else, `None` where none does: on a store of eight slots.
-fn first_wrong(
-    alloc: Global,
-    disk: Disk,
-    dead: &[u64],
-    calls: &[(Call, Told)],
-) -> Result<Option<usize>, OpenFault> {
+/// A store of eight slots.
+fn opened(alloc: Global, disk: Disk, dead: &[u64]) -> Result<Store<Disk>, OpenFault> {
     let settings = Settings {
         slots: 8,
         ..SETTINGS
     };
-    let mut store = Store::open(alloc, disk, settings, dead)?;
+    Store::open(alloc, disk, settings, dead)
+}
+
+/// The number of the first call that tells something else, counted from 1; 0 where none does.
+fn first_wrong(store: &mut Store<Disk>, calls: &[(Call, Told)]) -> usize {
     for (number, (call, expected)) in calls.iter().enumerate() {
-        if told_by(&mut store, *call) != *expected {
-            return Ok(Some(number));
+        if told_by(store, *call) != *expected {
+            return number.saturating_add(1);
         }
     }
-    Ok(None)
+    0
 }
+
+/// Entry 0 of ledger 7.
+const SEVENTH: &[u8] = b"\0\0\0\x11\0\0\0\0\0\0\0\x07\0\0\0\0\0\0\0\0d";
 
 /// A disk with logs 0 and 1, which both have entry 0 of ledger 7, and log 2, which has none. Its fourth view can't be read.
 fn repeated(alloc: Global) -> Result<Disk, DiskFault> {
     let mut disk = MemDisk::new(alloc);
     for id in 0..3 {
-        disk.create(alloc, id)?;
-        disk.append(alloc, id, b"BKLO\0\0\0\x01")?;
-        disk.append(alloc, id, &[0; 1016])?;
+        make(alloc, &mut disk, id)?;
     }
     for id in 0..2 {
-        disk.append(alloc, id, b"\0\0\0\x11\0\0\0\0\0\0\0\x07\0\0\0\0\0\0\0\0d")?;
+        disk.append(alloc, id, SEVENTH)?;
     }
     Ok(FaultDisk::broken_view(disk, 4))
 }
@@ -111,10 +119,18 @@ const UNBUILT: [(Call, Told); 8] = [
     (Call::Take(7), ("leased", 4_294_968_324)),
 ];
 
+fn unbuilt(alloc: Global) -> Result<usize, OpenFault> {
+    let Ok(disk) = repeated(alloc) else {
+        return Err(OpenFault::Memory);
+    };
+    let mut store = opened(alloc, disk, &[])?;
+    Ok(first_wrong(&mut store, &UNBUILT))
+}
+
 #[test]
 fn a_log_that_is_retired_is_not_read(rt: HostRuntime) -> Result<(), Fail> {
-    let wrong = first_wrong(rt.alloc(), repeated(rt.alloc())?, &[], &UNBUILT)?;
-    assert!(rt; wrong.is_none(), "{wrong:?}");
+    let wrong = unbuilt(rt.alloc())?;
+    assert!(rt; wrong == 0, "call {wrong}");
     Ok(())
 }
 
@@ -126,10 +142,17 @@ const GREATEST: [(Call, Told); 4] = [
     (Call::Take(2), ("leased", 1049)),
 ];
 
+fn greatest(alloc: Global) -> Result<usize, OpenFault> {
+    let Ok(disk) = found(alloc) else {
+        return Err(OpenFault::Memory);
+    };
+    let mut store = opened(alloc, FaultDisk::new(disk, 0, 0), &[4])?;
+    Ok(first_wrong(&mut store, &GREATEST))
+}
+
 #[test]
 fn any_number_is_deleted(rt: HostRuntime) -> Result<(), Fail> {
-    let disk = FaultDisk::new(found(rt.alloc())?, 0, 0);
-    let wrong = first_wrong(rt.alloc(), disk, &[4], &GREATEST)?;
-    assert!(rt; wrong.is_none(), "{wrong:?}");
+    let wrong = greatest(rt.alloc())?;
+    assert!(rt; wrong == 0, "call {wrong}");
     Ok(())
 }

@@ -10,7 +10,7 @@
 //! In a plain run no allocation is refused. `rt try --test --fail-alloc N` refuses the Nth one of each test.
 
 use super::series::found;
-use super::{SETTINGS, Told, is_disk_fault, told};
+use super::{SETTINGS, Told, is_disk_fault, is_told, told};
 use bk_disk::{FaultDisk, LogDisk, MemDisk};
 use bk_drive::{
     Added, Answer, BeginAnswer, Kind, Lease, OpenFault, Settings, Store, TakeFault, Work, apply,
@@ -61,9 +61,12 @@ const LIVING: [(u64, u64, &[u8]); 5] = [
 /// The ledgers that are dead at the end.
 const DEAD: [u64; 4] = [4, 6, 7, 2];
 
+/// The entries that are flushed first.
+const ENTRIES: [&[u8]; 4] = [FIRST, SECOND, LONG, SEVENTH];
+
 /// How a run went: the call that was answered by `Disk`, how many were refused for another reason, and the first that told
 /// something else than it is to; and the log of the copies.
-#[derive(Clone, Copy, Debug, PartialEq, Eq)]
+#[derive(Clone, Copy)]
 struct Tally {
     failed: &'static str,
     refused: u32,
@@ -88,6 +91,59 @@ fn word_of(answer: &Answer) -> &'static str {
 /// A lease, and the entry's location.
 type Leased = (Lease<View>, Location);
 
+fn applied(store: &mut Store<Disk>, work: Work) -> Answer {
+    apply(store, work)
+}
+
+/// Whether an add is accepted, `None` where it is refused.
+fn accepts(store: &mut Store<Disk>, payload: &[u8]) -> Option<bool> {
+    match store.add(payload) {
+        Ok(added) => Some(matches!(added, Added::Accepted(_))),
+        Err(_) => None,
+    }
+}
+
+/// How many keys the deleted ledger had, `None` where the deletion is refused.
+fn dropped_of(store: &mut Store<Disk>, ledger: u64) -> Option<u64> {
+    store.delete(ledger).ok()
+}
+
+fn taken(store: &mut Store<Disk>, key: Key) -> Result<Taken<View>, TakeFault> {
+    store.take(key)
+}
+
+/// What a take gives.
+#[derive(Drop)]
+enum Lent {
+    Lease(Leased),
+    Refused,
+    Other,
+}
+
+fn lend(store: &mut Store<Disk>, key: Key) -> Lent {
+    match taken(store, key) {
+        Ok(Taken::Leased(lease, location)) => Lent::Lease((lease, location)),
+        Err(TakeFault::Memory | TakeFault::NoSeat) => Lent::Refused,
+        _ => Lent::Other,
+    }
+}
+
+/// Whether an entry that is read by a lease has these bytes, `None` where the read is refused.
+fn has_bytes(alloc: Global, leased: &Leased, key: Key, payload: &[u8]) -> Option<bool> {
+    match fetch(leased.0.view(), alloc, leased.1, key) {
+        Ok(read) => Some(read.as_slice() == payload),
+        Err(_) => None,
+    }
+}
+
+/// The log of the copies of the compaction that runs.
+fn copy_of(store: &Store<Disk>) -> Option<u32> {
+    match store.job() {
+        Some(job) => Some(job.copy()),
+        None => None,
+    }
+}
+
 impl Trial {
     /// Notes that a call told something else than it is to.
     fn check(&mut self, name: &'static str, is_told: bool) {
@@ -100,14 +156,19 @@ impl Trial {
         self.tally.refused = self.tally.refused.saturating_add(1);
     }
 
+    /// Notes that a call was answered by `Disk`, which is to happen once.
+    fn note_failure(&mut self, name: &'static str) {
+        let is_first = self.tally.failed == "none";
+        self.check(name, is_first);
+        self.tally.failed = name;
+    }
+
     /// What a step of the store tells, and whether it was refused.
     fn once(&mut self, name: &'static str, work: Work) -> (Answer, bool) {
-        let answer = apply(&mut self.store, work);
+        let answer = applied(&mut self.store, work);
         let is_refused = word_of(&answer) == "another fault";
         if is_disk_fault(&answer) {
-            let is_first = self.tally.failed == "none";
-            self.check(name, is_first);
-            self.tally.failed = name;
+            self.note_failure(name);
         } else if is_refused {
             self.note_refusal();
         }
@@ -126,18 +187,22 @@ impl Trial {
     /// A step that is to tell this.
     fn step(&mut self, name: &'static str, work: Work, expected: Told) {
         let answer = self.again(name, work);
-        self.check(name, told(&answer) == expected);
+        self.check(name, is_told(&answer, expected));
+    }
+
+    /// A step that is to tell this word.
+    fn step_of_word(&mut self, name: &'static str, work: Work, word: &str) {
+        let answer = self.again(name, work);
+        self.check(name, word_of(&answer) == word);
     }
 
     /// An add that is to be accepted.
     fn add(&mut self, payload: &[u8]) {
         for _ in 0..2 {
-            match self.store.add(payload) {
-                Ok(added) => {
-                    return self.check("add", matches!(added, Added::Accepted(_)));
-                }
-                Err(_) => self.note_refusal(),
+            if let Some(is_accepted) = accepts(&mut self.store, payload) {
+                return self.check("add", is_accepted);
             }
+            self.note_refusal();
         }
         self.check("add", false);
     }
@@ -145,10 +210,10 @@ impl Trial {
     /// A deletion that is to tell how many keys there were.
     fn delete(&mut self, ledger: u64, expected: u64) {
         for _ in 0..2 {
-            match self.store.delete(ledger) {
-                Ok(dropped) => return self.check("delete", dropped == expected),
-                Err(_) => self.note_refusal(),
+            if let Some(dropped) = dropped_of(&mut self.store, ledger) {
+                return self.check("delete", dropped == expected);
             }
+            self.note_refusal();
         }
         self.check("delete", false);
     }
@@ -157,25 +222,29 @@ impl Trial {
     fn flush(&mut self, entries: u64) {
         self.step("swap", Work::Swap, ("swapped", entries));
         for _ in 0..entries {
-            let answer = self.again("write", Work::WriteOne);
-            self.check("write", word_of(&answer) == "wrote");
+            self.step_of_word("write", Work::WriteOne, "wrote");
         }
-        // Where a write failed, the flush began again.
+        self.end_writes();
+        self.step("publish", Work::Publish, ("published", entries));
+    }
+
+    /// Where a write failed, the flush began again: the entries are written then, or nothing is left to write.
+    fn end_writes(&mut self) {
         for _ in 0..4 {
             let answer = self.again("write", Work::WriteOne);
-            self.check("write", matches!(word_of(&answer), "wrote" | "all written"));
+            let word = word_of(&answer);
+            self.check("write", word == "wrote" || word == "all written");
         }
-        self.step("publish", Work::Publish, ("published", entries));
     }
 
     /// A lease of an entry.
     fn lease(&mut self, ledger: u64, entry: u64) -> Option<Leased> {
         let key = Key::new(ledger, entry)?;
         for _ in 0..2 {
-            match self.store.take(key) {
-                Ok(Taken::Leased(lease, location)) => return Some((lease, location)),
-                Err(TakeFault::Memory | TakeFault::NoSeat) => self.note_refusal(),
-                _ => return None,
+            match lend(&mut self.store, key) {
+                Lent::Lease(leased) => return Some(leased),
+                Lent::Refused => self.note_refusal(),
+                Lent::Other => return None,
             }
         }
         None
@@ -187,10 +256,10 @@ impl Trial {
             return false;
         };
         for _ in 0..2 {
-            match fetch(leased.0.view(), self.alloc, leased.1, key) {
-                Ok(read) => return read.as_slice() == payload,
-                Err(_) => self.note_refusal(),
+            if let Some(is_read) = has_bytes(self.alloc, leased, key, payload) {
+                return is_read;
             }
+            self.note_refusal();
         }
         false
     }
@@ -204,7 +273,7 @@ impl Trial {
                 self.check(name, word_of(&answer) == word);
                 return true;
             }
-            if self.store.job().is_none() {
+            if copy_of(&self.store).is_none() {
                 return false;
             }
         }
@@ -263,19 +332,22 @@ impl Trial {
         0
     }
 
-    /// The index is sent to the copy, and the source is retired.
-    fn switch_all(&mut self, source: u32) {
-        if let Some(job) = self.store.job() {
-            self.tally.copy = job.copy();
-        }
-        let copy = self.tally.copy;
+    /// Neither the source nor the copy of a compaction is retired by a step.
+    fn are_in_use(&mut self, source: u32, copy: u32) {
         self.step("retire", Work::Retire(source), ("in use", 0));
         self.step("retire", Work::Retire(copy), ("in use", 0));
+    }
+
+    /// The index is sent to the copy, and the source is retired.
+    fn switch_all(&mut self, source: u32) {
+        if let Some(copy) = copy_of(&self.store) {
+            self.tally.copy = copy;
+        }
+        self.are_in_use(source, self.tally.copy);
         let answer = self.again("switch", Work::Switch(1));
         let (_, moved) = told(&answer);
         self.check("switch", moved % 100 == 1);
-        let answer = self.again("finish", Work::Finish);
-        self.check("finish", word_of(&answer) == "left");
+        self.step_of_word("finish", Work::Finish, "left");
         self.step("switch", Work::Switch(5), ("moved", 1));
         self.step("finish", Work::Finish, ("retired", u64::from(source)));
     }
@@ -287,20 +359,29 @@ impl Trial {
         let is_read = self.reads(&leased, FIRST);
         self.check("fetch", is_read);
         leased.0.release().end();
+        self.remove_unread(source);
+    }
+
+    /// Closes and removes a log of which no lease is out.
+    fn remove_unread(&mut self, source: u32) {
         self.step("close", Work::Close(source), ("closed", 0));
         self.step("remove", Work::Remove(source), ("removed", 0));
         self.step("remove", Work::Remove(source), ("no log", 0));
     }
 
-    /// The whole life, but for its end.
-    fn live(&mut self) {
-        for payload in [FIRST, SECOND, LONG, SEVENTH] {
+    /// Adds entries and flushes them into a log that nothing is added to afterwards, and deletes a ledger of it.
+    fn fill(&mut self) {
+        for payload in &ENTRIES {
             self.add(payload);
         }
         self.flush(4);
         let (rolled, is_refused) = self.once("roll", Work::Roll);
         self.check("roll", is_refused || word_of(&rolled) == "sealed");
         self.delete(6, 1);
+    }
+
+    /// The log is leased, and compacted and removed.
+    fn compact_leased(&mut self) {
         let leased = self.lease(5, 0);
         let source = self.copy_all();
         self.switch_all(source);
@@ -308,6 +389,12 @@ impl Trial {
             Some(leased) => self.remove_read(source, leased),
             None => self.check("take", false),
         }
+    }
+
+    /// The whole life, but for its end.
+    fn live(&mut self) {
+        self.fill();
+        self.compact_leased();
         self.delete(2, 1);
         self.step("retire", Work::Retire(0), ("retired", 0));
         self.step("close", Work::Close(0), ("closed", 0));
@@ -317,8 +404,8 @@ impl Trial {
 
     /// Reads each entry that lives.
     fn read_all(&mut self) {
-        for (ledger, entry, payload) in LIVING {
-            let is_read = match self.lease(ledger, entry) {
+        for (ledger, entry, payload) in &LIVING {
+            let is_read = match self.lease(*ledger, *entry) {
                 Some(leased) => self.reads(&leased, payload),
                 None => false,
             };
@@ -327,15 +414,22 @@ impl Trial {
     }
 }
 
-/// A run over a disk that fails at the call of this number, an append leaving so many bytes.
-fn outcome(alloc: Global, call: u64, kept: usize) -> Result<Tally, OpenFault> {
+fn opened(alloc: Global, disk: Disk, dead: &[u64]) -> Result<Store<Disk>, OpenFault> {
+    Store::open(alloc, disk, ROOM, dead)
+}
+
+fn disk_of(store: Store<Disk>) -> Option<Disk> {
+    store.into_disk().ok()
+}
+
+/// The life of a store over a disk that fails at the call of this number, an append leaving so many bytes.
+fn lived(alloc: Global, call: u64, kept: usize) -> Result<Trial, OpenFault> {
     let Ok(disk) = found(alloc) else {
         return Err(OpenFault::Memory);
     };
-    let disk = FaultDisk::new(disk, call, kept);
-    let mut first = Trial {
+    let mut trial = Trial {
         alloc,
-        store: Store::open(alloc, disk, ROOM, &[4])?,
+        store: opened(alloc, FaultDisk::new(disk, call, kept), &[4])?,
         tally: Tally {
             failed: "none",
             refused: 0,
@@ -343,19 +437,31 @@ fn outcome(alloc: Global, call: u64, kept: usize) -> Result<Tally, OpenFault> {
             copy: 0,
         },
     };
-    first.live();
-    let mut tally = first.tally;
-    let Ok(disk) = first.store.into_disk() else {
-        tally.wrong = "disk";
-        return Ok(tally);
-    };
+    trial.live();
+    Ok(trial)
+}
+
+/// What is read of a store that is opened anew.
+fn read_again(alloc: Global, disk: Disk, tally: Tally) -> Result<Tally, OpenFault> {
     let mut again = Trial {
         alloc,
-        store: Store::open(alloc, disk, ROOM, &DEAD)?,
+        store: opened(alloc, disk, &DEAD)?,
         tally,
     };
     again.read_all();
     Ok(again.tally)
+}
+
+/// A run over a disk that fails at the call of this number, an append leaving so many bytes.
+fn outcome(alloc: Global, call: u64, kept: usize) -> Result<Tally, OpenFault> {
+    let Trial { store, tally, .. } = lived(alloc, call, kept)?;
+    match disk_of(store) {
+        Some(disk) => read_again(alloc, disk, tally),
+        None => Ok(Tally {
+            wrong: "disk",
+            ..tally
+        }),
+    }
 }
 
 /// The calls of the device in turn: up to the one of this number, the step that is answered by `Disk` where the call fails,
@@ -376,40 +482,68 @@ const CALLS: [(u64, &str, u32); 11] = [
     (51, "open", 0),
 ];
 
-/// What a run is to come to whose disk fails at the call of this number.
-fn expected(call: u64) -> Result<Tally, OpenFault> {
-    let (failed, copy) = match CALLS.iter().find(|(last, _, _)| call <= *last) {
-        Some((_, "open", _)) => return Err(OpenFault::Disk),
-        Some((_, failed, copy)) => (*failed, *copy),
-        None => ("none", 4),
-    };
-    Ok(Tally {
-        failed,
-        refused: 0,
-        wrong: "none",
-        copy,
-    })
+/// The step that is answered by `Disk` where the call of this number fails, and the log of the copies then.
+fn expected(call: u64) -> (&'static str, u32) {
+    for (last, failed, copy) in &CALLS {
+        if call <= *last {
+            return (failed, *copy);
+        }
+    }
+    ("none", 4)
+}
+
+/// Whether a run came to what it is to come to whose disk fails at the call of this number.
+fn is_expected(ran: &Result<Tally, OpenFault>, call: u64) -> bool {
+    let (failed, copy) = expected(call);
+    match ran {
+        Ok(tally) => {
+            tally.failed == failed
+                && tally.refused == 0
+                && tally.wrong == "none"
+                && tally.copy == copy
+        }
+        Err(fault) => failed == "open" && matches!(fault, OpenFault::Disk),
+    }
+}
+
+/// The first call whose failure makes a run come to something else, 0 where none does.
+fn first_unexpected(alloc: Global, kept: usize) -> u64 {
+    for call in 1..=52 {
+        if !is_expected(&outcome(alloc, call, kept), call) {
+            return call;
+        }
+    }
+    0
 }
 
 #[test]
 fn each_call_of_the_device_fails_in_turn(rt: HostRuntime) {
-    for kept in [0, 7, 2_000_000] {
-        for call in 1..=52 {
-            let ran = outcome(rt.alloc(), call, kept);
-            assert_eq!(rt; ran, expected(call), "call {call}, {kept} bytes kept");
-        }
+    for kept in &[0, 7, 2_000_000] {
+        let call = first_unexpected(rt.alloc(), *kept);
+        assert!(rt; call == 0, "call {call}, {kept} bytes kept");
+    }
+}
+
+/// A run in which no call of the device fails, done again where memory was refused before the first step.
+fn outcome_again(alloc: Global) -> Result<Tally, OpenFault> {
+    match outcome(alloc, 0, 0) {
+        Err(OpenFault::Memory) => outcome(alloc, 0, 0),
+        ran => ran,
+    }
+}
+
+/// What was wrong with such a run, `none` where nothing was.
+fn wrong_with(ran: Result<Tally, OpenFault>) -> &'static str {
+    match ran {
+        Ok(tally) if tally.failed != "none" => tally.failed,
+        Ok(tally) if tally.refused > 1 => "refused more than once",
+        Ok(tally) => tally.wrong,
+        Err(_) => "opening",
     }
 }
 
 #[test]
 fn each_allocation_is_refused_in_turn(rt: HostRuntime) {
-    let mut ran = outcome(rt.alloc(), 0, 0);
-    if ran == Err(OpenFault::Memory) {
-        ran = outcome(rt.alloc(), 0, 0);
-    }
-    let is_right = match ran {
-        Ok(ran) => ran.failed == "none" && ran.wrong == "none" && ran.refused <= 1,
-        Err(_) => false,
-    };
-    assert!(rt; is_right, "{ran:?}");
+    let wrong = wrong_with(outcome_again(rt.alloc()));
+    assert!(rt; wrong == "none", "{wrong}");
 }

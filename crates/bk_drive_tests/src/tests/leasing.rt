@@ -33,12 +33,28 @@ enum Asked {
     Disk,
 }
 
+fn taken(store: &mut Store<MemDisk>, key: Key) -> Result<Taken<View>, TakeFault> {
+    store.take(key)
+}
+
+/// Where the disk is not given back, the store, and how many leases of the lowest leased log are out, and a hundred for each
+/// log below that one.
+fn given_back(store: Store<MemDisk>) -> Option<(Store<MemDisk>, u64)> {
+    match store.into_disk() {
+        Ok(_) => None,
+        Err(refused) => {
+            let below = u64::from(refused.log).saturating_mul(100);
+            Some((refused.store, below.saturating_add(refused.count)))
+        }
+    }
+}
+
 impl Lender {
     fn hold(&mut self, ledger: u64) -> Told {
         let (Some(store), Some(key)) = (&mut self.store, Key::new(ledger, 0)) else {
             return ("no store", 0);
         };
-        match store.take(key) {
+        match taken(store, key) {
             Ok(Taken::Leased(lease, location)) => self.keep(lease, location.value()),
             Err(TakeFault::TooMany) => ("too many leases", 0),
             _ => ("another fault", 0),
@@ -59,18 +75,15 @@ impl Lender {
         }
     }
 
-    /// Where the disk is not given back, it is how many leases of the lowest leased log are out, and a hundred for each log
-    /// below that one.
     fn ask_for_disk(&mut self) -> Told {
         let Some(store) = self.store.take() else {
             return ("no store", 0);
         };
-        match store.into_disk() {
-            Ok(_) => ("disk", 0),
-            Err(refused) => {
-                self.store = Some(refused.store);
-                let below = u64::from(refused.log).saturating_mul(100);
-                ("leases", below.saturating_add(refused.count))
+        match given_back(store) {
+            None => ("disk", 0),
+            Some((store, leases)) => {
+                self.store = Some(store);
+                ("leases", leases)
             }
         }
     }
@@ -85,27 +98,34 @@ impl Lender {
 }
 
 /// A store on three logs, of each of which at most two leases are out.
-fn two_leases(alloc: Global, disk: MemDisk) -> Result<Lender, OpenFault> {
+fn two_leases(alloc: Global, disk: MemDisk) -> Result<Store<MemDisk>, OpenFault> {
     let settings = Settings {
         slots: 3,
         leases: 2,
         ..SETTINGS
     };
-    let store = Store::open(alloc, disk, settings, &[])?;
+    Store::open(alloc, disk, settings, &[])
+}
+
+fn make_lender(alloc: Global) -> Result<Lender, OpenFault> {
+    let Ok(disk) = found(alloc) else {
+        return Err(OpenFault::Memory);
+    };
     Ok(Lender {
-        store: Some(store),
+        store: Some(two_leases(alloc, disk)?),
         leases: Vec::new(alloc),
     })
 }
 
-/// The number of the first call that tells something else, `None` where none does.
-fn first_untold(lender: &mut Lender, run: &[(Asked, Told)]) -> Option<usize> {
+/// The number of the first call that tells something else, counted from 1; 0 where none does.
+fn first_untold(alloc: Global, run: &[(Asked, Told)]) -> Result<usize, OpenFault> {
+    let mut lender = make_lender(alloc)?;
     for (number, (asked, expected)) in run.iter().enumerate() {
         if lender.told_by(*asked) != *expected {
-            return Some(number);
+            return Ok(number.saturating_add(1));
         }
     }
-    None
+    Ok(0)
 }
 
 /// As many leases of a log are out as are allowed, and another one once one is given back. No other log's leases count.
@@ -134,11 +154,11 @@ const REFUSED: [(Asked, Told); 9] = [
 
 #[test]
 fn leases_that_are_held_count(rt: HostRuntime) -> Result<(), Fail> {
-    let runs: [&[(Asked, Told)]; 2] = [&COUNTED, &REFUSED];
-    for (number, run) in runs.iter().enumerate() {
-        let mut lender = two_leases(rt.alloc(), found(rt.alloc())?)?;
-        let wrong = first_untold(&mut lender, run);
-        assert!(rt; wrong.is_none(), "run {number}, {wrong:?}");
-    }
+    let counted = first_untold(rt.alloc(), &COUNTED)?;
+    let refused = first_untold(rt.alloc(), &REFUSED)?;
+    assert!(rt;
+        counted == 0 && refused == 0,
+        "call {counted} of the first run, or {refused} of the second"
+    );
     Ok(())
 }
