@@ -8,6 +8,7 @@ ghost use Rattle.std.specs.Prelude.{◌≡◌, ℕ, ◌<◌, ◌^◌, Bool, fals
 ghost use Rattle.std.specs.List.{All};
 ghost use Rattle.bk_record.specs.Files.{Files};
 ghost use Rattle.bk_disk.specs.Disk.{AreLogFiles, HasCause, Lists, Measures, Creates, Appends, Patches, Syncs};
+ghost use Rattle.bk_disk.specs.Durable.{KeepsMore, SyncKeeps, ListSettles, RemoveKeeps};
 ghost use Rattle.bk_disk.specs.Disk.{Reads, Views, Removes, ReadsView, ReadsInto, view_end};
 
 use crate::DiskFault;
@@ -64,6 +65,10 @@ pub trait LogDisk: Send + Drop {
 
     ghost files: { Self → Files };
 
+    ghost synced: { Self → Files };
+
+    ghost gone: { Self → Files };
+
     ghost honest: { Self → Bool };
 
     ghost failures: { Self → ℕ };
@@ -76,12 +81,15 @@ pub trait LogDisk: Send + Drop {
     /// The ids of all logs, rising. Faults: `Disk`, `Memory`.
     fn list(&mut self, alloc: Global) -> Result<Vec<u32>, DiskFault>
         ensures honest { honest self.new ≡ honest self.old }
+        ensures kept { IsTrue (honest self.old) → KeepsMore (synced self.old) (gone self.old) (synced self.new) (gone self.new) }
+        ensures back { IsTrue (honest self.old) → ListSettles result (gone self.new) }
         ensures cause { HasCause (failures self.old) (failures self.new) result }
         ensures turn { IsTrue (honest self.old) → Lists (λ v. v.items) (files self.old) result (files self.new) };
 
     /// The length of a log in bytes. Faults: `NoLog`, `Disk`, `Memory`.
     fn length(&mut self, alloc: Global, log: u32) -> Result<u64, DiskFault>
         ensures honest { honest self.new ≡ honest self.old }
+        ensures kept { IsTrue (honest self.old) → KeepsMore (synced self.old) (gone self.old) (synced self.new) (gone self.new) }
         ensures cause { HasCause (failures self.old) (failures self.new) result }
         ensures turn { IsTrue (honest self.old) → Measures (files self.old) log result (files self.new) };
 
@@ -90,6 +98,7 @@ pub trait LogDisk: Send + Drop {
     fn create(&mut self, alloc: Global, log: u32) -> Result<(), DiskFault>
         requires { log < 2 ^ 31 }
         ensures honest { honest self.new ≡ honest self.old }
+        ensures kept { IsTrue (honest self.old) → KeepsMore (synced self.old) (gone self.old) (synced self.new) (gone self.new) }
         ensures cause { HasCause (failures self.old) (failures self.new) result }
         ensures turn { IsTrue (honest self.old) → Creates (files self.old) log result (files self.new) };
 
@@ -97,6 +106,7 @@ pub trait LogDisk: Send + Drop {
     /// which leaves the old bytes and a prefix of the new ones, possibly all of them, `Memory`.
     fn append(&mut self, alloc: Global, log: u32, bytes: &[u8]) -> Result<(), DiskFault>
         ensures honest { honest self.new ≡ honest self.old }
+        ensures kept { IsTrue (honest self.old) → KeepsMore (synced self.old) (gone self.old) (synced self.new) (gone self.new) }
         ensures cause { HasCause (failures self.old) (failures self.new) result }
         ensures turn { IsTrue (honest self.old) → Appends (files self.old) log bytes.now result (files self.new) };
 
@@ -104,6 +114,7 @@ pub trait LogDisk: Send + Drop {
     /// bytes, `Disk`, which leaves any bytes at 8 to 20, `Memory`.
     fn patch(&mut self, alloc: Global, log: u32, bytes: &[u8; 12]) -> Result<(), DiskFault>
         ensures honest { honest self.new ≡ honest self.old }
+        ensures kept { IsTrue (honest self.old) → KeepsMore (synced self.old) (gone self.old) (synced self.new) (gone self.new) }
         ensures cause { HasCause (failures self.old) (failures self.new) result }
         ensures turn { IsTrue (honest self.old) → Patches (files self.old) log bytes.now result (files self.new) };
 
@@ -111,6 +122,8 @@ pub trait LogDisk: Send + Drop {
     /// Faults: `NoLog`, `Disk`, `Memory`.
     fn sync(&mut self, alloc: Global, log: u32) -> Result<(), DiskFault>
         ensures honest { honest self.new ≡ honest self.old }
+        ensures kept { IsTrue (honest self.old) → KeepsMore (synced self.old) (gone self.old) (synced self.new) (gone self.new) }
+        ensures syncs { IsTrue (honest self.old) → SyncKeeps (files self.old) log result (synced self.new) }
         ensures cause { HasCause (failures self.old) (failures self.new) result }
         ensures turn { IsTrue (honest self.old) → Syncs (files self.old) log result (files self.new) };
 
@@ -118,6 +131,7 @@ pub trait LogDisk: Send + Drop {
     /// `Memory`.
     fn read_at(&mut self, alloc: Global, log: u32, at: u64, n: u64) -> Result<Vec<u8>, DiskFault>
         ensures honest { honest self.new ≡ honest self.old }
+        ensures kept { IsTrue (honest self.old) → KeepsMore (synced self.old) (gone self.old) (synced self.new) (gone self.new) }
         ensures cause { HasCause (failures self.old) (failures self.new) result }
         ensures turn { IsTrue (honest self.old)
             → Reads (λ v. v.items) (files self.old) log at n result (files self.new) };
@@ -125,6 +139,7 @@ pub trait LogDisk: Send + Drop {
     /// A view of a log as it is now. Faults: `NoLog`, `Disk`, `Memory`.
     fn view(&mut self, alloc: Global, log: u32) -> Result<Self::View, DiskFault>
         ensures honest { honest self.new ≡ honest self.old }
+        ensures kept { IsTrue (honest self.old) → KeepsMore (synced self.old) (gone self.old) (synced self.new) (gone self.new) }
         ensures cause { HasCause (failures self.old) (failures self.new) result }
         ensures turn { IsTrue (honest self.old)
             → Views Self.View.bytes Self.View.honest (files self.old) log result (files self.new) };
@@ -132,6 +147,7 @@ pub trait LogDisk: Send + Drop {
     /// Takes a log's file away. Views of it stay. Faults: `NoLog`, `Disk`, `Memory`.
     fn remove(&mut self, alloc: Global, log: u32) -> Result<(), DiskFault>
         ensures honest { honest self.new ≡ honest self.old }
+        ensures kept { IsTrue (honest self.old) → RemoveKeeps (files self.old) log result (synced self.old) (gone self.old) (synced self.new) (gone self.new) }
         ensures cause { HasCause (failures self.old) (failures self.new) result }
         ensures turn { IsTrue (honest self.old) → Removes (files self.old) log result (files self.new) };
 }
