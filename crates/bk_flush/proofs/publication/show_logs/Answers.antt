@@ -28,7 +28,8 @@ returns-in-Err-clause-turn g c =
     let log = c.log-log.ensures.value in
     let next = next_placed s c.promise.ensures c.loop-number.number c.loop-number.from _ c.loop-number.invariant.1 at (omega (arith, above, log)) in
     not_shown s c.loop-number.store c.loop-number.from is c.log-log.result (subst (λ n. IsNextLog s c.loop-number.from (Some n)) (sym log) next)
-    c.in-Err.fault c.of_log.result c.show.new.self c.in-Err.ensures.turn c.of_log.ensures
+    c.in-Err.fault c.flush_fault.result c.show.new.self c.flush_fault.new.store c.in-Err.ensures.turn c.flush_fault.ensures.value
+    c.flush_fault.ensures.left
 
 pub loop-number-preserved : goal.loop-number-preserved
 loop-number-preserved g c =
