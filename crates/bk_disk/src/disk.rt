@@ -60,6 +60,9 @@ pub trait LogView: Send + Sync + Drop {
 
 /// A folder of entry logs, each a file of bytes named by the log's id. Every fault but a failing append's or patch's
 /// `Disk` leaves the files as they were.
+///
+/// `synced` is what a crash leaves of each log at least, and `gone` are the files that were removed and may be back then. A
+/// call keeps of each log no less than was kept before; a disk may keep more at any time.
 pub trait LogDisk: Send + Drop {
     type View: LogView;
 
@@ -78,7 +81,7 @@ pub trait LogDisk: Send + Drop {
     fn bounds(&self)
         ensures { IsTrue (honest self.now) → AreLogFiles (files self.now) };
 
-    /// The ids of all logs, rising. Faults: `Disk`, `Memory`.
+    /// The ids of all logs, rising. No file that was removed may be back from then on. Faults: `Disk`, `Memory`.
     fn list(&mut self, alloc: Global) -> Result<Vec<u32>, DiskFault>
         ensures honest { honest self.new ≡ honest self.old }
         ensures kept { IsTrue (honest self.old) → KeepsMore (synced self.old) (gone self.old) (synced self.new) (gone self.new) }
@@ -118,8 +121,8 @@ pub trait LogDisk: Send + Drop {
         ensures cause { HasCause (failures self.old) (failures self.new) result }
         ensures turn { IsTrue (honest self.old) → Patches (files self.old) log bytes.now result (files self.new) };
 
-    /// Asks the device to keep what was written to a log. Nothing is promised of it but that the files stay.
-    /// Faults: `NoLog`, `Disk`, `Memory`.
+    /// Asks the device to keep what was written to a log: all that the log has outlives a crash then. Faults: `NoLog`, `Disk`,
+    /// `Memory`.
     fn sync(&mut self, alloc: Global, log: u32) -> Result<(), DiskFault>
         ensures honest { honest self.new ≡ honest self.old }
         ensures kept { IsTrue (honest self.old) → KeepsMore (synced self.old) (gone self.old) (synced self.new) (gone self.new) }
@@ -144,7 +147,7 @@ pub trait LogDisk: Send + Drop {
         ensures turn { IsTrue (honest self.old)
             → Views Self.View.bytes Self.View.honest (files self.old) log result (files self.new) };
 
-    /// Takes a log's file away. Views of it stay. Faults: `NoLog`, `Disk`, `Memory`.
+    /// Takes a log's file away, which a crash may bring back. Views of it stay. Faults: `NoLog`, `Disk`, `Memory`.
     fn remove(&mut self, alloc: Global, log: u32) -> Result<(), DiskFault>
         ensures honest { honest self.new ≡ honest self.old }
         ensures kept { IsTrue (honest self.old) → RemoveKeeps (files self.old) log result (synced self.old) (gone self.old) (synced self.new) (gone self.new) }
