@@ -14,6 +14,7 @@ use Rattle.bk_store.specs.Meaning.{MeansTheSame, KeepsMeaning}
 use Rattle.bk_store.specs.Doors.{MayShow, ShowTurn}
 use Rattle.bk_store.proofs.LogMaps.{log-inserted, log-insert_else}
 use Rattle.bk_store.proofs.KeptJob.{flush_idle}
+use Rattle.bk_store.proofs.SameMeaning.{stays_on}
 use Rattle.bk_step.specs.Faults.{step_fault_of}
 use Rattle.bk_flush.specs.Flushing.{HasPlace, IsShown, LeftBy, ShowsThose, ShowsPlaced, StopsShowing, RestartsShowing}
 use Rattle.bk_flush.specs.Showing.{AllShown, ShowsLogs}
@@ -51,6 +52,18 @@ module _ (s t : State) (from : ℕ) (is : IsShowing s from t) where
   -- a pair of the list is that of the start
   pub same_entry : (n : ℕ) (e : EntryKey × Place) → slice_get (finite.entries t.places) n ≡ Some e → slice_get (finite.entries s.places) n ≡ Some e
   same_entry n e at = ap (λ (m : Places). slice_get (finite.entries m) n) (sym same_places) ∙ at
+
+  -- a log is refused, and what its fault leaves of the flush means what the store meant
+  pub refused_stays : (log : ℕ) (cause : LogFault) (u after : State) → ShowTurn t log (Err cause) u → (IsTrue t.honest → MeansTheSame t u)
+      → KeepsMeaning u after → KeepsMeaning s after
+  refused_stays log cause u after turn meaning later =
+      stays_on s t after is.stays (stays_on t u after (record { honest = refused_honest cause turn; meaning = meaning }) later)
+    where
+      refused_honest : (cause : LogFault) → ShowTurn t log (Err cause) u → u.honest ≡ t.honest
+      refused_honest log_faults.Disk turn = ap (λ (x : State). x.honest) turn.1
+      refused_honest log_faults.Memory turn = ap (λ (x : State). x.honest) turn.1
+      refused_honest log_faults.Odd turn = ap (λ (x : State). x.honest) turn.1
+      refused_honest log_faults.Failed never = absurd never
 
   module _ (log : ℕ) (next : IsNextLog s from (Some log)) where
     -- those before the next log are shown

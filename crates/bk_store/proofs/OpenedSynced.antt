@@ -1,9 +1,9 @@
 -- Logs that are found one after another are synced each, and stay so.
-use Rattle.std.proofs.Common.{◌≡◌, inl, inr, ℕ, ◌+◌, ◌<◌, Bool, IsTrue, List, [], ◌∷◌, take, length, get_or, Result, Ok, Err, sym, subst, ◌∙◌}
+use Rattle.std.proofs.Common.{◌≡◌, inl, inr, ℕ, ◌+◌, ◌<◌, Bool, IsTrue, List, take, length, get_or, Result, Ok, Err, sym, subst, ◌∙◌}
 use Rattle.std.specs.Result.{OnOk}
 use Rattle.std.proofs.lemmas.List.{take_more}
 use Rattle.bk_record.specs.Files.{Files, file_of, In}
-use Rattle.bk_record.proofs.Growth.{In-append_cases}
+use Rattle.bk_record.proofs.Growth.{In-push_cases}
 use Rattle.bk_disk.specs.Durable.{HasKept, KeepsMore}
 use Rattle.bk_disk.proofs.KeepsMore.{keeps_same, keeps_trans}
 use Rattle.bk_store.specs.Found.{AllKept}
@@ -37,13 +37,9 @@ pub keeping_on : {honest honest' : Bool} {files files' : Files} {ids : List ℕ}
     → IsKeeping honest files ids (k + 1) kept gone kept'' gone''
 keeping_on {honest} {honest'} {files} {files'} {ids} {k} {kept} {gone} {kept'} {gone'} kept'' gone'' d so_far within stays same one synced = record {
   more = λ is. keeps_trans kept gone kept' gone' kept'' gone'' (so_far.more is) (one (stays ∙ is));
-  all = λ is id there.
-      elim (In-append_cases id (take k ids) (get_or ids k d ∷ []) (subst (In id) (take_more ids k d within) there)) [
-        | inl before ↦ kept_on (one (stays ∙ is)) id (file_of files id) (so_far.all is id before)
-        | inr here ↦ elim here [
-          | inl last ↦ subst (λ n. HasKept kept'' n (file_of files n)) last
-              (subst (λ fs. HasKept kept'' (get_or ids k d) (file_of fs (get_or ids k d))) (same is) (synced (stays ∙ is)))
-          | inr never ↦ absurd never
-        ]
-      ];
+  all = λ is id there. elim (In-push_cases id (get_or ids k d) (take k ids) (subst (In id) (take_more ids k d within) there)) [
+    | inl before ↦ kept_on (one (stays ∙ is)) id (file_of files id) (so_far.all is id before)
+    | inr last ↦ subst (λ n. HasKept kept'' n (file_of files n)) last
+        (subst (λ fs. HasKept kept'' (get_or ids k d) (file_of fs (get_or ids k d))) (same is) (synced (stays ∙ is)))
+  ];
 }
