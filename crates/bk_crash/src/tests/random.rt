@@ -52,7 +52,7 @@ fn lives(alloc: Global, seed: u64, count: u32) -> Result<(), Stop> {
         for _ in 0..120 {
             push(&mut steps, step(alloc, &mut chance)?)?;
         }
-        let calls = chance.up_to(90) as u64;
+        let calls = chance.up_to(120) as u64;
         let (left, _) = live(alloc, &mut owed, files, &steps, calls, &mut chance)?;
         compare(alloc, &mut owed, &left)?;
         files = left;
