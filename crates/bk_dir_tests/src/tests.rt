@@ -102,22 +102,36 @@ fn run<D: LogDisk>(alloc: Global, disk: &mut D, command: DirCommand) -> Shown {
     }
 }
 
+/// Which part of what was shown is another one than it is to be; `none` where all are right.
+fn wrong_part(shown: &Shown, status: u8, output: &str, errors: &str) -> &'static str {
+    if shown.output.as_slice() != output.as_bytes() {
+        "output"
+    } else if shown.errors.as_slice() != errors.as_bytes() {
+        "errors"
+    } else if shown.status != status {
+        "status"
+    } else {
+        "none"
+    }
+}
+
+/// Compares what was shown, and the status.
+fn expect(rt: &impl Abort, shown: &Shown, status: u8, output: &str, errors: &str) {
+    let wrong = wrong_part(shown, status, output, errors);
+    assert!(rt; wrong == "none", "another {wrong}");
+}
+
+/// Compares what a row's command showed.
+fn check_row(rt: &impl Abort, number: usize, shown: &Shown, row: &Row<'_>, about: &str) {
+    let wrong = wrong_part(shown, row.status, row.output, row.errors);
+    assert!(rt; wrong == "none", "the {wrong} of row {number}, {about}");
+}
+
 /// Runs each command of a table, and compares what it shows.
 fn check<D: LogDisk>(rt: &impl Abort, alloc: Global, disk: &mut D, rows: &[Row<'_>], about: &str) {
-    for row in rows {
+    for (number, row) in rows.iter().enumerate() {
         let shown = run(alloc, disk, row.command);
-        let what = row.command;
-        assert_eq!(rt;
-            shown.output.as_slice(),
-            row.output.as_bytes(),
-            "the output of {what:?}, {about}"
-        );
-        assert_eq!(rt;
-            shown.errors.as_slice(),
-            row.errors.as_bytes(),
-            "the errors of {what:?}, {about}"
-        );
-        assert_eq!(rt; shown.status, row.status, "the status of {what:?}, {about}");
+        check_row(rt, number, &shown, row, about);
     }
 }
 

@@ -1,9 +1,10 @@
 //! How much stands in logs, by log, by ledger and by entry, and scans of a part.
 
-use super::{File, HELLO, OPEN, Row, SEALED_LOG, Shown, check, disk_of, done, run};
+use super::{File, HELLO, OPEN, Row, SEALED_LOG, Shown, check, disk_of, done, expect};
 use bk_dir::{DirCommand, EntryRange, ScanChoice, run_stat};
 use bk_disk::MemDisk;
 use std::alloc::Global;
+use std::process::Abort;
 use std::test::Fail;
 
 /// A log with entry 5 of ledger 2, of two bytes, and the entries 0 and 2 of ledger 1, of one byte and of none.
@@ -69,6 +70,10 @@ fn entries_that_are_asked_for(rt: HostRuntime) -> Result<(), Fail> {
     Ok(())
 }
 
+/// What `stat` shows of that log and a sealed one.
+const BAD_STATS: &str = "0 1089 1 25 25 1000 sealed\n4 1073 1 25 25 1000 open\n\
+logs 2 length 2162 entries 2 bytes 50 live 50 share 1000\n";
+
 #[test]
 fn a_bad_length_is_told_and_what_stands_before_it_counts(rt: HostRuntime) -> Result<(), Fail> {
     const TOLD: &str = "fault log 4: bad length 1049 7\n";
@@ -89,14 +94,7 @@ fn a_bad_length_is_told_and_what_stands_before_it_counts(rt: HostRuntime) -> Res
     let mut disk = disk_of(rt.alloc(), &[SEALED_LOG, BAD_LOG])?;
     check(&rt, rt.alloc(), &mut disk, &rows, "a bad log");
     let shown = run_stat_on(rt.alloc(), &mut disk, &[]);
-    assert_eq!(rt;
-        shown.output.as_slice(),
-        b"0 1089 1 25 25 1000 sealed\n4 1073 1 25 25 1000 open\n\
-logs 2 length 2162 entries 2 bytes 50 live 50 share 1000\n"
-            .as_slice()
-    );
-    assert_eq!(rt; shown.errors.as_slice(), TOLD.as_bytes());
-    assert_eq!(rt; shown.status, 1);
+    expect(&rt, &shown, 1, BAD_STATS, TOLD);
     Ok(())
 }
 
@@ -113,34 +111,39 @@ fn run_stat_on(alloc: Global, disk: &mut MemDisk, dead: &[u64]) -> Shown {
 }
 
 /// What `stat` shows of two logs where ledger 2 is dead.
-const STATS: &[u8] = b"0 1089 1 25 25 1000 sealed\n3 1087 3 63 41 650 open\n\
+const STATS: &str = "0 1089 1 25 25 1000 sealed\n3 1087 3 63 41 650 open\n\
 logs 2 length 2176 entries 4 bytes 88 live 66 share 750\n";
+
+/// What it shows of no log.
+const NO_STATS: &str = "logs 0 length 0 entries 0 bytes 0 live 0 share -\n";
+
+/// What it shows of a log that is too short for a header.
+const SHORT_STATS: &str = "9 1023 0 0 0 - short\n\
+logs 1 length 1023 entries 0 bytes 0 live 0 share -\n";
+
+const SHORT_LOG: File<'static> = File {
+    log: 9,
+    head: OPEN,
+    behind: HELLO,
+    length: 1023,
+};
+
+/// Holds what `stat` shows of these files against a text. Nothing is told beside it.
+fn check_stat(
+    rt: &impl Abort,
+    alloc: Global,
+    files: &[File<'_>],
+    dead: &[u64],
+    stats: &str,
+) -> Result<(), Fail> {
+    let mut disk = disk_of(alloc, files)?;
+    expect(rt, &run_stat_on(alloc, &mut disk, dead), 0, stats, "");
+    Ok(())
+}
 
 #[test]
 fn how_much_lives_of_each_log(rt: HostRuntime) -> Result<(), Fail> {
-    let mut disk = disk_of(rt.alloc(), &[SEALED_LOG, MIXED_LOG])?;
-    let shown = run_stat_on(rt.alloc(), &mut disk, &[2, 7]);
-    assert_eq!(rt; shown.output.as_slice(), STATS);
-    assert_eq!(rt; shown.errors.len(), 0);
-    assert_eq!(rt; shown.status, 0);
-    let shown = run_stat_on(rt.alloc(), &mut MemDisk::new(rt.alloc()), &[]);
-    assert_eq!(rt;
-        shown.output.as_slice(),
-        b"logs 0 length 0 entries 0 bytes 0 live 0 share -\n".as_slice()
-    );
-    assert_eq!(rt; shown.status, 0);
-    let short = File {
-        log: 9,
-        head: OPEN,
-        behind: HELLO,
-        length: 1023,
-    };
-    let shown = run_stat_on(rt.alloc(), &mut disk_of(rt.alloc(), &[short])?, &[]);
-    assert_eq!(rt;
-        shown.output.as_slice(),
-        b"9 1023 0 0 0 - short\n\
-logs 1 length 1023 entries 0 bytes 0 live 0 share -\n"
-            .as_slice()
-    );
-    Ok(())
+    check_stat(&rt, rt.alloc(), &[SEALED_LOG, MIXED_LOG], &[2, 7], STATS)?;
+    check_stat(&rt, rt.alloc(), &[], &[], NO_STATS)?;
+    check_stat(&rt, rt.alloc(), &[SHORT_LOG], &[], SHORT_STATS)
 }

@@ -1,6 +1,6 @@
 //! Disks that fail, disks that are odd, and outputs that can't be written.
 
-use super::{SEALED_LOG, disk_of, find, run};
+use super::{SEALED_LOG, Shown, disk_of, find, run, wrong_part};
 use bk_dir::{DirCommand, EntryRange, ScanChoice, run_dir};
 use bk_disk::FaultDisk;
 use std::alloc::Global;
@@ -38,27 +38,34 @@ fn calls(rt: &impl Abort) -> [(DirCommand, u8); 9] {
     ]
 }
 
+/// What a command shows on a disk with one sealed log whose call of this number fails.
+fn run_failing(alloc: Global, command: DirCommand, call: u64) -> Result<Shown, Fail> {
+    let inner = disk_of(alloc, &[SEALED_LOG])?;
+    Ok(run(alloc, &mut FaultDisk::new(inner, call, 0), command))
+}
+
+/// The first of so many calls whose failure doesn't end a command, one more where each does, and 0 where the command ends
+/// with another status than 0 though none fails.
+fn first_passed(alloc: Global, command: DirCommand, count: u8) -> Result<u64, Fail> {
+    let after = u64::from(count) + 1;
+    for call in 1..after {
+        let shown = run_failing(alloc, command, call)?;
+        if wrong_part(&shown, 1, "", "fault disk\n") != "none" {
+            return Ok(call);
+        }
+    }
+    let whole = run_failing(alloc, command, after)?;
+    Ok(if whole.status == 0 { after } else { 0 })
+}
+
 #[test]
 fn each_call_that_fails_ends_a_command(rt: HostRuntime) -> Result<(), Fail> {
-    for (command, count) in calls(&rt) {
-        for k in 1..=u64::from(count) {
-            let inner = disk_of(rt.alloc(), &[SEALED_LOG])?;
-            let shown = run(rt.alloc(), &mut FaultDisk::new(inner, k, 0), command);
-            assert_eq!(rt;
-                shown.errors.as_slice(),
-                b"fault disk\n".as_slice(),
-                "{command:?}, call {k}"
-            );
-            assert_eq!(rt; shown.output.len(), 0, "{command:?}, call {k}");
-            assert_eq!(rt; shown.status, 1, "{command:?}, call {k}");
-        }
-        let inner = disk_of(rt.alloc(), &[SEALED_LOG])?;
-        let shown = run(
-            rt.alloc(),
-            &mut FaultDisk::new(inner, u64::from(count) + 1, 0),
-            command,
+    for (number, (command, count)) in calls(&rt).iter().enumerate() {
+        let passed = first_passed(rt.alloc(), *command, *count)?;
+        assert!(rt;
+            passed == u64::from(*count) + 1,
+            "command {number}, call {passed}"
         );
-        assert_eq!(rt; shown.status, 0, "{command:?}");
     }
     Ok(())
 }
@@ -105,6 +112,18 @@ fn run_narrow(
     Ok((status, errors))
 }
 
+/// Whether a command is told that its output is full for each shorter length than this, and ends well for this one.
+fn fills(alloc: Global, command: DirCommand, length: usize) -> Result<bool, Fail> {
+    for left in 0..length {
+        let (status, errors) = run_narrow(alloc, command, left, io::ErrorKind::Other)?;
+        if status != 1 || errors.as_slice() != b"fault output\n".as_slice() {
+            return Ok(false);
+        }
+    }
+    let (status, _) = run_narrow(alloc, command, length, io::ErrorKind::Other)?;
+    Ok(status == 0)
+}
+
 #[test]
 fn an_output_that_is_full_ends_a_command(rt: HostRuntime) -> Result<(), Fail> {
     let lengths: [(DirCommand, usize); 9] = [
@@ -118,28 +137,24 @@ fn an_output_that_is_full_ends_a_command(rt: HostRuntime) -> Result<(), Fail> {
         (DirCommand::Ledgers, 13),
         (DirCommand::Entries(FIRST), 12),
     ];
-    for (command, length) in lengths {
-        for left in 0..length {
-            let (status, errors) = run_narrow(rt.alloc(), command, left, io::ErrorKind::Other)?;
-            assert_eq!(rt;
-                errors.as_slice(),
-                b"fault output\n".as_slice(),
-                "{command:?}, {left} bytes"
-            );
-            assert_eq!(rt; status, 1, "{command:?}, {left} bytes");
-        }
-        let (status, _) = run_narrow(rt.alloc(), command, length, io::ErrorKind::Other)?;
-        assert_eq!(rt; status, 0, "{command:?}");
+    for (number, (command, length)) in lengths.iter().enumerate() {
+        let is_right = fills(rt.alloc(), *command, *length)?;
+        assert!(rt; is_right, "command {number}");
     }
     Ok(())
 }
 
+/// Whether a command whose output nobody reads ends with status 1, and tells nothing.
+fn ends_quietly(alloc: Global, command: DirCommand) -> Result<bool, Fail> {
+    let (status, errors) = run_narrow(alloc, command, 3, io::ErrorKind::BrokenPipe)?;
+    Ok(status == 1 && errors.is_empty())
+}
+
 #[test]
 fn an_output_that_nobody_reads_ends_a_command_quietly(rt: HostRuntime) -> Result<(), Fail> {
-    for (command, _) in calls(&rt) {
-        let (status, errors) = run_narrow(rt.alloc(), command, 3, io::ErrorKind::BrokenPipe)?;
-        assert_eq!(rt; errors.len(), 0, "{command:?}");
-        assert_eq!(rt; status, 1, "{command:?}");
+    for (number, (command, _)) in calls(&rt).iter().enumerate() {
+        let is_quiet = ends_quietly(rt.alloc(), *command)?;
+        assert!(rt; is_quiet, "command {number}");
     }
     Ok(())
 }

@@ -1,6 +1,6 @@
 //! Folders of the system that have what is no log, or can't be read. Each test makes its folder and takes it away.
 
-use super::{HELLO_AND_MAP, Row, SEALED, check, done, find};
+use super::{HELLO_AND_MAP, Row, SEALED, Shown, check, check_row, done, find};
 use bk_dir::{DirCommand, FolderCommand, run_folder};
 use bk_disk::DirDisk;
 use std::fs;
@@ -68,30 +68,29 @@ fn a_log_that_can_not_be_opened(rt: HostRuntime) -> Result<(), Fail> {
     Ok(())
 }
 
-/// Runs a command on a folder, and compares what it shows.
+/// Runs a command on a folder.
+fn run_on(host: &HostRuntime, path: &str, command: DirCommand) -> Shown {
+    let mut output = Vec::new(host.alloc());
+    let mut errors = Vec::new(host.alloc());
+    let status = run_folder(
+        host,
+        path,
+        &FolderCommand::Dir(command),
+        &mut output,
+        &mut errors,
+    );
+    Shown {
+        status,
+        output,
+        errors,
+    }
+}
+
+/// Runs each command of a table on a folder, and compares what it shows.
 fn check_folder(rt: &impl Abort, host: &HostRuntime, path: &str, rows: &[Row<'_>]) {
-    for row in rows {
-        let mut output = Vec::new(host.alloc());
-        let mut errors = Vec::new(host.alloc());
-        let status = run_folder(
-            host,
-            path,
-            &FolderCommand::Dir(row.command),
-            &mut output,
-            &mut errors,
-        );
-        let what = row.command;
-        assert_eq!(rt;
-            output.as_slice(),
-            row.output.as_bytes(),
-            "the output of {what:?}"
-        );
-        assert_eq!(rt;
-            errors.as_slice(),
-            row.errors.as_bytes(),
-            "the errors of {what:?}"
-        );
-        assert_eq!(rt; status, row.status, "the status of {what:?}");
+    for (number, row) in rows.iter().enumerate() {
+        let shown = run_on(host, path, row.command);
+        check_row(rt, number, &shown, row, path);
     }
 }
 

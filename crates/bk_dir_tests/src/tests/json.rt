@@ -1,6 +1,9 @@
 //! What each command shows as JSON of files that were written by hand, and what it tells of faults.
 
-use super::{File, HELLO, HELLO_AND_MAP, OPEN, Row, SEALED_LOG, disk_of, done, find};
+use super::{
+    File, HELLO, HELLO_AND_MAP, OPEN, Row, SEALED_LOG, Shown, check_row, disk_of, done, expect,
+    find,
+};
 use bk_dir::{
     Digest, DigestChoice, DirCommand, EntryRange, Form, ScanChoice, run_dir_as, run_stat_as,
 };
@@ -42,31 +45,23 @@ const TOLD: &str = "{\"fault\":\"bad length\",\"at\":1049,\"length\":7,\"log\":3
 /// The length of a file whose map is of one ledger, behind one entry.
 const WHOLE: usize = 1089;
 
+/// Runs a command as JSON.
+fn run_json(alloc: Global, disk: &mut MemDisk, command: DirCommand) -> Shown {
+    let mut output = Vec::new(alloc);
+    let mut errors = Vec::new(alloc);
+    let status = run_dir_as(alloc, Form::Json, disk, command, &mut output, &mut errors);
+    Shown {
+        status,
+        output,
+        errors,
+    }
+}
+
 /// Runs each command of a table as JSON, and compares what it shows.
 fn check_json(rt: &impl Abort, alloc: Global, disk: &mut MemDisk, rows: &[Row<'_>]) {
-    for row in rows {
-        let mut output = Vec::new(alloc);
-        let mut errors = Vec::new(alloc);
-        let status = run_dir_as(
-            alloc,
-            Form::Json,
-            disk,
-            row.command,
-            &mut output,
-            &mut errors,
-        );
-        let what = row.command;
-        assert_eq!(rt;
-            output.as_slice(),
-            row.output.as_bytes(),
-            "the output of {what:?}"
-        );
-        assert_eq!(rt;
-            errors.as_slice(),
-            row.errors.as_bytes(),
-            "the errors of {what:?}"
-        );
-        assert_eq!(rt; status, row.status, "the status of {what:?}");
+    for (number, row) in rows.iter().enumerate() {
+        let shown = run_json(alloc, disk, row.command);
+        check_row(rt, number, &shown, row, "as JSON");
     }
 }
 
@@ -221,9 +216,12 @@ fn how_much_lives_as_json(rt: HostRuntime) -> Result<(), Fail> {
     let mut output = Vec::new(alloc);
     let mut errors = Vec::new(alloc);
     let status = run_stat_as(alloc, Form::Json, &mut disk, &[2], &mut output, &mut errors);
-    assert_eq!(rt; output.as_slice(), STATS.as_bytes());
-    assert_eq!(rt; errors.as_slice(), TOLD.as_bytes());
-    assert_eq!(rt; status, 1);
+    let shown = Shown {
+        status,
+        output,
+        errors,
+    };
+    expect(&rt, &shown, 1, STATS, TOLD);
     Ok(())
 }
 

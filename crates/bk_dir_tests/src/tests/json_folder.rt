@@ -1,6 +1,7 @@
 //! What is told as JSON of folders of the system that can't be read, or have a log that can't be.
 
 use super::folder::anew;
+use super::{Shown, expect};
 use bk_dir::{DirCommand, FolderCommand, Form, run_folder_as};
 use std::fs;
 use std::os::unix::fs::symlink;
@@ -26,9 +27,12 @@ fn check_logs(
         &mut shown,
         &mut told,
     );
-    assert_eq!(rt; shown.as_slice(), output.as_bytes(), "the output of {path}");
-    assert_eq!(rt; told.as_slice(), errors.as_bytes(), "the errors of {path}");
-    assert_eq!(rt; ended, status, "the status of {path}");
+    let shown = Shown {
+        status: ended,
+        output: shown,
+        errors: told,
+    };
+    expect(rt, &shown, status, output, errors);
 }
 
 #[test]

@@ -1,7 +1,7 @@
 //! Logs that are sealed, logs that are not to be, and devices that fail meanwhile.
 
 use super::{
-    File, HELLO, HELLO_AND_MAP, OPEN, Row, SEALED, SEALED_LOG, Shown, check, disk_of, done,
+    File, HELLO, HELLO_AND_MAP, OPEN, Row, SEALED, SEALED_LOG, Shown, check, disk_of, done, expect,
 };
 use bk_dir::{DirCommand, Form, run_seal};
 use bk_disk::{FaultDisk, LogDisk, MemDisk};
@@ -29,17 +29,15 @@ fn seal<D: LogDisk>(alloc: Global, form: Form, disk: &mut D, log: u32) -> Shown 
     }
 }
 
-/// Compares what was shown, and the status.
-fn expect(rt: &impl Abort, shown: &Shown, status: u8, output: &str, errors: &str) {
-    assert_eq!(rt; shown.errors.as_slice(), errors.as_bytes());
-    assert_eq!(rt; shown.output.as_slice(), output.as_bytes());
-    assert_eq!(rt; shown.status, status);
-}
-
 /// The bytes of a log.
 fn bytes_of<D: LogDisk>(alloc: Global, disk: &mut D, log: u32) -> Result<Vec<u8>, Fail> {
     let length = disk.length(alloc, log)?;
     Ok(disk.read_at(alloc, log, 0, length)?)
+}
+
+/// Whether a log has these bytes.
+fn has_bytes(alloc: Global, disk: &mut MemDisk, log: u32, bytes: &[u8]) -> Result<bool, Fail> {
+    Ok(bytes_of(alloc, disk, log)?.as_slice() == bytes)
 }
 
 /// The bytes of a log that begins so, with its header filled up, and has these bytes behind it.
@@ -56,9 +54,7 @@ fn a_log_is_sealed(rt: HostRuntime) -> Result<(), Fail> {
     let mut disk = disk_of(alloc, &[OPEN_LOG])?;
     let shown = seal(alloc, Form::Text, &mut disk, 3);
     expect(&rt, &shown, 0, "sealed 3 map 1049 count 1\n", "");
-    let now = bytes_of(alloc, &mut disk, 3)?;
-    let wanted = file_of(alloc, SEALED, HELLO_AND_MAP)?;
-    assert_eq!(rt; now, wanted);
+    assert!(rt; has_bytes(alloc, &mut disk, 3, &file_of(alloc, SEALED, HELLO_AND_MAP)?)?);
     let rows = [
         done(DirCommand::Check, "3 ok\n"),
         done(DirCommand::Map(3), "1 25\n"),
@@ -128,9 +124,20 @@ const REFUSED: [(&[u8], &[u8], usize, &str); 8] = [
     ),
 ];
 
+/// Holds what is told of a log that is not sealed against a text; the log stays.
+fn check_refused(rt: &impl Abort, alloc: Global, file: &File<'_>, text: &str) -> Result<(), Fail> {
+    let mut disk = disk_of(alloc, &[*file])?;
+    let shown = seal(alloc, Form::Text, &mut disk, 0);
+    let told = format!(in alloc; "fault {text}\n")?;
+    expect(rt, &shown, 1, "", &told);
+    let mut wanted = file_of(alloc, file.head, file.behind)?;
+    wanted.truncate(file.length);
+    assert!(rt; has_bytes(alloc, &mut disk, 0, &wanted)?, "{text}");
+    Ok(())
+}
+
 #[test]
 fn logs_that_are_not_sealed(rt: HostRuntime) -> Result<(), Fail> {
-    let alloc = rt.alloc();
     for (head, behind, length, text) in &REFUSED {
         let file = File {
             log: 0,
@@ -138,18 +145,17 @@ fn logs_that_are_not_sealed(rt: HostRuntime) -> Result<(), Fail> {
             behind,
             length: *length,
         };
-        let mut disk = disk_of(alloc, &[file])?;
-        let shown = seal(alloc, Form::Text, &mut disk, 0);
-        let told = format!(in alloc; "fault {text}\n")?;
-        expect(&rt, &shown, 1, "", &told);
-        let mut wanted = file_of(alloc, head, behind)?;
-        wanted.truncate(*length);
-        assert_eq!(rt; bytes_of(alloc, &mut disk, 0)?, wanted, "{text}");
+        check_refused(&rt, rt.alloc(), &file, text)?;
     }
-    let mut disk = disk_of(alloc, &[SEALED_LOG])?;
-    let shown = seal(alloc, Form::Text, &mut disk, 9);
+    Ok(())
+}
+
+#[test]
+fn a_log_that_is_not_there_is_not_sealed(rt: HostRuntime) -> Result<(), Fail> {
+    let mut disk = disk_of(rt.alloc(), &[SEALED_LOG])?;
+    let shown = seal(rt.alloc(), Form::Text, &mut disk, 9);
     expect(&rt, &shown, 1, "", "fault no log\n");
-    let shown = seal(alloc, Form::Json, &mut disk, 9);
+    let shown = seal(rt.alloc(), Form::Json, &mut disk, 9);
     expect(&rt, &shown, 1, "", "{\"fault\":\"no log\",\"log\":9}\n");
     Ok(())
 }
@@ -204,22 +210,33 @@ fn seal_failing(
 /// How long the log is where one call of those that sealing makes fails.
 const FAILING: [usize; 8] = [1049, 1049, 1049, 1056, 1089, 1089, 1089, 1089];
 
+/// What is told of a log that is sealed again, where this call failed before.
+fn told_again(call: u64) -> &'static str {
+    match call {
+        4 => "fault torn 7\n",
+        8 => "fault sealed already\n",
+        _ => "",
+    }
+}
+
+/// Whether a log has this length where this call fails, is sealed where it is the last, and what is told then is right.
+fn fails_right(rt: &impl Abort, alloc: Global, call: u64, length: usize) -> Result<bool, Fail> {
+    let (bytes, mut disk) = seal_failing(rt, alloc, call, 7)?;
+    let is_sealed = bytes.starts_with(SEALED);
+    let again = seal(alloc, Form::Text, &mut disk, 3);
+    Ok(
+        bytes.len() == length
+            && is_sealed == (call == 8)
+            && again.errors.as_slice() == told_again(call).as_bytes(),
+    )
+}
+
 #[test]
 fn a_device_that_fails_while_a_log_is_sealed(rt: HostRuntime) -> Result<(), Fail> {
-    let alloc = rt.alloc();
     for (k, length) in FAILING.iter().enumerate() {
         let call = k as u64 + 1;
-        let (bytes, mut disk) = seal_failing(&rt, alloc, call, 7)?;
-        assert_eq!(rt; bytes.len(), *length, "call {call}");
-        let sealed = call == 8;
-        assert_eq!(rt; bytes.starts_with(SEALED), sealed, "call {call}");
-        let again = seal(alloc, Form::Text, &mut disk, 3);
-        let told = match call {
-            4 => "fault torn 7\n",
-            8 => "fault sealed already\n",
-            _ => "",
-        };
-        assert_eq!(rt; again.errors.as_slice(), told.as_bytes(), "call {call}");
+        let is_right = fails_right(&rt, rt.alloc(), call, *length)?;
+        assert!(rt; is_right, "call {call}");
     }
     Ok(())
 }
