@@ -65,7 +65,7 @@ module _ (p : Parts) (promise : Promises p) (id : ℕ) (view : View) (shown : op
   shows : ShowsOpen p.state.logs id view
   shows = shows_open p.state.logs id view shown
 
-  backed : IsBacked p.state.files id shows.log
+  backed : IsBacked p.state.files p.synced id shows.log
   backed = promise.logs.each id shows.log shows.held
 
   part_honest : IsTrue view.is_honest

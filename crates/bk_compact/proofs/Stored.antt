@@ -50,8 +50,8 @@ module _ (s : State) (kept : IsKept s) where
   pub kept_job : (job : Job) → s.job ≡ Some job → IsJob s job
   kept_job = subst (λ (t : State). (job : Job) → t.job ≡ Some job → IsJob t job) kept.seen kept.keeps.job
 
-  pub kept_backed : IsTrue s.honest → (id : ℕ) (log : Log) → finite.get s.logs id ≡ Some log → IsBacked s.files id log
-  kept_backed = subst (λ (t : State). IsTrue t.honest → (id : ℕ) (log : Log) → finite.get t.logs id ≡ Some log → IsBacked t.files id log) kept.seen
+  pub kept_backed : IsTrue s.honest → (id : ℕ) (log : Log) → finite.get s.logs id ≡ Some log → IsBacked s.files kept.parts.synced id log
+  kept_backed = subst (λ (t : State). IsTrue t.honest → (id : ℕ) (log : Log) → finite.get t.logs id ≡ Some log → IsBacked t.files kept.parts.synced id log) kept.seen
       (λ honest. (kept.keeps.promises honest).logs.each)
 
   pub kept_shows : IsTrue s.honest → Shows (file_of s.files) (open_parts s.logs) s.index

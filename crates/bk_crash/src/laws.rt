@@ -10,7 +10,7 @@ ghost use Rattle.bk_store.specs.State.{State};
 ghost use Rattle.bk_store.specs.Meaning.{IsMeaning, written_at};
 ghost use Rattle.bk_store.specs.Opening.{IsOpened};
 ghost use Rattle.bk_store.specs.declared.settings.Settings.{Settings};
-ghost use Rattle.bk_crash.specs.Crash.{IsCut, OpensAs, MayLeave, AreSynced, AreHarmless, StayDead, IsBetween};
+ghost use Rattle.bk_store.specs.Crash.{IsCut, OpensAs, MayLeave, AreSynced, AreHarmless, StayDead, IsBetween};
 
 /// What a crash left of a file is judged as the file was: it has the file's first eight bytes where it has a header, and no
 /// bad length where the file has none.

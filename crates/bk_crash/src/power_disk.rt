@@ -73,10 +73,15 @@ impl<D: LogDisk> PowerDisk<D> {
     }
 }
 
+#[tactic(auto, using(bk_disk::proofs::KeepsMore::kept_rules))]
 impl<D: LogDisk> LogDisk for PowerDisk<D> {
     type View = D::View;
 
     ghost files = { λ disk. D.files disk.inner };
+
+    ghost synced = { λ disk. D.synced disk.inner };
+
+    ghost gone = { λ disk. D.gone disk.inner };
 
     ghost honest = { λ disk. D.honest disk.inner };
 

@@ -210,6 +210,10 @@ impl<'a> LogDisk for CutFolder<'a> {
 
     ghost files = { λ _. map.empty };
 
+    ghost synced = { λ _. map.empty };
+
+    ghost gone = { λ _. map.empty };
+
     ghost honest = { λ _. false };
 
     ghost failures = { λ folder. folder.disk.failures };

@@ -351,6 +351,10 @@ impl<'a, D: LogDisk> LogDisk for Folder<'a, D> {
 
     ghost files = { λ _. map.empty };
 
+    ghost synced = { λ _. map.empty };
+
+    ghost gone = { λ _. map.empty };
+
     ghost honest = { λ _. false };
 
     ghost failures = { λ folder. D.failures folder.disk };

@@ -7,3 +7,4 @@ pub mod Failures
 pub mod Bounds
 pub mod Causes
 pub mod Digits
+pub mod KeepsMore

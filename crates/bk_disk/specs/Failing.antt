@@ -25,6 +25,8 @@ counted count = record { left = count.left - 1; reached = count.reached || (coun
 -- its piece a failing append leaves.
 pub record Failing : Type 0 where
   pub files : Files
+  pub synced : Files
+  pub gone : Files
   pub honest : Bool
   pub failures : ℕ
   pub calls : Count
@@ -34,17 +36,19 @@ pub record Failing : Type 0 where
 
 abbrev pub failing_code : Coded Failing
 failing_code =
-    code_by (Files × (Bool × (ℕ × (Count × (Bool × (Count × ℕ))))))
-    (coded× (map.code coded_ℕ (coded_list coded_ℕ)) (coded× coded_bool (coded× coded_ℕ (coded× count_code (coded× coded_bool (coded× count_code coded_ℕ))))))
-    (λ d. (d.files, (d.honest, (d.failures, (d.calls, (d.shared, (d.views, d.kept)))))))
+    code_by (Files × (Files × (Files × (Bool × (ℕ × (Count × (Bool × (Count × ℕ))))))))
+    (coded× (map.code coded_ℕ (coded_list coded_ℕ)) (coded× (map.code coded_ℕ (coded_list coded_ℕ)) (coded× (map.code coded_ℕ (coded_list coded_ℕ)) (coded× coded_bool (coded× coded_ℕ (coded× count_code (coded× coded_bool (coded× count_code coded_ℕ))))))))
+    (λ d. (d.files, (d.synced, (d.gone, (d.honest, (d.failures, (d.calls, (d.shared, (d.views, d.kept)))))))))
     (λ p. record {
       files = p.0;
-      honest = p.1.0;
-      failures = p.1.1.0;
-      calls = p.1.1.1.0;
-      shared = p.1.1.1.1.0;
-      views = p.1.1.1.1.1.0;
-      kept = p.1.1.1.1.1.1;
+      synced = p.1.0;
+      gone = p.1.1.0;
+      honest = p.1.1.1.0;
+      failures = p.1.1.1.1.0;
+      calls = p.1.1.1.1.1.0;
+      shared = p.1.1.1.1.1.1.0;
+      views = p.1.1.1.1.1.1.1.0;
+      kept = p.1.1.1.1.1.1.1.1;
     }) (λ _. refl)
 
 -- how often the disk has failed: as often as the one underneath, and once more where only its own failure has come

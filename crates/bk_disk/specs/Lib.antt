@@ -3,3 +3,4 @@ pub mod Blocks
 pub mod Logs
 pub mod Failing
 pub mod Names
+pub mod Durable

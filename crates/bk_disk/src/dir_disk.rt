@@ -84,6 +84,10 @@ impl LogDisk for DirDisk {
 
     ghost files = { λ _. map.empty };
 
+    ghost synced = { λ _. map.empty };
+
+    ghost gone = { λ _. map.empty };
+
     ghost honest = { λ _. false };
 
     ghost failures = { λ disk. disk.failures };

@@ -8,6 +8,7 @@ ghost use Rattle.std.specs.Prelude.{◌≡◌, ℕ, ◌<◌, ◌^◌, Bool, fals
 ghost use Rattle.std.specs.List.{All};
 ghost use Rattle.bk_record.specs.Files.{Files};
 ghost use Rattle.bk_disk.specs.Disk.{AreLogFiles, HasCause, Lists, Measures, Creates, Appends, Patches, Syncs};
+ghost use Rattle.bk_disk.specs.Durable.{KeepsMore, SyncKeeps, ListSettles, RemoveKeeps};
 ghost use Rattle.bk_disk.specs.Disk.{Reads, Views, Removes, ReadsView, ReadsInto, view_end};
 
 use crate::DiskFault;
@@ -59,10 +60,17 @@ pub trait LogView: Send + Sync + Drop {
 
 /// A folder of entry logs, each a file of bytes named by the log's id. Every fault but a failing append's or patch's
 /// `Disk` leaves the files as they were.
+///
+/// `synced` is what a crash leaves of each log at least, and `gone` are the files that were removed and may be back then. A
+/// call keeps of each log no less than was kept before; a disk may keep more at any time.
 pub trait LogDisk: Send + Drop {
     type View: LogView;
 
     ghost files: { Self → Files };
+
+    ghost synced: { Self → Files };
+
+    ghost gone: { Self → Files };
 
     ghost honest: { Self → Bool };
 
@@ -73,15 +81,18 @@ pub trait LogDisk: Send + Drop {
     fn bounds(&self)
         ensures { IsTrue (honest self.now) → AreLogFiles (files self.now) };
 
-    /// The ids of all logs, rising. Faults: `Disk`, `Memory`.
+    /// The ids of all logs, rising. No file that was removed may be back from then on. Faults: `Disk`, `Memory`.
     fn list(&mut self, alloc: Global) -> Result<Vec<u32>, DiskFault>
         ensures honest { honest self.new ≡ honest self.old }
+        ensures kept { IsTrue (honest self.old) → KeepsMore (synced self.old) (gone self.old) (synced self.new) (gone self.new) }
+        ensures back { IsTrue (honest self.old) → ListSettles result (gone self.new) }
         ensures cause { HasCause (failures self.old) (failures self.new) result }
         ensures turn { IsTrue (honest self.old) → Lists (λ v. v.items) (files self.old) result (files self.new) };
 
     /// The length of a log in bytes. Faults: `NoLog`, `Disk`, `Memory`.
     fn length(&mut self, alloc: Global, log: u32) -> Result<u64, DiskFault>
         ensures honest { honest self.new ≡ honest self.old }
+        ensures kept { IsTrue (honest self.old) → KeepsMore (synced self.old) (gone self.old) (synced self.new) (gone self.new) }
         ensures cause { HasCause (failures self.old) (failures self.new) result }
         ensures turn { IsTrue (honest self.old) → Measures (files self.old) log result (files self.new) };
 
@@ -90,6 +101,7 @@ pub trait LogDisk: Send + Drop {
     fn create(&mut self, alloc: Global, log: u32) -> Result<(), DiskFault>
         requires { log < 2 ^ 31 }
         ensures honest { honest self.new ≡ honest self.old }
+        ensures kept { IsTrue (honest self.old) → KeepsMore (synced self.old) (gone self.old) (synced self.new) (gone self.new) }
         ensures cause { HasCause (failures self.old) (failures self.new) result }
         ensures turn { IsTrue (honest self.old) → Creates (files self.old) log result (files self.new) };
 
@@ -97,6 +109,7 @@ pub trait LogDisk: Send + Drop {
     /// which leaves the old bytes and a prefix of the new ones, possibly all of them, `Memory`.
     fn append(&mut self, alloc: Global, log: u32, bytes: &[u8]) -> Result<(), DiskFault>
         ensures honest { honest self.new ≡ honest self.old }
+        ensures kept { IsTrue (honest self.old) → KeepsMore (synced self.old) (gone self.old) (synced self.new) (gone self.new) }
         ensures cause { HasCause (failures self.old) (failures self.new) result }
         ensures turn { IsTrue (honest self.old) → Appends (files self.old) log bytes.now result (files self.new) };
 
@@ -104,13 +117,16 @@ pub trait LogDisk: Send + Drop {
     /// bytes, `Disk`, which leaves any bytes at 8 to 20, `Memory`.
     fn patch(&mut self, alloc: Global, log: u32, bytes: &[u8; 12]) -> Result<(), DiskFault>
         ensures honest { honest self.new ≡ honest self.old }
+        ensures kept { IsTrue (honest self.old) → KeepsMore (synced self.old) (gone self.old) (synced self.new) (gone self.new) }
         ensures cause { HasCause (failures self.old) (failures self.new) result }
         ensures turn { IsTrue (honest self.old) → Patches (files self.old) log bytes.now result (files self.new) };
 
-    /// Asks the device to keep what was written to a log. Nothing is promised of it but that the files stay.
-    /// Faults: `NoLog`, `Disk`, `Memory`.
+    /// Asks the device to keep what was written to a log: all that the log has outlives a crash then. Faults: `NoLog`, `Disk`,
+    /// `Memory`.
     fn sync(&mut self, alloc: Global, log: u32) -> Result<(), DiskFault>
         ensures honest { honest self.new ≡ honest self.old }
+        ensures kept { IsTrue (honest self.old) → KeepsMore (synced self.old) (gone self.old) (synced self.new) (gone self.new) }
+        ensures syncs { IsTrue (honest self.old) → SyncKeeps (files self.old) log result (synced self.new) }
         ensures cause { HasCause (failures self.old) (failures self.new) result }
         ensures turn { IsTrue (honest self.old) → Syncs (files self.old) log result (files self.new) };
 
@@ -118,6 +134,7 @@ pub trait LogDisk: Send + Drop {
     /// `Memory`.
     fn read_at(&mut self, alloc: Global, log: u32, at: u64, n: u64) -> Result<Vec<u8>, DiskFault>
         ensures honest { honest self.new ≡ honest self.old }
+        ensures kept { IsTrue (honest self.old) → KeepsMore (synced self.old) (gone self.old) (synced self.new) (gone self.new) }
         ensures cause { HasCause (failures self.old) (failures self.new) result }
         ensures turn { IsTrue (honest self.old)
             → Reads (λ v. v.items) (files self.old) log at n result (files self.new) };
@@ -125,13 +142,15 @@ pub trait LogDisk: Send + Drop {
     /// A view of a log as it is now. Faults: `NoLog`, `Disk`, `Memory`.
     fn view(&mut self, alloc: Global, log: u32) -> Result<Self::View, DiskFault>
         ensures honest { honest self.new ≡ honest self.old }
+        ensures kept { IsTrue (honest self.old) → KeepsMore (synced self.old) (gone self.old) (synced self.new) (gone self.new) }
         ensures cause { HasCause (failures self.old) (failures self.new) result }
         ensures turn { IsTrue (honest self.old)
             → Views Self.View.bytes Self.View.honest (files self.old) log result (files self.new) };
 
-    /// Takes a log's file away. Views of it stay. Faults: `NoLog`, `Disk`, `Memory`.
+    /// Takes a log's file away, which a crash may bring back. Views of it stay. Faults: `NoLog`, `Disk`, `Memory`.
     fn remove(&mut self, alloc: Global, log: u32) -> Result<(), DiskFault>
         ensures honest { honest self.new ≡ honest self.old }
+        ensures kept { IsTrue (honest self.old) → RemoveKeeps (files self.old) log result (synced self.old) (gone self.old) (synced self.new) (gone self.new) }
         ensures cause { HasCause (failures self.old) (failures self.new) result }
         ensures turn { IsTrue (honest self.old) → Removes (files self.old) log result (files self.new) };
 }

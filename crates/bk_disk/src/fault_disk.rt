@@ -2,6 +2,7 @@
 
 ghost use Rattle.std.specs.Prelude.{◌≡◌, ◌<◌, ◌^◌, false, IsTrue};
 ghost use Rattle.bk_disk.specs.Disk.{HasCause, Lists, Measures, Creates, Appends, Patches, Syncs, Reads, Views, Removes};
+ghost use Rattle.bk_disk.specs.Durable.{KeepsMore, SyncKeeps, ListSettles, RemoveKeeps};
 ghost use Rattle.bk_disk.specs.Failing.{failure_count, Counts, FailsUntouched, FailsKeeping, CountsView};
 
 use crate::countdown::Countdown;
@@ -29,6 +30,8 @@ impl<D: LogDisk> Model for FaultDisk<D> {
 
     ghost view = { λ disk. record {
       files = D.files disk.inner;
+      synced = D.synced disk.inner;
+      gone = D.gone disk.inner;
       honest = D.honest disk.inner;
       failures = D.failures disk.inner;
       calls = disk.calls;
@@ -47,6 +50,8 @@ impl<D: LogDisk> FaultDisk<D> {
     pub fn new(inner: D, k: u64, kept: usize) -> Self
         ensures { result ≡ record {
           files = D.files inner;
+          synced = D.synced inner;
+          gone = D.gone inner;
           honest = D.honest inner;
           failures = D.failures inner;
           calls = record { left = k; reached = false };
@@ -69,6 +74,8 @@ impl<D: LogDisk> FaultDisk<D> {
     pub fn broken_view(inner: D, j: u64) -> Self
         ensures { result ≡ record {
           files = D.files inner;
+          synced = D.synced inner;
+          gone = D.gone inner;
           honest = D.honest inner;
           failures = D.failures inner;
           calls = record { left = 0; reached = false };
@@ -94,10 +101,15 @@ impl<D: LogDisk> FaultDisk<D> {
     }
 }
 
+#[tactic(auto, using(crate::proofs::KeepsMore::kept_rules))]
 impl<D: LogDisk> LogDisk for FaultDisk<D> {
     type View = FaultView<D::View>;
 
     ghost files = { λ disk. disk.files };
+
+    ghost synced = { λ disk. disk.synced };
+
+    ghost gone = { λ disk. disk.gone };
 
     ghost honest = { λ disk. disk.honest };
 
@@ -109,6 +121,8 @@ impl<D: LogDisk> LogDisk for FaultDisk<D> {
 
     fn list(&mut self, alloc: Global) -> Result<Vec<u32>, DiskFault>
         ensures honest { self.new.honest ≡ self.old.honest }
+        ensures kept { IsTrue self.old.honest → KeepsMore self.old.synced self.old.gone self.new.synced self.new.gone }
+        ensures back { IsTrue self.old.honest → ListSettles result self.new.gone }
         ensures cause { HasCause (failure_count self.old) (failure_count self.new) result }
         ensures turn { IsTrue self.old.honest → Lists (λ v. v.items) self.old.files result self.new.files }
         ensures counts { Counts self.old self.new result }
@@ -123,6 +137,7 @@ impl<D: LogDisk> LogDisk for FaultDisk<D> {
 
     fn length(&mut self, alloc: Global, log: u32) -> Result<u64, DiskFault>
         ensures honest { self.new.honest ≡ self.old.honest }
+        ensures kept { IsTrue self.old.honest → KeepsMore self.old.synced self.old.gone self.new.synced self.new.gone }
         ensures cause { HasCause (failure_count self.old) (failure_count self.new) result }
         ensures turn { IsTrue self.old.honest → Measures self.old.files log result self.new.files }
         ensures counts { Counts self.old self.new result }
@@ -138,6 +153,7 @@ impl<D: LogDisk> LogDisk for FaultDisk<D> {
     fn create(&mut self, alloc: Global, log: u32) -> Result<(), DiskFault>
         requires { log < 2 ^ 31 }
         ensures honest { self.new.honest ≡ self.old.honest }
+        ensures kept { IsTrue self.old.honest → KeepsMore self.old.synced self.old.gone self.new.synced self.new.gone }
         ensures cause { HasCause (failure_count self.old) (failure_count self.new) result }
         ensures turn { IsTrue self.old.honest → Creates self.old.files log result self.new.files }
         ensures counts { Counts self.old self.new result }
@@ -152,6 +168,7 @@ impl<D: LogDisk> LogDisk for FaultDisk<D> {
 
     fn append(&mut self, alloc: Global, log: u32, bytes: &[u8]) -> Result<(), DiskFault>
         ensures honest { self.new.honest ≡ self.old.honest }
+        ensures kept { IsTrue self.old.honest → KeepsMore self.old.synced self.old.gone self.new.synced self.new.gone }
         ensures cause { HasCause (failure_count self.old) (failure_count self.new) result }
         ensures turn { IsTrue self.old.honest → Appends self.old.files log bytes.now result self.new.files }
         ensures counts { Counts self.old self.new result }
@@ -169,6 +186,7 @@ impl<D: LogDisk> LogDisk for FaultDisk<D> {
 
     fn patch(&mut self, alloc: Global, log: u32, bytes: &[u8; 12]) -> Result<(), DiskFault>
         ensures honest { self.new.honest ≡ self.old.honest }
+        ensures kept { IsTrue self.old.honest → KeepsMore self.old.synced self.old.gone self.new.synced self.new.gone }
         ensures cause { HasCause (failure_count self.old) (failure_count self.new) result }
         ensures turn { IsTrue self.old.honest → Patches self.old.files log bytes.now result self.new.files }
         ensures counts { Counts self.old self.new result }
@@ -183,6 +201,8 @@ impl<D: LogDisk> LogDisk for FaultDisk<D> {
 
     fn sync(&mut self, alloc: Global, log: u32) -> Result<(), DiskFault>
         ensures honest { self.new.honest ≡ self.old.honest }
+        ensures kept { IsTrue self.old.honest → KeepsMore self.old.synced self.old.gone self.new.synced self.new.gone }
+        ensures syncs { IsTrue self.old.honest → SyncKeeps self.old.files log result self.new.synced }
         ensures cause { HasCause (failure_count self.old) (failure_count self.new) result }
         ensures turn { IsTrue self.old.honest → Syncs self.old.files log result self.new.files }
         ensures counts { Counts self.old self.new result }
@@ -197,6 +217,7 @@ impl<D: LogDisk> LogDisk for FaultDisk<D> {
 
     fn read_at(&mut self, alloc: Global, log: u32, at: u64, n: u64) -> Result<Vec<u8>, DiskFault>
         ensures honest { self.new.honest ≡ self.old.honest }
+        ensures kept { IsTrue self.old.honest → KeepsMore self.old.synced self.old.gone self.new.synced self.new.gone }
         ensures cause { HasCause (failure_count self.old) (failure_count self.new) result }
         ensures turn { IsTrue self.old.honest → Reads (λ v. v.items) self.old.files log at n result self.new.files }
         ensures counts { Counts self.old self.new result }
@@ -211,6 +232,7 @@ impl<D: LogDisk> LogDisk for FaultDisk<D> {
 
     fn view(&mut self, alloc: Global, log: u32) -> Result<FaultView<D::View>, DiskFault>
         ensures honest { self.new.honest ≡ self.old.honest }
+        ensures kept { IsTrue self.old.honest → KeepsMore self.old.synced self.old.gone self.new.synced self.new.gone }
         ensures cause { HasCause (failure_count self.old) (failure_count self.new) result }
         ensures turn { IsTrue self.old.honest → Views (λ v. v.bytes) (λ v. v.honest) self.old.files log result self.new.files }
         ensures counts { Counts self.old self.new result }
@@ -227,6 +249,7 @@ impl<D: LogDisk> LogDisk for FaultDisk<D> {
 
     fn remove(&mut self, alloc: Global, log: u32) -> Result<(), DiskFault>
         ensures honest { self.new.honest ≡ self.old.honest }
+        ensures kept { IsTrue self.old.honest → RemoveKeeps self.old.files log result self.old.synced self.old.gone self.new.synced self.new.gone }
         ensures cause { HasCause (failure_count self.old) (failure_count self.new) result }
         ensures turn { IsTrue self.old.honest → Removes self.old.files log result self.new.files }
         ensures counts { Counts self.old self.new result }

@@ -59,11 +59,15 @@ impl MemDisk {
     }
 }
 
-#[tactic(auto, using(crate::proofs::FileMaps::file_maps))]
+#[tactic(auto, using(crate::proofs::FileMaps::file_maps, crate::proofs::KeepsMore::kept_rules))]
 impl LogDisk for MemDisk {
     type View = MemView;
 
     ghost files = { λ disk. disk };
+
+    ghost synced = { λ disk. disk };
+
+    ghost gone = { λ _. map.empty };
 
     ghost honest = { λ _. true };
 

@@ -12,6 +12,7 @@ use Rattle.bk_store.specs.declared.answer.MakeFault.TheVariants as makes
 use Rattle.bk_store.specs.declared.log.LogState.TheVariants.{Writing}
 use Rattle.bk_step.specs.Faults.{TellsItsCause, step_fault_of, step_fault_of_make}
 use Rattle.bk_flush.specs.Flushing.{FillTurn, IsRefused, LeftBy, NoNewLog, ReadyTurn, StepTurn}
+use Rattle.bk_flush.specs.Showing.{ShowsLogs}
 use Rattle.bk_flush.specs.declared.answer.WriteAnswer.{WriteAnswer}
 use Rattle.bk_flush.specs.declared.answer.WriteAnswer.TheVariants as writes
 use Rattle.bk_step.specs.declared.fault.StepFault.{StepFault}
@@ -104,6 +105,17 @@ unput_failures s t id key payload log_faults.Memory turn = let is : t.failures �
 unput_failures s t id key payload log_faults.Disk turn = ap (λ (x : State). x.failures) turn.3
 unput_failures s t id key payload log_faults.Failed never = absurd never
 unput_failures s t id key payload log_faults.Odd turn = let is : t.failures ≡ s.failures = ap (λ (x : State). x.failures) turn.1.2 in omega (arith, is)
+
+-- ---- a log that could not be shown
+
+pub unshown_caused : {T : Type 0} (s t : State) (fault : StepFault) → ShowsLogs s (Err fault) t → TellsItsCause {T = T} s (Err fault) t
+unshown_caused s t step_faults.Disk turn =
+    caused_err s t step_faults.Disk (ap (λ (x : State). x.failures) turn.restarts.left ∙ turn.stops.failures)
+unshown_caused s t (step_faults.Memory done) turn = caused_err s t (step_faults.Memory done) turn.1.failures
+unshown_caused s t step_faults.Odd turn =
+    caused_err s t step_faults.Odd (ap (λ (x : State). x.failures) turn.1.restarts.left ∙ turn.1.stops.failures)
+unshown_caused s t step_faults.LogsFull turn = absurd turn
+unshown_caused s t step_faults.NoMoreIds turn = absurd turn
 
 -- so a step tells a failing device exactly where it failed
 pub step_caused : (s t : State) (result : Result WriteAnswer StepFault) → StepTurn s result t → TellsItsCause s result t

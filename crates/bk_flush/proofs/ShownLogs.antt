@@ -14,8 +14,9 @@ use Rattle.bk_store.specs.Meaning.{MeansTheSame, KeepsMeaning}
 use Rattle.bk_store.specs.Doors.{MayShow, ShowTurn}
 use Rattle.bk_store.proofs.LogMaps.{log-inserted, log-insert_else}
 use Rattle.bk_store.proofs.KeptJob.{flush_idle}
+use Rattle.bk_store.proofs.SameMeaning.{stays_on}
 use Rattle.bk_step.specs.Faults.{step_fault_of}
-use Rattle.bk_flush.specs.Flushing.{HasPlace, IsShown, ShowsThose, ShowsPlaced, StopsShowing}
+use Rattle.bk_flush.specs.Flushing.{HasPlace, IsShown, LeftBy, ShowsThose, ShowsPlaced, StopsShowing, RestartsShowing}
 use Rattle.bk_flush.specs.Showing.{AllShown, ShowsLogs}
 use Rattle.bk_step.specs.declared.fault.StepFault.{StepFault}
 use Rattle.bk_flush.proofs.NextLogs.{IsNextLog}
@@ -51,6 +52,18 @@ module _ (s t : State) (from : ℕ) (is : IsShowing s from t) where
   -- a pair of the list is that of the start
   pub same_entry : (n : ℕ) (e : EntryKey × Place) → slice_get (finite.entries t.places) n ≡ Some e → slice_get (finite.entries s.places) n ≡ Some e
   same_entry n e at = ap (λ (m : Places). slice_get (finite.entries m) n) (sym same_places) ∙ at
+
+  -- a log is refused, and what its fault leaves of the flush means what the store meant
+  pub refused_stays : (log : ℕ) (cause : LogFault) (u after : State) → ShowTurn t log (Err cause) u → (IsTrue t.honest → MeansTheSame t u)
+      → KeepsMeaning u after → KeepsMeaning s after
+  refused_stays log cause u after turn meaning later =
+      stays_on s t after is.stays (stays_on t u after (record { honest = refused_honest cause turn; meaning = meaning }) later)
+    where
+      refused_honest : (cause : LogFault) → ShowTurn t log (Err cause) u → u.honest ≡ t.honest
+      refused_honest log_faults.Disk turn = ap (λ (x : State). x.honest) turn.1
+      refused_honest log_faults.Memory turn = ap (λ (x : State). x.honest) turn.1
+      refused_honest log_faults.Odd turn = ap (λ (x : State). x.honest) turn.1
+      refused_honest log_faults.Failed never = absurd never
 
   module _ (log : ℕ) (next : IsNextLog s from (Some log)) where
     -- those before the next log are shown
@@ -147,17 +160,21 @@ module _ (s t : State) (from : ℕ) (is : IsShowing s from t) where
         let none : t.failures ≡ t.failures + 0 = omega arith in
         stops u 0 files (left ∙ ap (λ n. record t { files = u.files; failures = n }) none)
 
-    pub not_shown : (cause : LogFault) (fault : StepFault) (u : State) → ShowTurn t log (Err cause) u → fault ≡ step_fault_of cause
-        → ShowsLogs s (Err fault) u
-    not_shown cause fault u turn is_told = subst (λ f. ShowsLogs s (Err f) u) (sym is_told) (by_cause cause turn)
+    pub not_shown : (cause : LogFault) (fault : StepFault) (u after : State) → ShowTurn t log (Err cause) u → fault ≡ step_fault_of cause
+        → LeftBy fault u after → ShowsLogs s (Err fault) after
+    not_shown cause fault u after turn is_told left =
+        subst (λ f. ShowsLogs s (Err f) after) (sym is_told) (by_cause cause turn (subst (λ f. LeftBy f u after) is_told left))
       where
-        by_cause : (cause : LogFault) → ShowTurn t log (Err cause) u → ShowsLogs s (Err (step_fault_of cause)) u
-        by_cause log_faults.Disk turn = stops u 1 turn.0 turn.1
-        by_cause log_faults.Memory turn = (refl, stops_even u turn.0 turn.1)
-        by_cause log_faults.Odd turn =
-            let never : IsTrue t.honest → ⊥ = λ honest. let wrong = sym turn.0 ∙ honest in cc in
-            (sym is.stays.honest ∙ turn.0, stops_even u (λ honest. absurd (never honest)) turn.1)
-        by_cause log_faults.Failed never = absurd never
+        by_cause : (cause : LogFault) → ShowTurn t log (Err cause) u → LeftBy (step_fault_of cause) u after
+            → ShowsLogs s (Err (step_fault_of cause)) after
+        by_cause log_faults.Disk turn left = record { mid = u; stops = stops u 1 turn.0 turn.1; restarts = left }
+        by_cause log_faults.Memory turn left = (refl, subst (StopsShowing s 0) (sym left) (stops_even u turn.0 turn.1))
+        by_cause log_faults.Odd turn left =
+            let never : IsTrue t.honest → ⊥ = λ honest. let wrong = sym turn.0 ∙ honest in cc in (
+              sym is.stays.honest ∙ turn.0,
+              record { mid = u; stops = stops_even u (λ honest. absurd (never honest)) turn.1; restarts = left },
+            )
+        by_cause log_faults.Failed never left = absurd never
 
   -- no log is left to be shown
   module _ (over : IsNextLog s from None) where

@@ -14,7 +14,7 @@ use Rattle.bk_step.specs.Staying.{Stays, SlotsStay, StandsStill}
 use Rattle.bk_step.proofs.Gone.{gone_ruled}
 use Rattle.bk_step.proofs.Still.{still_as, still_same, then, stays_then, slots_then, slots_same}
 use Rattle.bk_step.proofs.Doors.{make_still, write_still, seals_still, restarts_still}
-use Rattle.bk_flush.specs.Flushing.{LeftBy, FillTurn, NoNewLog, IsRefused, ReadyTurn, StepTurn, ShowsThose, StopsShowing, Publishes}
+use Rattle.bk_flush.specs.Flushing.{LeftBy, FillTurn, NoNewLog, IsRefused, ReadyTurn, StepTurn, ShowsThose, StopsShowing, RestartsShowing, Publishes}
 use Rattle.bk_flush.specs.Flushing.{PublishCaches, PublishTurn, RollTurn}
 use Rattle.bk_flush.specs.Showing.{ShowsLogs}
 use Rattle.bk_flush.specs.declared.answer.WriteAnswer.{WriteAnswer}
@@ -111,6 +111,9 @@ shown_still Those s t shows = (
 pub stops_still : {s t : State} {failed : ℕ} → StopsShowing s failed t → StandsStill s t
 stops_still {s = s} {t = t} stops = shown_still _ s t stops.before
 
+restarts_showing_still : {s t : State} {failed : ℕ} → RestartsShowing s failed t → StandsStill s t
+restarts_showing_still stopped = then (stops_still stopped.stops) (restarts_still stopped.restarts)
+
 pub publishes_still : {s t : State} {done : ℕ} → Publishes s done t → StandsStill s t
 publishes_still {s = s} {t = t} done =
     then (shown_still _ s done.mid done.shown.all) (still_as (named_still done.mid t) t done.named.left)
@@ -135,9 +138,9 @@ PublishStays s r t = Stays s t × PublishCaches s r t × SlotsStay s.keeper t.ke
 
 -- a log could not be shown
 pub unshown_stays : (s t : State) (fault : StepFault) → ShowsLogs s (Err fault) t → PublishStays s (Err fault) t
-unshown_stays s t step_faults.Disk turn = stops_still turn
+unshown_stays s t step_faults.Disk turn = restarts_showing_still turn
 unshown_stays s t (step_faults.Memory done) turn = stops_still turn.1
-unshown_stays s t step_faults.Odd turn = stops_still turn.1
+unshown_stays s t step_faults.Odd turn = restarts_showing_still turn.1
 unshown_stays s t step_faults.LogsFull turn = absurd turn
 unshown_stays s t step_faults.NoMoreIds turn = absurd turn
 
@@ -148,11 +151,11 @@ publish_stays s t (Ok (publishes.Published n)) turn =
     let still = publishes_still turn.2.1 in
     let ended = ends_stays turn.2.0 t turn.2.2 in
     (stays_then still.0 ended.0, (ended.1.0 ∙ still.1.active, ended.1.1), slots_then still.2 ended.2)
-publish_stays s t (Err step_faults.Disk) turn = stops_still turn.1
+publish_stays s t (Err step_faults.Disk) turn = restarts_showing_still turn.1
 publish_stays s t (Err (step_faults.Memory done)) turn = elim turn.1 [
   | inl unshown ↦ stops_still unshown.1
   | inr unnamed ↦ publishes_still unnamed.1
 ]
-publish_stays s t (Err step_faults.Odd) turn = stops_still turn.2
+publish_stays s t (Err step_faults.Odd) turn = restarts_showing_still turn.2
 publish_stays s t (Err step_faults.LogsFull) turn = absurd turn
 publish_stays s t (Err step_faults.NoMoreIds) turn = absurd turn

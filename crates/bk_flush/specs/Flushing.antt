@@ -158,6 +158,12 @@ pub record StopsShowing (s : State) (failed : ℕ) (t : State) : Type 0 where
   pub before : ShowsThose (λ id. HasPlace s id × (id < refused)) s t
   pub failures : t.failures ≡ s.failures + failed
 
+-- The logs are shown up to one at which the device fails, after so many more failures; then the flush starts again.
+pub record RestartsShowing (s : State) (failed : ℕ) (t : State) : Type 0 where
+  pub mid : State
+  pub stops : StopsShowing s failed mid
+  pub restarts : Restarts mid t
+
 -- the places of the flush's first entries, by their keys
 abbrev pub first_places : ℕ → State → List (EntryKey × Place)
 first_places done s = take done (finite.entries s.places)
@@ -187,16 +193,17 @@ pub record IsWritten (s : State) : Type 0 where
   pub runs : IsSome s.caches.flush
   pub placed : AllPlaced s
 
--- A publish shows each log that has a place, and names each entry; then the flush is over. What a refusal leaves goes on
--- with the next publish: the flush runs, with all its entries, and an entry that was named is named again.
+-- A publish shows each log that has a place, and names each entry; then the flush is over. What want of memory leaves goes on
+-- with the next publish: the flush runs, with all its entries, and an entry that was named is named again. Where the device
+-- failed the flush starts again, with all its entries.
 abbrev pub PublishTurn : State → Result PublishAnswer StepFault → State → Type 0
 PublishTurn s (Ok publishes.NoFlush) t = (s.caches.flush ≡ None) × (t ≡ s)
 PublishTurn s (Ok publishes.NotAllWritten) t = (key : EntryKey) × ((payload : List ℕ) × IsNext s key payload × (t ≡ s))
 PublishTurn s (Ok (publishes.Published n)) t = IsWritten s × (n ≡ finite.len (flush_of s.caches)) × ((mid : State) × Publishes s n mid × Ends mid t)
-PublishTurn s (Err step_faults.Disk) t = IsWritten s × StopsShowing s 1 t
+PublishTurn s (Err step_faults.Disk) t = IsWritten s × RestartsShowing s 1 t
 PublishTurn s (Err (step_faults.Memory done)) t = IsWritten s
     × (((done ≡ 0) × StopsShowing s 0 t) ⊎ ((done < finite.len (flush_of s.caches)) × Publishes s done t))
-PublishTurn s (Err step_faults.Odd) t = IsWritten s × (s.honest ≡ false) × StopsShowing s 0 t
+PublishTurn s (Err step_faults.Odd) t = IsWritten s × (s.honest ≡ false) × RestartsShowing s 0 t
 PublishTurn s (Err step_faults.LogsFull) t = ⊥
 PublishTurn s (Err step_faults.NoMoreIds) t = ⊥
 

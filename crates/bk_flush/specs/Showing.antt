@@ -5,16 +5,16 @@ use Rattle.bk_record.specs.Key.{EntryKey}
 use Rattle.bk_record.specs.Location.{Place}
 use Rattle.bk_store.specs.State.{State}
 use Rattle.bk_store.specs.Doors.{ShowsAll}
-use Rattle.bk_flush.specs.Flushing.{NamesFirst, ShowsPlaced, StopsShowing}
+use Rattle.bk_flush.specs.Flushing.{NamesFirst, ShowsPlaced, StopsShowing, RestartsShowing}
 use Rattle.bk_step.specs.declared.fault.StepFault.{StepFault}
 use Rattle.bk_step.specs.declared.fault.StepFault.TheVariants as step_faults
 
--- Each log that has a place is shown; a refusal leaves those of lower ids shown.
+-- Each log that has a place is shown; a refusal leaves those of lower ids shown, and the flush starts again where the device failed.
 abbrev pub ShowsLogs : State → Result (Unit {0}) StepFault → State → Type 0
 ShowsLogs s (Ok _) t = ShowsPlaced s t
-ShowsLogs s (Err step_faults.Disk) t = StopsShowing s 1 t
+ShowsLogs s (Err step_faults.Disk) t = RestartsShowing s 1 t
 ShowsLogs s (Err (step_faults.Memory done)) t = (done ≡ 0) × StopsShowing s 0 t
-ShowsLogs s (Err step_faults.Odd) t = (s.honest ≡ false) × StopsShowing s 0 t
+ShowsLogs s (Err step_faults.Odd) t = (s.honest ≡ false) × RestartsShowing s 0 t
 ShowsLogs s (Err step_faults.LogsFull) t = ⊥
 ShowsLogs s (Err step_faults.NoMoreIds) t = ⊥
 

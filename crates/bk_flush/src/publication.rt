@@ -1,8 +1,10 @@
 //! Publishing: the logs that a flush wrote are shown, and its keys are sent to their places.
 //!
 //! A log that has a place of the flush is synced and gets a view of its whole file; then the index learns the places,
-//! in the order of the keys. A refusal leaves the flush running, with all its entries in their cache, so a later
-//! publish does the rest.
+//! in the order of the keys. Want of memory leaves the flush running, with all its entries in their cache, so a later
+//! publish does the rest. A device that failed makes the flush start again: a system tells of bytes that it lost once, and
+//! answers a second sync as if they were on the device, so what was written to a log whose sync failed is written anew, to
+//! another log.
 
 ghost use Rattle.std.specs.Prelude.{◌≡◌, IsTrue, OnOk};
 ghost use Rattle.bk_store.specs.Meaning.{MeansTheSame, KeepsMeaning};
@@ -12,6 +14,7 @@ ghost use Rattle.bk_flush.specs.Flushing.{PublishCaches, PublishTurn};
 ghost use Rattle.bk_flush.specs.Showing.{AllShown, NamesEntries, ShowsLogs};
 
 use crate::PublishAnswer;
+use crate::faults::flush_fault;
 use bk_disk::LogDisk;
 use bk_step::StepFault;
 use bk_store::Store;
@@ -19,9 +22,9 @@ use bk_store::Store;
 /// Ends the flush, once every entry of it has a place: its entries are read from their logs from now on.
 ///
 /// # Errors
-/// `Disk` where a log could not be synced or shown, `Memory` where an allocation was refused, and then `done` says how
-/// many entries the index has learnt, and `Odd` where the disk behaved as no honest one does. After each the flush still
-/// runs, with all its entries, and a later publish may end it.
+/// `Disk` where a log could not be synced or shown, and `Odd` where the disk behaved as no honest one does: the flush starts
+/// again in another log, with all its entries. `Memory` where an allocation was refused, and then `done` says how many
+/// entries the index has learnt: the flush runs on, and a later publish may end it.
 pub fn publish<D: LogDisk>(store: &mut Store<D>) -> Result<PublishAnswer, StepFault>
     ensures turn { PublishTurn store.old result store.new }
     ensures cause { TellsItsCause store.old result store.new }
@@ -45,7 +48,7 @@ pub fn publish<D: LogDisk>(store: &mut Store<D>) -> Result<PublishAnswer, StepFa
 }
 
 /// Shows each log that has a place of the flush, once, by rising ids: the logs rise with the keys, so one is shown when its
-/// first place comes.
+/// first place comes. Where the device fails the flush starts again.
 fn show_logs<D: LogDisk>(store: &mut Store<D>) -> Result<(), StepFault>
     ensures turn { ShowsLogs store.old result store.new }
     ensures shown { OnOk result (AllShown store.new) }
@@ -63,7 +66,7 @@ fn show_logs<D: LogDisk>(store: &mut Store<D>) -> Result<(), StepFault>
         }
         store.promise();
         if let Err(fault) = store.show(log) {
-            return Err(StepFault::of_log(fault));
+            return Err(flush_fault(store, fault));
         }
         from = log + 1;
     }

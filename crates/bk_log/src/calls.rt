@@ -2,6 +2,7 @@
 
 ghost use Rattle.std.specs.Prelude.{◌≡◌, IsTrue, IsErrOf, length};
 ghost use Rattle.bk_disk.specs.Disk.{IsCaused};
+ghost use Rattle.bk_disk.specs.Durable.{KeepsMore};
 ghost use Rattle.bk_log.specs.Calls.{HasRoom, Adds, HasHeader, Overwrites};
 
 use crate::LogFault;
@@ -10,6 +11,7 @@ use bk_disk::LogDisk;
 use std::alloc::Global;
 
 /// Writes bytes at the end of a log that has room for them.
+#[tactic(auto, using(bk_disk::proofs::KeepsMore::kept_rules))]
 pub(crate) fn append<D: LogDisk>(
     disk: &mut D,
     alloc: Global,
@@ -18,6 +20,7 @@ pub(crate) fn append<D: LogDisk>(
 ) -> Result<(), LogFault>
     requires { IsTrue (D.honest disk.old) → HasRoom (D.files disk.old) log (length bytes.now) }
     ensures honest { D.honest disk.new ≡ D.honest disk.old }
+    ensures kept { IsTrue (D.honest disk.old) → KeepsMore (D.synced disk.old) (D.gone disk.old) (D.synced disk.new) (D.gone disk.new) }
     ensures cause { IsCaused (D.failures disk.old) (D.failures disk.new) (IsErrOf result LogFault.Disk) }
     ensures never { ¬ (IsErrOf result LogFault.Failed) }
     ensures turn { IsTrue (D.honest disk.old) → Adds (D.files disk.old) log bytes.now result (D.files disk.new) }
@@ -29,6 +32,7 @@ pub(crate) fn append<D: LogDisk>(
 }
 
 /// The same, without a call on the disk where there are no bytes.
+#[tactic(auto, using(bk_disk::proofs::KeepsMore::kept_rules))]
 pub(crate) fn append_any<D: LogDisk>(
     disk: &mut D,
     alloc: Global,
@@ -37,6 +41,7 @@ pub(crate) fn append_any<D: LogDisk>(
 ) -> Result<(), LogFault>
     requires { IsTrue (D.honest disk.old) → HasRoom (D.files disk.old) log (length bytes.now) }
     ensures honest { D.honest disk.new ≡ D.honest disk.old }
+    ensures kept { IsTrue (D.honest disk.old) → KeepsMore (D.synced disk.old) (D.gone disk.old) (D.synced disk.new) (D.gone disk.new) }
     ensures cause { IsCaused (D.failures disk.old) (D.failures disk.new) (IsErrOf result LogFault.Disk) }
     ensures never { ¬ (IsErrOf result LogFault.Failed) }
     ensures turn { IsTrue (D.honest disk.old) → Adds (D.files disk.old) log bytes.now result (D.files disk.new) }
@@ -48,6 +53,7 @@ pub(crate) fn append_any<D: LogDisk>(
 }
 
 /// Writes twelve bytes over those at position 8 of a log that has its header.
+#[tactic(auto, using(bk_disk::proofs::KeepsMore::kept_rules))]
 pub(crate) fn patch<D: LogDisk>(
     disk: &mut D,
     alloc: Global,
@@ -56,6 +62,7 @@ pub(crate) fn patch<D: LogDisk>(
 ) -> Result<(), LogFault>
     requires { IsTrue (D.honest disk.old) → HasHeader (D.files disk.old) log }
     ensures honest { D.honest disk.new ≡ D.honest disk.old }
+    ensures kept { IsTrue (D.honest disk.old) → KeepsMore (D.synced disk.old) (D.gone disk.old) (D.synced disk.new) (D.gone disk.new) }
     ensures cause { IsCaused (D.failures disk.old) (D.failures disk.new) (IsErrOf result LogFault.Disk) }
     ensures never { ¬ (IsErrOf result LogFault.Failed) }
     ensures turn { IsTrue (D.honest disk.old)

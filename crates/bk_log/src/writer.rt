@@ -4,6 +4,7 @@
 ghost use Rattle.std.specs.Prelude.{◌≡◌, ◌<◌, ◌^◌, IsTrue, IfOk, IsErrAnd};
 ghost use Rattle.bk_head.specs.Header.{empty_header};
 ghost use Rattle.bk_disk.specs.Disk.{IsCaused};
+ghost use Rattle.bk_disk.specs.Durable.{KeepsMore};
 
 mod put;
 mod seal;
@@ -54,6 +55,7 @@ impl LogWriter {
     /// The caller gives an id of at most 2^31 - 1. Faults: `Disk`, `Memory`, and `Odd` where a file of that id is
     /// there already; each with `made`, whether this call made the file. It then stands, and has a part of the header,
     /// or none of it; otherwise the files are as they were.
+    #[tactic(auto, using(bk_disk::proofs::KeepsMore::kept_rules))]
     pub fn create<D: LogDisk>(
         disk: &mut D,
         alloc: Global,
@@ -61,6 +63,7 @@ impl LogWriter {
     ) -> Result<LogWriter, CreateFault>
         requires { log < 2 ^ 31 }
         ensures honest { D.honest disk.new ≡ D.honest disk.old }
+        ensures kept { IsTrue (D.honest disk.old) → KeepsMore (D.synced disk.old) (D.gone disk.old) (D.synced disk.new) (D.gone disk.new) }
         ensures cause { IsCaused (D.failures disk.old) (D.failures disk.new)
             (IsErrAnd result (λ f. f.fault ≡ LogFault.Disk)) }
         ensures ok { IfOk result (λ w. w ≡ new_writing log) }

@@ -75,6 +75,10 @@ impl<D: LogDisk> LogDisk for NotingDisk<D> {
 
     ghost files = { λ disk. D.files disk.inner };
 
+    ghost synced = { λ disk. D.synced disk.inner };
+
+    ghost gone = { λ disk. D.gone disk.inner };
+
     ghost honest = { λ disk. D.honest disk.inner };
 
     ghost failures = { λ disk. D.failures disk.inner };

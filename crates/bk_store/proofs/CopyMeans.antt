@@ -13,7 +13,6 @@ use Rattle.bk_store.specs.Meaning.{MeansTheSame}
 use Rattle.bk_store.specs.Kept.{Keeps}
 use Rattle.bk_store.specs.Doors.{IsIn, PutTurn}
 use Rattle.bk_store.specs.Copying.{MayCopy, RemoveTurn, without_log}
-use Rattle.bk_store.specs.Beside.{RemovesBeside}
 use Rattle.bk_store.specs.declared.log.LogState.TheVariants.{Closed}
 use Rattle.bk_store.proofs.KeptCopy.{named_mapped}
 use Rattle.bk_store.proofs.SameMeaning.{put_means, part_means, same_files, same_map}
@@ -47,14 +46,14 @@ copy_means p q id key place payload (Err log_faults.Failed) keeps may never hone
 -- ---- a log is removed
 
 pub remove_means : (p q : Parts) (id : ℕ) (result : Result (Unit {0}) LogFault) → Keeps p → IsIn p.state id Closed → RemoveTurn p.state id result q.state
-    → RemovesBeside p id result q → IsTrue p.state.honest → MeansTheSame p.state q.state
-remove_means p q id (Ok _) keeps known turn beside honest =
+    → IsTrue p.state.honest → MeansTheSame p.state q.state
+remove_means p q id (Ok _) keeps known turn honest =
     subst (MeansTheSame p.state) (sym turn.3)
     (same_map p.state (without_log (record p.state { files = q.state.files }) id turn.0) (keeps.promises honest).map.carried (keeps.promises honest).map.carries
-    (removed_carries p keeps id turn.0 turn.1 (one_log p id turn.0 Closed turn.1 known) q.state.files (turn.2 honest) (keeps.promises honest)))
-remove_means p q id (Err log_faults.Disk) keeps known turn beside honest =
+    (removed_carries p keeps id turn.0 turn.1 (one_log p id turn.0 Closed turn.1 known) q.state.files q.synced q.gone (turn.2 honest) (keeps.promises honest)))
+remove_means p q id (Err log_faults.Disk) keeps known turn honest =
     subst (MeansTheSame p.state) (sym turn.1) (same_files p.state q.state.files (turn.0 honest))
-remove_means p q id (Err log_faults.Memory) keeps known turn beside honest =
+remove_means p q id (Err log_faults.Memory) keeps known turn honest =
     subst (MeansTheSame p.state) (sym turn.1) (same_files p.state q.state.files (turn.0 honest))
-remove_means p q id (Err log_faults.Odd) keeps known turn beside honest = absurd (let wrong = turn.0 in cc)
-remove_means p q id (Err log_faults.Failed) keeps known never beside honest = absurd never
+remove_means p q id (Err log_faults.Odd) keeps known turn honest = absurd (let wrong = turn.0 in cc)
+remove_means p q id (Err log_faults.Failed) keeps known never honest = absurd never

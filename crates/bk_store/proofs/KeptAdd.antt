@@ -23,6 +23,7 @@ use Rattle.bk_store.specs.declared.answer.AddFault.TheVariants as add_faults
 use Rattle.bk_store.proofs.KeyMaps.{get-insert_other, inserted_here}
 use Rattle.bk_store.proofs.Meaning.{unheld_unmapped}
 use Rattle.bk_store.proofs.CachedMoves.{carries_added}
+use Rattle.bk_store.proofs.Harmless.{harmless_added}
 use Rattle.bk_store.proofs.TrailMoves.{replays_added, follows_added}
 use Rattle.bk_store.proofs.KeptParts.{with_state, keeps_same}
 
@@ -67,6 +68,7 @@ module _ (p : Parts) (payload : List ℕ) (key : EntryKey) (reads : read_added p
         map = record {
           carried = finite.insert promise.map.carried key payload;
           carries = carries_accepted promise.map.carries;
+          harmless = harmless_added promise.map.harmless (written_at added.state) key payload promise.map.carries none.0 none.1 cached_else;
           recent = λ k b is.
               let old = promise.map.recent k b is in
               let missing = unheld_unmapped promise.map.carries key none.0 none.1 in

@@ -28,6 +28,7 @@ use Rattle.bk_store.specs.declared.answer.DeleteFault.{DeleteFault}
 use Rattle.bk_store.specs.declared.answer.DeleteFault.TheVariants as delete_faults
 use Rattle.bk_store.proofs.KeyMaps.{left_cases, left_same}
 use Rattle.bk_store.proofs.LedgerLeaves.{carries_without_ledger}
+use Rattle.bk_store.proofs.Harmless.{harmless_without_ledger}
 use Rattle.bk_store.proofs.ShownMoves.{shows_without_ledger}
 use Rattle.bk_store.proofs.TrailMoves.{replays_deleted, follows_deleted}
 use Rattle.bk_store.proofs.KeptParts.{keeps_same}
@@ -165,6 +166,7 @@ module _ (p : Parts) (ledger : ℕ) (keeps : Keeps p) (book : Book) (left : AreL
     map = record {
       carried = without_ledger promise.map.carried ledger;
       carries = carries_without_ledger promise.map.carries (written_at gone.state) ledger (written_gone p.state ledger) (written_same p.state ledger);
+      harmless = harmless_without_ledger promise.map.harmless (written_at gone.state) ledger (written_same p.state ledger);
       recent = λ key payload is.
           let old = recent_left p.state ledger key payload is in
           left_same promise.map.carried ledger key old.0 ∙ promise.map.recent key payload old.1;

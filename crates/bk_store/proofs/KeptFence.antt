@@ -35,6 +35,7 @@ module _ (p : Parts) (ledger : ℕ) (keeps : Keeps p) (alive : set.contains p.st
               map = record {
                 carried = promise.map.carried;
                 carries = promise.map.carries;
+                harmless = promise.map.harmless;
                 recent = promise.map.recent;
                 replays = replays_fenced promise.map.replays ledger;
               };

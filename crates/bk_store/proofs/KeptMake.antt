@@ -255,7 +255,7 @@ module _ (p : Parts) (keeps : Keeps p) where
               (only id there)
         ] refl
 
-    new_promises : (promise : Promises p) → Gains p.state.files next [] files → length (file_of files next) ≤ header_length → IsBacked files next new
+    new_promises : (promise : Promises p) → Gains p.state.files next [] files → length (file_of files next) ≤ header_length → IsBacked files p.synced next new
         → Promises with_new
     new_promises promise gains empty backed =
         let grows : Grows p.state.ledgers.dead promise.map.carried (file_of p.state.files) (file_of files) =
@@ -265,6 +265,7 @@ module _ (p : Parts) (keeps : Keeps p) where
           map = record {
             carried = promise.map.carried;
             carries = carries_grown grows promise.map.carries;
+            harmless = promise.map.harmless;
             recent = promise.map.recent;
             replays = promise.map.replays;
           };
@@ -272,7 +273,7 @@ module _ (p : Parts) (keeps : Keeps p) where
           counted = sums_open entry_measure promise.counted next (acknowledged_entries files (finite.insert p.state.logs next new)) unnamed
               (later empty gains.only);
           logs = record {
-            each = each_new (λ id l. IsBacked files id l) backed (λ id l is.
+            each = each_new (λ id l. IsBacked files p.synced id l) backed (λ id l is.
                 let old = promise.logs.each id l is in
                 let same = gains.only id (apart id l is) in
                 record {
@@ -282,6 +283,7 @@ module _ (p : Parts) (keeps : Keeps p) where
                   honest = old.honest;
                   spelled = subst HasNoBadLength (sym (ap (λ (o : Option (List ℕ)). unwrap_or o []) same)) old.spelled;
                   shown = old.shown;
+                  kept = old.kept;
                 });
             fresh = λ id above. gains.only id (λ here. omega (arith, above, here)) ∙ promise.logs.fresh id (omega (arith, above));
           };
@@ -293,7 +295,7 @@ module _ (p : Parts) (keeps : Keeps p) where
     pub kept_new : MayMake p.state → IsHeld (next + 1) next new
         → ((id : ℕ) → (writing ≡ Some id) ↔ ((log : Log) × (finite.get (finite.insert p.state.logs next new) id ≡ Some log) × (log.state ≡ Writing)))
         → AllStay p.filled filled → ((new.state ≡ Writing) ⊎ (new.state ≡ Filled) → In next filled)
-        → (IsTrue p.state.honest → Gains p.state.files next [] files × (length (file_of files next) ≤ header_length) × IsBacked files next new)
+        → (IsTrue p.state.honest → Gains p.state.files next [] files × (length (file_of files next) ≤ header_length) × IsBacked files p.synced next new)
         → Keeps (record p {
           state = with_next p.state files failures (finite.insert p.state.logs next new) (with_seat p.state slot);
           accounts = after_open p.accounts next;
@@ -437,6 +439,7 @@ module _ (p q : Parts) (keeps : Keeps p) (state : LogState) (fault : MakeFault) 
                 honest = λ v wrong. absurd (cc);
                 spelled = spelled_short (file_of q.state.files p.state.next) left.0;
                 shown = λ v wrong. absurd (cc);
+                kept = λ v wrong. absurd (cc);
               },
             )))
             (is.left ∙ ap (λ b. with_next p.state q.state.files failures (logs_left p.state b is.slot) (keeper_left p.state b is.slot)) made)
@@ -481,6 +484,7 @@ made p q state id keeps written none turn beside writes unfilled =
         honest = λ v wrong. absurd (cc);
         spelled = spelled_short (file_of q.state.files p.state.next) short;
         shown = λ v wrong. absurd (cc);
+        kept = λ v wrong. absurd (cc);
       },
     )))
     is.left

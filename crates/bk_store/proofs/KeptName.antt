@@ -28,6 +28,7 @@ use Rattle.bk_store.proofs.KeyMaps.{inserted_cases}
 use Rattle.bk_store.proofs.Growing.{entry_same}
 use Rattle.bk_store.proofs.IndexMoves.{carries_sent}
 use Rattle.bk_store.proofs.ShownMoves.{shows_sent}
+use Rattle.bk_store.proofs.Harmless.{harmless_sent}
 use Rattle.bk_store.proofs.KeptWrite.{flush_written}
 use Rattle.bk_store.proofs.JobStays.{job_stays, job_unflushed}
 
@@ -156,6 +157,8 @@ module _ (p : Parts) (keeps : Keeps p) (key : EntryKey) (place : Place) (may : M
         map = record {
           carried = promise.map.carried;
           carries = carries_sent promise.map.carries key place (record { payload = payload; stands = stands; mapped = mapped })
+              (λ old none _. absurd (let wrong : None ≡ Some payload = sym none ∙ written in cc));
+          harmless = harmless_sent promise.map.harmless key place
               (λ old none _. absurd (let wrong : None ≡ Some payload = sym none ∙ written in cc));
           recent = λ k b is. elim after [
             | inl kept ↦ promise.map.recent k b (ap (λ r. recent_of r k) (sym kept) ∙ is)

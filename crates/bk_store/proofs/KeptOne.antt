@@ -115,7 +115,7 @@ module _ (p : Parts) (id : ℕ) (log new : Log) (held : finite.get p.state.logs 
       → ((at : ℕ) (payload : List ℕ) (key : EntryKey) → In (at, payload) others → key_of payload ≡ Some key → set.contains p.state.ledgers.dead key.ledger ≡ false
       → finite.get promise.map.carried key ≡ Some payload)
       → (EntriesStay (file_of p.state.files) (file_of files) → Shows (file_of files) (open_parts (finite.insert p.state.logs id new)) p.state.index)
-      → IsBacked files id new
+      → IsBacked files p.synced id new
       → AreSums entry_measure (set.contains p.state.ledgers.dead) (acknowledged_entries files (finite.insert p.state.logs id new)) (log_count p.state.index) accounts
       → Promises (with_one_in keeper p id new files failures accounts writing)
   promises_in keeper fits promise others gains each shows backed counted =
@@ -125,13 +125,14 @@ module _ (p : Parts) (id : ℕ) (log new : Log) (held : finite.get p.state.logs 
         map = record {
           carried = promise.map.carried;
           carries = carries_grown grows promise.map.carries;
+          harmless = promise.map.harmless;
           recent = promise.map.recent;
           replays = promise.map.replays;
         };
         shows = shows grows.stood;
         counted = counted;
         logs = record {
-          each = each_log p.state.logs id log new held (λ q l. IsBacked files q l) backed (λ q l apart is.
+          each = each_log p.state.logs id log new held (λ q l. IsBacked files p.synced q l) backed (λ q l apart is.
               let old = promise.logs.each q l is in
               record {
                 stands = ap is_some (gains.only q apart) ∙ old.stands;
@@ -139,6 +140,7 @@ module _ (p : Parts) (id : ℕ) (log new : Log) (held : finite.get p.state.logs 
                 honest = old.honest;
                 spelled = subst HasNoBadLength (sym (file_else gains.only q apart)) old.spelled;
                 shown = old.shown;
+                kept = old.kept;
               });
           fresh = λ q above. elim (same_or_apart q id) [
             | inr apart ↦ gains.only q apart ∙ promise.logs.fresh q above
@@ -154,7 +156,7 @@ module _ (p : Parts) (id : ℕ) (log new : Log) (held : finite.get p.state.logs 
       → ((at : ℕ) (payload : List ℕ) (key : EntryKey) → In (at, payload) others → key_of payload ≡ Some key → set.contains p.state.ledgers.dead key.ledger ≡ false
       → finite.get promise.map.carried key ≡ Some payload)
       → (EntriesStay (file_of p.state.files) (file_of files) → Shows (file_of files) (open_parts (finite.insert p.state.logs id new)) p.state.index)
-      → IsBacked files id new
+      → IsBacked files p.synced id new
       → AreSums entry_measure (set.contains p.state.ledgers.dead) (acknowledged_entries files (finite.insert p.state.logs id new)) (log_count p.state.index) accounts
       → Promises (with_one p id new files failures accounts writing)
   promises_one = promises_in p.state.keeper

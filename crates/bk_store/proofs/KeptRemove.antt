@@ -7,6 +7,8 @@ use Rattle.std.proofs.lemmas.Bool.{eqb-true, eq-eqb}
 use Rattle.bk_record.specs.Files.{Files, file_of, header_length}
 use Rattle.bk_record.specs.Scan.{entries_of}
 use Rattle.bk_record.specs.Keyed.{log_count}
+use Rattle.bk_record.proofs.Longer.{longer_trans}
+use Rattle.bk_disk.specs.Durable.{IsLetGo}
 use Rattle.bk_log.specs.Growing.{HasNoBadLength}
 use Rattle.bk_log.specs.declared.fault.LogFault.{LogFault}
 use Rattle.bk_log.specs.declared.fault.LogFault.TheVariants as log_faults
@@ -22,19 +24,28 @@ use Rattle.bk_store.specs.Shown.{Shows}
 use Rattle.bk_store.specs.Kept.{Keeps, Fits, Promises, IsBacked, entry_measure, acknowledged_entries}
 use Rattle.bk_store.specs.Doors.{IsIn}
 use Rattle.bk_store.specs.Copying.{RemoveTurn, without_log}
-use Rattle.bk_store.specs.Beside.{RemovesBeside}
+use Rattle.bk_store.specs.Beside.{RemovesBeside, LetsGo, kept_as}
 use Rattle.bk_store.specs.declared.log.LogState.TheVariants.{Writing, Filled, Closed}
 use Rattle.bk_store.proofs.Cases.{same_or_apart}
 use Rattle.bk_store.proofs.LogMaps.{log-removed, log-remove_else, log-remove_cases}
 use Rattle.bk_store.proofs.Growing.{OnlyIn, carries_removed, entry_same, none_stands}
 use Rattle.bk_store.proofs.Seats.{seated_removed}
 use Rattle.bk_store.proofs.KeptSet.{one_log}
+use Rattle.bk_store.proofs.KeptParts.{with_state}
+use Rattle.bk_store.proofs.KeepsOn.{keeps_on}
+use Rattle.bk_store.proofs.Harmless.{harmless_let_go_of}
 use Rattle.bk_store.proofs.KeptOne.{keeps_failures}
 use Rattle.bk_store.proofs.JobStays.{job_stays, job_apart}
 
-module _ (p : Parts) (keeps : Keeps p) (id : ℕ) (log : Log) (held : finite.get p.state.logs id ≡ Some log) (closed : log.state ≡ Closed) (files : Files) where
+module _ (p : Parts) (keeps : Keeps p) (id : ℕ) (log : Log) (held : finite.get p.state.logs id ≡ Some log) (closed : log.state ≡ Closed)
+    (files synced gone' : Files) where
   abbrev removed : Parts
-  removed = record p { state = without_log (record p.state { files = files }) id log; accounts = after_drop p.accounts id }
+  removed = record p {
+    state = without_log (record p.state { files = files }) id log;
+    accounts = after_drop p.accounts id;
+    synced = synced;
+    gone = gone';
+  }
 
   -- a log that keys may be sent to, or that the flush wrote, is another one
   not_closed : (q : ℕ) (l : Log) → finite.get p.state.logs q ≡ Some l → l.state ≢ Closed → q ≢ id
@@ -151,8 +162,8 @@ module _ (p : Parts) (keeps : Keeps p) (id : ℕ) (log : Log) (held : finite.get
               ∙ ap (λ (b : List ℕ). option_map (λ (l : Log). entries_of (take l.acknowledged b)) (finite.get p.state.logs q)) (only q apart)
         ] refl
 
-    backed_left : (promise : Promises p) (q : ℕ) (l : Log) → finite.get (finite.remove p.state.logs id) q ≡ Some l → IsBacked files q l
-    backed_left promise q l is =
+    backed_left : IsLetGo p.state.files id p.synced p.gone synced gone' → (promise : Promises p) (q : ℕ) (l : Log) → finite.get (finite.remove p.state.logs id) q ≡ Some l → IsBacked files synced q l
+    backed_left let_go promise q l is =
         let other = log-remove_cases p.state.logs id q l is in
         let old = promise.logs.each q l other.1 in
         let same = file_same q other.0 in
@@ -174,16 +185,21 @@ module _ (p : Parts) (keeps : Keeps p) (id : ℕ) (log : Log) (held : finite.get
           honest = old.honest;
           spelled = subst HasNoBadLength (sym (only q other.0)) old.spelled;
           shown = old.shown;
+          kept = λ view seen.
+              let was = old.kept view seen in
+              let now = let_go.more q was.0 other.0 was.1 in
+              (now.0, now.1, longer_trans view.bytes was.0 now.0 was.2 now.2);
         }
 
     pub removed_carries : (promise : Promises p) → Carries (file_of files) p.state.index (written_at p.state) p.state.ledgers.dead promise.map.carried
     removed_carries promise = carries_removed id only none_left (λ key place named. view_apart place.log (keeps.fits.sent key place named)) promise.map.carries
 
-    removed_promises : (promise : Promises p) → Promises removed
-    removed_promises promise = record {
+    removed_promises : IsLetGo p.state.files id p.synced p.gone synced gone' → (promise : Promises p) → Promises removed
+    removed_promises let_go promise = record {
       map = record {
         carried = promise.map.carried;
         carries = removed_carries promise;
+        harmless = harmless_let_go_of p.state.files p.gone gone' id let_go.back promise.map.carries promise.map.harmless;
         recent = promise.map.recent;
         replays = promise.map.replays;
       };
@@ -196,7 +212,7 @@ module _ (p : Parts) (keeps : Keeps p) (id : ℕ) (log : Log) (held : finite.get
       });
       counted = sums_drop entry_measure promise.counted id (acknowledged_entries files (finite.remove p.state.logs id)) entries_left;
       logs = record {
-        each = backed_left promise;
+        each = backed_left let_go promise;
         fresh = λ q above. elim (same_or_apart q id) [
           | inl here ↦ absurd (let below = (keeps.fits.logs.each id log held).below in omega (arith, below, above, here))
           | inr apart ↦ file_same q apart ∙ promise.logs.fresh q above
@@ -208,8 +224,9 @@ module _ (p : Parts) (keeps : Keeps p) (id : ℕ) (log : Log) (held : finite.get
           record { payload = old.payload; flushing = old.flushing; stands = entry_same place key old.payload (sym (only place.log apart)) old.stands };
     }
 
-  removed_kept : (IsTrue p.state.honest → files ≡ finite.remove p.state.files id) → Keeps removed
-  removed_kept gone = record {
+  removed_kept : (IsTrue p.state.honest → files ≡ finite.remove p.state.files id)
+      → (IsTrue p.state.honest → IsLetGo p.state.files id p.synced p.gone synced gone') → Keeps removed
+  removed_kept gone let_go = record {
     fits = removed_fits;
     job = λ job is.
         let own = keeps.job job is in
@@ -222,19 +239,21 @@ module _ (p : Parts) (keeps : Keeps p) (id : ℕ) (log : Log) (held : finite.get
           stands = λ honest place key payload there entry.
               entry_same place key payload (sym (only (gone honest) place.log (λ same. apart.1 (sym there ∙ same)))) entry;
         }) own;
-    promises = λ honest. removed_promises (gone honest) (keeps.promises honest);
+    promises = λ honest. removed_promises (gone honest) (let_go honest) (keeps.promises honest);
   }
 
 pub keeps_remove : (p q : Parts) (id : ℕ) (result : Result (Unit {0}) LogFault) → Keeps p → IsIn p.state id Closed → RemoveTurn p.state id result q.state
-    → RemovesBeside p id result q → Keeps q
-keeps_remove p q id (Ok _) keeps known turn beside =
-    subst Keeps (sym (beside ∙ ap (λ (s : State). record p { state = s; accounts = after_drop p.accounts id }) turn.3))
-    (removed_kept p keeps id turn.0 turn.1 (one_log p id turn.0 Closed turn.1 known) q.state.files turn.2)
-keeps_remove p q id (Err log_faults.Disk) keeps known turn beside =
-    subst Keeps (sym (beside ∙ ap (λ (s : State). record p { state = s }) turn.1)) (keeps_failures p q.state.files (p.state.failures + 1) keeps turn.0)
-keeps_remove p q id (Err log_faults.Memory) keeps known turn beside =
-    subst Keeps (sym (beside ∙ ap (λ (s : State). record p { state = s }) turn.1)) (keeps_failures p q.state.files p.state.failures keeps turn.0)
-keeps_remove p q id (Err log_faults.Odd) keeps known turn beside =
-    subst Keeps (sym (beside ∙ ap (λ (s : State). record p { state = s }) turn.1)) (keeps_failures p q.state.files p.state.failures keeps
-    (λ honest. absurd (let wrong = turn.0 in cc)))
-keeps_remove p q id (Err log_faults.Failed) keeps known never beside = absurd never
+    → RemovesBeside (kept_as p q) id result q → LetsGo p id result q → Keeps q
+keeps_remove p q id (Ok _) keeps known turn beside let_go =
+    subst Keeps (sym (beside ∙ ap (λ (s : State). record (kept_as p q) { state = s; accounts = after_drop p.accounts id }) turn.3))
+    (removed_kept p keeps id turn.0 turn.1 (one_log p id turn.0 Closed turn.1 known) q.state.files q.synced q.gone turn.2 let_go)
+keeps_remove p q id (Err log_faults.Disk) keeps known turn beside on =
+    subst Keeps (sym (beside ∙ ap (with_state (kept_as p q)) turn.1))
+    (keeps_failures (kept_as p q) q.state.files (p.state.failures + 1) (keeps_on p q keeps on) turn.0)
+keeps_remove p q id (Err log_faults.Memory) keeps known turn beside on =
+    subst Keeps (sym (beside ∙ ap (with_state (kept_as p q)) turn.1))
+    (keeps_failures (kept_as p q) q.state.files p.state.failures (keeps_on p q keeps on) turn.0)
+keeps_remove p q id (Err log_faults.Odd) keeps known turn beside on =
+    subst Keeps (sym (beside ∙ ap (with_state (kept_as p q)) turn.1))
+    (keeps_failures (kept_as p q) q.state.files p.state.failures (keeps_on p q keeps on) (λ honest. absurd (let wrong = turn.0 in cc)))
+keeps_remove p q id (Err log_faults.Failed) keeps known never beside on = absurd never

@@ -14,7 +14,8 @@ use Rattle.bk_store.specs.Kept.{Keeps, Fits, Promises, acknowledged_entries}
 use Rattle.bk_store.specs.Copying.{MayRename, RenameTurn}
 use Rattle.bk_store.specs.Beside.{RenamesBeside, sent}
 use Rattle.bk_store.proofs.KeyMaps.{inserted_cases}
-use Rattle.bk_store.proofs.IndexMoves.{carries_sent}
+use Rattle.bk_store.proofs.IndexMoves.{IsForward, carries_sent}
+use Rattle.bk_store.proofs.Harmless.{harmless_sent}
 use Rattle.bk_store.proofs.ShownMoves.{shows_sent}
 use Rattle.bk_store.proofs.KeptName.{total_renamed, names_move, sums_move}
 
@@ -58,14 +59,18 @@ module _ (p : Parts) (keeps : Keeps p) (key : EntryKey) (from_place to_place : P
             ])
       ]
 
+  -- the key goes forward
+  goes_forward : (was : Place) → finite.get p.state.index key ≡ Some was → IsForward was to_place
+  goes_forward was is =
+      let same : was ≡ from_place = same_Some was from_place (sym is ∙ there) in
+      inr (inl (subst (λ (x : Place). x.log < to_place.log) (sym same) may.later))
+
   sent_promises : IsTrue p.state.honest → Promises p → Promises (sent p key to_place)
   sent_promises honest promise = record {
     map = record {
       carried = promise.map.carried;
-      carries = carries_sent promise.map.carries key to_place (arrives honest promise)
-          (λ was _ is.
-          let same : was ≡ from_place = same_Some was from_place (sym is ∙ there) in
-          inr (inl (subst (λ (x : Place). x.log < to_place.log) (sym same) may.later)));
+      carries = carries_sent promise.map.carries key to_place (arrives honest promise) (λ was _ is. goes_forward was is);
+      harmless = harmless_sent promise.map.harmless key to_place (λ was _ is. goes_forward was is);
       recent = promise.map.recent;
       replays = promise.map.replays;
     };

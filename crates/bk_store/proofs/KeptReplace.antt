@@ -21,7 +21,8 @@ use Rattle.bk_store.specs.Found.{AreUnnamed, named_by}
 use Rattle.bk_store.proofs.JobStays.{job_rebuilt}
 use Rattle.bk_store.proofs.KeptParts.{none_placed}
 use Rattle.bk_store.proofs.OpenedSums.{names_in, name_counted, plus_none}
-use Rattle.bk_store.proofs.Rebuilding.{carries_rebuilt, shows_rebuilt}
+use Rattle.bk_store.proofs.Rebuilding.{carries_rebuilt, shows_rebuilt, still_named, goes_forward}
+use Rattle.bk_store.proofs.Harmless.{harmless_moved}
 use Rattle.bk_store.proofs.Unnaming.{IsUnnaming, in_log}
 
 -- an account with so many names
@@ -140,6 +141,8 @@ module _ (p : Parts) (keeps : Keeps p) (index : Places) (may : MayReplace p.stat
         map = record {
           carried = promise.map.carried;
           carries = carries_rebuilt promise.map.carries promise.shows (may.made honest);
+          harmless = harmless_moved promise.map.harmless index (still_named promise.map.carries promise.shows (may.made honest))
+              (λ key was place none. goes_forward promise.map.carries promise.shows (may.made honest) key was place);
           recent = promise.map.recent;
           replays = promise.map.replays;
         };

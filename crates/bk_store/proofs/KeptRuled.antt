@@ -16,6 +16,7 @@ use Rattle.bk_accounts.specs.Book.{total_at}
 use Rattle.bk_accounts.specs.Sums.{AreSums}
 use Rattle.bk_store.specs.Shown.{Shows}
 use Rattle.bk_store.specs.Carried.{Carries}
+use Rattle.bk_store.specs.Crash.{AreHarmless}
 use Rattle.bk_store.specs.Logs.{Log, Logs, HasOpenView, AllChanged, is_open, settled_as, unfilled_as, open_parts, published_part}
 use Rattle.bk_store.specs.Jobs.{Job}
 use Rattle.bk_store.specs.JobKept.{IsJob, copy_state}
@@ -31,6 +32,7 @@ use Rattle.bk_store.specs.declared.job.Phase.TheVariants.{Copy, Switch}
 use Rattle.bk_store.proofs.Cases.{some_or_none}
 use Rattle.bk_store.proofs.KeptParts.{none_placed, all_unplaced}
 use Rattle.bk_store.proofs.CachedMoves.{carries_let_go}
+use Rattle.bk_store.proofs.Harmless.{harmless_let_go}
 use Rattle.bk_store.proofs.Seats.{seated_ruled}
 use Rattle.bk_store.proofs.AllChanged.{IsMild, changed_len, settled_mild, settled_unflushed, unfilled_mild}
 use Rattle.bk_store.proofs.JobStays.{job_stays}
@@ -124,11 +126,13 @@ module _ (p : Parts) (keeps : Keeps p) (rule : LogState → Log → Log) (mild :
 
   ruled_promises : (promise : Promises p)
       → Carries (file_of p.state.files) p.state.index (written_at (record p.state { caches = held })) p.state.ledgers.dead promise.map.carried
+      → AreHarmless (file_of p.gone) p.state.index (written_at (record p.state { caches = held })) p.state.ledgers.dead promise.map.carried
       → held.recent ≡ p.state.caches.recent → Promises (ruled p logs held writing filled)
-  ruled_promises promise carries recent = record {
+  ruled_promises promise carries harmless recent = record {
     map = record {
       carried = promise.map.carried;
       carries = carries;
+      harmless = harmless;
       recent = λ key payload is. promise.map.recent key payload (ap (λ r. recent_of r key) (sym recent) ∙ is);
       replays = promise.map.replays;
     };
@@ -136,7 +140,7 @@ module _ (p : Parts) (keeps : Keeps p) (rule : LogState → Log → Log) (mild :
     counted = subst (λ f. AreSums entry_measure (set.contains p.state.ledgers.dead) f (log_count p.state.index) p.accounts)
         (λ i id. sym (entries_ruled rule mild p.state.logs logs changed p.state.files id) i) promise.counted;
     logs = record {
-      each = each_ruled rule mild p.state.logs logs changed (λ id l. IsBacked p.state.files id l) (λ id l is.
+      each = each_ruled rule mild p.state.logs logs changed (λ id l. IsBacked p.state.files p.synced id l) (λ id l is.
           let old = promise.logs.each id l is in
           record {
             stands = old.stands;
@@ -144,6 +148,7 @@ module _ (p : Parts) (keeps : Keeps p) (rule : LogState → Log → Log) (mild :
             honest = λ view seen. old.honest view (sym (mild.view l) ∙ seen);
             spelled = old.spelled;
             shown = λ view seen. old.shown view (sym (mild.view l) ∙ seen);
+            kept = λ view seen. old.kept view (sym (mild.view l) ∙ seen);
           });
       fresh = promise.logs.fresh;
     };
@@ -207,7 +212,8 @@ keeps_restart p q keeps turn beside =
       job = job_ruled p keeps settled_as settled_rests q.state.logs turn.logs p.state.caches None [];
       promises = λ honest.
           let promise = keeps.promises honest in
-          ruled_promises p keeps settled_as settled_mild q.state.logs turn.logs p.state.caches None [] promise promise.map.carries refl;
+          ruled_promises p keeps settled_as settled_mild q.state.logs turn.logs p.state.caches None [] promise promise.map.carries
+          promise.map.harmless refl;
     })
 
 -- what is cached, without the flush: what is let go of is indexed
@@ -263,5 +269,6 @@ keeps_end p q keeps named turn beside =
       promises = λ honest.
           let promise = keeps.promises honest in
           ruled_promises p keeps unfilled_as unfilled_mild q.state.logs turn.logs held p.writing q.filled promise
-          (carries_let_go promise.map.carries (written_at (record p.state { caches = held })) (let_go p.state named)) refl;
+          (carries_let_go promise.map.carries (written_at (record p.state { caches = held })) (let_go p.state named))
+          (harmless_let_go promise.map.harmless (written_at (record p.state { caches = held })) (let_go p.state named)) refl;
     })

@@ -68,6 +68,7 @@ module _ (p : Parts) (keeps : Keeps p) (id : ℕ) (state : LogState) (log : Log)
         honest = old.honest;
         spelled = gains.spelled old.spelled;
         shown = old.shown;
+        kept = old.kept;
       })
       (subst (λ f. AreSums entry_measure (set.contains p.state.ledgers.dead) f (log_count p.state.index) p.accounts) (λ i q. sym (same q) i) promise.counted)
 

@@ -63,7 +63,7 @@ module _ (p : Parts) (keeps : Keeps p) (id : ℕ) (state : LogState) (log : Log)
             let same = entries_stay p.state.logs id log new held files files (λ _ _. refl) refl in
             promises_in p id log new held files p.state.failures p.accounts p.writing keeper fits promise [] (gains_same files files id refl)
             (λ at payload key never. absurd never) (λ _. shows promise.shows)
-            (record { stands = old.stands; writes = λ w wrong. absurd (cc); honest = old.honest; spelled = old.spelled; shown = old.shown })
+            (record { stands = old.stands; writes = λ w wrong. absurd (cc); honest = old.honest; spelled = old.spelled; shown = old.shown; kept = old.kept })
             (subst (λ f. AreSums entry_measure (set.contains p.state.ledgers.dead) f (log_count p.state.index) p.accounts) (λ i q. sym (same q) i) promise.counted);
       }
 

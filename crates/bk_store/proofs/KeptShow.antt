@@ -1,9 +1,11 @@
 -- A log that is shown keeps what a store keeps.
 use Rattle.std.proofs.Common.{◌≡◌, ℕ, ◌+◌, true, cond, IsTrue, List, [], Option, Some, Result, Ok, Err, refl, sym, ap, subst, ◌∙◌, unwrap_or}
+use Rattle.std.specs.Result.{OnOk}
 use Rattle.std.specs.FinMap as finite
 use Rattle.std.specs.FinSet as set
 use Rattle.bk_record.specs.Files.{file_of}
 use Rattle.bk_record.specs.Keyed.{log_count}
+use Rattle.bk_disk.specs.Durable.{HasKept}
 use Rattle.bk_log.specs.Growing.{HasNoBadLength}
 use Rattle.bk_log.proofs.Gains.{gains_same}
 use Rattle.bk_log.specs.declared.fault.LogFault.{LogFault}
@@ -23,9 +25,9 @@ module _ (p : Parts) (keeps : Keeps p) (id : ℕ) (log : Log) (held : finite.get
   abbrev shown : Log
   shown = with_view view log
 
-  promised : (promise : Promises p) → IsTrue view.is_honest → finite.get p.state.files id ≡ Some view.bytes
+  promised : (promise : Promises p) → IsTrue view.is_honest → finite.get p.state.files id ≡ Some view.bytes → HasKept p.synced id view.bytes
       → Promises (with_one p id shown p.state.files p.state.failures p.accounts p.writing)
-  promised promise honest whole =
+  promised promise honest whole synced =
       let files = p.state.files in
       let file : file_of files id ≡ view.bytes = ap (λ (o : Option (List ℕ)). unwrap_or o []) whole in
       let all : open_parts (finite.insert p.state.logs id shown) id ≡ file_of files id =
@@ -41,12 +43,14 @@ module _ (p : Parts) (keeps : Keeps p) (id : ℕ) (log : Log) (held : finite.get
         honest = λ v is. let one : view ≡ v = cc in subst (λ (x : View). IsTrue x.is_honest) one honest;
         spelled = old.spelled;
         shown = λ v is. let one : view ≡ v = cc in subst (λ (x : View). HasNoBadLength x.bytes) one (subst HasNoBadLength file old.spelled);
+        kept = λ v is. let one : view ≡ v = cc in subst (λ (x : View). HasKept p.synced id x.bytes) one synced;
       })
       (subst (λ f. AreSums entry_measure (set.contains p.state.ledgers.dead) f (log_count p.state.index) p.accounts) (λ i q. sym (same q) i) promise.counted)
 
   pub keeps_shown : IsIdle p.state id → (IsTrue p.state.honest → IsTrue view.is_honest × (finite.get p.state.files id ≡ Some view.bytes))
+      → (IsTrue p.state.honest → HasKept p.synced id (file_of p.state.files id))
       → Keeps (with_one p id shown p.state.files p.state.failures p.accounts p.writing)
-  keeps_shown idle seen =
+  keeps_shown idle seen synced =
       let fits = keeps.fits in
       let was = fits.logs.each id log held in
       record {
@@ -61,12 +65,15 @@ module _ (p : Parts) (keeps : Keeps p) (id : ℕ) (log : Log) (held : finite.get
             (writing_same p.state.logs id log shown held (λ w. w) (λ w. w) p.writing fits.logs.writing)
             (fits.logs.filled id log held) (λ w. w) (λ q. refl) (fits.accounts.total id log held) (λ q _. refl);
         job = job_in p.state.keeper p id shown p.state.files p.state.failures p.accounts p.writing keeps idle (λ _ q apart. refl);
-        promises = λ honest. let s = seen honest in promised (keeps.promises honest) s.0 s.1;
+        promises = λ honest.
+            let s = seen honest in
+            let file : file_of p.state.files id ≡ view.bytes = ap (λ (o : Option (List ℕ)). unwrap_or o []) s.1 in
+            promised (keeps.promises honest) s.0 s.1 (subst (HasKept p.synced id) file (synced honest));
       }
 
 pub keeps_show : (p q : Parts) (id : ℕ) (result : Result (Unit {0}) LogFault) → Keeps p → MayShow p.state id → ShowTurn p.state id result q.state
-    → q ≡ with_state p q.state → Keeps q
-keeps_show p q id (Ok _) keeps may turn beside =
+    → (IsTrue p.state.honest → OnOk result (HasKept p.synced id (file_of p.state.files id))) → q ≡ with_state p q.state → Keeps q
+keeps_show p q id (Ok _) keeps may turn synced beside =
     let open_log = may.open_is in
     let log = turn.0 in
     let view = turn.2.0 in
@@ -75,12 +82,12 @@ keeps_show p q id (Ok _) keeps may turn beside =
     let opened : is_open log.state ≡ true = ap (λ (l : Log). is_open l.state) one ∙ open_log.opened in
     subst Keeps (sym (beside ∙ ap (with_state p) turn.2.3))
     (keeps_failures (with_one p id (with_view view log) p.state.files p.state.failures p.accounts p.writing) q.state.files p.state.failures
-    (keeps_shown p keeps id log turn.1 opened view may.idle turn.2.1) turn.2.2)
-keeps_show p q id (Err log_faults.Disk) keeps may turn beside =
+    (keeps_shown p keeps id log turn.1 opened view may.idle turn.2.1 synced) turn.2.2)
+keeps_show p q id (Err log_faults.Disk) keeps may turn synced beside =
     subst Keeps (sym (beside ∙ ap (with_state p) turn.1)) (keeps_failures p q.state.files (p.state.failures + 1) keeps turn.0)
-keeps_show p q id (Err log_faults.Memory) keeps may turn beside =
+keeps_show p q id (Err log_faults.Memory) keeps may turn synced beside =
     subst Keeps (sym (beside ∙ ap (with_state p) turn.1)) (keeps_failures p q.state.files p.state.failures keeps turn.0)
-keeps_show p q id (Err log_faults.Odd) keeps may turn beside =
+keeps_show p q id (Err log_faults.Odd) keeps may turn synced beside =
     subst Keeps (sym (beside ∙ ap (with_state p) turn.1)) (keeps_failures p q.state.files p.state.failures keeps
     (λ honest. absurd (let wrong = turn.0 in cc)))
-keeps_show p q id (Err log_faults.Failed) keeps may never beside = absurd never
+keeps_show p q id (Err log_faults.Failed) keeps may never synced beside = absurd never

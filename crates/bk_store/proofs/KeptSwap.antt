@@ -1,5 +1,5 @@
 -- A swap keeps what a store keeps.
-use Rattle.std.proofs.Common.{◌≡◌, ℕ, List, Option, Some, None, refl, sym, ap, subst, ◌∙◌}
+use Rattle.std.proofs.Common.{◌≡◌, inl, ℕ, List, Option, Some, None, refl, sym, ap, subst, ◌∙◌}
 use Rattle.std.specs.Option.{option_or}
 use Rattle.std.specs.FinMap as finite
 use Rattle.bk_record.specs.Key.{EntryKey, key_cmp}
@@ -11,6 +11,7 @@ use Rattle.bk_store.specs.Kept.{Keeps, Promises}
 use Rattle.bk_store.specs.declared.answer.SwapAnswer.{SwapAnswer}
 use Rattle.bk_store.specs.declared.answer.SwapAnswer.TheVariants.{Running, Nothing, Swapped}
 use Rattle.bk_store.proofs.CachedMoves.{carries_same_cached}
+use Rattle.bk_store.proofs.Harmless.{harmless_let_go}
 use Rattle.bk_store.proofs.KeptParts.{with_state, keeps_same, none_placed, all_unplaced}
 
 module _ (p : Parts) (keeps : Keeps p) (idle : p.state.caches.flush ≡ None) where
@@ -37,6 +38,7 @@ module _ (p : Parts) (keeps : Keeps p) (idle : p.state.caches.flush ≡ None) wh
     map = record {
       carried = promise.map.carried;
       carries = carries_same_cached promise.map.carries (written_at swapped.state) same_cached;
+      harmless = harmless_let_go promise.map.harmless (written_at swapped.state) (λ key. inl (same_cached key));
       recent = promise.map.recent;
       replays = promise.map.replays;
     };

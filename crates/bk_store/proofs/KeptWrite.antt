@@ -308,6 +308,7 @@ module _ (p : Parts) (keeps : Keeps p) (id : ℕ) (log : Log) (held : finite.get
           honest = old.honest;
           spelled = put_gained.spelled old.spelled;
           shown = old.shown;
+          kept = old.kept;
         })
         put_sums
 

@@ -73,3 +73,11 @@ pub mod CopyMeans
 pub mod CopyTurns
 pub mod Choosing
 pub mod KeptRemove
+pub mod LongerRecords
+pub mod Cuts
+pub mod Recovered
+pub mod CrashOpened
+pub mod Harmless
+pub mod KeepsOn
+pub mod OpenedSynced
+pub mod Outliving

@@ -11,6 +11,7 @@ use Rattle.bk_record.proofs.Maps.{key_cases, get-insert_else, get-remove_here, g
 use Rattle.bk_record.specs.Keyed.{log_count}
 use Rattle.bk_head.specs.Header.{empty_header}
 use Rattle.bk_disk.specs.Disk.{IsCaused}
+use Rattle.bk_disk.specs.Durable.{KeepsMore}
 use Rattle.bk_log.specs.Writing.{CreateFails}
 use Rattle.bk_log.specs.declared.fault.LogFault.{LogFault}
 use Rattle.bk_log.specs.declared.fault.LogFault.TheVariants as log_faults
@@ -105,10 +106,17 @@ module _ (p s : Parts) (state : LogState) (number : ℕ) (slot : HasSlot p state
   honest_now : s.state.honest ≡ p.state.honest
   honest_now = ap (λ (q : Parts). q.state.honest) slot.parts
 
-  pub beside_slot : (t : State) (book : Book) (w : Option ℕ) (result : Result ℕ MakeFault) → book ≡ opened_for t.logs p.accounts p.state.next
-      → w ≡ made_writing p.writing state result → MakesBeside p state result (record s { state = t; accounts = book; writing = w })
-  beside_slot t book w result opened writes = record {
-    parts = λ i. record { state = t; accounts = opened i; writing = writes i; filled = s.filled };
+  -- what the disk keeps is as it was when the slot was taken, and then goes on
+  pub slot_kept : (synced gone : Files) → (IsTrue s.state.honest → KeepsMore s.synced s.gone synced gone) → IsTrue p.state.honest
+      → KeepsMore p.synced p.gone synced gone
+  slot_kept synced gone on honest = subst (λ (q : Parts). KeepsMore q.synced q.gone synced gone) slot.parts (on (honest_now ∙ honest))
+
+  pub beside_slot : (t : State) (book : Book) (w : Option ℕ) (synced gone : Files) (result : Result ℕ MakeFault)
+      → book ≡ opened_for t.logs p.accounts p.state.next → w ≡ made_writing p.writing state result
+      → MakesBeside (record p { synced = synced; gone = gone }) state result
+      (record s { state = t; accounts = book; writing = w; synced = synced; gone = gone })
+  beside_slot t book w synced gone result opened writes = record {
+    parts = λ i. record { state = t; accounts = opened i; writing = writes i; filled = s.filled; synced = synced; gone = gone };
     list = slot.list;
     listed = λ is _. slot.listed is;
   }
@@ -127,15 +135,17 @@ module _ (p s : Parts) (state : LogState) (number : ℕ) (slot : HasSlot p state
   account_gone keeps book gone = gone ∙ ap (λ (q : Parts). after_drop q.accounts q.state.next) slot.parts
       ∙ remove-insert p.accounts p.state.next fresh (no_account p keeps)
 
-  pub gone_beside : Keeps p → (t : State) (book : Book) (fault : MakeFault) → t.logs ≡ p.state.logs → book ≡ after_drop s.accounts s.state.next
-      → MakesBeside p state (Err fault) (record s { state = t; accounts = book })
-  gone_beside keeps t book fault same gone = beside_slot t book s.writing (Err fault)
+  pub gone_beside : Keeps p → (t : State) (book : Book) (synced gone' : Files) (fault : MakeFault) → t.logs ≡ p.state.logs
+      → book ≡ after_drop s.accounts s.state.next
+      → MakesBeside (record p { synced = synced; gone = gone' }) state (Err fault) (record s { state = t; accounts = book; synced = synced; gone = gone' })
+  gone_beside keeps t book synced gone' fault same gone = beside_slot t book s.writing synced gone' (Err fault)
       (account_gone keeps book gone ∙ sym (ap (λ (o : Option Log). cond (is_some o) (after_open p.accounts p.state.next) p.accounts)
       (ap (λ (l : Logs). finite.get l p.state.next) same ∙ unheld p keeps)))
       (ap (λ (q : Parts). q.writing) slot.parts)
 
-  pub left_beside : (t : State) (fault : MakeFault) → t.logs ≡ s.state.logs → MakesBeside p state (Err fault) (record s { state = t })
-  left_beside t fault same = beside_slot t s.accounts s.writing (Err fault)
+  pub left_beside : (t : State) (synced gone : Files) (fault : MakeFault) → t.logs ≡ s.state.logs
+      → MakesBeside (record p { synced = synced; gone = gone }) state (Err fault) (record s { state = t; synced = synced; gone = gone })
+  left_beside t synced gone fault same = beside_slot t s.accounts s.writing synced gone (Err fault)
       (opened_there t.logs (unmade_log number) (ap (finite.get t.logs) (sym slot_next) ∙ ap (λ (l : Logs). finite.get l s.state.next) same ∙ slot_held))
       (ap (λ (q : Parts). q.writing) slot.parts)
 
@@ -189,10 +199,11 @@ module _ (p s : Parts) (state : LogState) (number : ℕ) (slot : HasSlot p state
       },
     )
 
-    pub made_beside : (w : Option ℕ) → logs ≡ finite.insert s.state.logs s.state.next (made_log state s.state.next number)
+    pub made_beside : (w : Option ℕ) (synced gone : Files) → logs ≡ finite.insert s.state.logs s.state.next (made_log state s.state.next number)
         → w ≡ made_writing p.writing state (Ok s.state.next)
-        → MakesBeside p state (Ok s.state.next) (record s { state = after; writing = w })
-    made_beside w put writes = beside_slot after s.accounts w (Ok s.state.next)
+        → MakesBeside (record p { synced = synced; gone = gone }) state (Ok s.state.next)
+        (record s { state = after; writing = w; synced = synced; gone = gone })
+    made_beside w synced gone put writes = beside_slot after s.accounts w synced gone (Ok s.state.next)
         (opened_there logs (made_log state s.state.next number)
         (ap (finite.get logs) (sym slot_next) ∙ ap (λ (l : Logs). finite.get l s.state.next) put
         ∙ log-inserted s.state.logs s.state.next (made_log state s.state.next number) s.state.next refl)) writes

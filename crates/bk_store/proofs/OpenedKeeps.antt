@@ -18,6 +18,7 @@ use Rattle.bk_record.specs.Scan.{Ledgers, scan_of, live, entries_of}
 use Rattle.bk_record.proofs.Entries.{In-map, map-In, flat_map-In, get-In}
 use Rattle.bk_record.proofs.Growth.{In-append_right}
 use Rattle.bk_disk.specs.Disk.{IsFile, view_end}
+use Rattle.bk_disk.specs.Durable.{HasKept}
 use Rattle.bk_log.specs.declared.found.Found.{Found}
 use Rattle.bk_log.specs.Growing.{HasNoBadLength}
 use Rattle.bk_accounts.specs.Book.{named_in, total_at}
@@ -37,13 +38,14 @@ use Rattle.bk_store.specs.Limits.{IsAllowed}
 use Rattle.bk_store.specs.Seated.{IsSeated}
 use Rattle.bk_store.specs.Kept.{IsHeld, Fits, IsBacked, Promises, Keeps, entry_measure, acknowledged_entries}
 use Rattle.bk_store.specs.Opening.{HoldsFiles, IsOpened, Opens, FirstFails, OpenFails}
-use Rattle.bk_store.specs.Found.{LogRead, IsRead, IsReadWhole, AreTaken, AreUnnamed, with_reads, with_names, named_by, logs_with}
+use Rattle.bk_store.specs.Found.{LogRead, IsRead, IsReadWhole, AreTaken, AllKept, AreUnnamed, with_reads, with_names, named_by, logs_with}
 use Rattle.bk_store.specs.declared.settings.Settings.{Settings}
 use Rattle.bk_store.specs.declared.answer.OpenFault.{OpenFault}
 use Rattle.bk_store.specs.declared.answer.OpenFault.TheVariants as open_faults
 use Rattle.bk_store.specs.declared.open.tally.Tally.{Tally}
 use Rattle.bk_store.proofs.Cases.{some_or_none, some_value}
 use Rattle.bk_store.proofs.Growing.{none_stands, entry_same}
+use Rattle.bk_store.proofs.Harmless.{HasNone, harmless_none}
 use Rattle.bk_store.proofs.TrailMoves.{replays_none, follows_none}
 use Rattle.bk_store.proofs.KeptParts.{none_placed, all_unplaced}
 use Rattle.bk_store.proofs.EntryLists.{IsIndexOfList, list_empty, list_index}
@@ -61,8 +63,8 @@ abbrev pub started : Ledgers → Tally
 started dead = record { index = finite.empty; accounts = finite.empty; dead = dead }
 
 -- the parts of a store that was opened
-abbrev pub opened_parts : Settings → Files → Bool → ℕ → Tally → Logs → SlotTable → ℕ → Parts
-opened_parts settings files honest failures t logs keeper next = record {
+abbrev pub opened_parts : Settings → Files → Files → Files → Bool → ℕ → Tally → Logs → SlotTable → ℕ → Parts
+opened_parts settings files synced gone honest failures t logs keeper next = record {
   state = record {
     settings = settings;
     files = files;
@@ -80,6 +82,8 @@ opened_parts settings files honest failures t logs keeper next = record {
   accounts = named_by (finite.entries t.index) t.accounts;
   writing = None;
   filled = [];
+  synced = synced;
+  gone = gone;
 }
 
 abbrev no_lists : Lists
@@ -92,10 +96,10 @@ shown_part log = if is_open log.state then published_part log else []
 plus : (n : ℕ) → 0 + n ≡ n
 plus n = omega arith
 
-module _ (settings : Settings) (honest : Bool) (files : Files) (failures : ℕ) (dead : Ledgers) (ids : List ℕ) (next : ℕ) (t : Tally) (logs : Logs)
-    (taken : AreTaken honest files ids next (started dead) t finite.empty logs) (keeper : SlotTable) where
+module _ (settings : Settings) (honest : Bool) (files synced gone : Files) (failures : ℕ) (dead : Ledgers) (ids : List ℕ) (next : ℕ) (t : Tally)
+    (logs : Logs) (taken : AreTaken honest files ids next (started dead) t finite.empty logs) (keeper : SlotTable) where
   abbrev p : Parts
-  p = opened_parts settings files honest failures t logs keeper next
+  p = opened_parts settings files synced gone honest failures t logs keeper next
 
   dead_is : t.dead ≡ dead
   dead_is = ap (λ (x : Tally). x.dead) taken.taken ∙ dead-reads (started dead) taken.reads
@@ -276,12 +280,13 @@ module _ (settings : Settings) (honest : Bool) (files : Files) (failures : ℕ) 
         ∙ finite.get-empty key_cmp key
         )
 
-    pub opened_promises : Promises p
-    opened_promises = record {
+    pub opened_promises : AllKept files synced ids → HasNone gone → Promises p
+    opened_promises kept none = record {
       map = record {
         carried = live (scan_of files) t.dead;
         carries = subst (λ (c : Cached). Carries (file_of files) t.index c t.dead (live (scan_of files) t.dead)) (λ i key. none_written key i)
             (carries_opened files whole_index);
+        harmless = harmless_none gone none;
         recent = λ key payload wrong. cc;
         replays = replays_none (live (scan_of files) t.dead);
       };
@@ -308,12 +313,14 @@ module _ (settings : Settings) (honest : Bool) (files : Files) (failures : ℕ) 
       logs = record {
         each = λ id log there.
             let r = read_of id log there in
-            subst (IsBacked files id) (sym r.1.1) (record {
+            subst (IsBacked files synced id) (sym r.1.1) (record {
               stands = ap is_some (read_file id r.0 r.1.0);
               writes = λ w wrong. cc;
               honest = λ view shows. subst (λ (v : View). IsTrue v.is_honest) (same_Some r.0.view view shows) (whole_read r.0 r.1.0.there).honest;
               spelled = subst HasNoBadLength (sym (file_is id r.0 r.1.0)) (whole_read r.0 r.1.0.there).opens.whole;
               shown = λ view shows. subst (λ (v : View). HasNoBadLength v.bytes) (same_Some r.0.view view shows) (whole_read r.0 r.1.0.there).opens.whole;
+              kept = λ view shows. subst (λ (v : View). HasKept synced id v.bytes) (same_Some r.0.view view shows)
+                  (subst (HasKept synced id) (file_is id r.0 r.1.0) (kept id (subst (λ n. In n ids) r.1.0.own (id_in r.0 r.1.0.there))));
             });
         fresh = λ id past. elim (some_or_none (finite.get files id)) [
           | inl none ↦ none
@@ -394,7 +401,7 @@ no_table = record {
 pub taken_unnamed : (settings : Settings) (honest : Bool) (files : Files) (dead : Ledgers) (ids : List ℕ) (next : ℕ) (t : Tally) (logs : Logs)
     → AreTaken honest files ids next (started dead) t finite.empty logs → AreUnnamed t.accounts
 taken_unnamed settings honest files dead ids next t logs taken log =
-    let sums = counted settings honest files 0 dead ids next t logs taken no_table in
+    let sums = counted settings honest files finite.empty finite.empty 0 dead ids next t logs taken no_table in
     subst (λ o. IfSome o (λ named. named ≡ 0)) (sym (sums.named log))
     (elim (with_lists no_lists taken.reads log) as (λ o. IfSome (option_map (λ _. no_names log) o) (λ named. named ≡ 0)) [
       | None ↦ tt
@@ -402,8 +409,8 @@ taken_unnamed settings honest files dead ids next t logs taken log =
     ])
 
 -- the parts that an opening makes
-abbrev pub made_parts : Settings → Files → Bool → ℕ → CacheState → Places → Tally → Logs → SlotTable → ℕ → KnownLedgers → List ℕ → Parts
-made_parts settings files honest failures kept places t logs keeper next known filled = record {
+abbrev pub made_parts : Settings → Files → Files → Files → Bool → ℕ → CacheState → Places → Tally → Logs → SlotTable → ℕ → KnownLedgers → List ℕ → Parts
+made_parts settings files synced gone honest failures kept places t logs keeper next known filled = record {
   state = record {
     settings = settings;
     files = files;
@@ -421,9 +428,11 @@ made_parts settings files honest failures kept places t logs keeper next known f
   accounts = t.accounts;
   writing = None;
   filled = filled;
+  synced = synced;
+  gone = gone;
 }
 
-module _ (settings : Settings) (honest honest' : Bool) (files files' : Files) (failures : ℕ) (dead : Ledgers) (ids : List ℕ) (next : ℕ) (t : Tally)
+module _ (settings : Settings) (honest honest' : Bool) (files files' synced gone : Files) (failures : ℕ) (dead : Ledgers) (ids : List ℕ) (next : ℕ) (t : Tally)
     (logs : Logs) (taken : AreTaken honest files ids next (started dead) t finite.empty logs) (keeper : SlotTable) (stays : honest' ≡ honest)
     (same : IsTrue honest → files' ≡ files) (listed : IsTrue honest → ids ≡ finite.keys files)
     (kept : CacheState) (places : Places) (now : Tally) (known : KnownLedgers) (filled : List ℕ) (kept_are : kept ≡ caches.new_caches settings.cache_limit settings.recent)
@@ -435,22 +444,24 @@ module _ (settings : Settings) (honest honest' : Bool) (files files' : Files) (f
   listed_now : IsTrue honest' → ids ≡ finite.keys files'
   listed_now is' = let is : IsTrue honest = sym stays ∙ is' in listed is ∙ ap finite.keys (sym (same is))
 
-  parts_are : opened_parts settings files' honest' failures t logs keeper next
-      ≡ made_parts settings files' honest' failures kept places now logs keeper next known filled
+  parts_are : opened_parts settings files' synced gone honest' failures t logs keeper next
+      ≡ made_parts settings files' synced gone honest' failures kept places now logs keeper next known filled
   parts_are =
       let known_as : opened_ledgers t.dead ≡ known = sym (known_is ∙ ap (λ (x : Tally). opened_ledgers x.dead) now_is) in
-      λ i. made_parts settings files' honest' failures (sym kept_are i) (sym places_are i) (sym now_is i) logs keeper next (known_as i) (sym filled_is i)
+      λ i. made_parts settings files' synced gone honest' failures (sym kept_are i) (sym places_are i) (sym now_is i) logs keeper next (known_as i) (sym filled_is i)
 
-  pub opened_keeps : IsAllowed settings → IsSeated settings keeper logs
-      → Keeps (made_parts settings files' honest' failures kept places now logs keeper next known filled)
-  opened_keeps allowed seated = subst Keeps parts_are (record {
-    fits = opened_fits settings honest' files' failures dead ids next t logs taken_now keeper allowed seated;
+  pub opened_keeps : IsAllowed settings → IsSeated settings keeper logs → (IsTrue honest' → AllKept files' synced ids)
+      → (IsTrue honest' → HasNone gone)
+      → Keeps (made_parts settings files' synced gone honest' failures kept places now logs keeper next known filled)
+  opened_keeps allowed seated all none = subst Keeps parts_are (record {
+    fits = opened_fits settings honest' files' synced gone failures dead ids next t logs taken_now keeper allowed seated;
     job = λ job wrong. absurd (cc);
-    promises = λ is. opened_promises settings honest' files' failures dead ids next t logs taken_now keeper is (listed_now is);
+    promises = λ is.
+        opened_promises settings honest' files' synced gone failures dead ids next t logs taken_now keeper is (listed_now is) (all is) (none is);
   })
 
   pub opened_is : (given : List ℕ) → dead ≡ valid_ledgers given
-      → IsOpened honest files settings given (made_parts settings files' honest' failures kept places now logs keeper next known filled).state
+      → IsOpened honest files settings given (made_parts settings files' synced gone honest' failures kept places now logs keeper next known filled).state
   opened_is given dead_are = subst (λ p. IsOpened honest files settings given p.state) parts_are (record {
     settings_are = refl;
     caches_are = refl;
@@ -459,8 +470,8 @@ module _ (settings : Settings) (honest honest' : Bool) (files files' : Files) (f
     idle = refl;
     holds = λ is.
         let is' : IsTrue honest' = stays ∙ is in
-        subst (λ fs. HoldsFiles fs (opened_parts settings files' honest' failures t logs keeper next).state) (same is)
-        (opened_files settings honest' files' failures dead ids next t logs taken_now keeper is' (listed_now is'));
+        subst (λ fs. HoldsFiles fs (opened_parts settings files' synced gone honest' failures t logs keeper next).state) (same is)
+        (opened_files settings honest' files' synced gone failures dead ids next t logs taken_now keeper is' (listed_now is'));
   })
 
 -- ---- refusals

@@ -27,7 +27,7 @@ module _ {bytes parts : Bytes} {index index' : Places} {cached : Cached} {dead :
             absurd (last.1.last stale.behind behind.0 behind.1 stale.later)
       ]
 
-  still_named : (key : EntryKey) → IsSome (finite.get index key) → IsSome (finite.get index' key)
+  pub still_named : (key : EntryKey) → IsSome (finite.get index key) → IsSome (finite.get index' key)
   still_named key is = elim (some_or_none (finite.get index' key)) [
     | inr there ↦ ap is_some there.1
     | inl none ↦
@@ -37,7 +37,7 @@ module _ {bytes parts : Bytes} {index index' : Places} {cached : Cached} {dead :
         absurd (made.missing key none (carries.lives key i.payload i.mapped) was.0 entry.0 entry.1)
   ]
 
-  goes_forward : (key : EntryKey) (was place : Place) → finite.get index key ≡ Some was → finite.get index' key ≡ Some place → IsForward was place
+  pub goes_forward : (key : EntryKey) (was place : Place) → finite.get index key ≡ Some was → finite.get index' key ≡ Some place → IsForward was place
   goes_forward key was place named now =
       let entry = shows.shown key was named in
       let last = made.sent key place now in

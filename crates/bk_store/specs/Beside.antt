@@ -1,10 +1,11 @@
--- What the doors do to the parts of a store that its state does not show: the accounts, the log that flushes write, and
--- the list of the logs that are Writing or Filled.
-use Rattle.std.specs.Prelude.{◌≡◌, ◌⊎◌, ℕ, ◌+◌, ◌==◌, Bool, true, false, if◌then◌else◌, List, [], length, Option, Some, None, Result, Ok, Err, IsOk}
+-- What the doors do to the parts of a store that its state does not show: the accounts, the log that flushes write, the list
+-- of the logs that are Writing or Filled, and what the disk keeps.
+use Rattle.std.specs.Prelude.{◌≡◌, ◌⊎◌, ℕ, ◌+◌, ◌==◌, Bool, true, false, if◌then◌else◌, IsTrue, List, [], length, Option, Some, None, Result, Ok, Err, IsOk}
 use Rattle.std.specs.FinMap as finite
 use Rattle.bk_record.specs.Key.{EntryKey}
 use Rattle.bk_record.specs.Location.{Place}
 use Rattle.bk_record.specs.Files.{In}
+use Rattle.bk_disk.specs.Durable.{KeepsMore, IsLetGo}
 use Rattle.bk_log.specs.declared.fault.LogFault.{LogFault}
 use Rattle.bk_log.specs.declared.fault.LogFault.TheVariants as log_faults
 use Rattle.bk_cache.specs.Kept.{IsSound}
@@ -17,6 +18,21 @@ use Rattle.bk_store.specs.declared.log.LogState.{LogState}
 use Rattle.bk_store.specs.declared.log.LogState.TheVariants.{Writing, Filled, Copying, Readable, Retired, Closed}
 use Rattle.bk_store.specs.declared.answer.MakeFault.{MakeFault}
 use Rattle.bk_store.specs.declared.answer.MakeFault.TheVariants as makes
+
+-- ---- what the disk keeps
+
+-- the parts, with what another one's disk keeps
+abbrev pub kept_as : Parts → Parts → Parts
+kept_as p q = record p { synced = q.synced; gone = q.gone }
+
+-- an honest disk keeps of each log at least as much as it did, and no more removed files may be back
+abbrev pub KeepsOn : Parts → Parts → Type 0
+KeepsOn p q = IsTrue p.state.honest → KeepsMore p.synced p.gone q.synced q.gone
+
+-- a log that is removed is let go
+abbrev pub LetsGo : Parts → ℕ → Result (Unit {0}) LogFault → Parts → Type 0
+LetsGo p id (Ok _) q = IsTrue p.state.honest → IsLetGo p.state.files id p.synced p.gone q.synced q.gone
+LetsGo p id (Err _) q = KeepsOn p q
 
 -- ---- making a log
 

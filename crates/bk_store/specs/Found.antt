@@ -6,9 +6,10 @@ use Rattle.std.specs.FinSet as set
 use Rattle.bk_record.specs.Key.{EntryKey}
 use Rattle.bk_record.specs.Location.{Place}
 use Rattle.bk_record.specs.Record.{key_of}
-use Rattle.bk_record.specs.Files.{Files, header_length}
+use Rattle.bk_record.specs.Files.{Files, file_of, header_length, In}
 use Rattle.bk_record.specs.Scan.{entries_of}
 use Rattle.bk_disk.specs.Disk.{IsFile, view_end}
+use Rattle.bk_disk.specs.Durable.{HasKept}
 use Rattle.bk_disk.specs.declared.fault.DiskFault.{DiskFault}
 use Rattle.bk_disk.specs.declared.fault.DiskFault.TheVariants as disk_faults
 use Rattle.bk_log.specs.Growing.{HasNoBadLength}
@@ -141,6 +142,10 @@ pub record AreTaken (honest : Bool) (files : Files) (ids : List ℕ) (next : ℕ
   pub rising : AreIds 0 ids next
   pub taken : new ≡ with_reads old reads
   pub held_are : held ≡ logs_with before reads
+
+-- of each of these logs its file is kept, as it is
+abbrev pub AllKept : Files → Files → List ℕ → Type 0
+AllKept files kept ids = (id : ℕ) → In id ids → HasKept kept id (file_of files id)
 
 -- ---- names
 

@@ -8,6 +8,7 @@ use Rattle.bk_record.specs.Location.{Place}
 use Rattle.bk_record.specs.Record.{ledger_field}
 use Rattle.bk_record.specs.Files.{Files, file_of, header_length, In}
 use Rattle.bk_record.specs.Scan.{Payloads, entries_of}
+use Rattle.bk_disk.specs.Durable.{HasKept}
 use Rattle.bk_log.specs.Writing as writers
 use Rattle.bk_log.specs.Growing.{HasNoBadLength}
 use Rattle.bk_record.specs.Keyed.{log_count, Places}
@@ -17,6 +18,7 @@ use Rattle.bk_accounts.specs.Book.{Book, named_in, total_at}
 use Rattle.bk_accounts.specs.Sums.{Measure, AreSums}
 use Rattle.bk_store.specs.Entries.{HasEntry}
 use Rattle.bk_store.specs.Carried.{Carries}
+use Rattle.bk_store.specs.Crash.{AreHarmless}
 use Rattle.bk_store.specs.Shown.{Shows}
 use Rattle.bk_store.specs.Jobs.{Job}
 use Rattle.bk_store.specs.JobKept.{IsJob}
@@ -102,14 +104,15 @@ entry_measure = record { ledger = λ entry. ledger_field entry.1; size = λ entr
 abbrev pub acknowledged_entries : Files → Logs → ℕ → Option (List (ℕ × List ℕ))
 acknowledged_entries files logs id = option_map (λ log. entries_of (acknowledged_part files id log)) (finite.get logs id)
 
--- beside an honest disk, a log has its file, its writer is that file's, and its view shows what the log held; a scan of
--- either meets no bad length
-pub record IsBacked (files : Files) (id : ℕ) (log : Log) : Type 0 where
+-- beside an honest disk, a log has its file, its writer is that file's, and its view shows what the log held, which was
+-- synced; a scan of either meets no bad length
+pub record IsBacked (files synced : Files) (id : ℕ) (log : Log) : Type 0 where
   pub stands : IsSome (finite.get files id)
   pub writes : (w : writers.Writing) → log.writer ≡ Some w → writers.Writes files w
   pub honest : (view : View) → log.view ≡ Some view → IsTrue view.is_honest
   pub spelled : HasNoBadLength (file_of files id)
   pub shown : (view : View) → log.view ≡ Some view → HasNoBadLength view.bytes
+  pub kept : (view : View) → log.view ≡ Some view → HasKept synced id view.bytes
 
 -- an entry of the flush that has a place stands there
 pub record IsWrittenAt (flush : Option Payloads) (files : Files) (key : EntryKey) (place : Place) : Type 0 where
@@ -117,35 +120,36 @@ pub record IsWrittenAt (flush : Option Payloads) (files : Files) (key : EntryKey
   pub flushing : finite.get (caches.entries_of_flush flush) key ≡ Some payload
   pub stands : HasEntry (file_of files) place key payload
 
--- the files, the index and the caches carry a map; each recent entry is a pair of it; and it has what the trail says that
--- came in
-pub record CarriesMap (files : Files) (index : Places) (held : caches.CacheState) (known : KnownLedgers) : Type 0 where
+-- the files, the index and the caches carry a map, and the files that were removed do no harm to it; each recent entry is a
+-- pair of it; and it has what the trail says that came in
+pub record CarriesMap (files gone : Files) (index : Places) (held : caches.CacheState) (known : KnownLedgers) : Type 0 where
   pub carried : Payloads
   pub carries : Carries (file_of files) index (caches.held held) known.dead carried
+  pub harmless : AreHarmless (file_of gone) index (caches.held held) known.dead carried
   pub recent : (key : EntryKey) (payload : List ℕ) → recent_of held.recent key ≡ Some payload → finite.get carried key ≡ Some payload
   pub replays : Replays carried known.trail
 
 -- each log that is held has its file, and there is no file of a later id
-pub record AreBacked (files : Files) (next : ℕ) (held : Logs) : Type 0 where
-  pub each : (id : ℕ) (log : Log) → finite.get held id ≡ Some log → IsBacked files id log
+pub record AreBacked (files synced : Files) (next : ℕ) (held : Logs) : Type 0 where
+  pub each : (id : ℕ) (log : Log) → finite.get held id ≡ Some log → IsBacked files synced id log
   pub fresh : (id : ℕ) → next ≤ id → finite.get files id ≡ None
 
 -- the entries of the flush that have a place stand there
 abbrev pub AreWritten : Option Payloads → Files → Places → Type 0
 AreWritten flush files places = (key : EntryKey) (place : Place) → finite.get places key ≡ Some place → IsWrittenAt flush files key place
 
--- What is kept beside an honest disk: the files, the index and the caches carry a map, the logs show what the index names,
--- and the accounts are those of the acknowledged parts. Each fact is over what it needs.
-pub record Promising (files : Files) (next : ℕ) (held : Logs) (index : Places) (cached : caches.CacheState) (places : Places)
+-- What is kept beside an honest disk: the files, the index and the caches carry a map, the logs show what the index names, and
+-- what they show was synced, and the accounts are those of the acknowledged parts. Each fact is over what it needs.
+pub record Promising (files synced gone : Files) (next : ℕ) (held : Logs) (index : Places) (cached : caches.CacheState) (places : Places)
     (known : KnownLedgers) (book : Book) : Type 0 where
-  pub map : CarriesMap files index cached known
+  pub map : CarriesMap files gone index cached known
   pub shows : Shows (file_of files) (open_parts held) index
   pub counted : AreSums entry_measure (set.contains known.dead) (acknowledged_entries files held) (log_count index) book
-  pub logs : AreBacked files next held
+  pub logs : AreBacked files synced next held
   pub placed : AreWritten cached.flush files places
 
 abbrev pub Promises : Parts → Type 0
-Promises p = Promising p.state.files p.state.next p.state.logs p.state.index p.state.caches p.state.places p.state.ledgers p.accounts
+Promises p = Promising p.state.files p.synced p.gone p.state.next p.state.logs p.state.index p.state.caches p.state.places p.state.ledgers p.accounts
 
 -- a store's parts keep both, and so does the job of a compaction that runs
 pub record Keeps (p : Parts) : Type 0 where

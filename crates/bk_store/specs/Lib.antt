@@ -1,6 +1,7 @@
 pub mod Entries
 pub mod Carried
 pub mod Shown
+pub mod Crash
 pub mod Logs
 pub mod Jobs
 pub mod Trail
@@ -20,6 +21,7 @@ pub mod Placed
 pub mod Plain
 pub mod Deletion
 pub mod Opening
+pub mod Outliving
 pub mod Found
 pub mod Putting
 pub mod Beside

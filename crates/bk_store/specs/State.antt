@@ -35,12 +35,15 @@ pub record State : Type 0 where
   pub job : Option Job
 
 -- A store's parts: the visible state, and what is kept beside it so that no call has to look for it. These are the accounts
--- of the logs, the log that flushes write, and the logs that are Writing or Filled, possibly with others.
+-- of the logs, the log that flushes write, and the logs that are Writing or Filled, possibly with others; and of the disk what
+-- a crash leaves of its logs at least, and the files that were removed and may be back.
 pub record Parts : Type 0 where
   pub state : State
   pub accounts : Book
   pub writing : Option ℕ
   pub filled : List ℕ
+  pub synced : Files
+  pub gone : Files
 
 -- ---- how a model holds such a state
 
@@ -127,6 +130,7 @@ state_code = code_by
 
 -- and so are the parts
 abbrev pub parts_code : Coded Parts
-parts_code = code_by (State × (Book × (Option ℕ × List ℕ))) (coded× state_code (coded× book_code (coded× (coded_option coded_ℕ) (coded_list coded_ℕ))))
-    (λ p. (p.state, (p.accounts, (p.writing, p.filled))))
-    (λ p. record { state = p.0; accounts = p.1.0; writing = p.1.1.0; filled = p.1.1.1 }) (λ _. refl)
+parts_code = code_by (State × (Book × (Option ℕ × (List ℕ × (Files × Files)))))
+    (coded× state_code (coded× book_code (coded× (coded_option coded_ℕ) (coded× (coded_list coded_ℕ) (coded× files_code files_code)))))
+    (λ p. (p.state, (p.accounts, (p.writing, (p.filled, (p.synced, p.gone))))))
+    (λ p. record { state = p.0; accounts = p.1.0; writing = p.1.1.0; filled = p.1.1.1.0; synced = p.1.1.1.1.0; gone = p.1.1.1.1.1 }) (λ _. refl)

@@ -9,7 +9,7 @@ ghost use Rattle.bk_store.specs.JobKept.{IsJob};
 ghost use Rattle.bk_store.specs.Kept.{Keeps};
 ghost use Rattle.bk_store.specs.Meaning.{MeansTheSame};
 ghost use Rattle.bk_store.specs.Doors.{IsIn, PutTurn};
-ghost use Rattle.bk_store.specs.Beside.{CopiesBeside, RemovesBeside, RenamesBeside};
+ghost use Rattle.bk_store.specs.Beside.{CopiesBeside, RemovesBeside, RenamesBeside, KeepsOn, LetsGo, kept_as};
 ghost use Rattle.bk_store.specs.Copying.{IsLeastUsed, MayCopy, MayRename, RemoveTurn, RenameTurn};
 ghost use Rattle.bk_store.specs.declared.log.LogState.TheVariants.{Closed as ClosedState};
 
@@ -23,11 +23,13 @@ use bk_record::{Key, Location};
 
 impl<D: LogDisk> Fields<D> {
     /// Puts an entry at the end of a copy.
+    #[tactic(auto, using(bk_disk::proofs::KeepsMore::kept_rules))]
     pub fn put(&mut self, log: u32, key: Key, payload: &[u8]) -> Result<Location, LogFault>
         requires keeps { Keeps self.old }
         requires may { (place : Place) × MayCopy self.old.state log key place payload.now }
         ensures turn { PutTurn self.old.state log payload.now result self.new.state }
-        ensures beside { CopiesBeside self.old log key payload.now result self.new }
+        ensures beside { CopiesBeside (kept_as self.old self.new) log key payload.now result self.new }
+        ensures kept { KeepsOn self.old self.new }
     {
         let Ok(()) = self.accounts.ready(log, key.ledger()) else {
             return Err(LogFault::Memory);
@@ -68,12 +70,14 @@ impl<D: LogDisk> Fields<D> {
         self.accounts.lowest_below(threshold, allowed)
     }
 
-    /// Removes a closed log.
+    /// Removes a closed log, of which nothing is kept from then on, and whose file may be back after a crash.
+    #[tactic(auto, using(bk_disk::proofs::KeepsMore::kept_rules))]
     pub fn remove_log(&mut self, log: u32) -> Result<(), LogFault>
         requires keeps { Keeps self.old }
         requires closed { IsIn self.old.state log ClosedState }
         ensures turn { RemoveTurn self.old.state log result self.new.state }
-        ensures beside { RemovesBeside self.old log result self.new }
+        ensures beside { RemovesBeside (kept_as self.old self.new) log result self.new }
+        ensures kept { LetsGo self.old log result self.new }
     {
         let Some(held) = self.logs.get(log) else {
             unreachable!();

@@ -62,5 +62,20 @@ impl<D: LogDisk> Model for Fields<D> {
       accounts = f.accounts;
       writing = f.writing;
       filled = f.filled.items;
+      synced = D.synced f.disk;
+      gone = D.gone f.disk;
     } };
+}
+
+impl<D: LogDisk> Fields<D> {
+    /// The disk as it is.
+    pub fn disk(&self) -> &D
+        ensures files { D.files result.now ≡ self.now.state.files }
+        ensures honest { D.honest result.now ≡ self.now.state.honest }
+        ensures failures { D.failures result.now ≡ self.now.state.failures }
+        ensures synced { D.synced result.now ≡ self.now.synced }
+        ensures gone { D.gone result.now ≡ self.now.gone }
+    {
+        &self.disk
+    }
 }

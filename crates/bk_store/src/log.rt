@@ -3,6 +3,7 @@
 ghost use Rattle.std.specs.Prelude.{◌≡◌, ◌+◌, ◌<◌, ◌^◌, Some, IsTrue, IsErrOf, IsSome, false, length};
 ghost use Rattle.bk_record.specs.Record.{IsPayload, key_of};
 ghost use Rattle.bk_disk.specs.Disk.{IsCaused};
+ghost use Rattle.bk_disk.specs.Durable.{KeepsMore};
 ghost use Rattle.bk_log.specs.Writing.{Writing, Writes, PutTurn};
 ghost use Rattle.bk_store.specs.Logs.{in_state, closed_log, halted_log, settled_as, unfilled_as, unmade_log, with_view, view_of};
 ghost use Rattle.bk_store.specs.Putting.{put_log, IsPutAt, MayPut};
@@ -160,6 +161,7 @@ impl<V: LogView> HeldLog<V> {
         requires may { MayPut self.old payload.now }
         requires writes { (w : Writing) → self.old.writer ≡ Some w → IsTrue (D.honest disk.old) → Writes (D.files disk.old) w }
         ensures honest { D.honest disk.new ≡ D.honest disk.old }
+        ensures kept { IsTrue (D.honest disk.old) → KeepsMore (D.synced disk.old) (D.gone disk.old) (D.synced disk.new) (D.gone disk.new) }
         ensures cause { IsCaused (D.failures disk.old) (D.failures disk.new) (IsErrOf result LogFault.Disk) }
         ensures log { (w : Writing) → self.old.writer ≡ Some w → self.new ≡ put_log self.old w payload.now result }
         ensures place { (w : Writing) → self.old.writer ≡ Some w → IsPutAt w result }

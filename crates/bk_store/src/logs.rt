@@ -5,6 +5,7 @@ ghost use Rattle.std.specs.FinMap as map;
 ghost use Rattle.bk_record.specs.Record.{IsPayload, key_of};
 ghost use Rattle.bk_record.specs.Files.{In};
 ghost use Rattle.bk_disk.specs.Disk.{IsCaused};
+ghost use Rattle.bk_disk.specs.Durable.{KeepsMore};
 ghost use Rattle.bk_log.specs.Writing.{Writing, Writes, PutTurn};
 ghost use Rattle.bk_store.specs.Logs.{Log, AllChanged, IsFlushLog, IsNextHeld, in_state, closed_log, settled_as, unfilled_as, last_view, view_of, with_view};
 ghost use Rattle.bk_store.specs.Putting.{put_log, IsPutAt, MayPut};
@@ -154,6 +155,7 @@ impl<V: LogView> LogTable<V> {
         requires writes { (log : Log) (w : Writing) → map.get self.old id ≡ Some log → log.writer ≡ Some w
             → IsTrue (D.honest disk.old) → Writes (D.files disk.old) w }
         ensures honest { D.honest disk.new ≡ D.honest disk.old }
+        ensures kept { IsTrue (D.honest disk.old) → KeepsMore (D.synced disk.old) (D.gone disk.old) (D.synced disk.new) (D.gone disk.new) }
         ensures cause { IsCaused (D.failures disk.old) (D.failures disk.new) (IsErrOf result LogFault.Disk) }
         ensures logs { (log : Log) (w : Writing) → map.get self.old id ≡ Some log → log.writer ≡ Some w
             → self.new ≡ map.insert self.old id (put_log log w payload.now result) }

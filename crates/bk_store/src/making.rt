@@ -8,7 +8,7 @@ ghost use Rattle.bk_store.specs.Kept.{Keeps};
 ghost use Rattle.bk_store.specs.Doors.{MayMakeTurn, MakeTurn};
 ghost use Rattle.bk_record.specs.Files.{In};
 ghost use Rattle.bk_store.specs.declared.log.LogState.TheVariants.{Writing};
-ghost use Rattle.bk_store.specs.Beside.{ListGoesOn, MakesBeside, HasSlot, HasNoSlot, make_told, writing_in};
+ghost use Rattle.bk_store.specs.Beside.{ListGoesOn, MakesBeside, HasSlot, HasNoSlot, KeepsOn, kept_as, make_told, writing_in};
 
 use crate::fields::Fields;
 use crate::log::HeldLog;
@@ -33,11 +33,13 @@ impl<D: LogDisk> Fields<D> {
     }
 
     /// Makes the next log, which is in this state from then on.
+    #[tactic(auto, using(bk_disk::proofs::KeepsMore::kept_rules))]
     pub fn make_log(&mut self, state: LogState) -> Result<u32, MakeFault>
         requires keeps { Keeps self.old }
         requires written { is_written state ≡ true }
         ensures turn { MakeTurn self.old.state state result self.new.state }
-        ensures beside { MakesBeside self.old state result self.new }
+        ensures beside { MakesBeside (kept_as self.old self.new) state result self.new }
+        ensures kept { KeepsOn self.old self.new }
     {
         if let Err(fault) = self.may_make() {
             return Err(fault);

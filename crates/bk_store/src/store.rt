@@ -9,6 +9,7 @@ ghost use Rattle.std.specs.FinMap as map;
 ghost use Rattle.bk_store.specs.Plain.{IsKept};
 ghost use Rattle.bk_store.specs.Limits.{IsAllowed};
 ghost use Rattle.bk_store.specs.Opening.{IsOpened, OpenFails};
+ghost use Rattle.bk_store.specs.Outliving.{Outlives};
 ghost use Rattle.bk_store.specs.Turns.{AddTurn, TakeTurn, DeleteTurn, FenceTurn, SwapTurn};
 ghost use Rattle.bk_store.specs.declared.adding.AddKind.TheVariants.{Ordinary, Recovery};
 
@@ -167,7 +168,18 @@ impl<D: LogDisk> Store<D> {
         ensures honest { D.honest result.now ≡ self.now.honest }
         ensures failures { D.failures result.now ≡ self.now.failures }
     {
-        &self.fields.disk
+        self.fields.disk()
+    }
+
+    /// The disk as it is, with what outlives a crash: power may go before and after any call, and a store that is opened on
+    /// whatever files are left then, with no fewer dead ledgers, means each pair that the index named and whose ledger lives,
+    /// and no pair that this store did not mean.
+    pub fn outlives(&self) -> &D
+        ensures files { D.files result.now ≡ self.now.files }
+        ensures honest { D.honest result.now ≡ self.now.honest }
+        ensures outlives { IsTrue self.now.honest → Outlives (D.synced result.now) (D.gone result.now) self.now }
+    {
+        self.fields.disk()
     }
 
     /// The state of a log, `None` where no such log is held.

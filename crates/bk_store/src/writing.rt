@@ -10,7 +10,7 @@ ghost use Rattle.bk_log.specs.Writing.{Writing as LogWriting};
 ghost use Rattle.bk_store.specs.declared.log.LogState.TheVariants.{Writing};
 ghost use Rattle.bk_store.specs.Putting.{next_place};
 ghost use Rattle.bk_store.specs.Doors.{CanTake, MayWrite, WriteTurn, MaySeal, Seals, writer_of};
-ghost use Rattle.bk_store.specs.Beside.{WritesBeside, SealsBeside, unless_log, unless_failed};
+ghost use Rattle.bk_store.specs.Beside.{WritesBeside, SealsBeside, KeepsOn, kept_as, unless_log, unless_failed};
 
 use crate::LogState;
 use crate::fields::Fields;
@@ -20,13 +20,15 @@ use bk_record::{Key, Location};
 
 impl<D: LogDisk> Fields<D> {
     /// Puts the flush's next entry at the end of its log.
+    #[tactic(auto, using(bk_disk::proofs::KeepsMore::kept_rules))]
     pub fn write(&mut self, log: u32, key: Key) -> Result<Location, LogFault>
         requires keeps { Keeps self.old }
         requires may { MayWrite self.old.state log key }
         ensures turn { (payload : List ℕ) → map.get (flush_of self.old.state.caches) key ≡ Some payload
             → WriteTurn self.old.state log key payload result self.new.state }
         ensures beside { (payload : List ℕ) → map.get (flush_of self.old.state.caches) key ≡ Some payload
-            → WritesBeside self.old log key payload result self.new }
+            → WritesBeside (kept_as self.old self.new) log key payload result self.new }
+        ensures kept { KeepsOn self.old self.new }
     {
         let place = self.next_place(log);
         let Some(payload) = self.caches.get(&key) else {
@@ -64,11 +66,13 @@ impl<D: LogDisk> Fields<D> {
     }
 
     /// Seals a log, which is in this state from then on, and written no more.
+    #[tactic(auto, using(bk_disk::proofs::KeepsMore::kept_rules))]
     pub fn seal(&mut self, log: u32, state: LogState) -> Result<(), LogFault>
         requires keeps { Keeps self.old }
         requires may { MaySeal self.old.state log state }
         ensures turn { Seals self.old.state log state result self.new.state }
-        ensures beside { SealsBeside self.old log self.new }
+        ensures beside { SealsBeside (kept_as self.old self.new) log self.new }
+        ensures kept { KeepsOn self.old self.new }
     {
         leave(&mut self.writing, log);
         let Some(writer) = self.logs.close(log, state) else {

@@ -59,7 +59,7 @@ fn life(
     chance: &mut Chance,
 ) -> Result<Vec<File>, Stop> {
     let steps = steps_of(alloc, chance)?;
-    let calls = chance.up_to(90) as u64;
+    let calls = chance.up_to(120) as u64;
     let (left, _) = live(alloc, owed, files, &steps, calls, chance)?;
     compare(alloc, owed, &left)?;
     Ok(left)

@@ -23,6 +23,10 @@ impl LogDisk for Leaving {
 
     ghost files = { λ _. map.empty };
 
+    ghost synced = { λ _. map.empty };
+
+    ghost gone = { λ _. map.empty };
+
     ghost honest = { λ _. false };
 
     ghost failures = { λ _. 0 };

@@ -3,6 +3,7 @@
 ghost use Rattle.std.specs.Prelude.{◌≡◌, ◌+◌, ◌<◌, ◌^◌, false, IsTrue, IsSome, IsErrOf, OnOk, length};
 ghost use Rattle.bk_record.specs.Record.{IsPayload, key_of as payload_key, ledger_field, record_of};
 ghost use Rattle.bk_disk.specs.Disk.{IsCaused};
+ghost use Rattle.bk_disk.specs.Durable.{KeepsMore};
 
 use crate::calls::append;
 use crate::{LogFault, LogWriter};
@@ -20,6 +21,7 @@ impl LogWriter {
     /// Faults: `Failed`, where an earlier write failed, without a call on the disk; `Disk`, which may leave a part of
     /// the record, and `Odd`, after both of which every further call answers `Failed`; `Memory`, which leaves the
     /// writer and the file as they were.
+    #[tactic(auto, using(bk_disk::proofs::KeepsMore::kept_rules))]
     pub fn put<D: LogDisk>(
         &mut self,
         disk: &mut D,
@@ -31,6 +33,7 @@ impl LogWriter {
         requires fits { self.old.end + 4 + length payload.now < 2 ^ 32 }
         requires writes { IsTrue (D.honest disk.old) → self.old.failed ≡ false → Writes (D.files disk.old) self.old }
         ensures honest { D.honest disk.new ≡ D.honest disk.old }
+        ensures kept { IsTrue (D.honest disk.old) → KeepsMore (D.synced disk.old) (D.gone disk.old) (D.synced disk.new) (D.gone disk.new) }
         ensures cause { IsCaused (D.failures disk.old) (D.failures disk.new) (IsErrOf result LogFault.Disk) }
         ensures writer { Puts self.old payload.now result self.new }
         ensures untouched { IsErrOf result LogFault.Failed → disk.new ≡ disk.old }

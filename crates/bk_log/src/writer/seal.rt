@@ -4,6 +4,7 @@
 ghost use Rattle.std.specs.Prelude.{◌≡◌, ◌↔◌, false, true, IsTrue, IsErrOf, IfOk, OnOk};
 ghost use Rattle.bk_record.specs.Files.{file_of};
 ghost use Rattle.bk_disk.specs.Disk.{IsCaused};
+ghost use Rattle.bk_disk.specs.Durable.{KeepsMore};
 ghost use Rattle.std.specs.FinMap as map;
 ghost use Rattle.bk_head.specs.Header.{patch_of};
 ghost use Rattle.bk_head.specs.Ledgers.{map_of};
@@ -29,9 +30,11 @@ impl LogWriter {
     /// Faults: `Failed`, where an earlier write failed, without a call on the disk; `Disk`, which may leave a part of the
     /// map, or any bytes where the header was patched; `Memory`, which may leave the map without a patched header;
     /// `Odd`.
+    #[tactic(auto, using(bk_disk::proofs::KeepsMore::kept_rules))]
     pub fn seal<D: LogDisk>(self, disk: &mut D, alloc: Global) -> Result<(), LogFault>
         requires { IsTrue (D.honest disk.old) → self.failed ≡ false → Writes (D.files disk.old) self }
         ensures honest { D.honest disk.new ≡ D.honest disk.old }
+        ensures kept { IsTrue (D.honest disk.old) → KeepsMore (D.synced disk.old) (D.gone disk.old) (D.synced disk.new) (D.gone disk.new) }
         ensures cause { IsCaused (D.failures disk.old) (D.failures disk.new) (IsErrOf result LogFault.Disk) }
         ensures failed { IsErrOf result LogFault.Failed ↔ (self.failed ≡ true) }
         ensures untouched { IsErrOf result LogFault.Failed → disk.new ≡ disk.old }

@@ -3,6 +3,7 @@
 ghost use Rattle.std.specs.Prelude.{◌≡◌, ◌<◌, ◌≤◌, ◌^◌, ℕ, List, IsTrue, IsErrOf, IfErr, OnOk, length};
 ghost use Rattle.bk_record.specs.Files.{header_length};
 ghost use Rattle.bk_disk.specs.Disk.{IsCaused, IsFile};
+ghost use Rattle.bk_disk.specs.Durable.{KeepsMore};
 ghost use Rattle.bk_store.specs.Opening.{IsHeaded, FileFails};
 
 use super::fault::open_fault;
@@ -13,12 +14,14 @@ use bk_record::HEADER_LENGTH;
 use std::alloc::Global;
 
 /// Reads the header of a log that has one: magic and version are judged, and nothing else (this project's rule).
+#[tactic(auto, using(bk_disk::proofs::KeepsMore::kept_rules))]
 pub(super) fn check_header<D: LogDisk>(
     disk: &mut D,
     alloc: Global,
     id: u32,
 ) -> Result<(), OpenFault>
     ensures honest { D.honest disk.new ≡ D.honest disk.old }
+    ensures kept { IsTrue (D.honest disk.old) → KeepsMore (D.synced disk.old) (D.gone disk.old) (D.synced disk.new) (D.gone disk.new) }
     ensures cause { IsCaused (D.failures disk.old) (D.failures disk.new) (IsErrOf result OpenFault.Disk) }
     ensures never { ¬ (IsErrOf result OpenFault.Settings) }
     ensures files { IsTrue (D.honest disk.old) → D.files disk.new ≡ D.files disk.old }

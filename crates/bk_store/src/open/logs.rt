@@ -2,8 +2,9 @@
 
 ghost use Rattle.std.specs.Prelude.{◌≡◌, ◌≤◌, IsTrue, IsErrOf, IfOk, IfErr, OnOk, length, replicate};
 ghost use Rattle.std.specs.FinMap as map;
+ghost use Rattle.bk_disk.specs.Durable.{KeepsMore};
 ghost use Rattle.bk_store.specs.Opening.{FirstFails};
-ghost use Rattle.bk_store.specs.Found.{AreTaken};
+ghost use Rattle.bk_store.specs.Found.{AreTaken, AllKept};
 ghost use Rattle.bk_store.specs.Seated.{AreSeated, IsSameTable};
 ghost use Rattle.bk_lease.specs.declared.slot.Slot.TheVariants.{Free};
 
@@ -17,7 +18,8 @@ use bk_record::LAST_LOG;
 use std::alloc::Global;
 
 /// Reads the logs of these ids, which are seated one behind the other, the first in slot 0. It answers the next id that is
-/// free: one more than the greatest, 0 where there is none.
+/// free: one more than the greatest, 0 where there is none. Each log was synced then.
+#[tactic(auto, using(bk_disk::proofs::KeepsMore::kept_rules))]
 pub(super) fn find_all<D: LogDisk>(
     disk: &mut D,
     alloc: Global,
@@ -32,6 +34,8 @@ pub(super) fn find_all<D: LogDisk>(
     requires free { keeper.old.slots ≡ replicate (length keeper.old.slots) Free }
     requires room { length ids.now ≤ length keeper.old.slots }
     ensures honest { D.honest disk.new ≡ D.honest disk.old }
+    ensures kept { IsTrue (D.honest disk.old) → KeepsMore (D.synced disk.old) (D.gone disk.old) (D.synced disk.new) (D.gone disk.new) }
+    ensures synced { IsTrue (D.honest disk.old) → OnOk result (AllKept (D.files disk.old) (D.synced disk.new) ids.now) }
     ensures failures { OnOk result (D.failures disk.new ≡ D.failures disk.old) }
     ensures never { ¬ (IsErrOf result OpenFault.Settings) }
     ensures files { IsTrue (D.honest disk.old) → D.files disk.new ≡ D.files disk.old }

@@ -3,6 +3,8 @@ use Rattle.std.proofs.lemmas.Result.{err_from_is_err_and}
 use Rattle.bk_store.specs.Doors.{AllPlaced}
 use Rattle.bk_flush.specs.Flushing.{PublishTurn}
 use Rattle.bk_flush.specs.declared.answer.PublishAnswer.TheVariants.{Published}
+use Rattle.bk_step.specs.Faults.{TellsItsCause}
+use Rattle.bk_flush.proofs.Failures.{unshown_caused}
 use Rattle.bk_flush.proofs.Still.{PublishStays, unshown_stays, publish_stays}
 use Rattle.bk_flush.proofs.Published.{none_next, names_refused, all_named, published}
 use Rattle.bk_flush.proofs.publication.publish.Goals as goal
@@ -32,6 +34,12 @@ returns-clause-turn g c =
     published c.args.store.now c.promise.ensures placed c.show_logs.new.store c.in_ok-show_logs.ensures.turn c.name_entries.new.store
     c.in_ok-name_entries.ensures.turn
     c.end_flush.new.self c.flush_len-entries.result runs c.flush_len-entries.ensures c.end_flush.ensures.turn
+
+pub returns-in_err-show_logs-clause-cause : goal.returns-in_err-show_logs-clause-cause
+returns-in_err-show_logs-clause-cause g c =
+    let told = err_from_is_err_and c.from_residual.result c.from_residual.ensures.1 in
+    subst (λ r. TellsItsCause c.args.store.now r c.show_logs.new.store) (sym (told.1 ∙ ap Err told.2))
+    (unshown_caused c.args.store.now c.show_logs.new.store _ c.in_err-show_logs.ensures.turn)
 
 pub returns-in_err-show_logs-clause-stays : goal.returns-in_err-show_logs-clause-stays
 returns-in_err-show_logs-clause-stays g c =

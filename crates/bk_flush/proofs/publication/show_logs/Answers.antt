@@ -2,7 +2,7 @@ use Rattle.std.proofs.Common.{◌+◌, Some, sym, ap, subst, arith}
 use Rattle.std.specs.FinMap as finite
 use Rattle.bk_store.specs.Doors.{MayShow}
 use Rattle.bk_flush.proofs.NextLogs.{IsNextLog, past_end, one_past, next_placed, none_left}
-use Rattle.bk_flush.proofs.ShownLogs.{may_show, one_more, not_shown, all_shown, shows_whole, same_places, same_entry}
+use Rattle.bk_flush.proofs.ShownLogs.{may_show, one_more, not_shown, refused_stays, all_shown, shows_whole, same_places, same_entry}
 use Rattle.bk_flush.proofs.publication.show_logs.Goals as goal
 
 pub unreachable-requires : goal.unreachable-requires
@@ -28,7 +28,13 @@ returns-in-Err-clause-turn g c =
     let log = c.log-log.ensures.value in
     let next = next_placed s c.promise.ensures c.loop-number.number c.loop-number.from _ c.loop-number.invariant.1 at (omega (arith, above, log)) in
     not_shown s c.loop-number.store c.loop-number.from is c.log-log.result (subst (λ n. IsNextLog s c.loop-number.from (Some n)) (sym log) next)
-    c.in-Err.fault c.of_log.result c.show.new.self c.in-Err.ensures.turn c.of_log.ensures
+    c.in-Err.fault c.flush_fault.result c.show.new.self c.flush_fault.new.store c.in-Err.ensures.turn c.flush_fault.ensures.value
+    c.flush_fault.ensures.left
+
+pub returns-in-Err-clause-stays : goal.returns-in-Err-clause-stays
+returns-in-Err-clause-stays g c =
+    refused_stays c.args.store.now c.loop-number.store c.loop-number.from c.loop-number.invariant.0 c.log-log.result c.in-Err.fault c.show.new.self
+    c.flush_fault.new.store c.in-Err.ensures.turn c.in-Err.ensures.meaning c.flush_fault.ensures.stays
 
 pub loop-number-preserved : goal.loop-number-preserved
 loop-number-preserved g c =

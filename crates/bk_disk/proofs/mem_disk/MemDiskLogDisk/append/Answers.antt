@@ -7,6 +7,7 @@ use Rattle.bk_disk.specs.Logs.{files_of}
 use Rattle.bk_disk.proofs.Answered.{answer_of-map_err}
 use Rattle.bk_record.proofs.NumberMaps.{insert_same}
 use Rattle.bk_disk.proofs.FileMaps.{written, grown_there}
+use Rattle.bk_disk.proofs.KeepsMore.{equal_keeps, appends_keep}
 use Rattle.bk_disk.proofs.Bounds.{AreLogFiles-same, AreLogFiles-written, IsLogFile-append, each_byte, on_answer}
 use Rattle.bk_disk.proofs.mem_disk.MemDiskLogDisk.append.Goals as goal
 
@@ -50,3 +51,9 @@ invariant_of-self-2 c =
     AreLogFiles-written c.self.inside.logs (c.get_mut.follows.lender now) c.args.log file now c.in-Some.ensures.value (c.get_mut.follows.holds now)
     (λ one. on_answer (IsLogFile c.args.log) now (file ++ bytes) file c.append.result c.append.ensures.ok c.append.ensures.err
     (IsLogFile-append c.args.log file bytes one (each_byte bytes (λ i. Fits-lt-pow (c.type_inv.bytes i))) short) one) c.self.invariant
+
+pub returns-then-bytes-len-clause-kept : goal.returns-then-bytes-len-clause-kept
+returns-then-bytes-len-clause-kept c = λ h. equal_keeps _ _ (returns-then-bytes-len-clause-turn c h).3
+
+pub returns-clause-kept : goal.returns-clause-kept
+returns-clause-kept c = λ h. appends_keep _ _ _ _ _ (returns-clause-turn c h)

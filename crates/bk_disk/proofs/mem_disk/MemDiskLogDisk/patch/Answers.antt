@@ -3,6 +3,7 @@ use Rattle.std.specs.FinMap as files
 use Rattle.bk_disk.specs.Disk.{Patches, IsLogFile}
 use Rattle.bk_disk.specs.declared.fault.DiskFault.TheVariants.{Memory}
 use Rattle.bk_disk.specs.Logs.{files_of}
+use Rattle.bk_disk.proofs.KeepsMore.{equal_keeps, patches_keep}
 use Rattle.bk_disk.proofs.Answered.{answer_of-map_err}
 use Rattle.bk_record.proofs.NumberMaps.{insert_same}
 use Rattle.bk_disk.proofs.FileMaps.{written, patched_there}
@@ -50,3 +51,9 @@ invariant_of-self-2 c =
     AreLogFiles-written c.self.inside.logs (c.get_mut.follows.lender now) c.args.log file now c.in-Some.ensures.value (c.get_mut.follows.holds now)
     (λ one. on_answer (IsLogFile c.args.log) now (take 8 file ++ bytes ++ drop 20 file) file c.patch.result c.patch.ensures.ok c.patch.ensures.err
     (IsLogFile-patch c.args.log file bytes one (each_byte bytes c.fits-bytes) c.told-bytes long) one) c.self.invariant
+
+pub returns-then-len-lt20-clause-kept : goal.returns-then-len-lt20-clause-kept
+returns-then-len-lt20-clause-kept c = λ h. equal_keeps _ _ (returns-then-len-lt20-clause-turn c h).3
+
+pub returns-clause-kept : goal.returns-clause-kept
+returns-clause-kept c = λ h. patches_keep _ _ _ _ _ (search rules) (returns-clause-turn c h)

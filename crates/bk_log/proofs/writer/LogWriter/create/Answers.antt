@@ -2,6 +2,7 @@ use Rattle.std.proofs.Common.{sym, ◌∙◌, ap, arith, refl, length}
 use Rattle.bk_log.proofs.Files.{room_new}
 use Rattle.bk_log.proofs.Makes.{length-empty_header, create_fails, create_ok, writes_new}
 use Rattle.bk_log.proofs.Sums.{counted_none}
+use Rattle.bk_disk.proofs.KeepsMore.{keeps_trans}
 use Rattle.bk_log.proofs.writer.LogWriter.create.Goals as goal
 
 pub append-requires-after_bounds : goal.append-requires-after_bounds
@@ -27,3 +28,10 @@ returns-clause-writes g c = λ h.
     let made = c.in_default.ensures.turn h in
     let grew = c.in_default-append.ensures.turn (c.in_default.ensures.honest ∙ h) in
     writes_new _ _ _ _ (create_ok _ _ _ _ _ made.1 c.header_bytes.ensures grew) (rw c.new.ensures refl)
+
+pub returns-in-Err-append-clause-kept : goal.returns-in-Err-append-clause-kept
+returns-in-Err-append-clause-kept g c = λ h.
+    keeps_trans _ _ _ _ _ _ (c.in_default.ensures.kept h) (c.in-Err-append.ensures.kept (c.in_default.ensures.honest ∙ h))
+
+pub returns-clause-kept : goal.returns-clause-kept
+returns-clause-kept g c = λ h. keeps_trans _ _ _ _ _ _ (c.in_default.ensures.kept h) (c.in_default-append.ensures.kept (c.in_default.ensures.honest ∙ h))

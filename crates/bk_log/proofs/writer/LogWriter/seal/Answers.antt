@@ -8,6 +8,7 @@ use Rattle.bk_log.proofs.Sealed.{seal_keeps}
 use Rattle.bk_log.proofs.MapStands.{seal_map}
 use Rattle.bk_log.proofs.SealGains.{seal_gains_of}
 use Rattle.bk_log.proofs.Seals.{seal_room, header_there, seal_append, seal_patch}
+use Rattle.bk_disk.proofs.KeepsMore.{keeps_trans}
 use Rattle.bk_log.proofs.writer.LogWriter.seal.Goals as goal
 
 pub append_any-requires-after_bounds : goal.append_any-requires-after_bounds
@@ -97,3 +98,7 @@ returns-clause-gains g c = λ h.
       ap (λ w. w.end) c.self.view_is,
     )) in
     seal_gains_of _ _ _ _ c.patch.result c.self.view_is (c.requires h whole) writable (returns-clause-turn g c h)
+
+pub returns-clause-kept : goal.returns-clause-kept
+returns-clause-kept g c = λ h.
+    keeps_trans _ _ _ _ _ _ (c.in_default-append_any.ensures.kept h) (c.patch.ensures.kept (c.in_default-append_any.ensures.honest ∙ h))

@@ -2,9 +2,9 @@ use Rattle.std.proofs.Common.{Some, Err, refl, sym, ap, subst, ◌∙◌, is_som
 use Rattle.std.specs.FinMap as finite
 use Rattle.bk_store.specs.State.{Parts}
 use Rattle.bk_store.specs.Logs.{unmade_log}
-use Rattle.bk_store.specs.Beside.{HasSlot, MakesBeside}
+use Rattle.bk_store.specs.Beside.{HasSlot, MakesBeside, KeepsOn, kept_as}
 use Rattle.bk_store.specs.Doors.{MakeTurn, logs_left, keeper_left}
-use Rattle.bk_store.proofs.MadeLogs.{slot_held, slot_gone, slot_left, seat_kept, seat_opened, gone_beside, left_beside, written_slot}
+use Rattle.bk_store.proofs.MadeLogs.{slot_held, slot_gone, slot_left, seat_kept, seat_opened, gone_beside, left_beside, written_slot, slot_kept}
 use Rattle.bk_store.proofs.MadeLogs.{made_turn, made_beside, refused_turn}
 use Rattle.bk_store.proofs.fields.Fields.make_log.Goals as goal
 use Rattle.bk_store.proofs.fields.Fields.make_log.Goals.{then-fault, else-fault}
@@ -27,7 +27,7 @@ returns-in-Ok-create-clause-turn g c =
 pub returns-in-Ok-create-clause-beside : goal.returns-in-Ok-create-clause-beside
 returns-in-Ok-create-clause-beside g c =
     let slot = subst (λ (q : Parts). HasSlot c.args.self.now c.args.state c.in-Ok.slot q) (sym c.self.view_is) c.in-Ok.ensures.ok in
-    made_beside c.args.self.now _ c.args.state c.in-Ok.slot slot _ _ _ c.start.new.self c.open.new.self c.in-Ok-create.ensures.honest _
+    made_beside c.args.self.now _ c.args.state c.in-Ok.slot slot _ _ _ c.start.new.self c.open.new.self c.in-Ok-create.ensures.honest _ _ _
     (c.start.ensures (unmade_log c.in-Ok.slot) (slot_held c.args.self.now _ c.args.state c.in-Ok.slot slot)
     ∙ ap (λ w. finite.insert c.self.inside.logs c.self.inside.next (record (unmade_log c.in-Ok.slot) { state = c.args.state; writer = Some w }))
     c.in-Ok-create.ensures.ok)
@@ -60,10 +60,27 @@ returns-after-fault-clause-beside g c =
     let slot = subst (λ (q : Parts). HasSlot c.args.self.now c.args.state c.in-Ok.slot q) (sym c.self.view_is) c.in-Ok.ensures.ok in
     elim c.if-fault.branch [
       | then-fault w ↦
-          subst (λ (q : Parts). MakesBeside c.args.self.now c.args.state (Err c.make_fault.result) q) (sym w.self-is)
-          (left_beside c.args.self.now _ c.args.state c.in-Ok.slot slot _ c.make_fault.result refl)
+          subst (λ (q : Parts). MakesBeside (kept_as c.args.self.now q) c.args.state (Err c.make_fault.result) q) (sym w.self-is)
+          (left_beside c.args.self.now _ c.args.state c.in-Ok.slot slot _ _ _ c.make_fault.result refl)
       | else-fault w ↦
-          subst (λ (q : Parts). MakesBeside c.args.self.now c.args.state (Err c.make_fault.result) q) (sym w.self-is)
-          (gone_beside c.args.self.now _ c.args.state c.in-Ok.slot slot c.requires.keeps _ w.drop_log.new.self c.make_fault.result
+          subst (λ (q : Parts). MakesBeside (kept_as c.args.self.now q) c.args.state (Err c.make_fault.result) q) (sym w.self-is)
+          (gone_beside c.args.self.now _ c.args.state c.in-Ok.slot slot c.requires.keeps _ w.drop_log.new.self _ _ c.make_fault.result
           (slot_gone c.args.self.now _ c.args.state c.in-Ok.slot slot c.requires.keeps w.let_go.new.self w.let_go.ensures) w.drop_log.ensures)
+    ]
+
+pub returns-in-Ok-create-clause-kept : goal.returns-in-Ok-create-clause-kept
+returns-in-Ok-create-clause-kept g c =
+    let slot = subst (λ (q : Parts). HasSlot c.args.self.now c.args.state c.in-Ok.slot q) (sym c.self.view_is) c.in-Ok.ensures.ok in
+    slot_kept c.args.self.now _ c.args.state c.in-Ok.slot slot _ _ c.in-Ok-create.ensures.kept
+
+pub returns-after-fault-clause-kept : goal.returns-after-fault-clause-kept
+returns-after-fault-clause-kept g c =
+    let slot = subst (λ (q : Parts). HasSlot c.args.self.now c.args.state c.in-Ok.slot q) (sym c.self.view_is) c.in-Ok.ensures.ok in
+    elim c.if-fault.branch [
+      | then-fault w ↦
+          subst (λ (q : Parts). KeepsOn c.args.self.now q) (sym w.self-is)
+          (slot_kept c.args.self.now _ c.args.state c.in-Ok.slot slot _ _ c.in-Err-create.ensures.kept)
+      | else-fault w ↦
+          subst (λ (q : Parts). KeepsOn c.args.self.now q) (sym w.self-is)
+          (slot_kept c.args.self.now _ c.args.state c.in-Ok.slot slot _ _ c.in-Err-create.ensures.kept)
     ]

@@ -2,6 +2,8 @@ use Rattle.std.proofs.Common.{◌≡◌, IsTrue, IfErr, Err, refl, sym, ap, subs
 use Rattle.std.proofs.lemmas.Result.{err_from_is_err_and}
 use Rattle.bk_cache.specs.Caches.{new_caches}
 use Rattle.bk_store.specs.Opening.{OpenFails}
+use Rattle.bk_store.specs.Found.{AllKept}
+use Rattle.bk_store.proofs.Harmless.{none_since}
 use Rattle.bk_store.specs.declared.answer.OpenFault.TheVariants as open_faults
 use Rattle.bk_store.proofs.OpenedKeeps.{taken_as, taken_unnamed, opened_keeps, opened_is, open_fails, listed_len}
 use Rattle.bk_store.proofs.Seating.{seated_by}
@@ -45,7 +47,7 @@ returns-clause-kept g c =
     let was = taken_as _ (g.D.LogDisk.honest c.args.disk) _ (g.D.LogDisk.files c.args.disk) c.in-Ok-of.dead _ _ _ _ _ _ c.in_ok-next.ensures.ok
     c.new-tally.ensures c.new-logs.ensures (sym c.in-Ok-list.ensures.honest) (λ is. sym (c.in-Ok-list.ensures.turn (sym c.in-Ok-list.ensures.honest ∙ is)).1) in
     opened_keeps c.args.settings (g.D.LogDisk.honest c.args.disk) (g.D.LogDisk.honest c.find_all.new.disk) (g.D.LogDisk.files c.args.disk)
-    (g.D.LogDisk.files c.find_all.new.disk) (g.D.LogDisk.failures c.find_all.new.disk) c.in-Ok-of.dead _ c.in_ok-next.next c.find_all.new.tally
+    (g.D.LogDisk.files c.find_all.new.disk) (g.D.LogDisk.synced c.find_all.new.disk) (g.D.LogDisk.gone c.find_all.new.disk) (g.D.LogDisk.failures c.find_all.new.disk) c.in-Ok-of.dead _ c.in_ok-next.next c.find_all.new.tally
     c.find_all.new.logs was c.find_all.new.keeper (c.in_ok-next.ensures.honest ∙ c.in-Ok-list.ensures.honest)
     (λ is. c.in_ok-next.ensures.files (c.in-Ok-list.ensures.honest ∙ is) ∙ (c.in-Ok-list.ensures.turn is).1)
     (λ is. c.deref.ensures.value ∙ (c.in-Ok-list.ensures.turn is).0)
@@ -54,13 +56,19 @@ returns-clause-kept g c =
     (c.is_allowed.ensures.0 allowed)
     (seated_by c.args.settings c.in-Ok.keeper c.find_all.new.keeper c.find_all.new.logs c.in-Ok.ensures.free
     (c.in-Ok.ensures.most ∙ c.from.ensures) c.in_ok-next.ensures.keeper c.in_ok-next.ensures.seated)
+    (λ is.
+    let was = sym c.in_ok-next.ensures.honest ∙ is in
+    subst (λ fs. AllKept fs (g.D.LogDisk.synced c.find_all.new.disk) c.deref.result.now) (sym (c.in_ok-next.ensures.files was)) (c.in_ok-next.ensures.synced was))
+    (λ is.
+    let was = sym c.in_ok-next.ensures.honest ∙ is in
+    none_since (c.in_ok-next.ensures.kept was) (c.in-Ok-list.ensures.back (sym c.in-Ok-list.ensures.honest ∙ was)))
 
 pub returns-clause-opened : goal.returns-clause-opened
 returns-clause-opened g c =
     let was = taken_as _ (g.D.LogDisk.honest c.args.disk) _ (g.D.LogDisk.files c.args.disk) c.in-Ok-of.dead _ _ _ _ _ _ c.in_ok-next.ensures.ok
     c.new-tally.ensures c.new-logs.ensures (sym c.in-Ok-list.ensures.honest) (λ is. sym (c.in-Ok-list.ensures.turn (sym c.in-Ok-list.ensures.honest ∙ is)).1) in
     opened_is c.args.settings (g.D.LogDisk.honest c.args.disk) (g.D.LogDisk.honest c.find_all.new.disk) (g.D.LogDisk.files c.args.disk)
-    (g.D.LogDisk.files c.find_all.new.disk) (g.D.LogDisk.failures c.find_all.new.disk) c.in-Ok-of.dead _ c.in_ok-next.next c.find_all.new.tally
+    (g.D.LogDisk.files c.find_all.new.disk) (g.D.LogDisk.synced c.find_all.new.disk) (g.D.LogDisk.gone c.find_all.new.disk) (g.D.LogDisk.failures c.find_all.new.disk) c.in-Ok-of.dead _ c.in_ok-next.next c.find_all.new.tally
     c.find_all.new.logs was c.find_all.new.keeper (c.in_ok-next.ensures.honest ∙ c.in-Ok-list.ensures.honest)
     (λ is. c.in_ok-next.ensures.files (c.in-Ok-list.ensures.honest ∙ is) ∙ (c.in-Ok-list.ensures.turn is).1)
     (λ is. c.deref.ensures.value ∙ (c.in-Ok-list.ensures.turn is).0)

@@ -6,6 +6,8 @@ use Rattle.bk_store.specs.Opening.{FileFails}
 use Rattle.bk_store.specs.Found.{IsTaken}
 use Rattle.bk_store.proofs.OpenedSums.{when_ok}
 use Rattle.bk_store.proofs.OpenedFinds.{opened_total, log_taken, scan_fails}
+use Rattle.bk_store.proofs.KeepsOn.{kept_on}
+use Rattle.bk_store.proofs.OpenedSynced.{both_keep}
 use Rattle.bk_store.proofs.open.found.find.Goals as goal
 
 pub scan-requires-clause-fresh : goal.scan-requires-clause-fresh
@@ -41,3 +43,16 @@ returns-clause-ok g c =
     (ap (λ b. record c.args.tally.now { accounts = b }) (when_ok c.open.result made c.open.ensures.ok)) c.in_ok-scan.ensures.ok
     (λ is. (stands is, (c.in-Ok.ensures.turn (c.in_ok-check_file.ensures.honest ∙ is)).1)) c.end-end.ensures
     (λ is. c.in_ok-check_file.ensures.ok (g.D.View.LogView.bytes c.in-Ok.view) is (stands is)))
+
+pub returns-in-Err-clause-kept : goal.returns-in-Err-clause-kept
+returns-in-Err-clause-kept g c = both_keep c.in_ok-check_file.ensures.honest c.in_ok-check_file.ensures.kept c.in-Err.ensures.kept
+
+pub returns-then-is_err-clause-kept : goal.returns-then-is_err-clause-kept
+returns-then-is_err-clause-kept g c = both_keep c.in_ok-check_file.ensures.honest c.in_ok-check_file.ensures.kept c.in-Ok.ensures.kept
+
+pub returns-in_err-scan-clause-kept : goal.returns-in_err-scan-clause-kept
+returns-in_err-scan-clause-kept g c = both_keep c.in_ok-check_file.ensures.honest c.in_ok-check_file.ensures.kept c.in-Ok.ensures.kept
+
+pub returns-clause-synced : goal.returns-clause-synced
+returns-clause-synced g c = λ is.
+    kept_on (c.in-Ok.ensures.kept (c.in_ok-check_file.ensures.honest ∙ is)) c.args.id _ (c.in_ok-check_file.ensures.synced is)

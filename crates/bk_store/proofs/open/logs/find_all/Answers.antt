@@ -6,6 +6,7 @@ use Rattle.bk_store.proofs.OpenedSums.{when_ok}
 use Rattle.bk_store.proofs.OpenedFinds.{none_taken, finding_closed, finding_on, finding_refused, finding_past, finding_least}
 use Rattle.bk_store.specs.Seated.{slot_state}
 use Rattle.bk_store.proofs.Seating.{none_seated, may_seat, seat_on}
+use Rattle.bk_store.proofs.OpenedSynced.{none_kept, keeping_on, both_keep}
 use Rattle.bk_store.proofs.open.logs.find_all.Goals as goal
 use Rattle.bk_store.proofs.open.logs.find_all.Goals.{then-id-next-via-then-id-next, then-id-next-via-else-id-next+then-id-gt-LAST_LOG}
 
@@ -23,6 +24,7 @@ loop-id-init g c = (
   record { stays = refl; unfailed = refl; same = λ _. refl; taken = none_taken _ _ c.args.tally.now c.args.logs.now },
   none_seated c.args.keeper.now c.args.logs.now c.requires.free c.requires.none,
   refl,
+  none_kept _ _ _ _ _,
 )
 
 pub find-requires-clause-closed : goal.find-requires-clause-closed
@@ -59,4 +61,12 @@ loop-id-preserved g c =
           (omega (arith, c.if-id-next.false)) (ap (λ l. l.slot) one.log_is ∙ one.seat)
           (ap (λ l. slot_state id l.state) one.log_is) c.open.ensures held,
       (let at = c.loop-id.invariant.2 in omega (arith, at)),
+      keeping_on _ _ 0 c.loop-id.invariant.3 c.loop-id-test.true c.loop-id.invariant.0.stays c.loop-id.invariant.0.same c.in_ok-log.ensures.kept
+          c.in_ok-log.ensures.synced,
     )
+
+pub returns-in_err-log-clause-kept : goal.returns-in_err-log-clause-kept
+returns-in_err-log-clause-kept g c = both_keep c.loop-id.invariant.0.stays c.loop-id.invariant.3.more c.in_err-log.ensures.kept
+
+pub returns-then-is_err-clause-kept : goal.returns-then-is_err-clause-kept
+returns-then-is_err-clause-kept g c = both_keep c.loop-id.invariant.0.stays c.loop-id.invariant.3.more c.in_ok-log.ensures.kept

@@ -1,6 +1,8 @@
 use Rattle.std.proofs.Common.{IsTrue, sym, subst}
 use Rattle.bk_store.specs.Meaning.{MeansTheSame}
 use Rattle.bk_store.specs.Doors.{MayWrite}
+use Rattle.bk_store.specs.Beside.{kept_as}
+use Rattle.bk_store.proofs.KeepsOn.{keeps_on}
 use Rattle.bk_store.proofs.KeptWrite.{keeps_write}
 use Rattle.bk_store.proofs.SameMeaning.{write_means}
 use Rattle.bk_store.proofs.store.Store.write.Goals as goal
@@ -8,12 +10,14 @@ use Rattle.bk_store.proofs.store.Store.write.Goals as goal
 pub invariant_of-self : goal.invariant_of-self
 invariant_of-self g c =
     let may = subst (λ s. MayWrite s c.args.log c.args.key) (sym c.self.view_is) c.requires in
-    keeps_write c.self.inside.fields c.write.new.self c.args.log c.args.key may.payload c.write.result c.self.invariant may may.next.flushing
+    let kept = keeps_on c.self.inside.fields c.write.new.self c.self.invariant c.write.ensures.kept in
+    keeps_write (kept_as c.self.inside.fields c.write.new.self) c.write.new.self c.args.log c.args.key may.payload c.write.result kept may may.next.flushing
     (c.write.ensures.turn may.payload may.next.flushing) (c.write.ensures.beside may.payload may.next.flushing)
 
 pub returns-clause-meaning : goal.returns-clause-meaning
 returns-clause-meaning g c =
     let may = subst (λ s. MayWrite s c.args.log c.args.key) (sym c.self.view_is) c.requires in
     subst (λ s. IsTrue s.honest → MeansTheSame s c.write.new.self.state) c.self.view_is
-    (write_means c.self.inside.fields c.write.new.self c.args.log c.args.key may.payload c.write.result c.self.invariant may may.next.flushing
+    (write_means (kept_as c.self.inside.fields c.write.new.self) c.write.new.self c.args.log c.args.key may.payload c.write.result
+    (keeps_on c.self.inside.fields c.write.new.self c.self.invariant c.write.ensures.kept) may may.next.flushing
     (c.write.ensures.turn may.payload may.next.flushing) (c.write.ensures.beside may.payload may.next.flushing))

@@ -17,9 +17,9 @@ use Rattle.bk_store.specs.Opening.{IsOpened}
 use Rattle.bk_store.specs.declared.settings.Settings.{Settings}
 use Rattle.bk_store.proofs.Opening.{carries_opened}
 use Rattle.bk_store.proofs.Meaning.{carries_meaning}
-use Rattle.bk_crash.specs.Crash.{MayLeave, AreSynced, AreHarmless, StayDead, IsBetween}
-use Rattle.bk_crash.proofs.Cuts.{survives}
-use Rattle.bk_crash.proofs.Recovered.{between}
+use Rattle.bk_store.specs.Crash.{MayLeave, AreSynced, AreHarmless, StayDead, IsBetween}
+use Rattle.bk_store.proofs.Cuts.{survives}
+use Rattle.bk_store.proofs.Recovered.{between}
 
 -- new caches have nothing
 nothing_written : (limit recent : ℕ) (key : EntryKey) → caches.held (caches.new_caches limit recent) key ≡ None

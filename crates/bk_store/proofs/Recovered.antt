@@ -10,7 +10,7 @@ use Rattle.bk_record.specs.Keyed.{Places}
 use Rattle.bk_store.specs.Entries.{Bytes, HasEntry, IsIndexOf, IsLastEntry}
 use Rattle.bk_store.specs.Carried.{Cached, Carries, IsStale}
 use Rattle.bk_store.specs.Shown.{Shows}
-use Rattle.bk_crash.specs.Crash.{AreHarmless, Survives, StayDead, IsBetween}
+use Rattle.bk_store.specs.Crash.{AreHarmless, Survives, StayDead, IsBetween}
 use Rattle.bk_store.proofs.Cases.{some_or_none, some_value}
 use Rattle.bk_store.proofs.OneEntry.{one_payload}
 

@@ -10,9 +10,9 @@ use Rattle.bk_record.specs.Files.{Files, file_of, header_length, records_of, In}
 use Rattle.bk_record.specs.Longer.{IsLonger}
 use Rattle.bk_record.proofs.Growth.{records_of-short}
 use Rattle.bk_record.proofs.Longer.{longer_append, longer_trans}
-use Rattle.bk_crash.proofs.LongerRecords.{records-longer}
+use Rattle.bk_store.proofs.LongerRecords.{records-longer}
 use Rattle.bk_store.specs.Entries.{Bytes, HasEntry}
-use Rattle.bk_crash.specs.Crash.{IsCut, IsLeft, MayLeave, AreSynced, Survives, OpensAs}
+use Rattle.bk_store.specs.Crash.{IsCut, IsLeft, MayLeave, AreSynced, Survives, OpensAs}
 use Rattle.bk_log.specs.Growing.{HasNoBadLength}
 use Rattle.bk_store.proofs.Cases.{some_or_none, some_value}
 use Rattle.bk_store.proofs.Growing.{none_stands}

@@ -1,4 +1,0 @@
-mod LongerRecords
-mod Cuts
-mod Recovered
-mod Opened
