@@ -9,7 +9,7 @@ mod opening;
 mod program;
 mod progress;
 mod script;
-mod told;
+mod way_on;
 
 pub use cli::{
     COMMANDS, CompactAsk, DEFAULTS, FolderAsk, FolderCall, ScriptCall, command_of, folder_call,

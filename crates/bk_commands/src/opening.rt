@@ -1,7 +1,7 @@
 //! A disk over a folder that tells on a terminal how far the opening of a store on it is.
 //!
-//! A store that is opened lists the logs of its disk, and then goes from log to log: it takes a view, and reads that to its end. So
-//! a disk in between sees where a log is done. What of a log is read it does not see.
+//! A store that is opened lists the logs of its disk, and then goes from log to log: it syncs the log, takes a view, and reads that
+//! to its end. So a disk in between sees where a log is done. What of a log is read it does not see.
 
 ghost use Rattle.std.specs.Prelude.{false};
 ghost use Rattle.std.specs.FinMap as map;
@@ -47,7 +47,8 @@ impl Display for Opened {
 
 /// The disk of a folder that tells how far an opening of it is, in a line on the error stream of the process, where that is a
 /// terminal and the opening takes longer than a second. It is told between two logs, so never of a folder with one log. The line
-/// is taken away before anything is written to the folder, or when the disk is let go. In all else this is the disk of the folder.
+/// is taken away before anything is written to a log, made or removed, or when the disk is let go; a sync leaves it, since an
+/// opening syncs each log. In all else this is the disk of the folder.
 #[derive(Drop)]
 pub struct OpeningDisk {
     disk: DirDisk,
@@ -120,6 +121,10 @@ impl LogDisk for OpeningDisk {
 
     ghost files = { λ _. map.empty };
 
+    ghost synced = { λ _. map.empty };
+
+    ghost gone = { λ _. map.empty };
+
     ghost honest = { λ _. false };
 
     ghost failures = { λ opening. opening.disk.failures };
@@ -154,7 +159,6 @@ impl LogDisk for OpeningDisk {
     }
 
     fn sync(&mut self, alloc: Global, log: u32) -> Result<(), DiskFault> {
-        self.opening.end();
         self.disk.sync(alloc, log)
     }
 

@@ -6,17 +6,17 @@ ghost use Rattle.bk_commands.specs.Folder.{RunsOverFolder};
 
 use crate::cli::ScriptCall;
 use crate::opening::OpeningDisk;
-use crate::told::Told;
+use crate::way_on::WayOn;
 use bk_dir::unlisted;
-use bk_disk::{DirDisk, FolderFault};
-use bk_script::{run_on, run_script};
+use bk_disk::{DirDisk, FolderFault, MemDisk};
+use bk_script::{RunFault, ScriptFault, run_on};
 use std::alloc::Global;
 use std::fs::{self, File};
 use std::io::{self, ErrorKind, Read, Write};
 use std::path::Path;
 
-/// Runs the script that a reader gives on a new disk in memory. Returns the status, as `run_script` does; where the answers can't
-/// be written, the error stream gets `fault output` and the reason, but where nobody reads them any more.
+/// Runs the script that a reader gives on a new disk in memory. Returns the status: 0, or 1 with a line on the error stream that
+/// tells why (`RunFault`); without it where nobody reads the answers any more.
 pub(crate) fn run_in_memory<R: Read, W: Write, E: Write>(
     alloc: Global,
     call: &ScriptCall<'_>,
@@ -28,18 +28,20 @@ pub(crate) fn run_in_memory<R: Read, W: Write, E: Write>(
     ensures done { result ≡ 0 → RunsScript call.now.settings call.now.dead.items (R.remaining reader.old) (R.remaining reader.new)
         (W.contents writer.old) (W.contents writer.new) }
 {
-    let mut told = Told::new(errors);
-    let status = run_script(alloc, call.settings, &call.dead, reader, writer, &mut told);
-    if status == 0 {
-        return 0;
+    let disk = MemDisk::new(alloc);
+    match run_on(alloc, disk, call.settings, &call.dead, reader, writer) {
+        Ok(()) => 0,
+        Err(fault) => {
+            tell(&fault, errors);
+            1
+        }
     }
-    told.explain(writer);
-    status
 }
 
 /// Runs the script that a reader gives over the folder at a path, of which it is the one writer until it ends. Returns the
 /// status, as `run_in_memory` does; 1 too where the folder can't be written, with a line `fault TEXT` on the error stream that
-/// tells which file or folder is to blame, and who writes there if somebody else does.
+/// tells which file or folder is to blame, and who writes there if somebody else does. Where no store is opened on the folder and
+/// there is a way on, another line tells it (`WayOn`).
 pub(crate) fn run_over_folder<R: Read, W: Write, E: Write>(
     rt: &HostRuntime,
     path: &str,
@@ -74,21 +76,29 @@ fn run_on_folder<R: Read, W: Write, E: Write>(
     ensures done { result ≡ 0 → RunsOverFolder call.now.settings call.now.dead.items (R.remaining reader.old) (R.remaining reader.new)
         (W.contents writer.old) (W.contents writer.new) }
 {
-    let mut told = Told::new(errors);
-    let status = run_on(
-        alloc,
-        disk,
-        call.settings,
-        &call.dead,
-        reader,
-        writer,
-        &mut told,
-    );
-    if status == 0 {
-        return 0;
+    match run_on(alloc, disk, call.settings, &call.dead, reader, writer) {
+        Ok(()) => 0,
+        Err(fault) => {
+            tell(&fault, errors);
+            1
+        }
     }
-    told.explain(writer);
-    status
+}
+
+/// Tells why a run of a script shows nothing, or not all, and the way on where there is one; nothing where nobody reads the
+/// answers any more. Whether this comes through changes nothing.
+fn tell<E: Write>(fault: &RunFault, errors: &mut E) {
+    match fault {
+        RunFault::Output(error) if error.kind() == ErrorKind::BrokenPipe => {}
+        RunFault::Output(_) | RunFault::Script(_) => {
+            let _ = writeln!(errors, "{fault}");
+        }
+    }
+    if let RunFault::Script(ScriptFault::Open(fault)) = fault {
+        if let Some(way_on) = WayOn::behind(fault) {
+            let _ = writeln!(errors, "help: {way_on}");
+        }
+    }
 }
 
 /// The disk of the folder at a path, to be written, of which it is the one writer until it is dropped. Where nothing is there, the

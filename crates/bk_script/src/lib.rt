@@ -12,7 +12,7 @@ mod text;
 
 pub use digits::number;
 pub use disk::ScriptDisk;
-pub use fault::ScriptFault;
+pub use fault::{RunFault, ScriptFault};
 pub use line::{LAST_READER, LineFault, read_step};
 pub use run::{run_on, run_script};
 pub use text::Text;

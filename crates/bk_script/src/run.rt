@@ -10,11 +10,11 @@ ghost use Rattle.bk_script.specs.Run.{AnswersScript, RunsOn, RunsScript};
 ghost use Rattle.bk_script.specs.Script.{IsScript};
 ghost use Rattle.bk_script.specs.Text.{lines_of};
 
-use crate::ScriptFault;
 use crate::disk::ScriptDisk;
 use crate::input::read_input;
 use crate::script::read_steps;
 use crate::text::Text;
+use crate::{RunFault, ScriptFault};
 use bk_disk::MemDisk;
 use bk_drive::{Answer, Settings, Step};
 use std::alloc::Global;
@@ -43,40 +43,44 @@ pub fn run_script<R: Read, W: Write, E: Write>(
         → (result ≡ 1) × Keeps (W.contents writer.old) (W.contents writer.new)) }
 {
     let disk = MemDisk::new(alloc);
-    run_on(alloc, disk, settings, dead, reader, writer, errors)
+    match run_on(alloc, disk, settings, dead, reader, writer) {
+        Ok(()) => 0,
+        Err(fault) => {
+            tell(&fault, errors);
+            1
+        }
+    }
 }
 
-/// The same on this disk: the store is opened on the logs that it has, once the whole script was read and understood.
-pub fn run_on<D: ScriptDisk, R: Read, W: Write, E: Write>(
+/// Tells on the error stream why a script is not run; nothing where its answers could not be written. The status is the same
+/// whether or not this line comes through.
+fn tell<E: Write>(fault: &RunFault, errors: &mut E) {
+    match fault {
+        RunFault::Script(fault) => {
+            let _ = writeln!(errors, "{fault}");
+        }
+        RunFault::Output(_) => {}
+    }
+}
+
+/// The same on this disk: the store is opened on the logs that it has, once the whole script was read and understood. With
+/// `Script` nothing is written to `writer`; `Output` where a write fails.
+pub fn run_on<D: ScriptDisk, R: Read, W: Write>(
     alloc: Global,
     disk: D,
     settings: Settings,
     dead: &[u64],
     reader: &mut R,
     writer: &mut W,
-    errors: &mut E,
-) -> u8
-    ensures status { result ≤ 1 }
-    ensures done { result ≡ 0 → RunsOn (IsTrue (D.honest disk)) (NeverFails D.failures × AreSound D.View.sound) (D.files disk)
-        settings dead.now (R.remaining reader.old) (R.remaining reader.new) (W.contents writer.old) (W.contents writer.new) }
+) -> Result<(), RunFault>
+    ensures done { OnOk result (RunsOn (IsTrue (D.honest disk)) (NeverFails D.failures × AreSound D.View.sound) (D.files disk)
+        settings dead.now (R.remaining reader.old) (R.remaining reader.new) (W.contents writer.old) (W.contents writer.new)) }
     ensures bad { IfSome (R.remaining reader.old) (λ input. ((steps : List Step) → ¬ (IsScript input steps))
-        → (result ≡ 1) × Keeps (W.contents writer.old) (W.contents writer.new)) }
+        → IsErr result × Keeps (W.contents writer.old) (W.contents writer.new)) }
 {
-    match answers_to(alloc, disk, settings, dead, reader) {
-        Ok(answers) => match write_answers(writer, &answers) {
-            Ok(()) => 0,
-            Err(_) => 1,
-        },
-        Err(fault) => {
-            tell(fault, errors);
-            1
-        }
-    }
-}
-
-/// Tells on the error stream why a script is not run. The status is the same whether or not this line comes through.
-fn tell<E: Write>(fault: ScriptFault, errors: &mut E) {
-    let _ = writeln!(errors, "{fault}");
+    let answers = answers_to(alloc, disk, settings, dead, reader)?;
+    write_answers(writer, &answers)?;
+    Ok(())
 }
 
 /// Reads the script and runs its steps on this disk: their answers.

@@ -2,6 +2,7 @@
 
 use super::rows::write_object;
 use crate::dead::DeadFault;
+use crate::way_on::WayOn;
 use bk_dir::Form;
 use bk_disk::{DiskFault, FolderFault};
 use bk_drive::OpenFault;
@@ -85,6 +86,8 @@ struct FaultRow<'a> {
     line: Option<u64>,
     #[serde(skip_serializing_if = "Option::is_none")]
     reason: Option<String>,
+    #[serde(skip_serializing_if = "Option::is_none")]
+    help: Option<String>,
 }
 
 /// A fault of which there is no more to tell than its words.
@@ -96,10 +99,25 @@ fn named(fault: &str) -> FaultRow<'_> {
         file: None,
         line: None,
         reason: None,
+        help: None,
     }
 }
 
-/// Tells why a compaction ends early, in a line on the error stream. Whether it comes through changes nothing.
+/// The way on behind a refused opening, where there is one.
+fn way_on(fault: &CompactFault) -> Option<WayOn> {
+    match fault {
+        CompactFault::Sweep(SweepFault::Open(fault)) => WayOn::behind(fault),
+        CompactFault::Folder(_)
+        | CompactFault::Disk(_)
+        | CompactFault::Dead(_)
+        | CompactFault::Sweep(_)
+        | CompactFault::Memory
+        | CompactFault::Output(_) => None,
+    }
+}
+
+/// Tells why a compaction ends early, in a line on the error stream, and the way on where there is one, in another line or in
+/// the same object. Whether it comes through changes nothing.
 pub(super) fn tell<E: Write>(alloc: Global, form: Form, fault: &CompactFault, errors: &mut E) {
     let _ = match form {
         Form::Text => tell_text(fault, errors),
@@ -110,6 +128,9 @@ pub(super) fn tell<E: Write>(alloc: Global, form: Form, fault: &CompactFault, er
 /// Tells it as text.
 fn tell_text<E: Write>(fault: &CompactFault, errors: &mut E) -> Result<(), CompactFault> {
     writeln!(errors, "fault {fault}")?;
+    if let Some(way_on) = way_on(fault) {
+        writeln!(errors, "help: {way_on}")?;
+    }
     Ok(())
 }
 
@@ -136,6 +157,10 @@ fn row_of<'f>(
         CompactFault::Sweep(SweepFault::Open(OpenFault::Log { id, cause })) => Ok(FaultRow {
             log: Some(*id),
             reason: Some(cause.to_string(alloc)?),
+            help: match way_on(fault) {
+                Some(way_on) => Some(way_on.to_string(alloc)?),
+                None => None,
+            },
             ..named("bad log")
         }),
         CompactFault::Sweep(SweepFault::Open(OpenFault::TooLong(log))) => Ok(FaultRow {

@@ -55,6 +55,8 @@ fn a_log_that_can_not_be_read_ends_a_compaction(rt: HostRuntime) -> Result<(), F
     disk.append(alloc, 0, b"\0\0\0\x07")?;
     let left = compact_disk(&rt, Form::Text, disk, 800, &[], &mut output, &mut errors);
     assert!(rt; left.is_none() && output.is_empty());
-    assert!(rt; errors.as_slice() == b"fault log 0: bad length 1074 7\n".as_slice());
+    let told =
+        "fault log 0: bad length 1074 7\nhelp: 'bk_shell check' tells of all such logs, 'bk_shell seal --cut-torn' cuts one there and keeps a copy\n";
+    assert!(rt; errors.as_slice() == told.as_bytes());
     Ok(())
 }

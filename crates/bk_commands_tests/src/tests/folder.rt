@@ -293,6 +293,51 @@ fn a_script_goes_on_in_its_folder(rt: HostRuntime) -> Result<(), Fail> {
     Ok(())
 }
 
+/// What a script over a folder tells where a log of it ends in zeros, and where one has no header.
+const ENDS_IN_ZEROS: &str =
+    "fault log 0: bad length 1049 0\nhelp: 'bk_shell check' tells of all such logs, 'bk_shell seal --cut-torn' cuts one there and keeps a copy\n";
+
+const HAS_NO_HEADER: &str =
+    "fault log 1: bad magic\nhelp: where 'bk_shell scan' shows no entry in the log, a crash may have left it so, and its file can be moved away\n";
+
+/// A call that is refused with this text.
+fn refused<'a>(words: &'a [&'a str], errors: &'a str) -> Call<'a> {
+    Call {
+        words,
+        input: "take 0 1 0\n",
+        status: 1,
+        output: "",
+        errors,
+    }
+}
+
+#[test]
+fn the_way_on_behind_a_refused_opening_leads_on(rt: HostRuntime) -> Result<(), Fail> {
+    let words: &[&str] = &["bk_shell", "script", "--folder", "bk_shell_zeros"];
+    let _ = fs::remove_dir_all(&rt, "bk_shell_zeros");
+    assert!(rt; run(&rt, words, FLUSHED).status == 0);
+    let mut log = fs::read(&rt, "bk_shell_zeros/0.log")?;
+    log.extend_from_slice(&[0; 4000])?;
+    fs::write(&rt, "bk_shell_zeros/0.log", log.as_slice())?;
+    fs::write(&rt, "bk_shell_zeros/1.log", [0; 4096].as_slice())?;
+    assert!(rt; is_left(&rt, &refused(words, ENDS_IN_ZEROS)));
+    let cut = run(
+        &rt,
+        &["bk_shell", "seal", "--cut-torn", "bk_shell_zeros", "0"],
+        "",
+    );
+    assert!(rt; cut.status == 0);
+    assert!(rt; is_left(&rt, &refused(words, HAS_NO_HEADER)));
+    fs::remove_file(&rt, "bk_shell_zeros/1.log")?;
+    let shown = run(&rt, words, "take 0 1 0\nfetch 0\n");
+    assert!(rt;
+        shown.status == 0
+            && shown.output.as_slice() == b"leased 1028\nbytes 68656c6c6f\n".as_slice()
+    );
+    fs::remove_dir_all(&rt, "bk_shell_zeros")?;
+    Ok(())
+}
+
 #[test]
 fn a_script_is_not_run_where_no_folder_can_be_written(rt: HostRuntime) -> Result<(), Fail> {
     let calls = [

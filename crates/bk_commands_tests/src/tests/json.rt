@@ -86,11 +86,11 @@ fn what_ends_a_compaction_is_shown_as_an_object(rt: HostRuntime) -> Result<(), F
         ),
         told(
             &["bk_shell", "--json", "compact", "bk_shell_bad"],
-            "{\"fault\":\"bad log\",\"log\":0,\"reason\":\"bad magic\"}\n",
+            "{\"fault\":\"bad log\",\"log\":0,\"reason\":\"bad magic\",\"help\":\"where 'bk_shell scan' shows no entry in the log, a crash may have left it so, and its file can be moved away\"}\n",
         ),
         told(
             &["bk_shell", "compact", "bk_shell_bad"],
-            "fault log 0: bad magic\n",
+            "fault log 0: bad magic\nhelp: where 'bk_shell scan' shows no entry in the log, a crash may have left it so, and its file can be moved away\n",
         ),
     ];
     let _ = fs::remove_dir_all(&rt, "bk_shell_away");

@@ -109,6 +109,10 @@ impl LogDisk for CutMem {
 
     ghost files = { λ _. map.empty };
 
+    ghost synced = { λ _. map.empty };
+
+    ghost gone = { λ _. map.empty };
+
     ghost honest = { λ _. false };
 
     ghost failures = { λ cut. cut.calls.failures };

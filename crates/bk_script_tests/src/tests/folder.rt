@@ -5,6 +5,7 @@ use super::{DEFAULTS, Shown, is_shown};
 use bk_disk::DirDisk;
 use bk_drive::Settings;
 use bk_script::run_on;
+use std::io::Write;
 use std::test::Fail;
 use std::{fs, io};
 
@@ -26,15 +27,13 @@ fn run_over(
     let mut output = Vec::new(alloc);
     let mut errors = Vec::new(alloc);
     let mut reader = script.as_bytes();
-    let status = run_on(
-        alloc,
-        disk,
-        settings,
-        dead,
-        &mut reader,
-        &mut output,
-        &mut errors,
-    );
+    let status = match run_on(alloc, disk, settings, dead, &mut reader, &mut output) {
+        Ok(()) => 0,
+        Err(fault) => {
+            let _ = writeln!(errors, "{fault}");
+            1
+        }
+    };
     Shown {
         status,
         output,
