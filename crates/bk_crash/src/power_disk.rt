@@ -95,7 +95,11 @@ impl<D: LogDisk> LogDisk for PowerDisk<D> {
         if self.power.fails() {
             return Err(DiskFault::Disk);
         }
-        self.inner.list(alloc)
+        let listed = self.inner.list(alloc);
+        if listed.is_ok() {
+            self.written.list(alloc);
+        }
+        listed
     }
 
     fn length(&mut self, alloc: Global, log: u32) -> Result<u64, DiskFault> {

@@ -49,6 +49,39 @@ impl Written {
         }
     }
 
+    /// The same once more, for the disk of another process: what one wrote is there for the next one, as long as there is power.
+    pub fn copy(&self, alloc: Global) -> Result<Written, AllocError> {
+        let mut copy = Written::new(alloc);
+        for (log, written) in self.logs.iter() {
+            copy.put(
+                *log,
+                WrittenLog {
+                    bytes: written.bytes.clone()?,
+                    synced: written.synced,
+                    is_patched: written.is_patched,
+                },
+            );
+        }
+        for (log, bytes) in self.gone.iter() {
+            if copy.gone.insert(*log, bytes.clone()?).is_err() {
+                copy.is_lost = true;
+            }
+        }
+        if self.is_lost {
+            copy.is_lost = true;
+        }
+        Ok(copy)
+    }
+
+    /// The files as they are while there is power.
+    pub fn files(&self, alloc: Global) -> Result<Vec<File>, AllocError> {
+        let mut files = Vec::new(alloc);
+        for (log, written) in self.logs.iter() {
+            files.push((*log, written.bytes.clone()?))?;
+        }
+        Ok(files)
+    }
+
     /// Whether there was no memory for something that was written.
     pub fn is_lost(&self) -> bool {
         self.is_lost
@@ -65,6 +98,11 @@ impl Written {
                 is_patched: false,
             },
         );
+    }
+
+    /// The logs were listed: no file that was removed before is back from then on.
+    pub(crate) fn list(&mut self, alloc: Global) {
+        self.gone = BTreeMap::new(alloc);
     }
 
     pub(crate) fn create(&mut self, alloc: Global, log: u32) {

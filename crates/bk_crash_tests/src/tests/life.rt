@@ -162,22 +162,36 @@ fn put_log<D: LogDisk>(alloc: Global, disk: &mut D, log: u32, bytes: &[u8]) -> b
     log < 2_147_483_648 && disk.create(alloc, log).is_ok() && disk.append(alloc, log, bytes).is_ok()
 }
 
-/// A disk with these files, and power for so many calls.
+/// A disk in memory with these files.
+fn memory_of(alloc: Global, files: &[File]) -> Result<MemDisk, Stop> {
+    let mut disk = MemDisk::new(alloc);
+    for (log, bytes) in files {
+        if !put_log(alloc, &mut disk, *log, bytes) {
+            return Err(Stop::new("no disk", 0, 0));
+        }
+    }
+    Ok(disk)
+}
+
+/// A disk with these files, which are on the device, and power for so many calls.
 fn disk_of(
     alloc: Global,
     files: &[File],
     calls: u64,
     kept: usize,
 ) -> Result<PowerDisk<MemDisk>, Stop> {
-    let mut disk = MemDisk::new(alloc);
+    let disk = memory_of(alloc, files)?;
     let mut written = Written::new(alloc);
     for (log, bytes) in files {
-        if !put_log(alloc, &mut disk, *log, bytes) {
-            return Err(Stop::new("no disk", 0, 0));
-        }
         written.find(*log, bytes.clone()?);
     }
     Ok(PowerDisk::new(disk, written, calls, kept))
+}
+
+/// A disk for the next process, where the one before wrote this and ended while there was power.
+fn next_disk(alloc: Global, written: &Written) -> Result<PowerDisk<MemDisk>, Stop> {
+    let disk = memory_of(alloc, &written.files(alloc)?)?;
+    Ok(PowerDisk::new(disk, written.copy(alloc)?, u64::MAX, 0))
 }
 
 /// A store over a disk whose power goes.
@@ -199,6 +213,31 @@ pub(super) fn live(
     };
     take_all(alloc, &mut store, owed, steps)?;
     left_by(alloc, &store, chance)
+}
+
+/// Takes steps on a new disk until so many calls on it are made, where the process ends. The next one opens a store on the files,
+/// all of which are there, and then the power goes. What the second store found is owed from then on. Answers the files that are
+/// left, and whether the first process ended before the steps did.
+pub(super) fn live_twice(
+    alloc: Global,
+    owed: &mut Owed,
+    steps: &[Step],
+    calls: u64,
+    chance: &mut Chance,
+) -> Result<(Vec<File>, bool), Stop> {
+    let disk = disk_of(alloc, &[], calls, chance.up_to(60))?;
+    let Some(mut first) = opened(alloc, disk, &owed.dead)? else {
+        return Ok((Vec::new(alloc), true));
+    };
+    take_all(alloc, &mut first, owed, steps)?;
+    let is_ended = is_dead(&first);
+    let disk = next_disk(alloc, first.disk().written())?;
+    let Some(mut second) = opened(alloc, disk, &owed.dead)? else {
+        return Err(not_opened(OpenFault::Disk));
+    };
+    find_all(alloc, &mut second, owed)?;
+    let (left, _) = left_by(alloc, &second, chance)?;
+    Ok((left, is_ended))
 }
 
 /// A store on the files of a disk; `None` where the power went while it was opened.
@@ -302,8 +341,13 @@ pub(super) fn compare(alloc: Global, owed: &mut Owed, files: &[File]) -> Result<
     let Some(mut store) = opened(alloc, disk, &owed.dead)? else {
         return Err(not_opened(OpenFault::Disk));
     };
-    let found = found_in(alloc, &mut store, &owed.entries)?;
-    let more = keys_of(&store).saturating_sub(found.len());
+    find_all(alloc, &mut store, owed)
+}
+
+/// Compares what a store has that was just opened.
+fn find_all(alloc: Global, store: &mut Powered, owed: &mut Owed) -> Result<(), Stop> {
+    let found = found_in(alloc, store, &owed.entries)?;
+    let more = keys_of(store).saturating_sub(found.len());
     if more > 0 {
         return Err(Stop::new("entries that nobody added", 0, more as u64));
     }

@@ -1,8 +1,9 @@
 //! Worked runs: the power goes at each call in turn, several times, with other files left each time.
 
-use super::life::{Chance, Owed, Stop, add_of, compare, live, push_step};
+use super::life::{Chance, Owed, Stop, add_of, compare, live, live_twice, push_step};
 use bk_drive::{Kind, Step, Work};
 use std::alloc::{AllocError, Global};
+use std::process::Abort;
 
 /// A step of a run.
 enum Plan {
@@ -180,31 +181,43 @@ fn steps_of(alloc: Global, plans: &[Plan]) -> Result<Vec<Step>, AllocError> {
 /// How often the power goes at each call.
 const TIMES: u64 = 60;
 
-/// Takes steps with power for so many calls on the disk, and compares what is left, with other choices each time. Whether
-/// the power went before the steps ended.
-fn is_cut(alloc: Global, steps: &[Step], calls: u64, time: u64) -> Result<bool, Stop> {
+/// How the process ends that takes the steps.
+#[derive(Clone, Copy)]
+enum End {
+    /// The power goes.
+    Power,
+    /// It is killed. A store is opened on its files, and then the power goes.
+    Kill,
+}
+
+/// Takes steps until so many calls on the disk are made, and compares what is left, with other choices each time. Whether the
+/// process ended before the steps did.
+fn is_cut(alloc: Global, steps: &[Step], end: End, calls: u64, time: u64) -> Result<bool, Stop> {
     let mut chance = Chance::new(calls.wrapping_mul(1000).wrapping_add(time));
     let mut owed = Owed::new(alloc);
     let files = Vec::new(alloc);
-    let (left, cut) = live(alloc, &mut owed, files, steps, calls, &mut chance)?;
+    let (left, cut) = match end {
+        End::Power => live(alloc, &mut owed, files, steps, calls, &mut chance)?,
+        End::Kill => live_twice(alloc, &mut owed, steps, calls, &mut chance)?,
+    };
     compare(alloc, &mut owed, &left)?;
     Ok(cut)
 }
 
-/// The same so often. Whether the power went the last time.
-fn are_cut(alloc: Global, steps: &[Step], calls: u64) -> Result<bool, Stop> {
+/// The same so often. Whether the process ended before the steps did the last time.
+fn are_cut(alloc: Global, steps: &[Step], end: End, calls: u64) -> Result<bool, Stop> {
     let mut cut = false;
     for time in 0..TIMES {
-        cut = is_cut(alloc, steps, calls, time)?;
+        cut = is_cut(alloc, steps, end, calls, time)?;
     }
     Ok(cut)
 }
 
 /// How many crashes of a run were compared: so many at each of its calls on the disk.
-fn crashes(alloc: Global, plans: &[Plan]) -> Result<u64, Stop> {
+fn crashes(alloc: Global, plans: &[Plan], end: End) -> Result<u64, Stop> {
     let steps = steps_of(alloc, plans)?;
     for calls in 1..1000u64 {
-        if !are_cut(alloc, &steps, calls)? {
+        if !are_cut(alloc, &steps, end, calls)? {
             return Ok(calls.saturating_mul(TIMES));
         }
     }
@@ -220,20 +233,36 @@ const RUNS: [(&str, &[Plan]); 5] = [
     ("deletions", DELETIONS),
 ];
 
-#[test]
-fn a_worked_run_loses_nothing(rt: HostRuntime) {
+/// How many crashes of the runs were compared, or which run lost something.
+fn all_crashes(alloc: Global, end: End) -> Result<u64, (&'static str, Stop)> {
     let mut count = 0u64;
     for (name, plans) in RUNS.iter() {
-        match crashes(rt.alloc(), plans) {
+        match crashes(alloc, plans, end) {
             Ok(more) => count = count.saturating_add(more),
-            Err(stop) => {
-                assert!(rt;
-                    false,
-                    "{name}: {} {} {}",
-                    stop.what, stop.ledger, stop.number
-                );
-            }
+            Err(stop) => return Err((*name, stop)),
         }
     }
-    assert!(rt; count > 100 * TIMES, "{count} crashes");
+    Ok(count)
+}
+
+/// Whether many crashes were compared, and nothing was lost.
+fn is_kept(rt: &impl Abort, alloc: Global, end: End) {
+    match all_crashes(alloc, end) {
+        Ok(count) => assert!(rt; count > 100 * TIMES, "{count} crashes"),
+        Err((name, stop)) => assert!(rt;
+            false,
+            "{name}: {} {} {}",
+            stop.what, stop.ledger, stop.number
+        ),
+    }
+}
+
+#[test]
+fn a_worked_run_loses_nothing(rt: HostRuntime) {
+    is_kept(&rt, rt.alloc(), End::Power);
+}
+
+#[test]
+fn what_a_killed_run_left_outlives_a_loss_of_power_once_it_is_opened(rt: HostRuntime) {
+    is_kept(&rt, rt.alloc(), End::Kill);
 }
