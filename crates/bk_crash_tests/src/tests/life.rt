@@ -226,18 +226,44 @@ pub(super) fn live_twice(
     chance: &mut Chance,
 ) -> Result<(Vec<File>, bool), Stop> {
     let disk = disk_of(alloc, &[], calls, chance.up_to(60))?;
-    let Some(mut first) = opened(alloc, disk, &owed.dead)? else {
-        return Ok((Vec::new(alloc), true));
+    let (written, is_ended) = written_by(alloc, owed, disk, steps)?;
+    let left = left_behind(alloc, owed, &written, chance)?;
+    Ok((left, is_ended))
+}
+
+/// What a process wrote that took steps until the calls of its disk were made, and whether it ended before the steps did.
+fn written_by(
+    alloc: Global,
+    owed: &mut Owed,
+    disk: PowerDisk<MemDisk>,
+    steps: &[Step],
+) -> Result<(Written, bool), Stop> {
+    let Some(mut store) = opened(alloc, disk, &owed.dead)? else {
+        return Ok((Written::new(alloc), true));
     };
-    take_all(alloc, &mut first, owed, steps)?;
-    let is_ended = is_dead(&first);
-    let disk = next_disk(alloc, first.disk().written())?;
-    let Some(mut second) = opened(alloc, disk, &owed.dead)? else {
+    take_all(alloc, &mut store, owed, steps)?;
+    Ok((copy_of(alloc, &store)?, is_dead(&store)))
+}
+
+/// What was written to a store's files.
+fn copy_of(alloc: Global, store: &Powered) -> Result<Written, AllocError> {
+    store.disk().written().copy(alloc)
+}
+
+/// Opens a store on what a process wrote, and answers the files that a loss of power leaves then.
+fn left_behind(
+    alloc: Global,
+    owed: &mut Owed,
+    written: &Written,
+    chance: &mut Chance,
+) -> Result<Vec<File>, Stop> {
+    let disk = next_disk(alloc, written)?;
+    let Some(mut store) = opened(alloc, disk, &owed.dead)? else {
         return Err(not_opened(OpenFault::Disk));
     };
-    find_all(alloc, &mut second, owed)?;
-    let (left, _) = left_by(alloc, &second, chance)?;
-    Ok((left, is_ended))
+    find_all(alloc, &mut store, owed)?;
+    let (left, _) = left_by(alloc, &store, chance)?;
+    Ok(left)
 }
 
 /// A store on the files of a disk; `None` where the power went while it was opened.
