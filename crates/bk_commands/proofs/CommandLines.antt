@@ -6,7 +6,7 @@ use Rattle.std.specs.List.{AllZip}
 use Rattle.std.proofs.lemmas.List.{map-append, take_more}
 use Rattle.std.proofs.lemmas.Slice.Zip.{all_zipped_more}
 use Rattle.std.specs.Box.{box_value}
-use Rattle.std.specs.Result.{IfErr, IsErrAnd}
+use Rattle.std.specs.Result.{IfOk, IfErr, IsErrAnd}
 use Rattle.std.proofs.lemmas.Fmt.{decimal_injective}
 use Rattle.clap.specs.Faults.{fault_of, is_simple_and_free}
 use Rattle.clap.specs.Kinds.{HasKind, Kinds}
@@ -23,7 +23,8 @@ use Rattle.clap.specs.declared.parser.matches.SubCommand.{SubCommand}
 use Rattle.clap.proofs.OnLiterals.{clap_on_literals}
 use Rattle.clap.proofs.WalkLemmas.{first_value-rows, raw_values-rows}
 use Rattle.bk_store.specs.declared.settings.Settings.{Settings}
-use Rattle.bk_commands.specs.CommandLine.{program, last_ledger, Asks, IsNumberIn}
+use Rattle.bk_commands.specs.declared.cli.ScriptCall.{ScriptCall}
+use Rattle.bk_commands.specs.CommandLine.{program, last_ledger, Asks, AsksLedgers, AsksSettings, IsNumberIn}
 
 -- a word is one number
 pub same_number : (word : Text) (m n : ℕ) → m < 2 ^ 64 → n < 2 ^ 64 → word ≡ decimal m → word ≡ decimal n → m ≡ n
@@ -138,3 +139,23 @@ pub refused_for_memory : {T : Type 0} (r : Result T Error) (words : List Text) �
     → IfErr r (λ error. (over : Option Text) (settings : Settings) (dead : List ℕ) → Asks words over settings dead → kind_of error ≡ OutOfMemory)
 refused_for_memory (Ok x) words memory = tt
 refused_for_memory (Err error) words memory = λ over settings dead asks. memory
+
+-- what the options of `script` ask for, told of the words
+module _ (words : List Text) (rows : List Row) (called : subcommand_of program words ≡ Some (codes "script", rows)) where
+  pub asked_by : fault_of program words ≡ [] → (result : Result ScriptCall Error) → IfOk result (λ call. AsksSettings rows call.settings)
+      → IfOk result (λ call. first_of (codes "folder") rows ≡ option_map (λ path. path.now) call.folder)
+      → IfOk result (λ call. AsksLedgers (all_of (codes "LEDGER") rows) call.dead.items)
+      → IfOk result (λ call. Asks words (option_map (λ path. path.now) call.folder) call.settings call.dead.items)
+  asked_by faultless (Ok call) asked over ledgers =
+      record { faultless = faultless; rows = rows; called = called; asked = asked; over = over; ledgers = ledgers }
+  asked_by faultless (Err error) asked over ledgers = tt
+
+  pub refused_by : (result : Result ScriptCall Error)
+      → IfErr result (λ error. (settings : Settings) (dead : List ℕ) → AsksSettings rows settings → AsksLedgers (all_of (codes "LEDGER") rows) dead
+      → kind_of error ≡ OutOfMemory)
+      → IfErr result (λ error. (folder : Option Text) (settings : Settings) (dead : List ℕ) → Asks words folder settings dead → kind_of error ≡ OutOfMemory)
+  refused_by (Ok call) refused = tt
+  refused_by (Err error) refused = λ over settings dead asks.
+      let same = asked_rows words over settings dead asks rows called in
+      refused settings dead (subst (λ (r : List Row). AsksSettings r settings) same asks.asked)
+      (subst (λ (r : List Row). AsksLedgers (all_of (codes "LEDGER") r) dead) same asks.ledgers)

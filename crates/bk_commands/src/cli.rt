@@ -1,13 +1,13 @@
 //! The command line: what the program is called with, and what it tells of itself.
 
-ghost use Rattle.std.specs.Prelude.{◌≡◌, ℕ, List, Option, map, option_map, IfOk, IfErr, OnErr};
+ghost use Rattle.std.specs.Prelude.{◌≡◌, ℕ, List, Option, codes, map, option_map, IfOk, IfErr, OnErr};
 ghost use Rattle.clap.specs.Matches.{found_of};
 ghost use Rattle.clap.specs.Simple.{app_of};
 ghost use Rattle.clap.specs.Values.{kind_of};
-ghost use Rattle.clap.specs.Walk.{Text, rows_of};
+ghost use Rattle.clap.specs.Walk.{Text, all_of, first_of, rows_of};
 ghost use Rattle.bk_store.specs.Limits.{IsAllowed};
 ghost use Rattle.bk_store.specs.declared.settings.Settings.{Settings};
-ghost use Rattle.bk_commands.specs.CommandLine.{program, Asks, AsksSettings};
+ghost use Rattle.bk_commands.specs.CommandLine.{program, Asks, AsksLedgers, AsksSettings};
 
 mod compact;
 mod folder;
@@ -32,6 +32,7 @@ use ledgers::{ledgers_arg, read_ledgers};
 use number_option::{BadValue, NumberOption};
 use std::alloc::{AllocError, Global};
 use std::convert::AsStr;
+use std::fmt::Display;
 use strsim::osa_distance;
 
 /// What a call of `script` asks for.
@@ -134,12 +135,21 @@ pub fn script_call<'a, S: AsStr>(alloc: Global, words: &'a [S]) -> Result<Script
     let Some(script) = matches.subcommand_matches("script") else {
         return Err(command.error(ErrorKind::MissingSubcommand, "a command is asked for")?);
     };
+    read_script(alloc, script)
+}
+
+/// The call of `script` that the options and the words beside them ask for. An error is a wrong one, or want of memory.
+fn read_script<'a>(alloc: Global, script: &ArgMatches<'a>) -> Result<ScriptCall<'a>, Error>
+    ensures allowed { IfOk result (λ call. IsAllowed call.settings) }
+    ensures asked { IfOk result (λ call. AsksSettings (rows_of (found_of script.now)) call.settings) }
+    ensures over { IfOk result (λ call. first_of (codes "folder") (rows_of (found_of script.now)) ≡ option_map (λ path. path.now) call.folder) }
+    ensures ledgers { IfOk result (λ call. AsksLedgers (all_of (codes "LEDGER") (rows_of (found_of script.now))) call.dead.items) }
+    ensures refused { IfErr result (λ error. (settings : Settings) (dead : List ℕ) → AsksSettings (rows_of (found_of script.now)) settings
+        → AsksLedgers (all_of (codes "LEDGER") (rows_of (found_of script.now))) dead → kind_of error ≡ ErrorKind.OutOfMemory) }
+{
     let settings = match read_options(script) {
         Ok(settings) => settings,
-        Err(bad) => {
-            let told = format!(in alloc; "{bad}")?;
-            return Err(script_error(alloc, ErrorKind::ValueValidation, &told)?);
-        }
+        Err(bad) => return Err(bad_script(alloc, &bad)?),
     };
     match read_ledgers(alloc, script)? {
         Ok(dead) => Ok(ScriptCall {
@@ -147,11 +157,14 @@ pub fn script_call<'a, S: AsStr>(alloc: Global, words: &'a [S]) -> Result<Script
             folder: read_folder(script),
             dead,
         }),
-        Err(bad) => {
-            let told = format!(in alloc; "{bad}")?;
-            Err(script_error(alloc, ErrorKind::ValueValidation, &told)?)
-        }
+        Err(bad) => Err(bad_script(alloc, &bad)?),
     }
+}
+
+/// The error of a word behind `script` that is not what it is to be.
+fn bad_script<B: Display>(alloc: Global, bad: &B) -> Result<Error, AllocError> {
+    let told = format!(in alloc; "{bad}")?;
+    script_error(alloc, ErrorKind::ValueValidation, &told)
 }
 
 /// The settings that the options of `script` ask for.

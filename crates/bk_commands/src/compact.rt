@@ -103,18 +103,9 @@ fn find_work<W: Write, E: Write>(
     errors: &mut E,
 ) -> Result<Option<Work>, CompactFault> {
     let dead = dead_ledgers(rt, ask)?;
-    let mut disk = DirDisk::open_to_read(rt, path)?;
-    if let Some(fault) = unlisted(rt, path) {
-        return Err(CompactFault::Folder(fault));
-    }
-    let logs = lengths_of(rt.alloc(), &mut disk)?;
+    let (disk, logs) = find_logs(rt, path)?;
     if logs.is_empty() {
-        let row = EmptyRow {
-            note: "no log found",
-            folder: path,
-        };
-        let _ = write_row(rt.alloc(), form, &row, errors);
-        write_summary(rt.alloc(), form, &still(size_of(&logs)), writer)?;
+        show_empty(rt.alloc(), form, path, writer, errors)?;
         return Ok(None);
     }
     if ask.is_dry {
@@ -126,6 +117,32 @@ fn find_work<W: Write, E: Write>(
     drop(disk);
     let disk = OpeningDisk::new(rt, DirDisk::open_to_write(rt, path)?);
     Ok(Some(Work { disk, dead }))
+}
+
+/// The folder, and the lengths of its logs in bytes by their ids.
+fn find_logs(rt: &HostRuntime, path: &str) -> Result<(DirDisk, BTreeMap<u32, u64>), CompactFault> {
+    let mut disk = DirDisk::open_to_read(rt, path)?;
+    if let Some(fault) = unlisted(rt, path) {
+        return Err(CompactFault::Folder(fault));
+    }
+    let logs = lengths_of(rt.alloc(), &mut disk)?;
+    Ok((disk, logs))
+}
+
+/// Writes that the folder has no log, and that nothing is done.
+fn show_empty<W: Write, E: Write>(
+    alloc: Global,
+    form: Form,
+    path: &str,
+    writer: &mut W,
+    errors: &mut E,
+) -> Result<(), CompactFault> {
+    let row = EmptyRow {
+        note: "no log found",
+        folder: path,
+    };
+    let _ = write_row(alloc, form, &row, errors);
+    write_summary(alloc, form, &still(Size { logs: 0, bytes: 0 }), writer)
 }
 
 /// Nothing is done.

@@ -120,12 +120,15 @@ pub fn folder_call<'a, S: AsStr>(alloc: Global, words: &'a [S]) -> Result<Folder
             path: word_of(found, "DIR"),
             ask,
         }),
-        Err(bad) => {
-            let told = told_of(alloc, &bad)?;
-            let mut command = Command::new(alloc, "bk_shell").override_usage(usage_of(name));
-            Err(command.error(ErrorKind::ValueValidation, &told)?)
-        }
+        Err(bad) => Err(bad_word(alloc, name, &bad)?),
     }
+}
+
+/// The error of a word behind the command of this name that isn't what it is to be.
+fn bad_word(alloc: Global, name: &str, bad: &BadWord<'_>) -> Result<Error, AllocError> {
+    let told = told_of(alloc, bad)?;
+    let mut command = Command::new(alloc, "bk_shell").override_usage(usage_of(name));
+    command.error(ErrorKind::ValueValidation, &told)
 }
 
 /// The form that is asked for, by `json_arg` or without it, where a parse of a command line that has this option gave these
