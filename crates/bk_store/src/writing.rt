@@ -19,21 +19,19 @@ use bk_log::LogFault;
 use bk_record::{Key, Location};
 
 impl<D: LogDisk> Fields<D> {
-    /// Puts the flush's next entry at the end of its log.
+    /// Puts the flush's next entry, which has this payload, at the end of its log.
     #[tactic(auto, using(bk_disk::proofs::KeepsMore::kept_rules))]
-    pub fn write(&mut self, log: u32, key: Key) -> Result<Location, LogFault>
+    pub fn write(&mut self, log: u32, key: Key, payload: &[u8]) -> Result<Location, LogFault>
         requires keeps { Keeps self.old }
         requires may { MayWrite self.old.state log key }
-        ensures turn { (payload : List ℕ) → map.get (flush_of self.old.state.caches) key ≡ Some payload
-            → WriteTurn self.old.state log key payload result self.new.state }
-        ensures beside { (payload : List ℕ) → map.get (flush_of self.old.state.caches) key ≡ Some payload
-            → WritesBeside (kept_as self.old self.new) log key payload result self.new }
+        requires flushing { map.get (flush_of self.old.state.caches) key ≡ Some payload.now }
+        ensures turn { WriteTurn self.old.state log key payload.now result self.new.state }
+        ensures beside { WritesBeside (kept_as self.old self.new) log key payload.now result self.new }
         ensures kept { KeepsOn self.old self.new }
     {
+        // Each payload stands under its own key: what the caches say of themselves.
+        let _ = self.caches.limit();
         let place = self.next_place(log);
-        let Some(payload) = self.caches.get(&key) else {
-            unreachable!();
-        };
         let Ok(()) = self.places.note(key, place) else {
             return Err(LogFault::Memory);
         };
