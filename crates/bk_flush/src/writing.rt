@@ -44,13 +44,17 @@ pub fn write_one<D: LogDisk>(store: &mut Store<D>) -> Result<WriteAnswer, StepFa
     if !store.is_flushing() {
         return Ok(WriteAnswer::NoFlush);
     }
-    let Some(next) = store.next_entry() else {
+    let Some((key, payload)) = store.next_entry() else {
         return Ok(WriteAnswer::AllWritten);
     };
-    let key = next.0;
-    let size = next.1.len();
+    let size = payload.len();
+    // The entry that was found is held while a log is made ready, so that it is not searched for again.
+    let held = payload.clone();
     let log = ready(store, size)?;
-    match store.write(log, key) {
+    let Ok(payload) = held else {
+        return Err(StepFault::Memory { done: 0 });
+    };
+    match store.write(log, key, &payload) {
         Ok(location) => Ok(WriteAnswer::Wrote(location)),
         Err(fault) => Err(flush_fault(store, fault)),
     }
