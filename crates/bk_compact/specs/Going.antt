@@ -49,6 +49,11 @@ pub record ScansFrom (bytes : List ℕ) (honest sound : Bool) (at : ℕ) (scan :
   pub whole : IsTrue honest → end ≡ view_end bytes
   pub is : scan ≡ new_scan bytes honest sound at end
 
+-- a scan of a view of these bytes
+pub record IsScanOf (bytes : List ℕ) (honest : Bool) (scan : Scan) : Type 0 where
+  pub file_is : scan.file ≡ bytes
+  pub honest_is : scan.honest ≡ honest
+
 -- a refused scan of a source: beside an honest disk it has no bad length
 abbrev pub told_read : ScanFault → Unread
 told_read (scan_faults.BadLength at value) = unreads.Odd

@@ -2,7 +2,7 @@ use Rattle.std.proofs.Common.{◌≡◌, ℕ, ◌+◌, ◌<◌, IsTrue, true, fa
 use Rattle.bk_log.specs.declared.found.Found.{Found}
 use Rattle.bk_log.specs.declared.fault.ScanFault.{ScanFault}
 use Rattle.bk_log.specs.declared.fault.ScanFault.TheVariants as scans
-use Rattle.bk_log.specs.Scanning.{NextMoves, NextTurn}
+use Rattle.bk_log.specs.Scanning.{Scan, NextMoves, NextTurn}
 use Rattle.bk_store.specs.Logs.{View, view_of}
 use Rattle.bk_compact.specs.declared.entries.Stopped.{Stopped}
 use Rattle.bk_disk.specs.Disk.{view_end}
@@ -67,6 +67,15 @@ examine-requires-clause-copying g c κs within = c.loop-number.invariant.copying
 
 pub examine-requires-clause-view : goal.examine-requires-clause-view
 examine-requires-clause-view g c κs within = c.loop-number.invariant.last
+
+pub examine-requires-clause-scans : goal.examine-requires-clause-scans
+examine-requires-clause-scans g c κs within =
+    let is : c.in-Ok-Some.field-0 ≡ Some c.in-Ok-Some.found = c.in-Ok-Some.field-0-is in
+    let moves = subst (λ (o : Option Found). NextMoves c.loop-number.scanner (Ok o) c.next.new.self) is c.in-Ok-Some.ensures.moves in
+    record {
+      file_is = ap (λ (x : Scan). x.file) moves.2 ∙ c.loop-number.invariant.file;
+      honest_is = ap (λ (x : Scan). x.honest) moves.2 ∙ c.loop-number.invariant.is_honest;
+    }
 
 pub examine-requires-clause-ahead : goal.examine-requires-clause-ahead
 examine-requires-clause-ahead g c κs within =
