@@ -14,6 +14,7 @@ ghost use Rattle.bk_compact.specs.Going.{CopiesAll, CopiesEntry, ExaminesOne, Is
 
 use crate::scanning::scan_from;
 use bk_disk::LogDisk;
+use bk_index::Near;
 use bk_log::{FetchFault, Found, LogFault, ScanFault, Scanner, fetch};
 use bk_record::{Key, Location, key_of};
 use bk_store::{Job, LogState, Move, Store};
@@ -62,12 +63,13 @@ pub(crate) fn copy_entries<D: LogDisk>(
     let Some(mut scanner) = scan_from(view, store.alloc(), job.at()) else {
         return Err(odd(store, job));
     };
+    let mut near = Near::start();
     let mut copied = 0;
     for _number in 0..count {
         store.promise();
         match scanner.next() {
             Ok(None) => return Ok(copied),
-            Ok(Some(found)) => match examine(store, view, &scanner, job, &found) {
+            Ok(Some(found)) => match examine(store, view, &scanner, &mut near, job, &found) {
                 Ok(is_copied) => {
                     if is_copied {
                         copied += 1;
@@ -91,6 +93,7 @@ fn examine<D: LogDisk>(
     store: &mut Store<D>,
     view: &D::View,
     scanner: &Scanner<'_, D::View>,
+    near: &mut Near,
     job: &mut Job,
     found: &Found,
 ) -> Result<bool, Stopped>
@@ -109,7 +112,7 @@ fn examine<D: LogDisk>(
         return Err(odd(store, job));
     }
     let from = Location::pack(job.source(), found.at as u32).unwrap();
-    let named = is_sent(store, found.key, from);
+    let named = is_sent(store, near, found.key, from);
     if named {
         copy_entry(store, view, scanner, job, found, from)?;
     }
@@ -117,12 +120,13 @@ fn examine<D: LogDisk>(
     Ok(named)
 }
 
-/// Whether the index sends the key to this place.
-fn is_sent<D: LogDisk>(store: &Store<D>, key: Key, place: Location) -> bool
+/// Whether the index sends the key to this place. Entries mostly stand in the order of their keys, so each is looked for
+/// beside the one before.
+fn is_sent<D: LogDisk>(store: &Store<D>, near: &mut Near, key: Key, place: Location) -> bool
     ensures sent { IsTrue result → finite.get store.now.index key ≡ Some place }
     ensures unsent { finite.get store.now.index key ≡ Some place → IsTrue result }
 {
-    match store.index().get(&key) {
+    match store.index().get_near(&key, near) {
         Some(at) => at.log() == place.log() && at.at() == place.at(),
         None => false,
     }
