@@ -49,7 +49,7 @@ pub fn write_one<D: LogDisk>(store: &mut Store<D>) -> Result<WriteAnswer, StepFa
     };
     let size = payload.len();
     // The entry that was found is held while a log is made ready, so that it is not searched for again.
-    let held = payload.clone();
+    let held: Result<_, _> = payload.clone();
     let log = ready(store, size)?;
     let Ok(payload) = held else {
         return Err(StepFault::Memory { done: 0 });
