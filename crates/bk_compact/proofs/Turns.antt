@@ -30,7 +30,7 @@ use Rattle.bk_compact.specs.declared.entries.Stopped.TheVariants as stops
 use Rattle.bk_step.specs.Faults.{TellsItsCause}
 use Rattle.bk_compact.specs.Compacting.{AreFound, CopyTurn, Copies, EndTurn, Examines, ExaminesAll, HasUnsoundSource}
 use Rattle.bk_compact.specs.Compacting.{IsRunning, SourceFails, Steps, TellsFailures, entries_left, with_job}
-use Rattle.bk_compact.specs.Going.{CopiesAll, IsAtEnd, IsCopying, IsOut, told_unread}
+use Rattle.bk_compact.specs.Going.{CopiesAll, CopiesNext, IsAtEnd, IsCopying, IsOut, told_unread}
 use Rattle.bk_compact.proofs.Stored.{kept_job}
 
 -- ---- a job that runs
@@ -131,6 +131,33 @@ unbegun s job n = record { founds = []; bound = omega arith; first = λ _. tt; e
 
 pub back_same : (s : State) (job : Job) → s.job ≡ Some job → s ≡ with_job s (Some job)
 back_same s job runs = ap (λ j. with_job s j) runs
+
+-- no entry is left, or none was to be examined
+module _ (s : State) (job : Job) (running : IsRunning s Copy job) (n : ℕ) where
+  pub none_turn : (mid : State) (after : Job) (t : State) → CopiesNext (with_job s None) job n (Ok None) mid after → t ≡ with_job mid (Some after)
+      → CopyTurn s n (Ok copies.AtEnd) t
+  none_turn mid after t next back = (
+    job,
+    running,
+    next.0,
+    back ∙ (λ i. with_job (next.1 i) (Some (next.2 i))) ∙ sym (back_same s job running.runs),
+  )
+
+  pub nothing_turn : n ≡ 0 → IsAtEnd s job false → CopyTurn s n (Ok (copies.Copied 0)) s
+  unfolding unbegun
+  nothing_turn zero left = (
+    job,
+    running,
+    (
+      with_job s None,
+      (
+        job,
+        (unbegun s job n, λ honest. subst (λ (k : ℕ). AreFound (take k (entries_left s job)) []) (sym zero) tt),
+        left,
+        back_same s job running.runs,
+      ),
+    ),
+  )
 
 -- the copying did not begin
 module _ (s : State) (job : Job) (running : IsRunning s Copy job) (n : ℕ) where

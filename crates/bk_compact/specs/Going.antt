@@ -142,6 +142,12 @@ CopiesAll s job n (Err stops.Odd) t after = (s.honest ≡ false) × ((copied : �
     × (SetTurn mid job.copy Readable t
     ⊎ ((found : Found) × ((payload : List ℕ) × Copies mid last found payload (Err log_faults.Odd) t))))))
 
+-- What examining so many entries, one at least, answers: none where no entry is left, which leaves all as it was.
+abbrev pub CopiesNext : State → Job → ℕ → Result (Option ℕ) Stopped → State → Job → Type 0
+CopiesNext s job n (Ok None) t after = IsAtEnd s job true × (t ≡ s) × (after ≡ job) × IsOut t after
+CopiesNext s job n (Ok (Some k)) t after = CopiesAll s job n (Ok k) t after × IsAtEnd s job false
+CopiesNext s job n (Err stopped) t after = CopiesAll s job n (Err stopped) t after
+
 -- ---- switching
 
 -- the next moves of the job were taken, so many or all that wait

@@ -10,7 +10,7 @@ ghost use Rattle.bk_store.specs.Logs.{last_view, open_parts, view_of};
 ghost use Rattle.bk_store.specs.declared.log.LogState.TheVariants.{Copying as CopyingState, Readable as ReadableState};
 ghost use Rattle.bk_store.specs.Meaning.{KeepsMeaning};
 ghost use Rattle.bk_compact.specs.Compacting.{behind, place_of};
-ghost use Rattle.bk_compact.specs.Going.{CopiesAll, CopiesEntry, ExaminesOne, IsAhead, IsCopying, IsEntry, IsScanOf, told_after, told_put};
+ghost use Rattle.bk_compact.specs.Going.{CopiesEntry, CopiesNext, ExaminesOne, IsAhead, IsCopying, IsEntry, IsScanOf, told_after, told_put};
 
 use crate::scanning::scan_from;
 use bk_disk::LogDisk;
@@ -46,17 +46,18 @@ impl Stopped {
     }
 }
 
-/// Examines so many entries of what a view of the source shows, from the job's position on, or those that are left, and
-/// answers how many were copied.
+/// Examines so many entries, at least one, of what a view of the source shows, from the job's position on, or those that are
+/// left, and answers how many were copied; `None` where no entry is left.
 pub(crate) fn copy_entries<D: LogDisk>(
     store: &mut Store<D>,
     view: &D::View,
     job: &mut Job,
     count: u64,
-) -> Result<u64, Stopped>
+) -> Result<Option<u64>, Stopped>
+    requires some { 1 ≤ count }
     requires copying { IsCopying store.old job.old }
     requires view { last_view store.old.logs job.old.source ≡ Some (view_of D.View.bytes D.View.honest D.View.sound view.now) }
-    ensures turn { CopiesAll store.old job.old count result store.new job.new }
+    ensures turn { CopiesNext store.old job.old count result store.new job.new }
     ensures stays { KeepsMeaning store.old store.new }
 {
     store.promise();
@@ -65,10 +66,15 @@ pub(crate) fn copy_entries<D: LogDisk>(
     };
     let mut near = Near::start();
     let mut copied = 0;
-    for _number in 0..count {
+    for number in 0..count {
         store.promise();
         match scanner.next() {
-            Ok(None) => return Ok(copied),
+            Ok(None) => {
+                if number == 0 {
+                    return Ok(None);
+                }
+                return Ok(Some(copied));
+            }
             Ok(Some(found)) => match examine(store, view, &scanner, &mut near, job, &found) {
                 Ok(is_copied) => {
                     if is_copied {
@@ -84,7 +90,7 @@ pub(crate) fn copy_entries<D: LogDisk>(
         }
     }
     store.promise();
-    Ok(copied)
+    Ok(Some(copied))
 }
 
 /// Copies an entry of the source where the index sends its key there, and answers whether it did. The job has come behind

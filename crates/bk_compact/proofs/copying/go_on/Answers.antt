@@ -1,4 +1,4 @@
-use Rattle.std.proofs.Common.{◌≡◌, ℕ, IsTrue, Some, None, Result, Ok, Err, refl, sym, ap, subst, ◌∙◌}
+use Rattle.std.proofs.Common.{◌≡◌, ℕ, IsTrue, Option, Some, None, Result, Ok, Err, refl, sym, ap, subst, ◌∙◌}
 use Rattle.std.proofs.lemmas.Option.{same_Some}
 use Rattle.bk_store.specs.State.{State}
 use Rattle.bk_store.specs.Logs.{last_view, view_of}
@@ -10,56 +10,90 @@ use Rattle.bk_step.specs.declared.fault.StepFault.TheVariants as step_faults
 use Rattle.bk_compact.specs.declared.entries.Stopped.{Stopped}
 use Rattle.bk_compact.specs.declared.entries.Stopped.TheVariants as stops
 use Rattle.bk_compact.specs.Compacting.{CopyTurn, with_job}
-use Rattle.bk_compact.specs.Going.{CopiesAll, IsCopying}
-use Rattle.bk_compact.proofs.Turns.{taken_copying, refused_turn, copied_turn, memory_turn, unread_turn}
+use Rattle.bk_compact.specs.Going.{CopiesAll, CopiesNext, IsCopying}
+use Rattle.bk_compact.proofs.Turns.{taken_copying, refused_turn, copied_turn, none_turn, memory_turn, unread_turn}
 use Rattle.bk_compact.proofs.Turns.{failed_turn, odd_turn, copy_caused, failed_once, never_unsound}
 use Rattle.bk_compact.proofs.copying.go_on.Goals as goal
 
 pub returns-in_default-clone-clause-turn : goal.returns-in_default-clone-clause-turn
-returns-in_default-clone-clause-turn g c = refused_turn c.args.store.now c.requires.0 c.requires.1 c.args.count
+returns-in_default-clone-clause-turn g c = refused_turn c.args.store.now c.requires.runs.0 c.requires.runs.1 c.args.count
 
 pub copy_entries-requires-clause-copying : goal.copy_entries-requires-clause-copying
 copy_entries-requires-clause-copying g c κs within =
     let s = c.args.store.now in
-    let job = c.requires.0 in
+    let job = c.requires.runs.0 in
     let out : c.take_job.new.self ≡ with_job s None = c.take_job.ensures.left in
-    let same : c.in-Some-take_job.job ≡ job = same_Some c.in-Some-take_job.job job (sym c.in-Some-take_job.is ∙ c.take_job.ensures.job ∙ c.requires.1.runs) in
-    subst (IsCopying c.take_job.new.self) (sym same) (taken_copying s c.promise.ensures job c.requires.1 c.take_job.new.self out)
+    let same : c.in-Some-take_job.job ≡ job = same_Some c.in-Some-take_job.job job (sym c.in-Some-take_job.is ∙ c.take_job.ensures.job ∙ c.requires.runs.1.runs) in
+    subst (IsCopying c.take_job.new.self) (sym same) (taken_copying s c.promise.ensures job c.requires.runs.1 c.take_job.new.self out)
 
-pub returns-in-Ok-copy_entries-clause-turn : goal.returns-in-Ok-copy_entries-clause-turn
-returns-in-Ok-copy_entries-clause-turn g c =
+pub returns-in-Ok-None-clause-turn : goal.returns-in-Ok-None-clause-turn
+returns-in-Ok-None-clause-turn g c =
     let s = c.args.store.now in
-    let job = c.requires.0 in
+    let job = c.requires.runs.0 in
     let out : c.take_job.new.self ≡ with_job s None = c.take_job.ensures.left in
-    let same : c.in-Some-take_job.job ≡ job = same_Some c.in-Some-take_job.job job (sym c.in-Some-take_job.is ∙ c.take_job.ensures.job ∙ c.requires.1.runs) in
-    let all : CopiesAll (with_job s None) job c.args.count (Ok c.in-Ok-copy_entries.copied) c.copy_entries.new.store c.copy_entries.new.job =
-    subst (λ (j : Job). CopiesAll (with_job s None) j c.args.count (Ok c.in-Ok-copy_entries.copied) c.copy_entries.new.store c.copy_entries.new.job) same
-    (subst (λ (u : State). CopiesAll u c.in-Some-take_job.job c.args.count (Ok c.in-Ok-copy_entries.copied) c.copy_entries.new.store c.copy_entries.new.job) out
-    c.in-Ok-copy_entries.ensures.turn) in
-    let turn = copied_turn s job c.requires.1 c.args.count c.copy_entries.new.store c.copy_entries.new.job c.set_job.new.self
-    c.in-Ok-copy_entries.copied c.requires.2 all c.set_job.ensures in
+    let same : c.in-Some-take_job.job ≡ job =
+    same_Some c.in-Some-take_job.job job (sym c.in-Some-take_job.is ∙ c.take_job.ensures.job ∙ c.requires.runs.1.runs) in
+    let next : CopiesNext (with_job s None) job c.args.count (Ok None) c.copy_entries.new.store c.copy_entries.new.job =
+    subst (λ (j : Job). CopiesNext (with_job s None) j c.args.count (Ok None) c.copy_entries.new.store c.copy_entries.new.job) same
+    (subst (λ (u : State). CopiesNext u c.in-Some-take_job.job c.args.count (Ok None) c.copy_entries.new.store c.copy_entries.new.job) out
+    (subst (λ (o : Option ℕ). CopiesNext c.take_job.new.self c.in-Some-take_job.job c.args.count (Ok o) c.copy_entries.new.store
+    c.copy_entries.new.job) c.in-Ok-None.field-0-is c.in-Ok-None.ensures.turn)) in
+    let turn = none_turn s job c.requires.runs.1 c.args.count c.copy_entries.new.store c.copy_entries.new.job c.set_job.new.self next c.set_job.ensures in
     turn
 
-pub returns-in-Ok-copy_entries-clause-sound : goal.returns-in-Ok-copy_entries-clause-sound
-returns-in-Ok-copy_entries-clause-sound g c = λ _.
+pub returns-in-Ok-None-clause-sound : goal.returns-in-Ok-None-clause-sound
+returns-in-Ok-None-clause-sound g c = λ _.
     let s = c.args.store.now in
-    let job = c.requires.0 in
+    let job = c.requires.runs.0 in
     let out : c.take_job.new.self ≡ with_job s None = c.take_job.ensures.left in
-    let same : c.in-Some-take_job.job ≡ job = same_Some c.in-Some-take_job.job job (sym c.in-Some-take_job.is ∙ c.take_job.ensures.job ∙ c.requires.1.runs) in
-    let all : CopiesAll (with_job s None) job c.args.count (Ok c.in-Ok-copy_entries.copied) c.copy_entries.new.store c.copy_entries.new.job =
-    subst (λ (j : Job). CopiesAll (with_job s None) j c.args.count (Ok c.in-Ok-copy_entries.copied) c.copy_entries.new.store c.copy_entries.new.job) same
-    (subst (λ (u : State). CopiesAll u c.in-Some-take_job.job c.args.count (Ok c.in-Ok-copy_entries.copied) c.copy_entries.new.store c.copy_entries.new.job) out
-    c.in-Ok-copy_entries.ensures.turn) in
-    let turn = copied_turn s job c.requires.1 c.args.count c.copy_entries.new.store c.copy_entries.new.job c.set_job.new.self
-    c.in-Ok-copy_entries.copied c.requires.2 all c.set_job.ensures in
-    copy_caused s c.args.count (Ok (copies.Copied c.in-Ok-copy_entries.copied)) c.set_job.new.self turn (λ wrong. cc)
+    let same : c.in-Some-take_job.job ≡ job =
+    same_Some c.in-Some-take_job.job job (sym c.in-Some-take_job.is ∙ c.take_job.ensures.job ∙ c.requires.runs.1.runs) in
+    let next : CopiesNext (with_job s None) job c.args.count (Ok None) c.copy_entries.new.store c.copy_entries.new.job =
+    subst (λ (j : Job). CopiesNext (with_job s None) j c.args.count (Ok None) c.copy_entries.new.store c.copy_entries.new.job) same
+    (subst (λ (u : State). CopiesNext u c.in-Some-take_job.job c.args.count (Ok None) c.copy_entries.new.store c.copy_entries.new.job) out
+    (subst (λ (o : Option ℕ). CopiesNext c.take_job.new.self c.in-Some-take_job.job c.args.count (Ok o) c.copy_entries.new.store
+    c.copy_entries.new.job) c.in-Ok-None.field-0-is c.in-Ok-None.ensures.turn)) in
+    let turn = none_turn s job c.requires.runs.1 c.args.count c.copy_entries.new.store c.copy_entries.new.job c.set_job.new.self next c.set_job.ensures in
+    copy_caused s c.args.count (Ok copies.AtEnd) c.set_job.new.self turn (λ wrong. cc)
+
+pub returns-in-Ok-Some-clause-turn : goal.returns-in-Ok-Some-clause-turn
+returns-in-Ok-Some-clause-turn g c =
+    let s = c.args.store.now in
+    let job = c.requires.runs.0 in
+    let out : c.take_job.new.self ≡ with_job s None = c.take_job.ensures.left in
+    let same : c.in-Some-take_job.job ≡ job =
+    same_Some c.in-Some-take_job.job job (sym c.in-Some-take_job.is ∙ c.take_job.ensures.job ∙ c.requires.runs.1.runs) in
+    let next : CopiesNext (with_job s None) job c.args.count (Ok (Some c.in-Ok-Some.copied)) c.copy_entries.new.store c.copy_entries.new.job =
+    subst (λ (j : Job). CopiesNext (with_job s None) j c.args.count (Ok (Some c.in-Ok-Some.copied)) c.copy_entries.new.store c.copy_entries.new.job) same
+    (subst (λ (u : State). CopiesNext u c.in-Some-take_job.job c.args.count (Ok (Some c.in-Ok-Some.copied)) c.copy_entries.new.store c.copy_entries.new.job) out
+    (subst (λ (o : Option ℕ). CopiesNext c.take_job.new.self c.in-Some-take_job.job c.args.count (Ok o) c.copy_entries.new.store
+    c.copy_entries.new.job) c.in-Ok-Some.field-0-is c.in-Ok-Some.ensures.turn)) in
+    let turn = copied_turn s job c.requires.runs.1 c.args.count c.copy_entries.new.store c.copy_entries.new.job c.set_job-in-Ok-Some.new.self
+    c.in-Ok-Some.copied next.1 next.0 c.set_job-in-Ok-Some.ensures in
+    turn
+
+pub returns-in-Ok-Some-clause-sound : goal.returns-in-Ok-Some-clause-sound
+returns-in-Ok-Some-clause-sound g c = λ _.
+    let s = c.args.store.now in
+    let job = c.requires.runs.0 in
+    let out : c.take_job.new.self ≡ with_job s None = c.take_job.ensures.left in
+    let same : c.in-Some-take_job.job ≡ job =
+    same_Some c.in-Some-take_job.job job (sym c.in-Some-take_job.is ∙ c.take_job.ensures.job ∙ c.requires.runs.1.runs) in
+    let next : CopiesNext (with_job s None) job c.args.count (Ok (Some c.in-Ok-Some.copied)) c.copy_entries.new.store c.copy_entries.new.job =
+    subst (λ (j : Job). CopiesNext (with_job s None) j c.args.count (Ok (Some c.in-Ok-Some.copied)) c.copy_entries.new.store c.copy_entries.new.job) same
+    (subst (λ (u : State). CopiesNext u c.in-Some-take_job.job c.args.count (Ok (Some c.in-Ok-Some.copied)) c.copy_entries.new.store c.copy_entries.new.job) out
+    (subst (λ (o : Option ℕ). CopiesNext c.take_job.new.self c.in-Some-take_job.job c.args.count (Ok o) c.copy_entries.new.store
+    c.copy_entries.new.job) c.in-Ok-Some.field-0-is c.in-Ok-Some.ensures.turn)) in
+    let turn = copied_turn s job c.requires.runs.1 c.args.count c.copy_entries.new.store c.copy_entries.new.job c.set_job-in-Ok-Some.new.self
+    c.in-Ok-Some.copied next.1 next.0 c.set_job-in-Ok-Some.ensures in
+    copy_caused s c.args.count (Ok (copies.Copied c.in-Ok-Some.copied)) c.set_job-in-Ok-Some.new.self turn (λ wrong. cc)
 
 pub returns-in-Err-Memory-clause-turn : goal.returns-in-Err-Memory-clause-turn
 returns-in-Err-Memory-clause-turn g c =
     let s = c.args.store.now in
-    let job = c.requires.0 in
+    let job = c.requires.runs.0 in
     let out : c.take_job.new.self ≡ with_job s None = c.take_job.ensures.left in
-    let same : c.in-Some-take_job.job ≡ job = same_Some c.in-Some-take_job.job job (sym c.in-Some-take_job.is ∙ c.take_job.ensures.job ∙ c.requires.1.runs) in
+    let same : c.in-Some-take_job.job ≡ job = same_Some c.in-Some-take_job.job job (sym c.in-Some-take_job.is ∙ c.take_job.ensures.job ∙ c.requires.runs.1.runs) in
     let all : CopiesAll (with_job s None) job c.args.count (Err (stops.Memory c.in-Err-Memory.done)) c.copy_entries.new.store c.copy_entries.new.job =
     subst (λ (j : Job). CopiesAll (with_job s None) j c.args.count
     (Err (stops.Memory c.in-Err-Memory.done)) c.copy_entries.new.store c.copy_entries.new.job) same
@@ -67,16 +101,16 @@ returns-in-Err-Memory-clause-turn g c =
     (Err (stops.Memory c.in-Err-Memory.done)) c.copy_entries.new.store c.copy_entries.new.job) out
     (subst (λ (r : Stopped). CopiesAll c.take_job.new.self c.in-Some-take_job.job c.args.count
     (Err r) c.copy_entries.new.store c.copy_entries.new.job) c.in-Err-Memory.field-0-is c.in-Err-Memory.ensures.turn)) in
-    let turn = memory_turn s job c.requires.1 c.args.count c.copy_entries.new.store c.copy_entries.new.job c.set_job-in-Err-Memory.new.self
+    let turn = memory_turn s job c.requires.runs.1 c.args.count c.copy_entries.new.store c.copy_entries.new.job c.set_job-in-Err-Memory.new.self
     c.in-Err-Memory.done all c.set_job-in-Err-Memory.ensures in
     turn
 
 pub returns-in-Err-Memory-clause-sound : goal.returns-in-Err-Memory-clause-sound
 returns-in-Err-Memory-clause-sound g c = λ _.
     let s = c.args.store.now in
-    let job = c.requires.0 in
+    let job = c.requires.runs.0 in
     let out : c.take_job.new.self ≡ with_job s None = c.take_job.ensures.left in
-    let same : c.in-Some-take_job.job ≡ job = same_Some c.in-Some-take_job.job job (sym c.in-Some-take_job.is ∙ c.take_job.ensures.job ∙ c.requires.1.runs) in
+    let same : c.in-Some-take_job.job ≡ job = same_Some c.in-Some-take_job.job job (sym c.in-Some-take_job.is ∙ c.take_job.ensures.job ∙ c.requires.runs.1.runs) in
     let all : CopiesAll (with_job s None) job c.args.count (Err (stops.Memory c.in-Err-Memory.done)) c.copy_entries.new.store c.copy_entries.new.job =
     subst (λ (j : Job). CopiesAll (with_job s None) j c.args.count
     (Err (stops.Memory c.in-Err-Memory.done)) c.copy_entries.new.store c.copy_entries.new.job) same
@@ -84,37 +118,37 @@ returns-in-Err-Memory-clause-sound g c = λ _.
     (Err (stops.Memory c.in-Err-Memory.done)) c.copy_entries.new.store c.copy_entries.new.job) out
     (subst (λ (r : Stopped). CopiesAll c.take_job.new.self c.in-Some-take_job.job c.args.count
     (Err r) c.copy_entries.new.store c.copy_entries.new.job) c.in-Err-Memory.field-0-is c.in-Err-Memory.ensures.turn)) in
-    let turn = memory_turn s job c.requires.1 c.args.count c.copy_entries.new.store c.copy_entries.new.job c.set_job-in-Err-Memory.new.self
+    let turn = memory_turn s job c.requires.runs.1 c.args.count c.copy_entries.new.store c.copy_entries.new.job c.set_job-in-Err-Memory.new.self
     c.in-Err-Memory.done all c.set_job-in-Err-Memory.ensures in
     copy_caused s c.args.count (Err (step_faults.Memory c.in-Err-Memory.done)) c.set_job-in-Err-Memory.new.self turn (λ wrong. cc)
 
 pub returns-in-Err-Unread-clause-turn : goal.returns-in-Err-Unread-clause-turn
 returns-in-Err-Unread-clause-turn g c =
     let s = c.args.store.now in
-    let job = c.requires.0 in
+    let job = c.requires.runs.0 in
     let out : c.take_job.new.self ≡ with_job s None = c.take_job.ensures.left in
-    let same : c.in-Some-take_job.job ≡ job = same_Some c.in-Some-take_job.job job (sym c.in-Some-take_job.is ∙ c.take_job.ensures.job ∙ c.requires.1.runs) in
+    let same : c.in-Some-take_job.job ≡ job = same_Some c.in-Some-take_job.job job (sym c.in-Some-take_job.is ∙ c.take_job.ensures.job ∙ c.requires.runs.1.runs) in
     let all : CopiesAll (with_job s None) job c.args.count (Err stops.Unread) c.copy_entries.new.store c.copy_entries.new.job =
     subst (λ (j : Job). CopiesAll (with_job s None) j c.args.count (Err stops.Unread) c.copy_entries.new.store c.copy_entries.new.job) same
     (subst (λ (u : State). CopiesAll u c.in-Some-take_job.job c.args.count (Err stops.Unread) c.copy_entries.new.store c.copy_entries.new.job) out
     (subst (λ (r : Stopped). CopiesAll c.take_job.new.self c.in-Some-take_job.job c.args.count
     (Err r) c.copy_entries.new.store c.copy_entries.new.job) c.in-Err-Unread.field-0-is c.in-Err-Unread.ensures.turn)) in
-    let turn = unread_turn s job c.requires.1 c.args.count c.copy_entries.new.store c.copy_entries.new.job c.set_job-in-Err-Unread.new.self all
+    let turn = unread_turn s job c.requires.runs.1 c.args.count c.copy_entries.new.store c.copy_entries.new.job c.set_job-in-Err-Unread.new.self all
     c.set_job-in-Err-Unread.ensures in
     turn
 
 pub returns-in-Err-Unread-clause-sound : goal.returns-in-Err-Unread-clause-sound
 returns-in-Err-Unread-clause-sound g c = λ sound.
     let s = c.args.store.now in
-    let job = c.requires.0 in
+    let job = c.requires.runs.0 in
     let out : c.take_job.new.self ≡ with_job s None = c.take_job.ensures.left in
-    let same : c.in-Some-take_job.job ≡ job = same_Some c.in-Some-take_job.job job (sym c.in-Some-take_job.is ∙ c.take_job.ensures.job ∙ c.requires.1.runs) in
+    let same : c.in-Some-take_job.job ≡ job = same_Some c.in-Some-take_job.job job (sym c.in-Some-take_job.is ∙ c.take_job.ensures.job ∙ c.requires.runs.1.runs) in
     let all : CopiesAll (with_job s None) job c.args.count (Err stops.Unread) c.copy_entries.new.store c.copy_entries.new.job =
     subst (λ (j : Job). CopiesAll (with_job s None) j c.args.count (Err stops.Unread) c.copy_entries.new.store c.copy_entries.new.job) same
     (subst (λ (u : State). CopiesAll u c.in-Some-take_job.job c.args.count (Err stops.Unread) c.copy_entries.new.store c.copy_entries.new.job) out
     (subst (λ (r : Stopped). CopiesAll c.take_job.new.self c.in-Some-take_job.job c.args.count
     (Err r) c.copy_entries.new.store c.copy_entries.new.job) c.in-Err-Unread.field-0-is c.in-Err-Unread.ensures.turn)) in
-    let own : c.in-Some.job.now ≡ job = same_Some c.in-Some.job.now job (c.in-Some.ensures ∙ c.requires.1.runs) in
+    let own : c.in-Some.job.now ≡ job = same_Some c.in-Some.job.now job (c.in-Some.ensures ∙ c.requires.runs.1.runs) in
     let last : last_view s.logs job.source
     ≡ Some (view_of g.D.View.LogView.bytes g.D.View.LogView.honest g.D.View.LogView.sound c.in-Some-log_view.view.now.value) =
     subst (λ (n : ℕ). last_view s.logs n
@@ -125,22 +159,22 @@ returns-in-Err-Unread-clause-sound g c = λ sound.
 pub returns-in-Err-Failed-clause-turn : goal.returns-in-Err-Failed-clause-turn
 returns-in-Err-Failed-clause-turn g c =
     let s = c.args.store.now in
-    let job = c.requires.0 in
+    let job = c.requires.runs.0 in
     let out : c.take_job.new.self ≡ with_job s None = c.take_job.ensures.left in
-    let same : c.in-Some-take_job.job ≡ job = same_Some c.in-Some-take_job.job job (sym c.in-Some-take_job.is ∙ c.take_job.ensures.job ∙ c.requires.1.runs) in
+    let same : c.in-Some-take_job.job ≡ job = same_Some c.in-Some-take_job.job job (sym c.in-Some-take_job.is ∙ c.take_job.ensures.job ∙ c.requires.runs.1.runs) in
     let all : CopiesAll (with_job s None) job c.args.count (Err stops.Failed) c.copy_entries.new.store c.copy_entries.new.job =
     subst (λ (j : Job). CopiesAll (with_job s None) j c.args.count (Err stops.Failed) c.copy_entries.new.store c.copy_entries.new.job) same
     (subst (λ (u : State). CopiesAll u c.in-Some-take_job.job c.args.count (Err stops.Failed) c.copy_entries.new.store c.copy_entries.new.job) out
     (subst (λ (r : Stopped). CopiesAll c.take_job.new.self c.in-Some-take_job.job c.args.count
     (Err r) c.copy_entries.new.store c.copy_entries.new.job) c.in-Err-Failed.field-0-is c.in-Err-Failed.ensures.turn)) in
-    failed_turn s job c.requires.1 c.args.count c.copy_entries.new.store c.copy_entries.new.job c.copy_entries.new.store all
+    failed_turn s job c.requires.runs.1 c.args.count c.copy_entries.new.store c.copy_entries.new.job c.copy_entries.new.store all
 
 pub returns-in-Err-Failed-clause-sound : goal.returns-in-Err-Failed-clause-sound
 returns-in-Err-Failed-clause-sound g c = λ _.
     let s = c.args.store.now in
-    let job = c.requires.0 in
+    let job = c.requires.runs.0 in
     let out : c.take_job.new.self ≡ with_job s None = c.take_job.ensures.left in
-    let same : c.in-Some-take_job.job ≡ job = same_Some c.in-Some-take_job.job job (sym c.in-Some-take_job.is ∙ c.take_job.ensures.job ∙ c.requires.1.runs) in
+    let same : c.in-Some-take_job.job ≡ job = same_Some c.in-Some-take_job.job job (sym c.in-Some-take_job.is ∙ c.take_job.ensures.job ∙ c.requires.runs.1.runs) in
     let all : CopiesAll (with_job s None) job c.args.count (Err stops.Failed) c.copy_entries.new.store c.copy_entries.new.job =
     subst (λ (j : Job). CopiesAll (with_job s None) j c.args.count (Err stops.Failed) c.copy_entries.new.store c.copy_entries.new.job) same
     (subst (λ (u : State). CopiesAll u c.in-Some-take_job.job c.args.count (Err stops.Failed) c.copy_entries.new.store c.copy_entries.new.job) out
@@ -151,27 +185,27 @@ returns-in-Err-Failed-clause-sound g c = λ _.
 pub returns-clause-turn : goal.returns-clause-turn
 returns-clause-turn g c =
     let s = c.args.store.now in
-    let job = c.requires.0 in
+    let job = c.requires.runs.0 in
     let out : c.take_job.new.self ≡ with_job s None = c.take_job.ensures.left in
-    let same : c.in-Some-take_job.job ≡ job = same_Some c.in-Some-take_job.job job (sym c.in-Some-take_job.is ∙ c.take_job.ensures.job ∙ c.requires.1.runs) in
+    let same : c.in-Some-take_job.job ≡ job = same_Some c.in-Some-take_job.job job (sym c.in-Some-take_job.is ∙ c.take_job.ensures.job ∙ c.requires.runs.1.runs) in
     let all : CopiesAll (with_job s None) job c.args.count (Err stops.Odd) c.copy_entries.new.store c.copy_entries.new.job =
     subst (λ (j : Job). CopiesAll (with_job s None) j c.args.count (Err stops.Odd) c.copy_entries.new.store c.copy_entries.new.job) same
     (subst (λ (u : State). CopiesAll u c.in-Some-take_job.job c.args.count (Err stops.Odd) c.copy_entries.new.store c.copy_entries.new.job) out
     (subst (λ (r : Stopped). CopiesAll c.take_job.new.self c.in-Some-take_job.job c.args.count
     (Err r) c.copy_entries.new.store c.copy_entries.new.job) c.in-Err-Odd.field-0-is c.in-Err-Odd.ensures.turn)) in
-    let turn = odd_turn s job c.requires.1 c.args.count c.copy_entries.new.store c.copy_entries.new.job c.copy_entries.new.store all in
+    let turn = odd_turn s job c.requires.runs.1 c.args.count c.copy_entries.new.store c.copy_entries.new.job c.copy_entries.new.store all in
     turn
 
 pub returns-clause-sound : goal.returns-clause-sound
 returns-clause-sound g c = λ _.
     let s = c.args.store.now in
-    let job = c.requires.0 in
+    let job = c.requires.runs.0 in
     let out : c.take_job.new.self ≡ with_job s None = c.take_job.ensures.left in
-    let same : c.in-Some-take_job.job ≡ job = same_Some c.in-Some-take_job.job job (sym c.in-Some-take_job.is ∙ c.take_job.ensures.job ∙ c.requires.1.runs) in
+    let same : c.in-Some-take_job.job ≡ job = same_Some c.in-Some-take_job.job job (sym c.in-Some-take_job.is ∙ c.take_job.ensures.job ∙ c.requires.runs.1.runs) in
     let all : CopiesAll (with_job s None) job c.args.count (Err stops.Odd) c.copy_entries.new.store c.copy_entries.new.job =
     subst (λ (j : Job). CopiesAll (with_job s None) j c.args.count (Err stops.Odd) c.copy_entries.new.store c.copy_entries.new.job) same
     (subst (λ (u : State). CopiesAll u c.in-Some-take_job.job c.args.count (Err stops.Odd) c.copy_entries.new.store c.copy_entries.new.job) out
     (subst (λ (r : Stopped). CopiesAll c.take_job.new.self c.in-Some-take_job.job c.args.count
     (Err r) c.copy_entries.new.store c.copy_entries.new.job) c.in-Err-Odd.field-0-is c.in-Err-Odd.ensures.turn)) in
-    let turn = odd_turn s job c.requires.1 c.args.count c.copy_entries.new.store c.copy_entries.new.job c.copy_entries.new.store all in
+    let turn = odd_turn s job c.requires.runs.1 c.args.count c.copy_entries.new.store c.copy_entries.new.job c.copy_entries.new.store all in
     copy_caused s c.args.count (Err step_faults.Odd) c.copy_entries.new.store turn (λ wrong. cc)
