@@ -159,6 +159,14 @@ module _ (s : State) (job : Job) (running : IsRunning s Copy job) (n : ℕ) wher
     ),
   )
 
+-- what examining entries answered, told of the job that ran before it was taken out
+pub told_next : (s out : State) (job taken : Job) (n : ℕ) (t : State) (after : Job) → out ≡ with_job s None → taken ≡ job
+    → (told result : Result (Option ℕ) Stopped) → told ≡ result → CopiesNext out taken n told t after → CopiesNext (with_job s None) job n result t after
+told_next s out job taken n t after is_out same told result is next =
+    subst (λ (j : Job). CopiesNext (with_job s None) j n result t after) same
+    (subst (λ (u : State). CopiesNext u taken n result t after) is_out
+    (subst (λ (r : Result (Option ℕ) Stopped). CopiesNext out taken n r t after) is next))
+
 -- the copying did not begin
 module _ (s : State) (job : Job) (running : IsRunning s Copy job) (n : ℕ) where
   pub refused_turn : CopyTurn s n (Err (step_faults.Memory 0)) s

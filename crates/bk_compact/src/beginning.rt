@@ -12,7 +12,7 @@ ghost use Rattle.bk_compact.specs.Going.{IsBetter, IsChoosing};
 use crate::{BeginAnswer, Kind};
 use bk_disk::LogDisk;
 use bk_step::StepFault;
-use bk_store::{Job, LogState, Store};
+use bk_store::{Job, LogState, Store, TakenJob};
 
 /// Begins a compaction, unless one runs: chooses the log to compact, and makes the log that its entries will be copied to.
 ///
@@ -41,7 +41,7 @@ pub fn begin<D: LogDisk>(store: &mut Store<D>, kind: Kind) -> Result<BeginAnswer
     match store.make_log(LogState::Copying) {
         Ok(copy) => {
             let job = Job::new(store.alloc(), source, copy);
-            store.set_job(job);
+            store.set_job(TakenJob { job });
             Ok(BeginAnswer::Chosen(source))
         }
         Err(fault) => Err(StepFault::of_make(fault)),

@@ -60,7 +60,7 @@ pub fn copy<D: LogDisk>(store: &mut Store<D>, count: u64) -> Result<CopyAnswer, 
     }
 }
 
-/// Takes the job out, copies, and gives the job back where it goes on.
+/// Takes the job out, copies, and gives the job back, or ends the compaction.
 fn go_on<D: LogDisk>(store: &mut Store<D>, count: u64) -> Result<CopyAnswer, StepFault>
     requires some { 1 ≤ count }
     requires runs { (job : JobState) × IsRunning store.old CopyPhase job }
@@ -78,27 +78,33 @@ fn go_on<D: LogDisk>(store: &mut Store<D>, count: u64) -> Result<CopyAnswer, Ste
     let Ok(view) = view.clone() else {
         return Err(StepFault::Memory { done: 0 });
     };
-    let Some(mut job) = store.take_job() else {
+    let Some(mut taken) = store.take_job() else {
         unreachable!();
     };
-    match copy_entries(store, &*view, &mut job, count) {
+    match copy_entries(store, &*view, &mut taken.job, count) {
         Ok(None) => {
-            store.set_job(job);
+            store.set_job(taken);
             Ok(CopyAnswer::AtEnd)
         }
         Ok(Some(copied)) => {
-            store.set_job(job);
+            store.set_job(taken);
             Ok(CopyAnswer::Copied(copied))
         }
         Err(Stopped::Memory(done)) => {
-            store.set_job(job);
+            store.set_job(taken);
             Err(StepFault::Memory { done })
         }
         Err(Stopped::Unread) => {
-            store.set_job(job);
+            store.set_job(taken);
             Err(StepFault::Disk)
         }
-        Err(Stopped::Failed) => Err(StepFault::Disk),
-        Err(Stopped::Odd) => Err(StepFault::Odd),
+        Err(Stopped::Failed) => {
+            taken.end();
+            Err(StepFault::Disk)
+        }
+        Err(Stopped::Odd) => {
+            taken.end();
+            Err(StepFault::Odd)
+        }
     }
 }

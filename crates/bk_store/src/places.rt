@@ -1,7 +1,7 @@
 //! Where the entries of the running flush were written. A flush writes in the order of its keys, so a place is only ever
 //! noted behind the others. Room for it is made before its record is written.
 
-ghost use Rattle.std.specs.Prelude.{◌≡◌, ◌<◌, OnOk};
+ghost use Rattle.std.specs.Prelude.{◌≡◌, ◌<◌, false, OnOk};
 ghost use Rattle.std.specs.FinMap as map;
 ghost use Rattle.bk_record.specs.Keyed.{without_ledger};
 ghost use Rattle.bk_store.specs.Placed.{last_key, IsBehind};
@@ -80,11 +80,24 @@ impl FlushPlaces {
         self.pairs.clear();
     }
 
-    /// Forgets the places of a ledger.
+    /// Forgets the places of a ledger. Where it has none no place is looked at but those on the way to where they would be.
     pub fn drop_ledger(&mut self, ledger: u64)
         ensures { self.new.places ≡ without_ledger self.old.places ledger }
     {
-        self.pairs.retain(|(key, _)| key.ledger() != ledger);
+        if self.has_ledger(ledger) {
+            self.pairs.retain(|(key, _)| key.ledger() != ledger);
+        }
+    }
+
+    // Whether an entry of the ledger has a place: those of one ledger stand side by side.
+    fn has_ledger(&self, ledger: u64) -> bool
+        ensures { result ≡ false → without_ledger self.now.places ledger ≡ self.now.places }
+    {
+        let first = self.pairs.partition_point(|(key, _)| key.ledger() < ledger);
+        match self.pairs.get(first) {
+            Some((key, _)) => key.ledger() == ledger,
+            None => false,
+        }
     }
 
     /// The pairs of a key and its place, in the order of the keys.
