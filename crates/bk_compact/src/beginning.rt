@@ -75,11 +75,13 @@ fn chosen<D: LogDisk>(store: &Store<D>, threshold: u32) -> Option<u32>
 
 /// The better one of the best log so far and the next one that is held.
 fn best_of<D: LogDisk>(store: &Store<D>, threshold: u32, best: Option<u32>, log: u32) -> Option<u32>
-    requires { IfSome best (IsCandidate store.now) }
+    requires held { IsSome (finite.get store.now.logs log) }
+    requires best { IfSome best (IsCandidate store.now) }
     ensures { (from : ℕ) → IsNextHeld store.now.logs from (Some log) → IsChoosing store.now threshold from best
         → IsChoosing store.now threshold (log + 1) result }
 {
-    if is_candidate(store, log) && is_better(store, threshold, best, log) {
+    // Few logs are used that little, so that is asked first.
+    if is_better(store, threshold, best, log) && is_candidate(store, log) {
         Some(log)
     } else {
         best
