@@ -1,25 +1,29 @@
 -- The pairs of ledger and entry that stand beside the table of recent entries, after each change of both.
 use Rattle.std.proofs.Common.{◌≡◌, ℕ, zero, suc, ◌-◌, ◌<◌, ◌≤◌, Bool, true, false, cond, not, ◌==◌, ◌&&◌, List, [], ◌∷◌, take, Option, Some, None, IfSome, IsSome}
-use Rattle.std.proofs.Common.{option_map, slice_get, nat_cmp, refl, sym, ap, subst, ◌∙◌, arith}
+use Rattle.std.proofs.Common.{option_map, is_some, slice_get, nat_cmp, refl, sym, ap, subst, ◌∙◌, arith}
 use Rattle.std.specs.declared.cmp.Ordering.{Ordering}
 use Rattle.std.specs.declared.cmp.Ordering.TheVariants.{Less, Equal, Greater}
 use Rattle.std.specs.declared.ops.Bound.TheVariants.{Included, Unbounded}
 use Rattle.std.specs.Ordering.{ordering_then, is_eq, is_gt}
 use Rattle.std.specs.Cmp.{nat_cmp_total, tied_itself, unsigned_tied}
-use Rattle.std.specs.List.{AllByRecursion, IsDistinct, filter}
+use Rattle.std.specs.List.{AllByRecursion, IsDistinct, filter, list_any}
 use Rattle.std.specs.Option.{option_map_or}
 use Rattle.std.specs.Map.{keys_of, lookup, lookup_entry, remove_entry}
+use Rattle.std.specs.BTreeMap.{is_at}
 use Rattle.std.specs.BTreeMap.Range.{IsLeBy}
 use Rattle.std.specs.BTreeSet.{BTreeSet, contains, Updates, IsKeyInRange, IsKeyRangeOf}
 use Rattle.std.proofs.lemmas.Bool.{and_parts, eqb-true, eq-eqb, false≢true, false_from_ne_true}
 use Rattle.std.proofs.lemmas.Cmp.{ranked}
 use Rattle.std.proofs.lemmas.Map.Keys.{IsDistinct-head, IsDistinct-tail}
-use Rattle.lru.specs.LruCache.{LruCache, displaced, put_entries}
+use Rattle.std.proofs.lemmas.Map.Made.{lookup-map_values}
+use Rattle.lru.specs.LruCache.{LruCache, lru_cache, displaced, put_entries}
 use Rattle.lru.proofs.CallerLemmas.{Contains-lookup_entry}
 use Rattle.lru.proofs.Pairs.{lookup-lookup_entry}
 use Rattle.bk_record.specs.Key.{EntryKey}
 use Rattle.bk_record.proofs.SortedPairs.{Some-same}
-use Rattle.bk_cache.specs.Recents.{same_key, pair_cmp, AreListed}
+use Rattle.bk_cache.specs.Recents.{Recents, same_key, recent_of, without_recent, pair_cmp, AreListed}
+use Rattle.bk_cache.proofs.Options.{is_some-option_map}
+use Rattle.bk_cache.proofs.Seen.{seen, filter-seen}
 use Rattle.bk_cache.proofs.RecentPuts.{same_key_exact}
 
 -- ---- the order of pairs
@@ -61,7 +65,7 @@ ledger-le a b in_order =
 -- the pairs from a ledger's least on
 module _ (pairs : BTreeSet (ℕ × ℕ)) (found : List (ℕ × ℕ)) (ledger : ℕ) (range : IsKeyRangeOf pair_cmp (Included (ledger, 0)) Unbounded pairs found) where
   -- where there is none, none is of the ledger
-  pub none_first : slice_get found 0 ≡ None → (entry : ℕ) → contains pair_cmp pairs (ledger, entry) ≡ false
+  pub none_first : found ≡ [] → (entry : ℕ) → contains pair_cmp pairs (ledger, entry) ≡ false
   none_first none entry = range.5 none (ledger, entry) (from_least ledger entry, tt)
 
   -- where the first is of another ledger, none is of this one
@@ -178,6 +182,12 @@ module _ {X : Type 0} where
       each (λ e. contains pair_cmp pairs (pair_of e.0) ≡ true) (λ e. contains pair_cmp more (pair_of e.0) ≡ true)
       (λ e there. comes_others pairs more pair comes (pair_of e.0) there) es listed
 
+  -- the same pairs
+  pub listed_same : (es : List (EntryKey × X)) (pairs new : BTreeSet (ℕ × ℕ)) → AreListed es pairs → new.keys ≡ pairs.keys → AreListed es new
+  listed_same es pairs new listed same =
+      each (λ e. contains pair_cmp pairs (pair_of e.0) ≡ true) (λ e. contains pair_cmp new (pair_of e.0) ≡ true)
+      (λ e there. ap (list_any (is_at (pair_cmp (pair_of e.0)))) same ∙ there) es listed
+
   -- a pair of no entry comes and goes again
   pub listed_again : (es : List (EntryKey × X)) (pairs more less : BTreeSet (ℕ × ℕ)) (pair : ℕ × ℕ) → AreListed es pairs
       → contains pair_cmp pairs pair ≡ false → Updates pair_cmp pairs more pair true → Updates pair_cmp more less pair false → AreListed es less
@@ -238,6 +248,9 @@ module _ {X : Type 0} where
               each_removed (λ e. contains pair_cmp more (pair_of e.0) ≡ true) (same_key key) c.entries listed,
             )
 
+    pub listed_in : (new : LruCache EntryKey X) → new ≡ lru_cache (put_entries same_key c key payload) c.cap → AreListed new.entries more
+    listed_in new is = subst (λ (t : LruCache EntryKey X). AreListed t.entries more) (sym is) listed_put
+
     -- and where another went for it, that one's pair may go
     module _ (less : BTreeSet (ℕ × ℕ)) (distinct : IsDistinct same_key (keys_of c.entries)) (gone : EntryKey × X)
         (went : displaced same_key c key payload ≡ Some gone)
@@ -278,3 +291,40 @@ module _ {X : Type 0} where
                     (λ f. all (pair_of f.0)) (remove_entry (same_key key) c.entries)
                     (each_removed (λ f. contains pair_cmp more (pair_of f.0) ≡ true) (same_key key) c.entries listed),
               )
+
+      pub listed_pushed_in : (new : LruCache EntryKey X) → new ≡ lru_cache (put_entries same_key c key payload) c.cap → AreListed new.entries less
+      listed_pushed_in new is = subst (λ (t : LruCache EntryKey X). AreListed t.entries less) (sym is) listed_pushed
+
+-- one entry of a ledger was taken out, and its pair
+module _ {X : Type 0} (initial old new : LruCache EntryKey X) (pairs less : BTreeSet (ℕ × ℕ)) (ledger entry : ℕ) where
+  pub one_dropped : new ≡ lru_cache (remove_entry (same_key (record { ledger = ledger; entry = entry })) old.entries) old.cap
+      → IsDistinct same_key (keys_of old.entries) → Updates pair_cmp pairs less (ledger, entry) false → AreListed old.entries pairs
+      → filter (λ e. not (e.0.ledger == ledger)) old.entries ≡ filter (λ e. not (e.0.ledger == ledger)) initial.entries → old.cap ≡ initial.cap
+      → AreListed new.entries less × (filter (λ e. not (e.0.ledger == ledger)) new.entries ≡ filter (λ e. not (e.0.ledger == ledger)) initial.entries)
+      × (new.cap ≡ initial.cap)
+  one_dropped is distinct goes listed same cap =
+      let key : EntryKey = record { ledger = ledger; entry = entry } in (
+        subst (λ (t : LruCache EntryKey X). AreListed t.entries less) (sym is) (listed_less old.entries pairs less key listed distinct goes),
+        ap (λ (t : LruCache EntryKey X). filter (λ e. not (e.0.ledger == ledger)) t.entries) is
+            ∙ filter_removed (λ k. not (k.ledger == ledger)) key old.entries (ap not (eq-eqb ledger ledger refl)) ∙ same,
+        ap (λ (t : LruCache EntryKey X). t.cap) is ∙ cap,
+      )
+
+-- all of a ledger were, where f reads the payloads
+pub all_dropped : {X : Type 0} (f : X → List ℕ) (initial last : LruCache EntryKey X) (now : Recents) (ledger : ℕ)
+    → record { entries = seen f initial.entries; most = initial.cap } ≡ now → filter (λ e. not (e.0.ledger == ledger)) last.entries ≡ last.entries
+    → filter (λ e. not (e.0.ledger == ledger)) last.entries ≡ filter (λ e. not (e.0.ledger == ledger)) initial.entries → last.cap ≡ initial.cap
+    → record { entries = seen f last.entries; most = last.cap } ≡ without_recent now ledger
+all_dropped f initial last now ledger seen_now stays same cap =
+    let left = sym stays ∙ same in
+    (λ i. record { entries = seen f (left i); most = cap i })
+    ∙ ap (λ es. record { entries = es; most = initial.cap }) (sym (filter-seen f (λ key. not (key.ledger == ledger)) initial.entries))
+    ∙ ap (λ r. without_recent r ledger) seen_now
+
+-- a recent entry has its pair, where f reads the payloads
+pub recent_listed : {X : Type 0} (f : X → List ℕ) (c : LruCache EntryKey X) (pairs : BTreeSet (ℕ × ℕ)) (key : EntryKey) (now : Recents)
+    → record { entries = seen f c.entries; most = c.cap } ≡ now → AreListed c.entries pairs → IsSome (recent_of now key)
+    → contains pair_cmp pairs (pair_of key) ≡ true
+recent_listed f c pairs key now seen_now listed held =
+    found_listed c.entries pairs key listed (sym (is_some-option_map f (lookup (same_key key) c.entries))
+    ∙ ap is_some (sym (lookup-map_values f (same_key key) c.entries)) ∙ ap (λ r. is_some (recent_of r key)) seen_now ∙ held)

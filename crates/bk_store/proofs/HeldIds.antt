@@ -40,6 +40,10 @@ module _ {X : Type 0} (m : BTreeMap ℕ X) (table : finite.FinMap nat_cmp X) (vi
             (ranged.2 other (not_gt from other above, tt) (ap is_some (sym (same_at other)) ∙ there)),
       )
 
+  -- the id itself, where its log is held
+  pub here_first : is_some (tree.get nat_cmp m from) ≡ true → IsNextHeld table from (Some from)
+  here_first there = (ap is_some (same_at from) ∙ there, omega arith, λ other held above. above)
+
 -- the id of a log that is held is one of a log
 pub held_from : (p : Parts) → Fits p → (from : ℕ) (o : Option ℕ) → IsNextHeld p.state.logs from o → IfSome o (λ id. id < 2147483648)
 held_from p fits from None is = tt
