@@ -1,12 +1,11 @@
 -- Places in the order of their keys, of which none is a ledger's.
-use Rattle.std.proofs.Common.{◌≡◌, ◌≢◌, ℕ, zero, suc, ◌<◌, true, false, ltb, not, ◌==◌, List, [], ◌∷◌, length, get_or, IfSome, IsTrue, slice_get, refl, sym, ap, subst, ◌∙◌}
+use Rattle.std.proofs.Common.{◌≡◌, ◌≢◌, ℕ, zero, suc, ◌<◌, true, false, ltb, not, ◌==◌, List, [], ◌∷◌, length, get_or, IsTrue, refl, sym, ap, ◌∙◌}
 use Rattle.std.proofs.Common.{arith}
 use Rattle.std.specs.List.{filter}
 use Rattle.std.specs.List.Sorted.{IsNonDecreasingBy, IsPartitionPoint}
 use Rattle.std.specs.FinMap as finite
 use Rattle.std.specs.FinMap.{is_sorted}
 use Rattle.std.proofs.lemmas.Bool.{ltb-true, ltb-false, ne_eqb}
-use Rattle.std.proofs.lemmas.Option.{slice_get-get_or}
 use Rattle.bk_record.specs.Key.{EntryKey, key_cmp}
 use Rattle.bk_record.specs.Location.{Place}
 use Rattle.bk_record.specs.Keyed.{Places, without_ledger}
@@ -40,10 +39,9 @@ module _ {X : Type 0} (ledger : ℕ) where
 
 pub none_placed : (es : List (EntryKey × Place)) (places : Places) (ledger from : ℕ) → IsTrue (is_sorted key_cmp es) → finite.from_sorted es ≡ places
     → IsPartitionPoint (λ e. ltb e.0.ledger ledger ≡ true) (λ e. ltb e.0.ledger ledger ≡ false) es from
-    → IfSome (slice_get es from) (λ e. e.0.ledger ≢ ledger) → without_ledger places ledger ≡ places
+    → ((d : EntryKey × Place) → from < length es → (get_or es from d).0.ledger ≢ ledger) → without_ledger places ledger ≡ places
 none_placed es places ledger from sorted is low other =
     ap (λ m. without_ledger m ledger) (sym is)
     ∙ retain_keys-sorted key_cmp es sorted key_cmp_total key_cmp_antisymmetric (λ key. not (key.ledger == ledger))
-    ∙ ap finite.from_sorted (others_stay ledger es from (ledgers_rise es sorted) low
-    (λ d within. subst (λ o. IfSome o (λ e. e.0.ledger ≢ ledger)) (slice_get-get_or es from d within) other))
+    ∙ ap finite.from_sorted (others_stay ledger es from (ledgers_rise es sorted) low other)
     ∙ is

@@ -14,8 +14,8 @@ invariant_of-self c =
     let kept = filter_same _ (λ e. not (e.0.ledger == c.args.ledger)) _ (λ x b f' r. search rules) _ _ c.retain.ensures.filtered in
     rw kept (is_sorted-filter key_cmp _ c.self.invariant (λ key. not (key.ledger == c.args.ledger)))
 
-pub returns : goal.returns
-returns c =
+pub returns-then-has_ledger : goal.returns-then-has_ledger
+returns-then-has_ledger c =
     let kept = filter_same _ (λ e. not (e.0.ledger == c.args.ledger)) _ (λ x b f' r. search rules) _ _ c.retain.ensures.filtered in
     rw kept (sym (retain_keys-sorted key_cmp _ c.self.invariant key_cmp_total key_cmp_antisymmetric _))
     ∙ ap (λ (p : HeldPlaces). without_ledger p.places c.args.ledger) c.self.view_is
