@@ -145,14 +145,14 @@ module _ (s : State) (job : Job) (running : IsRunning s Copy job) (n : ℕ) wher
 
   pub nothing_turn : n ≡ 0 → IsAtEnd s job false → CopyTurn s n (Ok (copies.Copied 0)) s
   unfolding unbegun
-  nothing_turn zero left = (
+  nothing_turn none left = (
     job,
     running,
     (
       with_job s None,
       (
         job,
-        (unbegun s job n, λ honest. subst (λ (k : ℕ). AreFound (take k (entries_left s job)) []) (sym zero) tt),
+        (unbegun s job n, λ honest. subst (λ (k : ℕ). AreFound (take k (entries_left s job)) []) (sym none) tt),
         left,
         back_same s job running.runs,
       ),

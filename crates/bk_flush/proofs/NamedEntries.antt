@@ -19,7 +19,7 @@ use Rattle.bk_store.specs.State.{State}
 use Rattle.bk_store.specs.Meaning.{MeansTheSame, KeepsMeaning}
 use Rattle.bk_store.specs.Doors.{IsRecentAfter, MayName, NameTurn}
 use Rattle.bk_store.proofs.KeyMaps.{inserted_here, get-insert_other}
-use Rattle.bk_store.proofs.Noted.{sorted_front}
+use Rattle.bk_record.proofs.SortedPairs.{sorted_front}
 use Rattle.bk_flush.specs.Flushing.{NamesFirst, Remembers, first_places}
 use Rattle.bk_flush.specs.Showing.{AllShown}
 use Rattle.bk_flush.proofs.NextLogs.{place_at, places_sorted}

@@ -44,12 +44,13 @@ pub fn write_one<D: LogDisk>(store: &mut Store<D>) -> Result<WriteAnswer, StepFa
     if !store.is_flushing() {
         return Ok(WriteAnswer::NoFlush);
     }
-    let Some((key, payload)) = store.next_entry() else {
+    let Some(next) = store.next_entry() else {
         return Ok(WriteAnswer::AllWritten);
     };
-    let size = payload.len();
+    let key = next.0;
+    let size = next.1.len();
     // The entry that was found is held while a log is made ready, so that it is not searched for again.
-    let held: Result<_, _> = payload.clone();
+    let held: Result<_, _> = next.1.clone();
     let log = ready(store, size)?;
     let Ok(payload) = held else {
         return Err(StepFault::Memory { done: 0 });

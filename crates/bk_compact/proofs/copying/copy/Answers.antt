@@ -1,4 +1,4 @@
-use Rattle.std.proofs.Common.{◌≡◌, ℕ, Bool, IsTrue, Some, None, Result, Ok, Err, refl, sym, ap, subst, ◌∙◌}
+use Rattle.std.proofs.Common.{◌≡◌, ℕ, Bool, IsTrue, Some, None, Result, Ok, Err, refl, sym, ap, subst, ◌∙◌, arith}
 use Rattle.bk_store.specs.declared.job.Phase.TheVariants.{Copy}
 use Rattle.bk_step.specs.declared.fault.StepFault.TheVariants as step_faults
 use Rattle.bk_compact.specs.declared.scanning.Unread.{Unread}
@@ -21,7 +21,7 @@ returns-in-Ok-false-clause-turn g c =
     let job = c.in-Some.job.now in
     let running : IsRunning s Copy job = record { runs = sym c.in-Some.ensures; phase_is = sym c.phase.ensures ∙ c.in-Copy.is } in
     nothing_turn s job running c.args.count (omega arith)
-    (subst (λ (b : Bool). IsAtEnd s job b) c.in-Ok-false.field-0-is c.in-Ok-false.ensures.ok)
+    (subst (λ (b : Bool). IsAtEnd s job b) c.in-Ok-false.field-0-test c.in-Ok-false.ensures.ok)
 
 pub returns-in-Err-Memory-clause-turn : goal.returns-in-Err-Memory-clause-turn
 returns-in-Err-Memory-clause-turn g c =

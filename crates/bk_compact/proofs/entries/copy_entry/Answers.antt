@@ -4,14 +4,14 @@ use Rattle.bk_store.specs.Logs.{View, view_of, open_parts}
 use Rattle.bk_compact.proofs.Copied.{fetched_there, lent_there, never_missing, stops_odd}
 use Rattle.bk_compact.proofs.entries.copy_entry.Goals as goal
 
-pub put_entry-requires-in-Some-clause-stands : goal.put_entry-requires-in-Some-clause-stands
-put_entry-requires-in-Some-clause-stands g c κs within =
+pub put_entry-requires-clause-stands : goal.put_entry-requires-clause-stands
+put_entry-requires-clause-stands g c κs within =
     let view : View = view_of g.D.View.LogView.bytes g.D.View.LogView.honest g.D.View.LogView.sound c.args.view.now in
     lent_there c.args.store.now c.promise.ensures c.args.job.now c.requires.copying c.args.found.now c.requires.ahead view c.requires.view c.args.from
     c.requires.place c.args.scanner.now c.requires.scans c.in-Some.payload.now c.in-Some.ensures.entry
 
-pub put_entry-requires-after_bounds-clause-stands : goal.put_entry-requires-after_bounds-clause-stands
-put_entry-requires-after_bounds-clause-stands g c κs within =
+pub put_entry-requires-2-clause-stands : goal.put_entry-requires-2-clause-stands
+put_entry-requires-2-clause-stands g c κs within =
     let s = c.args.store.now in
     let job = c.args.job.now in
     let found = c.args.found.now in
