@@ -22,9 +22,6 @@ same_key_exact a b same =
     let entry : a.entry ≡ b.entry = eqb-true a.entry b.entry parts.1 in
     λ i. record { ledger = ledger i; entry = entry i }
 
-pub same_key-refl : (key : EntryKey) → same_key key key ≡ true
-same_key-refl key = rw (eq-eqb key.ledger key.ledger refl, eq-eqb key.entry key.entry refl)
-
 module _ {K X Y : Type 0} (f : X → Y) where
   remove_entry-seen : (test : K → Bool) (es : List (K × X)) → remove_entry test (seen f es) ≡ seen f (remove_entry test es)
   remove_entry-seen test [] = refl

@@ -51,9 +51,6 @@ module _ (s t : State) (kept : IsKept s) (source : ℕ) (is : IsCandidate s sour
   copy_is : finite.get t.logs s.next ≡ Some (made_log Copying s.next made.slot)
   copy_is = ap (λ (l : Logs). finite.get l s.next) logs_are ∙ log-inserted s.logs s.next (made_log Copying s.next made.slot) s.next refl
 
-  part_same : open_parts t.logs source ≡ open_parts s.logs source
-  part_same = ap (λ (o : Option Log). option_map_or (λ (l : Log). if is_open l.state then published_part l else []) o []) source_same
-
   pub begun : IsJob t (new_job source s.next)
   begun =
       let shown = candidate_shown s kept source is in

@@ -47,47 +47,6 @@ unlisted : (file : List ℕ) (at : ℕ) (payload : List ℕ) → In (at, payload
 unfolding entries_of
 unlisted file at payload there = filter-In (λ r. not (is_foreign r.1)) (at, payload) (records_of file) there
 
--- ---- the begin
-
-module _ (s : State) (kept : IsKept s) (source : ℕ) (is : IsCandidate s source) where
-  -- a log that keys are sent to has a view
-  pub candidate_shown : HasOpenView s.logs source
-  candidate_shown = elim (some_or_none is.state.log.view) [
-    | inr view ↦ record {
-      log = is.state.log;
-      view = view.0;
-      held = is.state.held;
-      opened = ap is_open is.state.state_is;
-      view_is = view.1;
-    }
-    | inl none ↦
-        let unnamed = log_count-none s.index source (λ key place named here.
-        let has = kept_sent s kept key place named in
-        let same : is.state.log ≡ has.log = same_Some is.state.log has.log (sym is.state.held ∙ ap (finite.get s.logs) (sym here) ∙ has.held) in
-        absent has.view (sym none ∙ ap (λ (l : Log). l.view) same ∙ has.view_is)) in
-        absurd (omega (arith, unnamed, is.named))
-  ]
-    where
-      absent : (v : View) → None ≡ Some v → ⊥
-      absent v wrong = cc
-
-  module _ (t : State) (copy : ℕ) (made : MakeTurn s Copying (Ok copy) t) where
-    abbrev new_log : Log
-    new_log = made_log Copying s.next made.2.slot
-
-    same_logs : t.logs ≡ finite.insert s.logs s.next new_log
-    same_logs = ap (λ (x : State). x.logs) made.2.left
-
-    older : source < s.next
-    older = (kept_held s kept source is.state.log is.state.held).below
-
-    source_same : finite.get t.logs source ≡ finite.get s.logs source
-    source_same = ap (λ (l : Logs). finite.get l source) same_logs
-        ∙ log-insert_else s.logs s.next new_log source (λ same. omega (arith, older, same))
-
-    copy_now : finite.get t.logs copy ≡ Some new_log
-    copy_now = ap (λ (l : Logs). finite.get l copy) same_logs ∙ log-inserted s.logs s.next new_log copy made.1
-
 -- ---- the copy is sealed and shown
 
 module _ (s mid t : State) (job : Job) (is : IsCopying s job) (all : IsTrue s.honest → entries_left s job ≡ [])
@@ -178,9 +137,6 @@ module _ (s mid t : State) (job : Job) (is : IsCopying s job) (all : IsTrue s.ho
 module _ (s t : State) (job rest : Job) (first : Move) (is : IsOut s job) (phase : job.phase ≡ Switch) (waits : waits_from job first rest) where
   first_move : In first job.moves
   first_move = subst (In first) (sym waits.0) (inl refl)
-
-  same_source : rest.source ≡ job.source
-  same_source = ap (λ (x : Job). x.source) waits.1
 
   pub may_rename : MayRename s first.key first.from first.to
   may_rename =

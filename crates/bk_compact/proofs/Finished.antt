@@ -33,19 +33,6 @@ taken_out s t kept job runs out = record {
       (kept_job s kept job runs);
 }
 
--- the copy of a job that was taken out while entries are copied may become Readable
-pub may_abandon : (s t : State) → IsKept s → (job : Job) → IsRunning s Copy job → t ≡ with_job s None → (id : ℕ) → id ≡ job.copy → MaySet t id Readable
-may_abandon s t kept job running out id own =
-    let copy = (kept_job s kept job running.runs).copy in
-    let state : copy_state job.phase ≡ Copying = ap copy_state running.phase_is in (
-      record {
-        log = copy.log;
-        held = ap (λ (l : Logs). finite.get l id) (ap (λ (x : State). x.logs) out) ∙ ap (finite.get s.logs) own ∙ copy.held;
-        state_is = copy.state_is ∙ state;
-      },
-      (λ j runs. absurd (none-some j (sym (ap (λ (x : State). x.job) out) ∙ runs))),
-    )
-
 -- beside an honest disk no key is sent to the source of a compaction that only has to be finished, and whose index was not made anew
 pub undisturbed_unnamed : (s : State) → IsKept s → (source : ℕ) → IsUndisturbed s source → IsTrue s.honest → log_count s.index source ≡ 0
 undisturbed_unnamed s kept source is honest =

@@ -76,10 +76,6 @@ module _ (s out : State) (kept : IsKept s) (job own : Job) (running : IsRunning 
     ),
   )
 
-  pub not_sealed : (cause : LogFault) (fault : StepFault) (t : State) → fault ≡ step_fault_of cause → Seals out id Readable (Err cause) t
-      → EndTurn s (Err fault) t
-  not_sealed cause fault t told_so seals = (job, running, inr (cause, told_so, inl (seals_copy (Err cause) t seals)))
-
   pub not_shown : (cause : LogFault) (fault : StepFault) (mid t : State) → fault ≡ step_fault_of cause → Seals out id Readable (Ok tt) mid
       → ShowTurn mid id (Err cause) t → EndTurn s (Err fault) t
   not_shown cause fault mid t told_so seals shows = (job, running, inr (cause, told_so, inr (shows_copy (Err cause) mid t seals shows)))

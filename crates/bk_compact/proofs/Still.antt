@@ -145,19 +145,3 @@ switch_still s t n switches.NotNow turn = unasked_same s t turn.1
 switch_still s t n (switches.Moved moved left) turn =
     unasked_then (unasked_job s (with_job s None) None refl)
     (unasked_then (unasked_moves (with_job s None) turn.3.0 _ moved turn.3.1) (unasked_job turn.3.0 t _ turn.3.2))
-
-pub finish_still : (s t : State) (r : FinishAnswer) → FinishTurn s r t → StillUnasked s t
-finish_still s t finishes.NoJob turn = unasked_same s t turn.1
-finish_still s t finishes.NotNow turn = unasked_same s t turn.1
-finish_still s t (finishes.Left left) turn = unasked_same s t turn.4
-finish_still s t (finishes.StillNamed n) turn = unasked_job s t None turn.4
-finish_still s t (finishes.Retired log) turn =
-    unasked_then (unasked_job s (with_job s None) None refl) (unasked_set (with_job s None) t log Retired turn.4)
-
-gives_still : (s t : State) (job : Job) (phase : Phase) → GivesUp s job phase t → StillUnasked s t
-gives_still s t job Copy gives = unasked_then (unasked_job s (with_job s None) None refl) (unasked_set (with_job s None) t job.copy Readable gives)
-gives_still s t job Switch gives = unasked_job s t None gives
-
-pub give_up_still : (s t : State) (r : GiveUpAnswer) → GiveUpTurn s r t → StillUnasked s t
-give_up_still s t give_ups.NoJob turn = unasked_same s t turn.1
-give_up_still s t give_ups.GivenUp turn = gives_still s t turn.0 turn.0.phase turn.2

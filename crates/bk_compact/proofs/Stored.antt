@@ -88,9 +88,6 @@ module _ (s : State) (kept : IsKept s) (job : Job) (is : IsJob s job) (view : Vi
   pub source_spelled : IsTrue s.honest → HasNoBadLength view.bytes
   source_spelled honest = (kept_backed s kept honest job.source is.shown.log is.shown.held).shown view view_there
 
-  pub source_unhonest : (IsTrue view.is_honest → ⊥) → s.honest ≡ false
-  source_unhonest never = false_from_ne_true s.honest (λ honest. never (source_honest honest))
-
 -- ---- the next entry of a log
 
 pub behind_is : (found : Found) (n : ℕ) → found.size ≡ 4 + n → found.at + n ≡ behind found

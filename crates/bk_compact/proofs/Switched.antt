@@ -71,15 +71,6 @@ pub record IsTaking (s : State) (job : Job) (n moved : ℕ) (t : State) (after :
   pub out : IsOut t after
   pub stays : KeepsMeaning s t
 
-pub taking_starts : (s : State) (job : Job) → IsOut s job → IsTaking s job 0 0 s job
-taking_starts s job out = record {
-  takes = (refl, refl);
-  left = refl;
-  few = omega arith;
-  out = out;
-  stays = record { honest = refl; meaning = λ _ key. refl };
-}
-
 module _ (s : State) (job : Job) (n moved : ℕ) (t : State) (after : Job) (so_far : IsTaking s job n moved t after) (phase : job.phase ≡ Switch) where
   pub after_phase : after.phase ≡ Switch
   after_phase = ap (λ (j : Job). j.phase) so_far.left ∙ phase

@@ -53,12 +53,6 @@ remembers_more flush (x ∷ es) e payload old mid new so_far at after =
 
 -- ---- one more entry
 
-pub none_named : (s : State) → IsNaming s 0 s
-none_named s = record {
-  named = record { index = λ key. refl; recent = refl; left = refl };
-  stays = record { honest = refl; meaning = λ _ _. refl };
-}
-
 module _ (s t : State) (n : ℕ) (is : IsNaming s n t) where
   pub still_places : t.places ≡ s.places
   still_places = ap (λ (x : State). x.places) is.named.left

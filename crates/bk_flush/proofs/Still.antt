@@ -28,15 +28,6 @@ use Rattle.bk_step.specs.declared.fault.StepFault.TheVariants as step_faults
 
 -- ---- the beginning
 
--- what a swap leaves, beside the caches; it asks no device
-pub swap_stays : (s t : State) (r : SwapAnswer) → SwapTurn s r t → Stays s t × SlotsStay s.keeper t.keeper × (t.failures ≡ s.failures)
-swap_stays s t swaps.Running turn = let still = still_same s t turn.1 in (still.0, still.2, ap (λ (x : State). x.failures) turn.1)
-swap_stays s t swaps.Nothing turn = let still = still_same s t turn.2 in (still.0, still.2, ap (λ (x : State). x.failures) turn.2)
-swap_stays s t (swaps.Swapped n) turn =
-    let after : State = record s { caches = record s.caches { active = finite.empty; flush = Some s.caches.active } } in
-    subst (λ (x : State). Stays s x × SlotsStay s.keeper x.keeper × (x.failures ≡ s.failures)) (sym turn.3)
-    (record { settings = refl; ledgers = refl; gone = λ log is. is }, slots_same s.keeper after.keeper refl, refl)
-
 -- ---- writing
 
 left_still : (fault : StepFault) {s t : State} → LeftBy fault s t → StandsStill s t
@@ -84,12 +75,6 @@ step_still s t (Err fault) turn = elim turn.1.2 [
 ]
 
 -- ---- rolling
-
-pub roll_still : (s t : State) (r : Result RollAnswer StepFault) → RollTurn s r t → StandsStill s t
-roll_still s t (Ok rolls.FlushRunning) turn = still_same s t turn.1
-roll_still s t (Ok rolls.NothingOpen) turn = still_same s t turn.2
-roll_still s t (Ok (rolls.Sealed id)) turn = seals_still turn.2
-roll_still s t (Err fault) turn = seals_still turn.1.1.3
 
 -- ---- publishing
 

@@ -49,8 +49,3 @@ keeps_on p q keeps on = record {
   job = keeps.job;
   promises = λ honest. promises_on p q.synced q.gone (on honest) (keeps.promises honest);
 }
-
--- what a call keeps, where the parts that are seen are these
-pub keeps_seen : (p seen : Parts) → p ≡ seen → (synced gone : Files) → (IsTrue p.state.honest → KeepsMore p.synced p.gone synced gone)
-    → IsTrue seen.state.honest → KeepsMore seen.synced seen.gone synced gone
-keeps_seen p seen is synced gone on = subst (λ (x : Parts). IsTrue x.state.honest → KeepsMore x.synced x.gone synced gone) is on

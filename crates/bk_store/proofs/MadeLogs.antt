@@ -32,10 +32,6 @@ use Rattle.bk_store.proofs.KeptMake.{unheld}
 use Rattle.bk_store.proofs.LogMaps.{log-inserted}
 use Rattle.bk_store.proofs.ShowTurns.{not_failed, failed_once}
 
-pub not_made : (b : Bool) → not b ≡ true → b ≡ false
-not_made true wrong = sym wrong
-not_made false is = refl
-
 -- ---- the slot
 
 -- a key that was not there is put in and taken out again

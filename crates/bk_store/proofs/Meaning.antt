@@ -30,12 +30,6 @@ module _ {bytes : Bytes} {index : Places} {cached : Cached} {dead : Ledgers} {ma
     | inr there ↦ absurd (let lives = carries.lives key there.0 there.1 in cc)
   ]
 
-  pub cached_mapped : (key : EntryKey) → IsSome (cached key) → IsSome (finite.get map key)
-  cached_mapped key is = let found = some_value (cached key) is in ap is_some (carries.cached_is key found.0 found.1)
-
-  pub indexed_mapped : (key : EntryKey) → IsSome (finite.get index key) → IsSome (finite.get map key)
-  indexed_mapped key is = let found = some_value (finite.get index key) is in ap is_some (carries.indexed key found.0 found.1).mapped
-
   -- the map has a key exactly where it is cached or indexed
   pub held_exactly : (key : EntryKey) → is_some (finite.get map key) ≡ (is_some (cached key) || is_some (finite.get index key))
   held_exactly key = elim (some_or_none (cached key)) [

@@ -52,11 +52,6 @@ total_entry log t found total is =
           ∙ total_here log total found.size _ (total_in-after_ready t.accounts log found.key.ledger log ∙ is)
     ]
 
--- a log that has a total is open
-total_open : (o : Option Account) (total : ℕ) → option_map (λ (a : Account). a.total) o ≡ Some total → IsSome o
-total_open None total wrong = cc
-total_open (Some a) total _ = refl
-
 bytes_push : (founds : List Found) (found : Found) → bytes_found (founds ++ found ∷ []) ≡ bytes_found founds + found.size
 bytes_push founds found = sum_by_push (λ (f : Found). f.size) founds found
 
@@ -94,12 +89,6 @@ module _ (log end : ℕ) (honest : Bool) (file : List ℕ) (old : Tally) (s : Sc
 
   -- an entry more
   module _ (found : Found) (s' : Scan) (moves : NextMoves s (Ok (Some found)) s') where
-    pub next_begins : 1028 ≤ found.at
-    next_begins = omega (arith, so_far.from, moves.1.begins)
-
-    pub next_open : HasAccount now.accounts log
-    next_open = total_open (finite.get now.accounts log) (bytes_found so_far.founds) so_far.total
-
     pub scanning_on : (now' : Tally) → (IsTrue s.honest → NextTurn s (Ok (Some found)) s') → (IsTrue honest → end ≡ view_end file)
         → now' ≡ with_entry log now found → IsScanning log end honest file old s' now'
     scanning_on now' turn whole added = record {
