@@ -1,5 +1,5 @@
 -- The entries of one log, taken into an index as a scan gives them.
-use Rattle.std.proofs.Common.{◌≡◌, ◌⊎◌, inl, inr, ℕ, zero, suc, ◌+◌, ◌-◌, ◌≤◌, true, false, IsTrue, if◌then◌else◌, List, [], ◌∷◌, ◌++◌}
+use Rattle.std.proofs.Common.{◌≡◌, ◌⊎◌, inl, inr, ℕ, zero, suc, ◌+◌, true, false, IsTrue, if◌then◌else◌, List, [], ◌∷◌, ◌++◌}
 use Rattle.std.proofs.Common.{length, take, drop, Some, None, Ok, slice_get, sym, ap, ◌∙◌, arith}
 use Rattle.std.proofs.lemmas.List.{take_all}
 use Rattle.std.proofs.lemmas.Option.{same_Some}
@@ -13,7 +13,6 @@ use Rattle.bk_record.specs.Scan.{Ledgers, entries_of}
 use Rattle.bk_disk.specs.Disk.{view_end}
 use Rattle.bk_log.specs.declared.found.Found.{Found}
 use Rattle.bk_log.specs.Ranges.{entries_in, part}
-use Rattle.bk_log.specs.Scanned.{new_scan}
 use Rattle.bk_log.specs.Scanning.{Scan, part_of, NextMoves, NextTurn}
 use Rattle.bk_log.proofs.Ranges.{entries_in-file, whole_view}
 use Rattle.bk_record.specs.Keyed.{Places}

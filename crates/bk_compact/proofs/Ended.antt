@@ -1,39 +1,36 @@
 -- A job that is out of the store begins, is sealed and shown, and is switched, and keeps what a job keeps.
-use Rattle.std.proofs.Common.{◌≡◌, ◌≢◌, ◌⊎◌, inl, inr, ℕ, zero, suc, ◌+◌, ◌-◌, ◌<◌, ◌≤◌, Bool, true, false, IsTrue, List, [], ◌∷◌, ◌++◌, length}
-use Rattle.std.proofs.Common.{not, is_some, Option, Some, None, Result, Ok, Err, unwrap_or, refl, sym, ap, subst, ◌∙◌, arith}
+use Rattle.std.proofs.Common.{◌≡◌, ◌≢◌, ◌⊎◌, inl, inr, ℕ, ◌<◌, Bool, true, false, IsTrue, List, []}
+use Rattle.std.proofs.Common.{not, is_some, Option, Some, None, Ok, unwrap_or, refl, sym, ap, subst, ◌∙◌, arith}
 use Rattle.std.specs.Option.{option_and_then}
 use Rattle.std.proofs.lemmas.Option.{same_Some}
 use Rattle.std.specs.FinMap as finite
 use Rattle.bk_record.specs.Key.{EntryKey}
 use Rattle.bk_record.specs.Location.{Place}
 use Rattle.bk_record.specs.Record.{key_of, is_foreign}
-use Rattle.bk_record.specs.Files.{file_of, header_length, records_of, In}
+use Rattle.bk_record.specs.Files.{file_of, records_of, In}
 use Rattle.bk_record.specs.Scan.{entries_of}
 use Rattle.bk_record.specs.Keyed.{log_count, Places}
 use Rattle.bk_record.proofs.KeyedCounts.{log_count-none}
 use Rattle.bk_log.specs.Writing as writers
-use Rattle.bk_log.specs.declared.fault.LogFault.TheVariants as log_faults
 use Rattle.bk_store.specs.Entries.{HasEntry}
-use Rattle.bk_store.specs.Logs.{Log, Logs, View, HasOpenView, closed_log, is_open, made_log, open_parts, with_view}
+use Rattle.bk_store.specs.Logs.{Log, Logs, HasOpenView, closed_log, is_open, open_parts, with_view}
 use Rattle.bk_store.specs.State.{State}
-use Rattle.bk_store.specs.Jobs.{Job, Waits, new_job, waits_from}
-use Rattle.bk_store.specs.JobKept.{IsJob, IsCopied, IsReadTo, entries_from, copied_in, copy_state}
-use Rattle.bk_store.specs.Doors.{IsIn, MakeTurn, Seals, ShowTurn}
+use Rattle.bk_store.specs.Jobs.{Job, Waits, waits_from}
+use Rattle.bk_store.specs.JobKept.{IsJob, IsReadTo, entries_from, copied_in, copy_state}
+use Rattle.bk_store.specs.Doors.{Seals, ShowTurn}
 use Rattle.bk_store.specs.Copying.{MayRename, RenameTurn}
 use Rattle.bk_store.specs.Plain.{IsKept}
 use Rattle.bk_store.specs.declared.job.Move.{Move}
 use Rattle.bk_store.specs.declared.job.Phase.{Phase}
-use Rattle.bk_store.specs.declared.job.Phase.TheVariants.{Copy, Switch}
-use Rattle.bk_store.specs.declared.log.LogState.TheVariants.{Copying, Readable}
-use Rattle.bk_store.proofs.Cases.{some_or_none}
+use Rattle.bk_store.specs.declared.job.Phase.TheVariants.{Switch}
+use Rattle.bk_store.specs.declared.log.LogState.TheVariants.{Readable}
 use Rattle.bk_store.proofs.LogMaps.{log-inserted, log-insert_else}
 use Rattle.bk_store.proofs.KeyMaps.{inserted_cases}
 use Rattle.bk_store.proofs.JobStays.{part_same, view_same, in_same}
 use Rattle.bk_record.proofs.Entries.{In-filter, filter-In}
-use Rattle.bk_compact.specs.Compacting.{IsCandidate, entries_left}
+use Rattle.bk_compact.specs.Compacting.{entries_left}
 use Rattle.bk_compact.specs.Going.{IsCopying, IsOut}
-use Rattle.bk_compact.proofs.Positions.{read_start, record_behind}
-use Rattle.bk_compact.proofs.Stored.{kept_held, kept_sent, kept_shows, shown_part, none_ahead}
+use Rattle.bk_compact.proofs.Stored.{shown_part, none_ahead}
 
 -- ---- a log's entries
 

@@ -1,20 +1,14 @@
 -- A compaction ends: what its calls owe, and that a source which nobody disturbed is named by no key.
-use Rattle.std.proofs.Common.{◌≡◌, ◌≢◌, ◌⊎◌, ℕ, ◌+◌, ◌<◌, ◌≤◌, IsTrue, List, [], ◌∷◌, take, drop, Option}
-use Rattle.std.proofs.Common.{Some, None, option_map, refl, sym, ap, subst, ◌∙◌, arith}
-use Rattle.std.proofs.lemmas.Option.{none-some}
+use Rattle.std.proofs.Common.{◌≡◌, ℕ, ◌<◌, IsTrue, Option}
+use Rattle.std.proofs.Common.{Some, None, option_map, sym, ap, subst, ◌∙◌, arith}
 use Rattle.std.specs.FinMap as finite
 use Rattle.bk_record.specs.Keyed.{log_count}
 use Rattle.bk_store.specs.Jobs.{Job}
-use Rattle.bk_store.specs.JobKept.{IsJob, copy_state}
-use Rattle.bk_store.specs.Logs.{Log, Logs}
+use Rattle.bk_store.specs.JobKept.{IsJob}
+use Rattle.bk_store.specs.Logs.{Log}
 use Rattle.bk_store.specs.State.{State}
-use Rattle.bk_store.specs.Doors.{IsIn, MaySet}
 use Rattle.bk_store.specs.Plain.{IsKept}
-use Rattle.bk_store.specs.declared.job.Phase.{Phase}
-use Rattle.bk_store.specs.declared.job.Phase.TheVariants.{Copy, Switch}
-use Rattle.bk_store.specs.declared.log.LogState.{LogState}
-use Rattle.bk_store.specs.declared.log.LogState.TheVariants.{Copying, Readable}
-use Rattle.bk_compact.specs.Compacting.{IsRunning, IsSwitched, IsUndisturbed, with_job}
+use Rattle.bk_compact.specs.Compacting.{IsUndisturbed, with_job}
 use Rattle.bk_compact.specs.Going.{IsOut}
 use Rattle.bk_store.proofs.JobStays.{job_stays, stays_same}
 use Rattle.bk_compact.proofs.Ended.{source_unnamed}

@@ -10,14 +10,12 @@ use Rattle.bk_store.specs.Jobs.{Job}
 use Rattle.bk_store.specs.Copying.{RenameTurn}
 use Rattle.bk_store.specs.Doors.{SetTurn}
 use Rattle.bk_store.specs.declared.job.Move.{Move}
-use Rattle.bk_store.specs.declared.job.Phase.{Phase}
-use Rattle.bk_store.specs.declared.job.Phase.TheVariants.{Copy, Switch}
 use Rattle.bk_store.specs.declared.log.LogState.{LogState}
-use Rattle.bk_store.specs.declared.log.LogState.TheVariants.{Copying, Readable, Retired}
+use Rattle.bk_store.specs.declared.log.LogState.TheVariants.{Copying, Readable}
 use Rattle.bk_step.specs.Staying.{StandsStill}
 use Rattle.bk_step.proofs.Still.{still_same, then, still_beside}
 use Rattle.bk_step.proofs.Doors.{job_still, make_still, put_still, seals_still, set_still, show_still, rename_still}
-use Rattle.bk_compact.specs.Compacting.{BeginTurn, CopyTurn, EndTurn, SwitchTurn, FinishTurn, GiveUpTurn, GivesUp, GoesOnCopying, Steps}
+use Rattle.bk_compact.specs.Compacting.{BeginTurn, CopyTurn, EndTurn, SwitchTurn, GoesOnCopying, Steps}
 use Rattle.bk_compact.specs.Compacting.{StopsCopying, Copies, Examines, ExaminesAll, SealsCopy, ShowsCopy, TakesMoves, with_job}
 use Rattle.bk_compact.specs.declared.answer.Kind.{Kind}
 use Rattle.bk_compact.specs.declared.answer.BeginAnswer.{BeginAnswer}
@@ -28,10 +26,6 @@ use Rattle.bk_compact.specs.declared.answer.EndAnswer.{EndAnswer}
 use Rattle.bk_compact.specs.declared.answer.EndAnswer.TheVariants as ends
 use Rattle.bk_compact.specs.declared.answer.SwitchAnswer.{SwitchAnswer}
 use Rattle.bk_compact.specs.declared.answer.SwitchAnswer.TheVariants as switches
-use Rattle.bk_compact.specs.declared.answer.FinishAnswer.{FinishAnswer}
-use Rattle.bk_compact.specs.declared.answer.FinishAnswer.TheVariants as finishes
-use Rattle.bk_compact.specs.declared.answer.GiveUpAnswer.{GiveUpAnswer}
-use Rattle.bk_compact.specs.declared.answer.GiveUpAnswer.TheVariants as give_ups
 use Rattle.bk_step.specs.declared.fault.StepFault.{StepFault}
 use Rattle.bk_step.specs.declared.fault.StepFault.TheVariants as step_faults
 

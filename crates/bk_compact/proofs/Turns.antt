@@ -1,22 +1,17 @@
 -- The turns of the calls, from what their parts did while the job was out of the store.
-use Rattle.std.proofs.Common.{◌≡◌, ◌≢◌, ◌⊎◌, inl, inr, ℕ, zero, suc, ◌+◌, ◌-◌, ◌<◌, ◌≤◌, Bool, true, false, cond, if◌then◌else◌, IsTrue, List, []}
-use Rattle.std.proofs.Common.{◌∷◌, ◌++◌, length, take, drop, Option, Some, None, Result, Ok, Err, IsErrOf, refl, sym, ap, subst, ◌∙◌, arith}
+use Rattle.std.proofs.Common.{◌≡◌, ◌⊎◌, inl, inr, ℕ, ◌+◌, Bool, true, false, IsTrue, List, []}
+use Rattle.std.proofs.Common.{◌∷◌, take, Option, Some, None, Result, Ok, Err, IsErrOf, refl, sym, ap, subst, ◌∙◌, arith}
 use Rattle.std.proofs.lemmas.Option.{same_Some}
-use Rattle.std.specs.FinMap as finite
 use Rattle.bk_disk.specs.Disk.{IsCaused}
 use Rattle.bk_log.specs.declared.found.Found.{Found}
-use Rattle.bk_log.specs.declared.fault.LogFault.{LogFault}
-use Rattle.bk_log.specs.declared.fault.LogFault.TheVariants as log_faults
-use Rattle.bk_record.specs.Location.{Place}
-use Rattle.bk_store.specs.Logs.{Log, Logs, View, last_view, open_parts, view_of}
+use Rattle.bk_store.specs.Logs.{View, last_view, view_of}
 use Rattle.bk_store.specs.State.{State}
-use Rattle.bk_store.specs.Meaning.{MeansTheSame}
 use Rattle.bk_store.specs.Jobs.{Job}
 use Rattle.bk_store.specs.JobKept.{IsJob, copy_state}
-use Rattle.bk_store.specs.Doors.{IsIdle, IsIn, MaySet, MaySeal, MayShow, IsOpenLog, PutTurn, Seals, SetTurn, ShowTurn, failed_in}
+use Rattle.bk_store.specs.Doors.{IsIdle, IsIn, MaySet, SetTurn}
 use Rattle.bk_store.specs.Plain.{IsKept}
 use Rattle.bk_store.specs.declared.job.Phase.{Phase}
-use Rattle.bk_store.specs.declared.job.Phase.TheVariants.{Copy, Switch}
+use Rattle.bk_store.specs.declared.job.Phase.TheVariants.{Copy}
 use Rattle.bk_store.specs.declared.log.LogState.TheVariants.{Copying, Readable}
 use Rattle.bk_store.proofs.JobStays.{job_stays, stays_same}
 use Rattle.bk_compact.specs.declared.answer.CopyAnswer.{CopyAnswer}
@@ -28,9 +23,9 @@ use Rattle.bk_compact.specs.declared.scanning.Unread.{Unread}
 use Rattle.bk_compact.specs.declared.scanning.Unread.TheVariants as unreads
 use Rattle.bk_compact.specs.declared.entries.Stopped.TheVariants as stops
 use Rattle.bk_step.specs.Faults.{TellsItsCause}
-use Rattle.bk_compact.specs.Compacting.{AreFound, CopyTurn, Copies, EndTurn, Examines, ExaminesAll, HasUnsoundSource}
+use Rattle.bk_compact.specs.Compacting.{AreFound, CopyTurn, EndTurn, Examines, ExaminesAll, HasUnsoundSource}
 use Rattle.bk_compact.specs.Compacting.{IsRunning, SourceFails, Steps, TellsFailures, entries_left, with_job}
-use Rattle.bk_compact.specs.Going.{CopiesAll, CopiesNext, IsAtEnd, IsCopying, IsOut, told_unread}
+use Rattle.bk_compact.specs.Going.{CopiesAll, CopiesNext, IsAtEnd, IsCopying, told_unread}
 use Rattle.bk_compact.proofs.Stored.{kept_job}
 
 -- ---- a job that runs

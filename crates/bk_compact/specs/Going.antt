@@ -1,7 +1,6 @@
 -- What the parts of a compaction's calls do, while the job is out of the store.
-use Rattle.std.specs.Prelude.{◌≡◌, ◌⊎◌, ◌↔◌, ℕ, ◌+◌, ◌<◌, ◌≤◌, ◌^◌, Bool, true, false, if◌then◌else◌, IsTrue, List, [], ◌∷◌}
+use Rattle.std.specs.Prelude.{◌≡◌, ◌⊎◌, ◌↔◌, ℕ, ◌+◌, ◌<◌, ◌≤◌, ◌^◌, Bool, true, false, IsTrue, List, [], ◌∷◌}
 use Rattle.std.specs.Prelude.{length, take, drop, Contains, Option, Some, None, IfSome, Result, Ok, Err}
-use Rattle.std.specs.FinMap as finite
 use Rattle.bk_record.specs.Location.{Place}
 use Rattle.bk_record.specs.Record.{IsPayload, key_of}
 use Rattle.bk_disk.specs.Disk.{view_end}
@@ -13,13 +12,13 @@ use Rattle.bk_log.specs.declared.fault.ScanFault.TheVariants as scan_faults
 use Rattle.bk_log.specs.Places.{HasEntryAt}
 use Rattle.bk_log.specs.Scanned.{new_scan}
 use Rattle.bk_log.specs.Scanning.{Scan}
-use Rattle.bk_store.specs.Logs.{View, last_view, open_parts}
+use Rattle.bk_store.specs.Logs.{open_parts}
 use Rattle.bk_store.specs.State.{State}
 use Rattle.bk_store.specs.Jobs.{Job, with_move}
 use Rattle.bk_store.specs.JobKept.{IsJob, IsReadTo, entries_from}
 use Rattle.bk_store.specs.Copying.{IsLeastUsed}
 use Rattle.bk_store.specs.Doors.{SetTurn}
-use Rattle.bk_store.specs.declared.job.Phase.TheVariants.{Copy, Switch}
+use Rattle.bk_store.specs.declared.job.Phase.TheVariants.{Copy}
 use Rattle.bk_store.specs.declared.log.LogState.TheVariants.{Readable}
 use Rattle.bk_step.specs.declared.fault.StepFault.{StepFault}
 use Rattle.bk_step.specs.declared.fault.StepFault.TheVariants as step_faults

@@ -1,28 +1,22 @@
 -- What a write, a roll and a publish leave as it was.
 use Rattle.std.proofs.Common.{◌≡◌, ◌<◌, inl, inr, ℕ, List, Option, Some, None, Result, Ok, Err, refl, sym, ap, subst, ◌∙◌}
 use Rattle.std.specs.FinMap as finite
-use Rattle.bk_record.specs.Location.{Place}
 use Rattle.bk_log.specs.declared.fault.LogFault.{LogFault}
 use Rattle.bk_store.specs.Logs.{unfilled_as}
 use Rattle.bk_store.specs.State.{State}
 use Rattle.bk_store.specs.Doors.{Ends}
-use Rattle.bk_store.specs.Turns.{SwapTurn}
-use Rattle.bk_store.specs.declared.answer.SwapAnswer.{SwapAnswer}
-use Rattle.bk_store.specs.declared.answer.SwapAnswer.TheVariants as swaps
 use Rattle.bk_store.specs.declared.log.LogState.TheVariants.{Writing}
 use Rattle.bk_step.specs.Staying.{Stays, SlotsStay, StandsStill}
 use Rattle.bk_step.proofs.Gone.{gone_ruled}
 use Rattle.bk_step.proofs.Still.{still_as, still_same, then, stays_then, slots_then, slots_same}
 use Rattle.bk_step.proofs.Doors.{make_still, write_still, seals_still, restarts_still}
 use Rattle.bk_flush.specs.Flushing.{LeftBy, FillTurn, NoNewLog, IsRefused, ReadyTurn, StepTurn, ShowsThose, StopsShowing, RestartsShowing, Publishes}
-use Rattle.bk_flush.specs.Flushing.{PublishCaches, PublishTurn, RollTurn}
+use Rattle.bk_flush.specs.Flushing.{PublishCaches, PublishTurn}
 use Rattle.bk_flush.specs.Showing.{ShowsLogs}
 use Rattle.bk_flush.specs.declared.answer.WriteAnswer.{WriteAnswer}
 use Rattle.bk_flush.specs.declared.answer.WriteAnswer.TheVariants as writes
 use Rattle.bk_flush.specs.declared.answer.PublishAnswer.{PublishAnswer}
 use Rattle.bk_flush.specs.declared.answer.PublishAnswer.TheVariants as publishes
-use Rattle.bk_flush.specs.declared.answer.RollAnswer.{RollAnswer}
-use Rattle.bk_flush.specs.declared.answer.RollAnswer.TheVariants as rolls
 use Rattle.bk_step.specs.declared.fault.StepFault.{StepFault}
 use Rattle.bk_step.specs.declared.fault.StepFault.TheVariants as step_faults
 

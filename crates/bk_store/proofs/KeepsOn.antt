@@ -1,5 +1,5 @@
 -- A call on an honest disk after which it keeps as much as before: the store's promise stands over what it keeps then.
-use Rattle.std.proofs.Common.{◌≡◌, ℕ, List, IsTrue, subst}
+use Rattle.std.proofs.Common.{ℕ, List}
 use Rattle.bk_record.specs.Files.{Files}
 use Rattle.bk_record.proofs.Longer.{longer_trans}
 use Rattle.bk_disk.specs.Durable.{HasKept, KeepsMore}

@@ -1,5 +1,5 @@
 -- What files, index, write caches and dead ledgers carry is what they mean, and they carry one map.
-use Rattle.std.proofs.Common.{◌≡◌, inl, inr, ℕ, List, Option, Some, None, IsSome, true, false, cond, is_some, ◌||◌, refl, sym, ap, ◌∙◌}
+use Rattle.std.proofs.Common.{◌≡◌, inl, inr, ℕ, List, Option, Some, None, true, false, cond, is_some, ◌||◌, refl, sym, ap, ◌∙◌}
 use Rattle.std.specs.FinMap as finite
 use Rattle.std.specs.FinSet as set
 use Rattle.std.specs.Option.{option_or}
@@ -12,7 +12,7 @@ use Rattle.bk_record.proofs.Scans.{scan-none}
 use Rattle.bk_record.specs.Keyed.{Places}
 use Rattle.bk_store.specs.Entries.{Bytes, HasEntry}
 use Rattle.bk_store.specs.Carried.{Cached, Carries}
-use Rattle.bk_store.proofs.Cases.{some_or_none, some_value}
+use Rattle.bk_store.proofs.Cases.{some_or_none}
 use Rattle.bk_store.proofs.OneEntry.{one_payload}
 use Rattle.bk_store.proofs.LastEntries.{entry_record, scan_entry}
 

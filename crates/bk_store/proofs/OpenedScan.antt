@@ -1,11 +1,10 @@
 -- A scan of a log that was found, entry by entry, to its end or to a fault.
 use Rattle.std.proofs.Common.{◌≡◌, ℕ, ◌+◌, ◌<◌, ◌≤◌, ◌^◌, Bool, true, false, ◌==◌, if◌then◌else◌, IsTrue}
-use Rattle.std.proofs.Common.{List, [], ◌∷◌, ◌++◌, length, take, drop, Option, Some, None, IsSome, Ok, Err}
+use Rattle.std.proofs.Common.{List, [], ◌∷◌, ◌++◌, length, take, drop, Option, Some, None, Ok, Err}
 use Rattle.std.proofs.Common.{slice_get, refl, sym, ap, subst, ◌∙◌, arith, eq-eqb}
 use Rattle.std.specs.Option.{option_map}
 use Rattle.std.proofs.lemmas.List.{take_all}
 use Rattle.std.proofs.lemmas.List.Sums.{sum_by_push}
-use Rattle.std.specs.FinMap as finite
 use Rattle.std.specs.FinSet as set
 use Rattle.bk_record.specs.Files.{header_length}
 use Rattle.bk_record.specs.Scan.{entries_of}
@@ -20,8 +19,7 @@ use Rattle.bk_log.specs.declared.fault.ScanFault.TheVariants as scans
 use Rattle.bk_log.specs.Ranges.{entries_in, part}
 use Rattle.bk_log.specs.Scanning.{Scan, part_of, NextMoves, NextTurn}
 use Rattle.bk_log.proofs.Ranges.{entries_in-file, whole_view}
-use Rattle.bk_accounts.specs.Account.{Account}
-use Rattle.bk_accounts.specs.Book.{HasAccount, total_in, after_ready, after_count, after_count_dead}
+use Rattle.bk_accounts.specs.Book.{total_in, after_ready, after_count, after_count_dead}
 use Rattle.bk_accounts.proofs.BookLaws.{total_in-after_count, total_in-after_count_dead, total_in-after_ready}
 use Rattle.bk_store.specs.Opening.{IsHeaded, FileFails}
 use Rattle.bk_store.specs.Found.{IsScanned, IsFoundAt, AreFoundAt, with_entry, with_entries, bytes_found, scan_told}

@@ -28,8 +28,12 @@ module _ {X : Type 0} (ledger : ℕ) where
   others_stay [] from rise low other = refl
   others_stay (x ∷ xs) zero rise low other =
       above_stay (x ∷ xs) (λ i d within.
-      omega (arith, rise 0 i d (omega arith) within, ltb-false (get_or (x ∷ xs) 0 d).0.ledger ledger (low.1 0 d (omega arith) (omega arith)),
-      other d (omega arith)))
+      omega (
+        arith,
+        rise 0 i d (omega arith) within,
+        ltb-false (get_or (x ∷ xs) 0 d).0.ledger ledger (low.1 0 d (omega arith) (omega arith)),
+        other d (omega arith),
+      ))
   others_stay (x ∷ xs) (suc from) rise low other =
       rw (ne_eqb x.0.ledger ledger (omega (arith, ltb-true x.0.ledger ledger (low.0 0 x (omega arith) (omega arith)))))
       (ap (λ rest. x ∷ rest) (others_stay xs from (λ i j d order within. rise (suc i) (suc j) d (omega arith) (omega arith)) (

@@ -1,4 +1,4 @@
-use Rattle.std.proofs.Common.{◌≡◌, IsTrue, true, false, subst}
+use Rattle.std.proofs.Common.{◌≡◌, true, false, subst}
 use Rattle.bk_compact.specs.Going.{IsBetter}
 use Rattle.bk_compact.proofs.Chosen.{candidate_held, choosing_taken, choosing_spared, choosing_past}
 use Rattle.bk_compact.proofs.beginning.best_of.Goals as goal

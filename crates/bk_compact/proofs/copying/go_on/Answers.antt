@@ -1,4 +1,4 @@
-use Rattle.std.proofs.Common.{◌≡◌, ℕ, IsTrue, Option, Some, None, Result, Ok, Err, sym, ap, subst, ◌∙◌}
+use Rattle.std.proofs.Common.{◌≡◌, ℕ, Some, None, Ok, Err, sym, ap, subst, ◌∙◌}
 use Rattle.std.proofs.lemmas.Option.{same_Some}
 use Rattle.bk_store.specs.Logs.{last_view, view_of}
 use Rattle.bk_store.specs.Jobs.{Job}
@@ -26,7 +26,7 @@ returns-in-Ok-None-clause-turn g c =
     let job = c.requires.runs.0 in
     let same = same_Some c.in-Some-take_job.taken.job job (c.in-Some-take_job.ensures.job ∙ c.requires.runs.1.runs) in
     let next = told_next s c.take_job.new.self job c.in-Some-take_job.taken.job c.args.count c.copy_entries.new.store c.copy_entries.new.job
-        c.take_job.ensures.left same _ (Ok None) (ap Ok c.in-Ok-None.field-0-is) c.in-Ok-None.ensures.turn in
+    c.take_job.ensures.left same _ (Ok None) (ap Ok c.in-Ok-None.field-0-is) c.in-Ok-None.ensures.turn in
     none_turn s job c.requires.runs.1 c.args.count c.copy_entries.new.store c.copy_entries.new.job c.set_job.new.self next c.set_job.ensures
 
 pub returns-in-Ok-None-clause-sound : goal.returns-in-Ok-None-clause-sound
@@ -38,7 +38,7 @@ returns-in-Ok-Some-clause-turn g c =
     let job = c.requires.runs.0 in
     let same = same_Some c.in-Some-take_job.taken.job job (c.in-Some-take_job.ensures.job ∙ c.requires.runs.1.runs) in
     let next = told_next s c.take_job.new.self job c.in-Some-take_job.taken.job c.args.count c.copy_entries.new.store c.copy_entries.new.job
-        c.take_job.ensures.left same _ (Ok (Some c.in-Ok-Some.copied)) (ap Ok c.in-Ok-Some.field-0-is) c.in-Ok-Some.ensures.turn in
+    c.take_job.ensures.left same _ (Ok (Some c.in-Ok-Some.copied)) (ap Ok c.in-Ok-Some.field-0-is) c.in-Ok-Some.ensures.turn in
     copied_turn s job c.requires.runs.1 c.args.count c.copy_entries.new.store c.copy_entries.new.job c.set_job-in-Ok-Some.new.self
     c.in-Ok-Some.copied next.1 next.0 c.set_job-in-Ok-Some.ensures
 
@@ -51,7 +51,7 @@ returns-in-Err-Memory-clause-turn g c =
     let job = c.requires.runs.0 in
     let same = same_Some c.in-Some-take_job.taken.job job (c.in-Some-take_job.ensures.job ∙ c.requires.runs.1.runs) in
     let next = told_next s c.take_job.new.self job c.in-Some-take_job.taken.job c.args.count c.copy_entries.new.store c.copy_entries.new.job
-        c.take_job.ensures.left same _ (Err (stops.Memory c.in-Err-Memory.done)) (ap Err c.in-Err-Memory.field-0-is) c.in-Err-Memory.ensures.turn in
+    c.take_job.ensures.left same _ (Err (stops.Memory c.in-Err-Memory.done)) (ap Err c.in-Err-Memory.field-0-is) c.in-Err-Memory.ensures.turn in
     memory_turn s job c.requires.runs.1 c.args.count c.copy_entries.new.store c.copy_entries.new.job c.set_job-in-Err-Memory.new.self
     c.in-Err-Memory.done next c.set_job-in-Err-Memory.ensures
 
@@ -64,7 +64,7 @@ returns-in-Err-Unread-clause-turn g c =
     let job = c.requires.runs.0 in
     let same = same_Some c.in-Some-take_job.taken.job job (c.in-Some-take_job.ensures.job ∙ c.requires.runs.1.runs) in
     let next = told_next s c.take_job.new.self job c.in-Some-take_job.taken.job c.args.count c.copy_entries.new.store c.copy_entries.new.job
-        c.take_job.ensures.left same _ (Err stops.Unread) (ap Err c.in-Err-Unread.field-0-is) c.in-Err-Unread.ensures.turn in
+    c.take_job.ensures.left same _ (Err stops.Unread) (ap Err c.in-Err-Unread.field-0-is) c.in-Err-Unread.ensures.turn in
     unread_turn s job c.requires.runs.1 c.args.count c.copy_entries.new.store c.copy_entries.new.job c.set_job-in-Err-Unread.new.self next
     c.set_job-in-Err-Unread.ensures
 
@@ -74,7 +74,7 @@ returns-in-Err-Unread-clause-sound g c = λ sound.
     let job = c.requires.runs.0 in
     let same = same_Some c.in-Some-take_job.taken.job job (c.in-Some-take_job.ensures.job ∙ c.requires.runs.1.runs) in
     let next = told_next s c.take_job.new.self job c.in-Some-take_job.taken.job c.args.count c.copy_entries.new.store c.copy_entries.new.job
-        c.take_job.ensures.left same _ (Err stops.Unread) (ap Err c.in-Err-Unread.field-0-is) c.in-Err-Unread.ensures.turn in
+    c.take_job.ensures.left same _ (Err stops.Unread) (ap Err c.in-Err-Unread.field-0-is) c.in-Err-Unread.ensures.turn in
     let own : c.in-Some.job.now ≡ job = same_Some c.in-Some.job.now job (c.in-Some.ensures ∙ c.requires.runs.1.runs) in
     let last : last_view s.logs job.source
     ≡ Some (view_of g.D.View.LogView.bytes g.D.View.LogView.honest g.D.View.LogView.sound c.in-Some-log_view.view.now.value) =
@@ -89,7 +89,7 @@ returns-in-Err-Failed-clause-turn g c =
     let job = c.requires.runs.0 in
     let same = same_Some c.in-Some-take_job.taken.job job (c.in-Some-take_job.ensures.job ∙ c.requires.runs.1.runs) in
     let next = told_next s c.take_job.new.self job c.in-Some-take_job.taken.job c.args.count c.copy_entries.new.store c.copy_entries.new.job
-        c.take_job.ensures.left same _ (Err stops.Failed) (ap Err c.in-Err-Failed.field-0-is) c.in-Err-Failed.ensures.turn in
+    c.take_job.ensures.left same _ (Err stops.Failed) (ap Err c.in-Err-Failed.field-0-is) c.in-Err-Failed.ensures.turn in
     failed_turn s job c.requires.runs.1 c.args.count c.copy_entries.new.store c.copy_entries.new.job c.copy_entries.new.store next
 
 pub returns-in-Err-Failed-clause-sound : goal.returns-in-Err-Failed-clause-sound
@@ -98,7 +98,7 @@ returns-in-Err-Failed-clause-sound g c = λ _.
     let job = c.requires.runs.0 in
     let same = same_Some c.in-Some-take_job.taken.job job (c.in-Some-take_job.ensures.job ∙ c.requires.runs.1.runs) in
     let next = told_next s c.take_job.new.self job c.in-Some-take_job.taken.job c.args.count c.copy_entries.new.store c.copy_entries.new.job
-        c.take_job.ensures.left same _ (Err stops.Failed) (ap Err c.in-Err-Failed.field-0-is) c.in-Err-Failed.ensures.turn in
+    c.take_job.ensures.left same _ (Err stops.Failed) (ap Err c.in-Err-Failed.field-0-is) c.in-Err-Failed.ensures.turn in
     failed_once s job c.args.count c.copy_entries.new.store c.copy_entries.new.job next
 
 pub returns-clause-turn : goal.returns-clause-turn
@@ -107,7 +107,7 @@ returns-clause-turn g c =
     let job = c.requires.runs.0 in
     let same = same_Some c.in-Some-take_job.taken.job job (c.in-Some-take_job.ensures.job ∙ c.requires.runs.1.runs) in
     let next = told_next s c.take_job.new.self job c.in-Some-take_job.taken.job c.args.count c.copy_entries.new.store c.copy_entries.new.job
-        c.take_job.ensures.left same _ (Err stops.Odd) (ap Err c.in-Err-Odd.field-0-is) c.in-Err-Odd.ensures.turn in
+    c.take_job.ensures.left same _ (Err stops.Odd) (ap Err c.in-Err-Odd.field-0-is) c.in-Err-Odd.ensures.turn in
     odd_turn s job c.requires.runs.1 c.args.count c.copy_entries.new.store c.copy_entries.new.job c.copy_entries.new.store next
 
 pub returns-clause-sound : goal.returns-clause-sound

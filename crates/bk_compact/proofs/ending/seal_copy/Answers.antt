@@ -1,5 +1,4 @@
-use Rattle.std.proofs.Common.{◌≡◌, Some, None, Ok, length, sym, ap, ◌∙◌}
-use Rattle.bk_store.specs.Jobs.{Job}
+use Rattle.std.proofs.Common.{◌≡◌, Some, ap, ◌∙◌}
 use Rattle.bk_store.specs.State.{State}
 use Rattle.bk_compact.proofs.Sealed.{may_show_sealed, switch_keeps, ended, not_shown}
 use Rattle.bk_compact.proofs.ending.seal_copy.Goals as goal

@@ -1,4 +1,4 @@
-use Rattle.std.proofs.Common.{rules, ◌≡◌, Some, length, take, sym, ap, subst, ◌∙◌}
+use Rattle.std.proofs.Common.{rules, Some, length, take, sym, ap, subst, ◌∙◌}
 use Rattle.bk_store.specs.Jobs.{Job}
 use Rattle.bk_store.specs.State.{State}
 use Rattle.bk_compact.specs.Compacting.{TakesMoves}

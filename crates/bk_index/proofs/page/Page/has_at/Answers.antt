@@ -1,7 +1,6 @@
 use Rattle.std.proofs.Common.{◌≡◌, Some, slice_get, option_map, refl, sym, ap, ◌∙◌}
 use Rattle.std.proofs.lemmas.Option.{slice_get_read}
 use Rattle.bk_record.proofs.Keys.{key_cmp_antisymmetric}
-use Rattle.bk_index.specs.Sorted.{IsAt}
 use Rattle.bk_index.proofs.page.Page.has_at.Goals as goal
 
 pub returns-in-Equal : goal.returns-in-Equal
