@@ -69,24 +69,6 @@ delete_leaves s t ledger (Ok n) turn =
       keyed = λ _ keyed. keyed_without s.caches ledger keyed;
     }) turn.2
 
-pub fence_leaves : (s t : State) (ledger : ℕ) (r : Result Fence FenceFault) → FenceTurn s ledger r t → Leaves s t 0
-fence_leaves s t ledger (Err fence_faults.Deleted) turn = leaves_same s t turn.1
-fence_leaves s t ledger (Ok fences.AlreadyFenced) turn = leaves_same s t turn.2
-fence_leaves s t ledger (Err fence_faults.Memory) turn = leaves_same s t turn.2
-fence_leaves s t ledger (Ok fences.Fenced) turn =
-    leaves_as s _ t 0 (record { honest = refl; adds = add_count-push s.ledgers.trail (marks.Fence ledger); keyed = λ _ keyed. keyed }) turn.2
-
-pub take_leaves : {V : Type 0} (bytes : V → List ℕ) (honest sound : V → Bool) (s t : State) (key : EntryKey) (r : Result (Taken V) TakeFault)
-    → TakeTurn bytes honest sound s key r t → Leaves s t 0
-take_leaves bytes honest sound s t key (Ok takes.Deleted) turn = leaves_same s t turn.1
-take_leaves bytes honest sound s t key (Ok (takes.Cached payload)) turn = leaves_same s t turn.2
-take_leaves bytes honest sound s t key (Ok takes.NotHeld) turn = leaves_same s t turn.3
-take_leaves bytes honest sound s t key (Ok (takes.Leased lease place)) turn =
-    leaves_as s _ t 0 (record { honest = refl; adds = omega arith; keyed = λ _ keyed. keyed }) turn.2
-take_leaves bytes honest sound s t key (Err take_faults.NoSeat) turn = leaves_same s t turn.2
-take_leaves bytes honest sound s t key (Err take_faults.TooMany) turn = leaves_same s t turn.3
-take_leaves bytes honest sound s t key (Err take_faults.Memory) turn = leaves_same s t turn.2
-
 -- a desk on whose store a call was made is one still, where its book counts so many adds more
 pub desk_on : (d : DeskState) (t : State) (honest : Bool) (parts total rest amount now accepted : ℕ) → IsDesk d honest parts total rest amount
     → Leaves d.store t accepted → now ≡ total + accepted → IsDesk (record d { store = t }) honest parts now rest amount

@@ -13,10 +13,3 @@ pub one_turn : {A F : Type 0} (turn : State → Result A F → State → Type 0)
     → turn s r t → Sees s t p q → OneTurn turn s p (told_of r) t q
 one_turn turn s p (Ok answer) t q made sees = (made, sees)
 one_turn turn s p (Err fault) t q made sees = (made, sees)
-
--- and so is the answer of a take of a receipt that stands
-pub one_read_back : {V : Type 0} (turn : State → Result (Taken V) TakeFault → State → Type 0) (receipt : Receipt) (s : State) (p : PassView)
-    (r : Result (Taken V) TakeFault) (t : State) (q : PassView) → Stands s.ledgers.trail receipt → turn s r t → Sees s t p q
-    → ReadBackTurn turn receipt s p (told_back_of r) t q
-one_read_back turn receipt s p (Ok answer) t q stands made sees = (stands, made, sees)
-one_read_back turn receipt s p (Err fault) t q stands made sees = (stands, made, sees)

@@ -1,16 +1,11 @@
 -- What a caller's proof cites of the caches' words.
-use Rattle.std.proofs.Common.{◌≡◌, ℕ, zero, suc, ◌+◌, ◌-◌, Bool, true, false, cond, not, eqb, List, [], ◌∷◌, take, drop, Option, Some, None, IfSome, slice_get}
-use Rattle.std.proofs.Common.{is_some, ◌⊎◌, inl, inr, refl, sym, ap, ◌∙◌, add-one}
+use Rattle.std.proofs.Common.{◌≡◌, ℕ, zero, suc, ◌-◌, Bool, true, false, cond, not, eqb, List, [], ◌∷◌, take, Option, Some, None, IfSome}
+use Rattle.std.proofs.Common.{is_some, ◌⊎◌, inl, inr, refl, sym, ap, ◌∙◌}
 use Rattle.std.specs.Map.{lookup, remove_entry}
-use Rattle.std.specs.FinMap as entries
-use Rattle.std.specs.FinMap.{entries_sorted}
 use Rattle.std.proofs.lemmas.Map.Entries.{lookup-filter-keys}
 use Rattle.bk_record.specs.Key.{EntryKey}
-use Rattle.bk_record.specs.Scan.{Payloads}
-use Rattle.bk_record.proofs.Keys.{key_cmp_total}
-use Rattle.bk_record.proofs.SortedPairs.{is_true, Some-same, filter-behind}
-use Rattle.bk_cache.specs.Recents.{Recents, Entry, same_key, recent_of, remembered, without_recent, IsOldOrRemembered}
-use Rattle.bk_cache.specs.Caches.{first_after}
+use Rattle.bk_record.proofs.SortedPairs.{Some-same}
+use Rattle.bk_cache.specs.Recents.{Recents, same_key, recent_of, remembered, without_recent, IsOldOrRemembered}
 use Rattle.bk_cache.proofs.RecentPuts.{same_key_exact}
 
 -- a ledger's recent entries are gone, the others stay

@@ -6,7 +6,7 @@ pub mod LedgerKeys
 pub mod RemovedPairs
 pub mod CachePairs
 pub mod FirstAfter
-pub mod RecentTurns
+pub mod RecentPairs
 pub mod RecentPuts
 pub mod Used
 pub mod Sound

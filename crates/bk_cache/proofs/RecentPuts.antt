@@ -3,7 +3,7 @@ use Rattle.std.proofs.Common.{◌≡◌, ℕ, ◌-◌, Bool, true, false, cond, 
 use Rattle.std.proofs.Common.{OnErr, IsSome, ◌⊎◌, inl, inr, refl, sym, ap, ◌∙◌}
 use Rattle.std.specs.Option.{option_map_or}
 use Rattle.std.specs.Map.{lookup, lookup_entry, remove_entry}
-use Rattle.std.proofs.lemmas.Bool.{and_parts, eqb-true, eq-eqb, false≢true}
+use Rattle.std.proofs.lemmas.Bool.{and_parts, eqb-true, false≢true}
 use Rattle.std.proofs.lemmas.List.{take-map}
 use Rattle.std.proofs.lemmas.Map.Made.{lookup-map_values}
 use Rattle.lru.specs.LruCache.{LruCache, lru_cache, put_entries}
@@ -21,9 +21,6 @@ same_key_exact a b same =
     let ledger : a.ledger ≡ b.ledger = eqb-true a.ledger b.ledger parts.0 in
     let entry : a.entry ≡ b.entry = eqb-true a.entry b.entry parts.1 in
     λ i. record { ledger = ledger i; entry = entry i }
-
-pub same_key-refl : (key : EntryKey) → same_key key key ≡ true
-same_key-refl key = rw (eq-eqb key.ledger key.ledger refl, eq-eqb key.entry key.entry refl)
 
 module _ {K X Y : Type 0} (f : X → Y) where
   remove_entry-seen : (test : K → Bool) (es : List (K × X)) → remove_entry test (seen f es) ≡ seen f (remove_entry test es)

@@ -1,6 +1,10 @@
 -- The entries that were flushed last: pairs of a key and its payload, the one remembered last first.
-use Rattle.std.specs.Prelude.{◌≡◌, ◌⊎◌, ℕ, ◌-◌, Bool, not, ◌==◌, ◌&&◌, if◌then◌else◌, List, [], ◌∷◌, take, filter, Option, Some, is_some, refl}
+use Rattle.std.specs.Prelude.{◌≡◌, ◌⊎◌, ℕ, ◌-◌, Bool, not, ◌==◌, ◌&&◌, if◌then◌else◌, List, [], ◌∷◌, take, filter, Option, Some, is_some, true, refl}
+use Rattle.std.specs.BTreeSet.{BTreeSet, contains}
+use Rattle.std.specs.declared.cmp.Ordering.{Ordering}
+use Rattle.std.specs.Ordering.{nat_cmp, ordering_then}
 use Rattle.std.specs.Coded.{Coded, code_by, coded×, coded_list, coded_ℕ}
+use Rattle.std.specs.List.{AllByRecursion}
 use Rattle.std.specs.Map.{lookup, remove_entry}
 use Rattle.bk_record.specs.Key.{EntryKey}
 use Rattle.bk_record.specs.Keyed.{key_code}
@@ -45,3 +49,11 @@ without_recent r ledger = record r { entries = filter (λ e. not (e.0.ledger == 
 abbrev pub IsOldOrRemembered : Recents → EntryKey → List ℕ → EntryKey → List ℕ → Type 0
 IsOldOrRemembered r remembered_key remembered_payload key payload =
     (recent_of r key ≡ Some payload) ⊎ ((key ≡ remembered_key) × (payload ≡ remembered_payload))
+
+-- the order of a ledger and an entry: by ledger, then by entry
+abbrev pub pair_cmp : ℕ × ℕ → ℕ × ℕ → Ordering
+pair_cmp a b = ordering_then (nat_cmp a.0 b.0) (nat_cmp a.1 b.1)
+
+-- ledger and entry of each of them are among these pairs
+abbrev pub AreListed : {X : Type 0} → List (EntryKey × X) → BTreeSet (ℕ × ℕ) → Type 0
+AreListed entries pairs = AllByRecursion (λ e. contains pair_cmp pairs (e.0.ledger, e.0.entry) ≡ true) entries

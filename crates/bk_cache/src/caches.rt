@@ -89,6 +89,7 @@ impl Caches {
 
     /// The payload of a key: from the active cache, else from the flushing one, else from the recent entries. Nothing is
     /// renewed.
+    #[inline]
     pub fn get(&self, key: &Key) -> Option<&Arc<Vec<u8>>>
         ensures value { option_map (λ payload. payload.now.value.items) result ≡ cached self.now key.now }
         ensures keyed { IsSome (held self.now key.now) → IfSome result (λ payload. read_added payload.now.value.items ≡ Ok key.now) }
@@ -101,6 +102,7 @@ impl Caches {
     }
 
     // The payload of a key in one of the write caches.
+    #[inline]
     fn written(&self, key: &Key) -> Option<&Arc<Vec<u8>>>
         ensures value { option_map (λ payload. payload.now.value.items) result ≡ held self.now key.now }
         ensures keyed { IfSome result (λ payload. read_added payload.now.value.items ≡ Ok key.now) }

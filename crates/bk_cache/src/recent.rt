@@ -1,15 +1,17 @@
 //! The entries that were flushed last, the one remembered last first. A read renews nothing, so of too many the one
 //! that was remembered first goes first.
 
-ghost use Rattle.std.specs.Prelude.{◌≡◌, ◌⊎◌, ◌≤◌, [], length, not, ◌==◌, filter, option_map, IsSome, IfOk};
-ghost use Rattle.lru.specs.LruCache.{lru_cache};
-ghost use Rattle.bk_cache.specs.Recents.{recent_of, remembered, without_recent};
+ghost use Rattle.std.specs.Prelude.{◌≡◌, ◌⊎◌, ◌≤◌, ℕ, [], true, false, length, option_map, IsSome, IfOk, IfSome, IfNone};
+ghost use Rattle.std.specs.BTreeSet.{contains};
+ghost use Rattle.bk_cache.specs.Recents.{recent_of, remembered, without_recent, pair_cmp};
 
 use bk_record::Key;
 use lru::LruCache;
 use std::alloc::{AllocError, Global};
+use std::collections::BTreeSet;
 use std::marker::Model;
 use std::num::NonZeroUsize;
+use std::ops::Bound;
 use std::sync::Arc;
 
 /// A key, as the table of recent entries hashes it.
@@ -40,14 +42,102 @@ impl HashedKey {
     }
 }
 
+/// Recent entries. `pairs` has ledger and entry of each of them in order, so that those of a ledger stand side by side.
+#[derive(Drop)]
+struct Kept {
+    entries: LruCache<HashedKey, Arc<Vec<u8>>>,
+    pairs: BTreeSet<(u64, u64)>,
+}
+
+impl Model for Kept {
+    ghost use Rattle.std.specs.Prelude.{map};
+    ghost use Rattle.bk_cache.specs.Recents.{Recents, recents_code, AreListed};
+
+    ghost Value = { Recents };
+
+    ghost coded = { recents_code };
+
+    ghost view = { λ kept. record { entries = map (λ e. (e.0, e.1.value.items)) kept.entries.entries; most = kept.entries.cap } };
+
+    ghost invariant = { λ kept. AreListed kept.entries.entries kept.pairs };
+}
+
+impl Kept {
+    fn len(&self) -> usize
+        ensures value { result ≡ length self.now.entries }
+        ensures within { result ≤ self.now.most }
+    {
+        self.entries.len()
+    }
+
+    fn get(&self, key: &Key) -> Option<&Arc<Vec<u8>>>
+        ensures { option_map (λ payload. payload.now.value.items) result ≡ recent_of self.now key.now }
+    {
+        self.entries.peek(&HashedKey::of(key))
+    }
+
+    fn remember(&mut self, key: &Key, payload: Arc<Vec<u8>>)
+        ensures recent { (self.new ≡ self.old) ⊎ (self.new ≡ remembered self.old key.now payload.value.items) }
+        ensures replaced { IsSome (recent_of self.old key.now) → self.new ≡ remembered self.old key.now payload.value.items }
+    {
+        let pair = (key.ledger(), key.entry());
+        let Ok(is_new) = self.pairs.insert(pair) else {
+            return;
+        };
+        // Each key stands once: what the table says of itself.
+        let _ = self.entries.len();
+        match self.entries.push(HashedKey::of(key), payload) {
+            Ok(Some((gone, _))) => unlist(&mut self.pairs, gone, pair),
+            Ok(None) => {}
+            Err(_) => {
+                if is_new {
+                    self.pairs.remove(&pair);
+                }
+            }
+        }
+    }
+
+    fn drop_ledger(&mut self, ledger: u64)
+        ensures { self.new ≡ without_recent self.old ledger }
+    {
+        while let Some(entry) = first_entry(&self.pairs, ledger) {
+            self.pairs.remove(&(ledger, entry));
+            // Each key stands once.
+            let _ = self.entries.len();
+            let _ = self.entries.pop(&HashedKey { ledger, entry });
+        }
+    }
+}
+
+// The pair of a key that went goes too, where it is not this one.
+fn unlist(pairs: &mut BTreeSet<(u64, u64)>, gone: HashedKey, stays: (u64, u64))
+    ensures stay { (pair : ℕ × ℕ) → (pair.0 ≡ gone.ledger → pair.1 ≡ gone.entry → pair ≡ stays)
+        → contains pair_cmp pairs.old pair ≡ true → contains pair_cmp pairs.new pair ≡ true }
+{
+    let pair = (gone.ledger, gone.entry);
+    if pair != stays {
+        pairs.remove(&pair);
+    }
+}
+
+// The first entry of the ledger among the pairs: those of one ledger stand side by side.
+fn first_entry(pairs: &BTreeSet<(u64, u64)>, ledger: u64) -> Option<u64>
+    ensures some { IfSome result (λ entry. contains pair_cmp pairs.now (ledger, entry) ≡ true) }
+    ensures none { IfNone result ((entry : ℕ) → contains pair_cmp pairs.now (ledger, entry) ≡ false) }
+{
+    let (first, entry) = pairs
+        .range((Bound::Included((ledger, 0)), Bound::Unbounded))
+        .next()?;
+    if *first == ledger { Some(*entry) } else { None }
+}
+
 /// At most so many recent entries; there is no table where there may be none.
 #[derive(Drop)]
 pub(crate) struct Recent {
-    kept: Option<LruCache<HashedKey, Arc<Vec<u8>>>>,
+    kept: Option<Kept>,
 }
 
 impl Model for Recent {
-    ghost use Rattle.std.specs.Prelude.{map};
     ghost use Rattle.std.specs.Option.{option_map_or};
     ghost use Rattle.bk_cache.specs.Recents.{Recents, recents_code, no_recents};
 
@@ -55,7 +145,7 @@ impl Model for Recent {
 
     ghost coded = { recents_code };
 
-    ghost view = { λ recent. option_map_or (λ c. record { entries = map (λ e. (e.0, e.1.value.items)) c.entries; most = c.cap }) recent.kept no_recents };
+    ghost view = { λ recent. option_map_or (λ kept. kept) recent.kept no_recents };
 }
 
 impl Recent {
@@ -63,11 +153,14 @@ impl Recent {
     pub(crate) fn new(alloc: Global, most: usize) -> Result<Recent, AllocError>
         ensures { IfOk result (λ recent. recent ≡ record { entries = []; most = most }) }
     {
-        let kept = match NonZeroUsize::new(most) {
-            Some(most) => Some(LruCache::new(alloc, most)?),
-            None => None,
+        let Some(most) = NonZeroUsize::new(most) else {
+            return Ok(Recent { kept: None });
         };
-        Ok(Recent { kept })
+        let kept = Kept {
+            entries: LruCache::new(alloc, most)?,
+            pairs: BTreeSet::new(alloc),
+        };
+        Ok(Recent { kept: Some(kept) })
     }
 
     /// How many recent entries there are.
@@ -85,10 +178,7 @@ impl Recent {
     pub(crate) fn get(&self, key: &Key) -> Option<&Arc<Vec<u8>>>
         ensures { option_map (λ payload. payload.now.value.items) result ≡ recent_of self.now key.now }
     {
-        match &self.kept {
-            Some(kept) => kept.peek(&HashedKey::of(key)),
-            None => None,
-        }
+        self.kept.as_ref()?.get(key)
     }
 
     /// Puts an entry first, or none where memory is refused or there may be none. The payload of a key that is there is
@@ -97,36 +187,17 @@ impl Recent {
         ensures recent { (self.new ≡ self.old) ⊎ (self.new ≡ remembered self.old key.now payload.value.items) }
         ensures replaced { IsSome (recent_of self.old key.now) → self.new ≡ remembered self.old key.now payload.value.items }
     {
-        let Some(kept) = &mut self.kept else {
-            return;
-        };
-        let _ = kept.put(HashedKey::of(key), payload);
+        if let Some(kept) = &mut self.kept {
+            kept.remember(key, payload);
+        }
     }
 
-    /// Takes the entries of a ledger out.
+    /// Takes the entries of a ledger out. No other is looked at but the one behind them in the order of keys.
     pub(crate) fn drop_ledger(&mut self, ledger: u64)
         ensures { self.new ≡ without_recent self.old ledger }
     {
-        let Some(kept) = &mut self.kept else {
-            return;
-        };
-        drop_entries(kept, ledger);
-    }
-}
-
-// Goes once round the entries, the first in the order first: one of the ledger goes, another becomes the last. So the
-// others come to stand in their order again.
-fn drop_entries(kept: &mut LruCache<HashedKey, Arc<Vec<u8>>>, ledger: u64)
-    ensures { kept.new ≡ lru_cache (filter (λ e. not (e.0.ledger == ledger)) kept.old.entries) kept.old.cap }
-{
-    for _turn in 0..kept.len() {
-        let Some((&key, _)) = kept.peek_mru() else {
-            return;
-        };
-        if key.ledger == ledger {
-            drop(kept.pop_mru());
-        } else {
-            kept.demote(&key);
+        if let Some(kept) = &mut self.kept {
+            kept.drop_ledger(ledger);
         }
     }
 }

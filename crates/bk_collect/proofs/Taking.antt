@@ -1,5 +1,5 @@
 -- The entries of one log, taken into an index as a scan gives them.
-use Rattle.std.proofs.Common.{◌≡◌, ◌⊎◌, inl, inr, ℕ, zero, suc, ◌+◌, ◌-◌, ◌≤◌, true, false, IsTrue, if◌then◌else◌, List, [], ◌∷◌, ◌++◌}
+use Rattle.std.proofs.Common.{◌≡◌, ◌⊎◌, inl, inr, ℕ, zero, suc, ◌+◌, true, false, IsTrue, if◌then◌else◌, List, [], ◌∷◌, ◌++◌}
 use Rattle.std.proofs.Common.{length, take, drop, Some, None, Ok, slice_get, sym, ap, ◌∙◌, arith}
 use Rattle.std.proofs.lemmas.List.{take_all}
 use Rattle.std.proofs.lemmas.Option.{same_Some}
@@ -13,7 +13,6 @@ use Rattle.bk_record.specs.Scan.{Ledgers, entries_of}
 use Rattle.bk_disk.specs.Disk.{view_end}
 use Rattle.bk_log.specs.declared.found.Found.{Found}
 use Rattle.bk_log.specs.Ranges.{entries_in, part}
-use Rattle.bk_log.specs.Scanned.{new_scan}
 use Rattle.bk_log.specs.Scanning.{Scan, part_of, NextMoves, NextTurn}
 use Rattle.bk_log.proofs.Ranges.{entries_in-file, whole_view}
 use Rattle.bk_record.specs.Keyed.{Places}
@@ -61,20 +60,6 @@ pub record IsTaking (dead : Ledgers) (log end : ℕ) (view : View) (old : Places
   pub sound : s.sound ≡ view.is_sound
   pub taken : IsTrue view.is_honest → now ≡ with_records dead log old (take s.given (entries_of view.bytes))
 
-pub taking_starts : (dead : Ledgers) (log end : ℕ) (view : View) (old : Places) (s : Scan)
-    → s ≡ new_scan view.bytes view.is_honest view.is_sound header_length end → IsTaking dead log end view old s old
-taking_starts dead log end view old s is = record {
-  sent = λ key place named. inl named;
-  from = ap (λ (x : Scan). x.from) is;
-  to = ap (λ (x : Scan). x.end) is;
-  bytes = ap (λ (x : Scan). x.file) is;
-  honest = ap (λ (x : Scan). x.honest) is;
-  sound = ap (λ (x : Scan). x.sound) is;
-  taken = λ _.
-      let none : s.given ≡ 0 = ap (λ (x : Scan). x.given) is in
-      ap (λ n. with_records dead log old (take n (entries_of view.bytes))) (sym none);
-}
-
 module _ {dead : Ledgers} {log end : ℕ} {view : View} {old : Places} {s : Scan} {now : Places} (so_far : IsTaking dead log end view old s now) where
   pub scan_part : end ≡ view_end view.bytes → part_of s ≡ drop header_length view.bytes
   scan_part whole = (λ i. part (so_far.bytes i) (so_far.from i) (so_far.to i)) ∙ whole_view view.bytes end whole
@@ -87,9 +72,6 @@ module _ {dead : Ledgers} {log end : ℕ} {view : View} {old : Places} {s : Scan
 
   -- an entry more
   module _ (found : Found) (s' : Scan) (moves : NextMoves s (Ok (Some found)) s') where
-    pub next_begins : 1028 ≤ found.at
-    next_begins = omega (arith, so_far.from, moves.1.begins)
-
     module _ (turn : IsTrue s.honest → NextTurn s (Ok (Some found)) s') (whole : IsTrue view.is_honest → end ≡ view_end view.bytes) where
       next_listed : (is : IsTrue view.is_honest) → slice_get (entries_of view.bytes) s.given ≡ Some (found.at, (turn (scan_honest is)).payload)
       next_listed is = ap (λ (l : List (ℕ × List ℕ)). slice_get l s.given) (sym (scan_entries (whole is))) ∙ (turn (scan_honest is)).listed

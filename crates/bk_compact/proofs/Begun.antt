@@ -1,22 +1,19 @@
 -- A job that begins keeps what a job keeps.
-use Rattle.std.proofs.Common.{◌≡◌, ◌≢◌, ◌⊎◌, inl, inr, ℕ, ◌+◌, ◌<◌, ◌≤◌, true, if◌then◌else◌, IsTrue, List, []}
-use Rattle.std.proofs.Common.{Option, Some, None, Ok, refl, sym, ap, subst, ◌∙◌, arith}
-use Rattle.std.specs.Option.{option_map_or, option_and_then}
-use Rattle.std.proofs.lemmas.Option.{none-some, same_Some}
+use Rattle.std.proofs.Common.{◌≡◌, inl, inr, ℕ, ◌<◌, ◌≤◌, IsTrue}
+use Rattle.std.proofs.Common.{Some, refl, sym, ap, subst, ◌∙◌, arith}
+use Rattle.std.specs.Option.{option_and_then}
+use Rattle.std.proofs.lemmas.Option.{none-some}
 use Rattle.std.specs.FinMap as finite
-use Rattle.bk_record.specs.Key.{EntryKey}
-use Rattle.bk_record.specs.Location.{Place}
 use Rattle.bk_record.specs.Files.{header_length}
-use Rattle.bk_record.specs.Keyed.{log_count}
 use Rattle.bk_record.proofs.KeyedCounts.{log_count-none}
 use Rattle.bk_log.specs.Writing as writers
 use Rattle.bk_store.specs.Jobs.{new_job}
 use Rattle.bk_store.specs.JobKept.{IsJob}
-use Rattle.bk_store.specs.Logs.{View, Log, Logs, HasOpenView, is_open, made_log, open_parts, published_part}
+use Rattle.bk_store.specs.Logs.{Log, Logs, HasOpenView, is_open, made_log, open_parts}
 use Rattle.bk_store.specs.State.{State}
-use Rattle.bk_store.specs.Doors.{IsIn, IsMade}
+use Rattle.bk_store.specs.Doors.{IsMade}
 use Rattle.bk_store.specs.Plain.{IsKept}
-use Rattle.bk_store.specs.declared.log.LogState.TheVariants.{Copying, Readable}
+use Rattle.bk_store.specs.declared.log.LogState.TheVariants.{Copying}
 use Rattle.bk_store.proofs.Cases.{some_or_none}
 use Rattle.bk_store.proofs.LogMaps.{log-inserted, log-insert_else}
 use Rattle.bk_compact.specs.Compacting.{IsCandidate}
@@ -50,9 +47,6 @@ module _ (s t : State) (kept : IsKept s) (source : ℕ) (is : IsCandidate s sour
 
   copy_is : finite.get t.logs s.next ≡ Some (made_log Copying s.next made.slot)
   copy_is = ap (λ (l : Logs). finite.get l s.next) logs_are ∙ log-inserted s.logs s.next (made_log Copying s.next made.slot) s.next refl
-
-  part_same : open_parts t.logs source ≡ open_parts s.logs source
-  part_same = ap (λ (o : Option Log). option_map_or (λ (l : Log). if is_open l.state then published_part l else []) o []) source_same
 
   pub begun : IsJob t (new_job source s.next)
   begun =

@@ -1,14 +1,18 @@
 -- The choice among the logs that were looked at, and one more.
 use Rattle.std.proofs.Common.{◌≡◌, ◌⊎◌, inl, inr, ℕ, zero, suc, ◌+◌, ◌*◌, ◌<◌, ◌≤◌, true, false, IsTrue, List, []}
-use Rattle.std.proofs.Common.{◌∷◌, ◌++◌, Option, Some, None, IsSome, IfSome, is_some, refl, sym, ap, subst, arith}
+use Rattle.std.proofs.Common.{◌∷◌, ◌++◌, Option, Some, None, IsSome, IfSome, is_some, refl, sym, ap, subst, ◌∙◌, arith}
 use Rattle.std.proofs.lemmas.Bool.{cases_lt}
+use Rattle.std.proofs.lemmas.Option.{same_Some}
 use Rattle.std.proofs.Math.Decide.{dec_le}
 use Rattle.std.specs.List.{Contains}
 use Rattle.std.proofs.lemmas.List.Elements.{Contains-append_left, Contains-append_right, Contains-append_cases}
 use Rattle.std.specs.FinMap as finite
 use Rattle.bk_accounts.specs.Choice.{IsBelow, IsChoice, NoneBelow}
 use Rattle.bk_accounts.proofs.Choices.{only, taken_first, taken, kept}
-use Rattle.bk_store.specs.Logs.{IsNextHeld}
+use Rattle.bk_record.specs.Keyed.{log_count}
+use Rattle.bk_store.specs.Logs.{IsNextHeld, Log}
+use Rattle.bk_store.specs.declared.log.LogState.{LogState}
+use Rattle.bk_store.specs.declared.log.LogState.TheVariants.{Writing, Filled, Copying, Readable, Retired, Closed}
 use Rattle.bk_store.specs.State.{State}
 use Rattle.bk_store.specs.Copying.{IsLeastUsed, log_bytes, live_log_bytes}
 use Rattle.bk_compact.specs.Compacting.{Chooses, IsCandidate}
@@ -98,6 +102,33 @@ least_is : (s : State) (threshold : ℕ) (chosen : Option ℕ) (allowed : List �
 least_is s threshold None allowed is = is
 least_is s threshold (Some id) allowed is = is
 
+-- whether a log may be compacted can be told
+candidate_or_not : (s : State) (id : ℕ) → IsCandidate s id ⊎ (¬ (IsCandidate s id))
+candidate_or_not s id = of_log (finite.get s.logs id) refl
+  where
+    other : (log : Log) (state : LogState) → finite.get s.logs id ≡ Some log → log.state ≡ state → ¬ (state ≡ Readable) → ¬ (IsCandidate s id)
+    other log state held is not candidate =
+        let same = same_Some candidate.state.log log (sym candidate.state.held ∙ held) in
+        not (sym is ∙ ap (λ (l : Log). l.state) (sym same) ∙ candidate.state.state_is)
+
+    of_state : (log : Log) (state : LogState) → finite.get s.logs id ≡ Some log → log.state ≡ state → IsCandidate s id ⊎ (¬ (IsCandidate s id))
+    of_state log Writing held is = inr (other log Writing held is (λ wrong. cc))
+    of_state log Filled held is = inr (other log Filled held is (λ wrong. cc))
+    of_state log Copying held is = inr (other log Copying held is (λ wrong. cc))
+    of_state log Retired held is = inr (other log Retired held is (λ wrong. cc))
+    of_state log Closed held is = inr (other log Closed held is (λ wrong. cc))
+    of_state log Readable held is = elim (dec_le 1 (log_count s.index id)) [
+      | yes named ↦ inl (record { state = record { log = log; held = held; state_is = is }; named = named })
+      | no none ↦ inr (λ candidate. omega (arith, none, candidate.named))
+    ]
+
+    of_log : (o : Option Log) → finite.get s.logs id ≡ o → IsCandidate s id ⊎ (¬ (IsCandidate s id))
+    of_log (Some log) held = of_state log log.state held refl
+    of_log None none = inr (λ candidate. not_held candidate.state.log (sym none ∙ candidate.state.held))
+      where
+        not_held : (log : Log) → None ≡ Some log → ⊥
+        not_held log wrong = cc
+
 pub candidate_held : (s : State) (best : Option ℕ) → IfSome best (IsCandidate s) → IfSome best (λ id. IsSome (finite.get s.logs id))
 candidate_held s None is = tt
 candidate_held s (Some id) is = ap is_some is.state.held
@@ -183,7 +214,7 @@ module _ (s : State) (threshold : ℕ) where
           (so_far.choice honest) (better honest))
           (is, omega arith)
 
-      pub choosing_kept : (best : Option ℕ) → IsChoosing s threshold from best → (IsTrue s.honest → IsBetter s threshold best log false)
+      choosing_kept : (best : Option ℕ) → IsChoosing s threshold from best → (IsTrue s.honest → IsBetter s threshold best log false)
           → IsChoosing s threshold (log + 1) best
       choosing_kept None so_far better = more None None so_far
           (λ honest. first_spared (log_bytes s) (live_log_bytes s) threshold so_far.allowed log (so_far.choice honest) (better honest).0
@@ -193,3 +224,11 @@ module _ (s : State) (threshold : ℕ) where
           (λ honest. next_spared (log_bytes s) (live_log_bytes s) threshold so_far.allowed log best (omega (arith, so_far.candidate.1, next.1))
           (so_far.choice honest) (better honest).0 (least_is s threshold (better honest).0 (best ∷ log ∷ []) (better honest).1) (better honest).2)
           (so_far.candidate.0, omega (arith, so_far.candidate.1, next.1))
+
+    -- it is not to be chosen, whether or not it may be compacted
+    pub choosing_spared : (best : Option ℕ) → IsChoosing s threshold from best → (IsTrue s.honest → IsBetter s threshold best log false)
+        → IsChoosing s threshold (log + 1) best
+    choosing_spared best so_far better = elim (candidate_or_not s log) [
+      | inl is ↦ choosing_kept is best so_far better
+      | inr not ↦ choosing_past best so_far not
+    ]

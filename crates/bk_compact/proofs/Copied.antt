@@ -1,5 +1,5 @@
 -- A job that is out of the store goes on by an entry, and keeps what a job keeps.
-use Rattle.std.proofs.Common.{◌≡◌, ◌≢◌, ◌⊎◌, inl, inr, ℕ, zero, suc, ◌+◌, ◌-◌, ◌<◌, ◌≤◌, ◌^◌, true, false, IsTrue, List, [], ◌∷◌, ◌++◌}
+use Rattle.std.proofs.Common.{◌≡◌, ◌≢◌, ◌⊎◌, inl, inr, ℕ, zero, suc, ◌+◌, ◌<◌, ◌≤◌, ◌^◌, true, false, IsTrue, List, [], ◌∷◌, ◌++◌}
 use Rattle.std.proofs.Common.{length, Option, Some, None, Result, Ok, Err, unwrap_or, refl, sym, ap, subst, ◌∙◌, arith}
 use Rattle.std.specs.Option.{option_and_then}
 use Rattle.std.proofs.lemmas.Option.{same_Some}
@@ -12,6 +12,7 @@ use Rattle.bk_record.proofs.Growth.{In-append_left, In-append_right, In-append_c
 use Rattle.bk_record.proofs.Places.{same_place}
 use Rattle.bk_log.specs.Growing.{Gains, put_record}
 use Rattle.bk_log.specs.Places.{HasEntryAt, FetchFails}
+use Rattle.bk_log.specs.Scanning.{Scan}
 use Rattle.bk_log.specs.declared.fault.FetchFault.{FetchFault}
 use Rattle.bk_log.specs.declared.fault.FetchFault.TheVariants as fetches
 use Rattle.bk_log.specs.Writing as writers
@@ -47,7 +48,7 @@ use Rattle.bk_store.proofs.JobStays.{part_same, view_same, in_same}
 use Rattle.bk_compact.specs.declared.entries.Stopped.{Stopped}
 use Rattle.bk_compact.specs.declared.entries.Stopped.TheVariants as stops
 use Rattle.bk_compact.specs.Compacting.{Copies, Examines, behind, place_of}
-use Rattle.bk_compact.specs.Going.{CopiesEntry, IsAhead, IsCopying, IsEntry, StopsAt, told_put}
+use Rattle.bk_compact.specs.Going.{CopiesEntry, IsAhead, IsCopying, IsEntry, IsScanOf, StopsAt, told_put}
 use Rattle.bk_compact.proofs.Stored.{kept_backed, kept_headed, kept_held, kept_ids, kept_shows}
 use Rattle.bk_compact.proofs.Stored.{named_ahead, next_entry, source_bytes, source_honest, behind_is}
 use Rattle.std.proofs.lemmas.Bool.{false_from_ne_true}
@@ -188,18 +189,21 @@ module _ (s : State) (kept : IsKept s) (job : Job) (is : IsCopying s job) (found
       another wrong = cc
 
   -- and what it finds is the entry
-  module _ (payload : List ℕ) (fetched : IsTrue view.is_honest → HasEntryAt view.bytes from_place.at found.key payload) where
-    pub found_entry : IsTrue s.honest → IsEntry payload found
-    found_entry honest = fetched_entry s kept job is.out.keeps found ahead payload
-        (there payload (fetched (source_honest s kept job is.out.keeps view last honest))) honest
+  pub fetched_there : (payload : List ℕ) → (IsTrue view.is_honest → HasEntryAt view.bytes from_place.at found.key payload) → IsTrue s.honest
+      → HasEntryAt (open_parts s.logs job.source) found.at found.key payload
+  fetched_there payload fetched honest = there payload (fetched (source_honest s kept job is.out.keeps view last honest))
 
-    pub found_stands : IsTrue s.honest → HasEntry (open_parts s.logs) (place_of job found) found.key payload
-    found_stands honest = fetched_stands s kept job is.out.keeps found ahead payload
-        (there payload (fetched (source_honest s kept job is.out.keeps view last honest))) honest
-
-    pub found_filed : IsTrue s.honest → HasEntry (file_of s.files) (place_of job found) found.key payload
-    found_filed honest = fetched_filed s kept job is.out.keeps found ahead payload
-        (there payload (fetched (source_honest s kept job is.out.keeps view last honest))) honest
+  -- as is what the scan lends of it
+  pub lent_there : (scan : Scan) → IsScanOf view.bytes view.is_honest scan → (lent : List ℕ)
+      → (IsTrue scan.honest → (payload : List ℕ) → HasEntryAt scan.file found.at found.key payload → found.size ≡ 4 + length payload → lent ≡ payload)
+      → IsTrue s.honest → HasEntryAt (open_parts s.logs job.source) found.at found.key lent
+  lent_there scan scans lent entry honest =
+      let next = ahead.next honest in
+      let truth : IsTrue scan.honest = scans.honest_is ∙ source_honest s kept job is.out.keeps view last honest in
+      let here : HasEntryAt scan.file found.at found.key next.payload =
+      subst (λ (b : List ℕ). HasEntryAt b found.at found.key next.payload) (whole ∙ sym scans.file_is) next.stands in
+      subst (λ (p : List ℕ). HasEntryAt (open_parts s.logs job.source) found.at found.key p) (sym (entry truth next.payload here next.found_is.sized))
+      next.stands
 
 -- the disk is odd, so the copy is read as it is
 pub stops_odd : (s t : State) (job : Job) (found : Found) (stopped : Stopped) → stopped ≡ stops.Odd → s.honest ≡ false → SetTurn s job.copy Readable t

@@ -1,39 +1,36 @@
 -- A job that is out of the store begins, is sealed and shown, and is switched, and keeps what a job keeps.
-use Rattle.std.proofs.Common.{◌≡◌, ◌≢◌, ◌⊎◌, inl, inr, ℕ, zero, suc, ◌+◌, ◌-◌, ◌<◌, ◌≤◌, Bool, true, false, IsTrue, List, [], ◌∷◌, ◌++◌, length}
-use Rattle.std.proofs.Common.{not, is_some, Option, Some, None, Result, Ok, Err, unwrap_or, refl, sym, ap, subst, ◌∙◌, arith}
+use Rattle.std.proofs.Common.{◌≡◌, ◌≢◌, ◌⊎◌, inl, inr, ℕ, ◌<◌, Bool, true, false, IsTrue, List, []}
+use Rattle.std.proofs.Common.{not, is_some, Option, Some, None, Ok, unwrap_or, refl, sym, ap, subst, ◌∙◌, arith}
 use Rattle.std.specs.Option.{option_and_then}
 use Rattle.std.proofs.lemmas.Option.{same_Some}
 use Rattle.std.specs.FinMap as finite
 use Rattle.bk_record.specs.Key.{EntryKey}
 use Rattle.bk_record.specs.Location.{Place}
 use Rattle.bk_record.specs.Record.{key_of, is_foreign}
-use Rattle.bk_record.specs.Files.{file_of, header_length, records_of, In}
+use Rattle.bk_record.specs.Files.{file_of, records_of, In}
 use Rattle.bk_record.specs.Scan.{entries_of}
 use Rattle.bk_record.specs.Keyed.{log_count, Places}
 use Rattle.bk_record.proofs.KeyedCounts.{log_count-none}
 use Rattle.bk_log.specs.Writing as writers
-use Rattle.bk_log.specs.declared.fault.LogFault.TheVariants as log_faults
 use Rattle.bk_store.specs.Entries.{HasEntry}
-use Rattle.bk_store.specs.Logs.{Log, Logs, View, HasOpenView, closed_log, is_open, made_log, open_parts, with_view}
+use Rattle.bk_store.specs.Logs.{Log, Logs, HasOpenView, closed_log, is_open, open_parts, with_view}
 use Rattle.bk_store.specs.State.{State}
-use Rattle.bk_store.specs.Jobs.{Job, Waits, new_job, waits_from}
-use Rattle.bk_store.specs.JobKept.{IsJob, IsCopied, IsReadTo, entries_from, copied_in, copy_state}
-use Rattle.bk_store.specs.Doors.{IsIn, MakeTurn, Seals, ShowTurn}
+use Rattle.bk_store.specs.Jobs.{Job, Waits, waits_from}
+use Rattle.bk_store.specs.JobKept.{IsJob, IsReadTo, entries_from, copied_in, copy_state}
+use Rattle.bk_store.specs.Doors.{Seals, ShowTurn}
 use Rattle.bk_store.specs.Copying.{MayRename, RenameTurn}
 use Rattle.bk_store.specs.Plain.{IsKept}
 use Rattle.bk_store.specs.declared.job.Move.{Move}
 use Rattle.bk_store.specs.declared.job.Phase.{Phase}
-use Rattle.bk_store.specs.declared.job.Phase.TheVariants.{Copy, Switch}
-use Rattle.bk_store.specs.declared.log.LogState.TheVariants.{Copying, Readable}
-use Rattle.bk_store.proofs.Cases.{some_or_none}
+use Rattle.bk_store.specs.declared.job.Phase.TheVariants.{Switch}
+use Rattle.bk_store.specs.declared.log.LogState.TheVariants.{Readable}
 use Rattle.bk_store.proofs.LogMaps.{log-inserted, log-insert_else}
 use Rattle.bk_store.proofs.KeyMaps.{inserted_cases}
 use Rattle.bk_store.proofs.JobStays.{part_same, view_same, in_same}
 use Rattle.bk_record.proofs.Entries.{In-filter, filter-In}
-use Rattle.bk_compact.specs.Compacting.{IsCandidate, entries_left}
+use Rattle.bk_compact.specs.Compacting.{entries_left}
 use Rattle.bk_compact.specs.Going.{IsCopying, IsOut}
-use Rattle.bk_compact.proofs.Positions.{read_start, record_behind}
-use Rattle.bk_compact.proofs.Stored.{kept_held, kept_sent, kept_shows, shown_part, none_ahead}
+use Rattle.bk_compact.proofs.Stored.{shown_part, none_ahead}
 
 -- ---- a log's entries
 
@@ -46,47 +43,6 @@ listed file at payload key keyed there =
 unlisted : (file : List ℕ) (at : ℕ) (payload : List ℕ) → In (at, payload) (entries_of file) → In (at, payload) (records_of file)
 unfolding entries_of
 unlisted file at payload there = filter-In (λ r. not (is_foreign r.1)) (at, payload) (records_of file) there
-
--- ---- the begin
-
-module _ (s : State) (kept : IsKept s) (source : ℕ) (is : IsCandidate s source) where
-  -- a log that keys are sent to has a view
-  pub candidate_shown : HasOpenView s.logs source
-  candidate_shown = elim (some_or_none is.state.log.view) [
-    | inr view ↦ record {
-      log = is.state.log;
-      view = view.0;
-      held = is.state.held;
-      opened = ap is_open is.state.state_is;
-      view_is = view.1;
-    }
-    | inl none ↦
-        let unnamed = log_count-none s.index source (λ key place named here.
-        let has = kept_sent s kept key place named in
-        let same : is.state.log ≡ has.log = same_Some is.state.log has.log (sym is.state.held ∙ ap (finite.get s.logs) (sym here) ∙ has.held) in
-        absent has.view (sym none ∙ ap (λ (l : Log). l.view) same ∙ has.view_is)) in
-        absurd (omega (arith, unnamed, is.named))
-  ]
-    where
-      absent : (v : View) → None ≡ Some v → ⊥
-      absent v wrong = cc
-
-  module _ (t : State) (copy : ℕ) (made : MakeTurn s Copying (Ok copy) t) where
-    abbrev new_log : Log
-    new_log = made_log Copying s.next made.2.slot
-
-    same_logs : t.logs ≡ finite.insert s.logs s.next new_log
-    same_logs = ap (λ (x : State). x.logs) made.2.left
-
-    older : source < s.next
-    older = (kept_held s kept source is.state.log is.state.held).below
-
-    source_same : finite.get t.logs source ≡ finite.get s.logs source
-    source_same = ap (λ (l : Logs). finite.get l source) same_logs
-        ∙ log-insert_else s.logs s.next new_log source (λ same. omega (arith, older, same))
-
-    copy_now : finite.get t.logs copy ≡ Some new_log
-    copy_now = ap (λ (l : Logs). finite.get l copy) same_logs ∙ log-inserted s.logs s.next new_log copy made.1
 
 -- ---- the copy is sealed and shown
 
@@ -178,9 +134,6 @@ module _ (s mid t : State) (job : Job) (is : IsCopying s job) (all : IsTrue s.ho
 module _ (s t : State) (job rest : Job) (first : Move) (is : IsOut s job) (phase : job.phase ≡ Switch) (waits : waits_from job first rest) where
   first_move : In first job.moves
   first_move = subst (In first) (sym waits.0) (inl refl)
-
-  same_source : rest.source ≡ job.source
-  same_source = ap (λ (x : Job). x.source) waits.1
 
   pub may_rename : MayRename s first.key first.from first.to
   may_rename =

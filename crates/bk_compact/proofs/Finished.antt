@@ -1,20 +1,14 @@
 -- A compaction ends: what its calls owe, and that a source which nobody disturbed is named by no key.
-use Rattle.std.proofs.Common.{◌≡◌, ◌≢◌, ◌⊎◌, ℕ, ◌+◌, ◌<◌, ◌≤◌, IsTrue, List, [], ◌∷◌, take, drop, Option}
-use Rattle.std.proofs.Common.{Some, None, option_map, refl, sym, ap, subst, ◌∙◌, arith}
-use Rattle.std.proofs.lemmas.Option.{none-some}
+use Rattle.std.proofs.Common.{◌≡◌, ℕ, ◌<◌, IsTrue, Option}
+use Rattle.std.proofs.Common.{Some, None, option_map, sym, ap, subst, ◌∙◌, arith}
 use Rattle.std.specs.FinMap as finite
 use Rattle.bk_record.specs.Keyed.{log_count}
 use Rattle.bk_store.specs.Jobs.{Job}
-use Rattle.bk_store.specs.JobKept.{IsJob, copy_state}
-use Rattle.bk_store.specs.Logs.{Log, Logs}
+use Rattle.bk_store.specs.JobKept.{IsJob}
+use Rattle.bk_store.specs.Logs.{Log}
 use Rattle.bk_store.specs.State.{State}
-use Rattle.bk_store.specs.Doors.{IsIn, MaySet}
 use Rattle.bk_store.specs.Plain.{IsKept}
-use Rattle.bk_store.specs.declared.job.Phase.{Phase}
-use Rattle.bk_store.specs.declared.job.Phase.TheVariants.{Copy, Switch}
-use Rattle.bk_store.specs.declared.log.LogState.{LogState}
-use Rattle.bk_store.specs.declared.log.LogState.TheVariants.{Copying, Readable}
-use Rattle.bk_compact.specs.Compacting.{IsRunning, IsSwitched, IsUndisturbed, with_job}
+use Rattle.bk_compact.specs.Compacting.{IsUndisturbed, with_job}
 use Rattle.bk_compact.specs.Going.{IsOut}
 use Rattle.bk_store.proofs.JobStays.{job_stays, stays_same}
 use Rattle.bk_compact.proofs.Ended.{source_unnamed}
@@ -32,19 +26,6 @@ taken_out s t kept job runs out = record {
       (λ _. ap (λ (x : State). x.files) out))
       (kept_job s kept job runs);
 }
-
--- the copy of a job that was taken out while entries are copied may become Readable
-pub may_abandon : (s t : State) → IsKept s → (job : Job) → IsRunning s Copy job → t ≡ with_job s None → (id : ℕ) → id ≡ job.copy → MaySet t id Readable
-may_abandon s t kept job running out id own =
-    let copy = (kept_job s kept job running.runs).copy in
-    let state : copy_state job.phase ≡ Copying = ap copy_state running.phase_is in (
-      record {
-        log = copy.log;
-        held = ap (λ (l : Logs). finite.get l id) (ap (λ (x : State). x.logs) out) ∙ ap (finite.get s.logs) own ∙ copy.held;
-        state_is = copy.state_is ∙ state;
-      },
-      (λ j runs. absurd (none-some j (sym (ap (λ (x : State). x.job) out) ∙ runs))),
-    )
 
 -- beside an honest disk no key is sent to the source of a compaction that only has to be finished, and whose index was not made anew
 pub undisturbed_unnamed : (s : State) → IsKept s → (source : ℕ) → IsUndisturbed s source → IsTrue s.honest → log_count s.index source ≡ 0

@@ -1,14 +1,14 @@
 -- The copy is sealed and shown, the job being out of the store.
-use Rattle.std.proofs.Common.{◌≡◌, ◌⊎◌, inl, inr, ℕ, ◌+◌, ◌<◌, ◌≤◌, true, false, IsTrue, List, [], length, Option}
-use Rattle.std.proofs.Common.{Some, None, Result, Ok, Err, refl, sym, ap, subst, ◌∙◌, arith}
+use Rattle.std.proofs.Common.{◌≡◌, inr, ℕ, true, IsTrue, [], length}
+use Rattle.std.proofs.Common.{Some, None, Result, Ok, Err, refl, sym, ap, subst, ◌∙◌}
 use Rattle.std.proofs.lemmas.Option.{none-some}
 use Rattle.std.specs.FinMap as finite
 use Rattle.bk_log.specs.declared.fault.LogFault.{LogFault}
 use Rattle.bk_store.specs.Jobs.{Job}
 use Rattle.bk_store.specs.JobKept.{IsJob}
-use Rattle.bk_store.specs.Logs.{Log, Logs, closed_log}
+use Rattle.bk_store.specs.Logs.{closed_log}
 use Rattle.bk_store.specs.State.{State}
-use Rattle.bk_store.specs.Doors.{IsIn, MayShow, Seals, ShowTurn}
+use Rattle.bk_store.specs.Doors.{MayShow, Seals, ShowTurn}
 use Rattle.bk_store.specs.Plain.{IsKept}
 use Rattle.bk_store.specs.declared.job.Phase.TheVariants.{Copy, Switch}
 use Rattle.bk_store.specs.declared.log.LogState.TheVariants.{Readable}
@@ -75,10 +75,6 @@ module _ (s out : State) (kept : IsKept s) (job own : Job) (running : IsRunning 
       set ∙ ap (λ (j : Job). record shown { job = Some j }) (begins ∙ ap (λ (j : Job). record j { phase = Switch }) same),
     ),
   )
-
-  pub not_sealed : (cause : LogFault) (fault : StepFault) (t : State) → fault ≡ step_fault_of cause → Seals out id Readable (Err cause) t
-      → EndTurn s (Err fault) t
-  not_sealed cause fault t told_so seals = (job, running, inr (cause, told_so, inl (seals_copy (Err cause) t seals)))
 
   pub not_shown : (cause : LogFault) (fault : StepFault) (mid t : State) → fault ≡ step_fault_of cause → Seals out id Readable (Ok tt) mid
       → ShowTurn mid id (Err cause) t → EndTurn s (Err fault) t

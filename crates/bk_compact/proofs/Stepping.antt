@@ -28,7 +28,7 @@ use Rattle.bk_compact.specs.declared.entries.Stopped.{Stopped}
 use Rattle.bk_compact.specs.declared.entries.Stopped.TheVariants as stops
 use Rattle.bk_compact.specs.Compacting.{AreFound, Examines, ExaminesAll, HasUnsoundSource, IsFound}
 use Rattle.bk_compact.specs.Compacting.{SourceFails, Steps, behind, entries_left, with_job}
-use Rattle.bk_compact.specs.Going.{CopiesAll, ExaminesOne, IsAhead, IsAtEnd, IsCopying, IsNextFound, IsOut}
+use Rattle.bk_compact.specs.Going.{CopiesAll, CopiesNext, ExaminesOne, IsAhead, IsAtEnd, IsCopying, IsNextFound, IsOut}
 use Rattle.bk_compact.specs.Going.{ScansFrom, StopsAt, told_after, told_read, told_unread}
 use Rattle.bk_compact.proofs.Positions.{none_bad}
 use Rattle.bk_compact.proofs.Stored.{scan_found, scan_come, scan_taken, source_bytes, source_honest, source_spelled}
@@ -82,6 +82,23 @@ copied_few s job (f ∷ founds) copied t after all =
     at_most : (b : Bool) → one b ≤ 1
     at_most true = omega arith
     at_most false = omega arith
+
+-- ---- whether any was examined
+
+-- where some were, some were left
+some_left : (l : List (ℕ × List ℕ)) (founds : List Found) → AreFound (take (length founds) l) founds → 1 ≤ length founds → ¬ (l ≡ [])
+some_left [] [] found some none = absurd (omega (arith, some))
+some_left [] (f ∷ founds) found some none = found
+some_left (e ∷ l) founds found some none = cc
+
+no_entries : (l : List (ℕ × List ℕ)) → length l ≤ 0 → l ≡ []
+no_entries [] few = refl
+no_entries (e ∷ l) few = absurd (omega (arith, few))
+
+none_examined : (s : State) (job : Job) (founds : List Found) (copied : ℕ) (t : State) (after : Job) → ExaminesAll s job founds copied t after
+    → length founds ≡ 0 → (t ≡ s) × (after ≡ job)
+none_examined s job [] copied t after all none = (all.1, all.2)
+none_examined s job (f ∷ founds) copied t after all none = absurd (omega (arith, none))
 
 pub out_same : (s : State) → s.job ≡ None → s ≡ with_job s None
 out_same s none = ap (λ j. with_job s j) none
@@ -346,6 +363,20 @@ module _ (view : View) (s : State) (job : Job) (number : ℕ) (scan : Scan) (cop
       so_far.copying.out,
     )
 
+    -- a scan that is at its end has given all that were left
+    ended_long : (scan' : Scan) → NextMoves scan (Ok None) scan' → (IsTrue scan.honest → NextTurn scan (Ok None) scan') → IsTrue s.honest
+        → number ≡ length (entries_left s job)
+    ended_long scan' moves turn honest =
+        let is = turn (view_truth (so_far.stays.honest ∙ honest)) in
+        let shape = moves.1 in
+        let list : entries_in scan'.from (part_of scan') ≡ entries_left s job =
+        (λ i. entries_in (ap (λ (x : Scan). x.from) shape i)
+        (part (ap (λ (x : Scan). x.file) shape i) (ap (λ (x : Scan). x.from) shape i) (ap (λ (x : Scan). x.end) shape i)))
+        ∙ ap (λ k. entries_in scan.from (part scan.file scan.from k)) (ends (so_far.stays.honest ∙ honest)) ∙ all_left in
+        let count : scan'.given ≡ length (entries_left s job) = is.given ∙ ap length list in
+        let same : scan'.given ≡ scan.given = ap (λ (x : Scan). x.given) shape in
+        sym so_far.given ∙ sym same ∙ count
+
     -- none is left
     pub going_ends : (scan' : Scan) → NextMoves scan (Ok None) scan' → (IsTrue scan.honest → NextTurn scan (Ok None) scan')
         → CopiesAll s job n (Ok copied) t after
@@ -354,15 +385,7 @@ module _ (view : View) (s : State) (job : Job) (number : ℕ) (scan : Scan) (cop
       (
         steps_at,
         λ honest.
-            let is = turn (view_truth (so_far.stays.honest ∙ honest)) in
-            let shape = moves.1 in
-            let list : entries_in scan'.from (part_of scan') ≡ entries_left s job =
-            (λ i. entries_in (ap (λ (x : Scan). x.from) shape i)
-            (part (ap (λ (x : Scan). x.file) shape i) (ap (λ (x : Scan). x.from) shape i) (ap (λ (x : Scan). x.end) shape i)))
-            ∙ ap (λ k. entries_in scan.from (part scan.file scan.from k)) (ends (so_far.stays.honest ∙ honest)) ∙ all_left in
-            let count : scan'.given ≡ length (entries_left s job) = is.given ∙ ap length list in
-            let same : scan'.given ≡ scan.given = ap (λ (x : Scan). x.given) shape in
-            let all : length so_far.steps.founds ≡ length (entries_left s job) = so_far.long ∙ sym so_far.given ∙ sym same ∙ count in
+            let all : length so_far.steps.founds ≡ length (entries_left s job) = so_far.long ∙ ended_long scan' moves turn honest in
             subst (λ (l : List (ℕ × List ℕ)). AreFound l so_far.steps.founds)
             (take_all (length so_far.steps.founds) (entries_left s job) (omega (arith, all))
             ∙ sym (take_all n (entries_left s job) (omega (arith, all, so_far.long, within_n))))
@@ -370,6 +393,23 @@ module _ (view : View) (s : State) (job : Job) (number : ℕ) (scan : Scan) (cop
       ),
       so_far.copying.out,
     )
+
+    -- an entry was found before, or none at all
+    pub going_some : 1 ≤ number → CopiesAll s job n (Ok copied) t after → CopiesNext s job n (Ok (Some copied)) t after
+    going_some some all = (
+      all,
+      λ honest. some_left (entries_left s job) so_far.steps.founds (so_far.steps.first honest) (omega (arith, some, so_far.long)),
+    )
+
+    pub going_none : number ≡ 0 → s.job ≡ None → (scan' : Scan) → NextMoves scan (Ok None) scan' → (IsTrue scan.honest → NextTurn scan (Ok None) scan')
+        → CopiesNext s job n (Ok None) t after
+    going_none zero out scan' moves turn =
+        let same = none_examined (with_job s None) job so_far.steps.founds copied t after so_far.steps.examined (omega (arith, zero, so_far.long)) in (
+          λ honest. let long = ended_long scan' moves turn honest in no_entries (entries_left s job) (omega (arith, zero, long)),
+          same.0 ∙ sym (out_same s out),
+          same.1,
+          so_far.copying.out,
+        )
 
     -- the source could not be read
     pub going_memory : CopiesAll s job n (Err (stops.Memory copied)) t after

@@ -10,14 +10,12 @@ use Rattle.bk_store.specs.Jobs.{Job}
 use Rattle.bk_store.specs.Copying.{RenameTurn}
 use Rattle.bk_store.specs.Doors.{SetTurn}
 use Rattle.bk_store.specs.declared.job.Move.{Move}
-use Rattle.bk_store.specs.declared.job.Phase.{Phase}
-use Rattle.bk_store.specs.declared.job.Phase.TheVariants.{Copy, Switch}
 use Rattle.bk_store.specs.declared.log.LogState.{LogState}
-use Rattle.bk_store.specs.declared.log.LogState.TheVariants.{Copying, Readable, Retired}
+use Rattle.bk_store.specs.declared.log.LogState.TheVariants.{Copying, Readable}
 use Rattle.bk_step.specs.Staying.{StandsStill}
 use Rattle.bk_step.proofs.Still.{still_same, then, still_beside}
 use Rattle.bk_step.proofs.Doors.{job_still, make_still, put_still, seals_still, set_still, show_still, rename_still}
-use Rattle.bk_compact.specs.Compacting.{BeginTurn, CopyTurn, EndTurn, SwitchTurn, FinishTurn, GiveUpTurn, GivesUp, GoesOnCopying, Steps}
+use Rattle.bk_compact.specs.Compacting.{BeginTurn, CopyTurn, EndTurn, SwitchTurn, GoesOnCopying, Steps}
 use Rattle.bk_compact.specs.Compacting.{StopsCopying, Copies, Examines, ExaminesAll, SealsCopy, ShowsCopy, TakesMoves, with_job}
 use Rattle.bk_compact.specs.declared.answer.Kind.{Kind}
 use Rattle.bk_compact.specs.declared.answer.BeginAnswer.{BeginAnswer}
@@ -28,10 +26,6 @@ use Rattle.bk_compact.specs.declared.answer.EndAnswer.{EndAnswer}
 use Rattle.bk_compact.specs.declared.answer.EndAnswer.TheVariants as ends
 use Rattle.bk_compact.specs.declared.answer.SwitchAnswer.{SwitchAnswer}
 use Rattle.bk_compact.specs.declared.answer.SwitchAnswer.TheVariants as switches
-use Rattle.bk_compact.specs.declared.answer.FinishAnswer.{FinishAnswer}
-use Rattle.bk_compact.specs.declared.answer.FinishAnswer.TheVariants as finishes
-use Rattle.bk_compact.specs.declared.answer.GiveUpAnswer.{GiveUpAnswer}
-use Rattle.bk_compact.specs.declared.answer.GiveUpAnswer.TheVariants as give_ups
 use Rattle.bk_step.specs.declared.fault.StepFault.{StepFault}
 use Rattle.bk_step.specs.declared.fault.StepFault.TheVariants as step_faults
 
@@ -145,19 +139,3 @@ switch_still s t n switches.NotNow turn = unasked_same s t turn.1
 switch_still s t n (switches.Moved moved left) turn =
     unasked_then (unasked_job s (with_job s None) None refl)
     (unasked_then (unasked_moves (with_job s None) turn.3.0 _ moved turn.3.1) (unasked_job turn.3.0 t _ turn.3.2))
-
-pub finish_still : (s t : State) (r : FinishAnswer) → FinishTurn s r t → StillUnasked s t
-finish_still s t finishes.NoJob turn = unasked_same s t turn.1
-finish_still s t finishes.NotNow turn = unasked_same s t turn.1
-finish_still s t (finishes.Left left) turn = unasked_same s t turn.4
-finish_still s t (finishes.StillNamed n) turn = unasked_job s t None turn.4
-finish_still s t (finishes.Retired log) turn =
-    unasked_then (unasked_job s (with_job s None) None refl) (unasked_set (with_job s None) t log Retired turn.4)
-
-gives_still : (s t : State) (job : Job) (phase : Phase) → GivesUp s job phase t → StillUnasked s t
-gives_still s t job Copy gives = unasked_then (unasked_job s (with_job s None) None refl) (unasked_set (with_job s None) t job.copy Readable gives)
-gives_still s t job Switch gives = unasked_job s t None gives
-
-pub give_up_still : (s t : State) (r : GiveUpAnswer) → GiveUpTurn s r t → StillUnasked s t
-give_up_still s t give_ups.NoJob turn = unasked_same s t turn.1
-give_up_still s t give_ups.GivenUp turn = gives_still s t turn.0 turn.0.phase turn.2

@@ -1,10 +1,9 @@
 -- What any store keeps, told of its visible state; the source of a job and what it shows.
-use Rattle.std.proofs.Common.{◌≡◌, ◌⊎◌, inl, inr, ℕ, ◌+◌, ◌-◌, ◌<◌, ◌≤◌, ◌^◌, true, false, if◌then◌else◌, IsTrue, List, []}
+use Rattle.std.proofs.Common.{◌≡◌, ◌⊎◌, inl, inr, ℕ, ◌+◌, ◌<◌, ◌≤◌, ◌^◌, true, if◌then◌else◌, IsTrue, List, []}
 use Rattle.std.proofs.Common.{◌∷◌, ◌++◌, length, take, drop, slice_get, Option, Some, refl, sym, ap, subst, ◌∙◌, arith}
 use Rattle.std.specs.Option.{option_map_or, option_and_then}
 use Rattle.std.proofs.lemmas.Option.{same_Some}
 use Rattle.std.specs.FinMap as finite
-use Rattle.std.proofs.lemmas.Bool.{false_from_ne_true}
 use Rattle.bk_record.specs.Key.{EntryKey}
 use Rattle.bk_record.specs.Location.{Place}
 use Rattle.bk_record.specs.Record.{key_of}
@@ -87,9 +86,6 @@ module _ (s : State) (kept : IsKept s) (job : Job) (is : IsJob s job) (view : Vi
 
   pub source_spelled : IsTrue s.honest → HasNoBadLength view.bytes
   source_spelled honest = (kept_backed s kept honest job.source is.shown.log is.shown.held).shown view view_there
-
-  pub source_unhonest : (IsTrue view.is_honest → ⊥) → s.honest ≡ false
-  source_unhonest never = false_from_ne_true s.honest (λ honest. never (source_honest honest))
 
 -- ---- the next entry of a log
 

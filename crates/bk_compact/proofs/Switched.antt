@@ -1,6 +1,6 @@
 -- Moves are taken one after another.
-use Rattle.std.proofs.Common.{◌≡◌, inl, inr, ℕ, zero, suc, ◌+◌, ◌<◌, ◌≤◌, Bool, true, false, if◌then◌else◌, IsTrue, List, []}
-use Rattle.std.proofs.Common.{◌∷◌, ◌++◌, length, take, drop, Some, refl, sym, ap, subst, ◌∙◌, arith}
+use Rattle.std.proofs.Common.{◌≡◌, ℕ, zero, suc, ◌+◌, ◌≤◌, Bool, true, false, if◌then◌else◌, IsTrue, List, []}
+use Rattle.std.proofs.Common.{◌∷◌, ◌++◌, length, take, drop, refl, sym, ap, subst, ◌∙◌, arith}
 use Rattle.std.proofs.lemmas.List.{take_all}
 use Rattle.std.proofs.Math.ListN.{drop_of_length-le}
 use Rattle.bk_store.specs.State.{State}
@@ -70,15 +70,6 @@ pub record IsTaking (s : State) (job : Job) (n moved : ℕ) (t : State) (after :
   pub few : moved ≤ n
   pub out : IsOut t after
   pub stays : KeepsMeaning s t
-
-pub taking_starts : (s : State) (job : Job) → IsOut s job → IsTaking s job 0 0 s job
-taking_starts s job out = record {
-  takes = (refl, refl);
-  left = refl;
-  few = omega arith;
-  out = out;
-  stays = record { honest = refl; meaning = λ _ key. refl };
-}
 
 module _ (s : State) (job : Job) (n moved : ℕ) (t : State) (after : Job) (so_far : IsTaking s job n moved t after) (phase : job.phase ≡ Switch) where
   pub after_phase : after.phase ≡ Switch

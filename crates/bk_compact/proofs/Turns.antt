@@ -1,22 +1,17 @@
 -- The turns of the calls, from what their parts did while the job was out of the store.
-use Rattle.std.proofs.Common.{◌≡◌, ◌≢◌, ◌⊎◌, inl, inr, ℕ, zero, suc, ◌+◌, ◌-◌, ◌<◌, ◌≤◌, Bool, true, false, cond, if◌then◌else◌, IsTrue, List, []}
-use Rattle.std.proofs.Common.{◌∷◌, ◌++◌, length, take, drop, Option, Some, None, Result, Ok, Err, IsErrOf, refl, sym, ap, subst, ◌∙◌, arith}
+use Rattle.std.proofs.Common.{◌≡◌, ◌⊎◌, inl, inr, ℕ, ◌+◌, Bool, true, false, IsTrue, List, []}
+use Rattle.std.proofs.Common.{◌∷◌, take, Option, Some, None, Result, Ok, Err, IsErrOf, refl, sym, ap, subst, ◌∙◌, arith}
 use Rattle.std.proofs.lemmas.Option.{same_Some}
-use Rattle.std.specs.FinMap as finite
 use Rattle.bk_disk.specs.Disk.{IsCaused}
 use Rattle.bk_log.specs.declared.found.Found.{Found}
-use Rattle.bk_log.specs.declared.fault.LogFault.{LogFault}
-use Rattle.bk_log.specs.declared.fault.LogFault.TheVariants as log_faults
-use Rattle.bk_record.specs.Location.{Place}
-use Rattle.bk_store.specs.Logs.{Log, Logs, View, last_view, open_parts, view_of}
+use Rattle.bk_store.specs.Logs.{View, last_view, view_of}
 use Rattle.bk_store.specs.State.{State}
-use Rattle.bk_store.specs.Meaning.{MeansTheSame}
 use Rattle.bk_store.specs.Jobs.{Job}
 use Rattle.bk_store.specs.JobKept.{IsJob, copy_state}
-use Rattle.bk_store.specs.Doors.{IsIdle, IsIn, MaySet, MaySeal, MayShow, IsOpenLog, PutTurn, Seals, SetTurn, ShowTurn, failed_in}
+use Rattle.bk_store.specs.Doors.{IsIdle, IsIn, MaySet, SetTurn}
 use Rattle.bk_store.specs.Plain.{IsKept}
 use Rattle.bk_store.specs.declared.job.Phase.{Phase}
-use Rattle.bk_store.specs.declared.job.Phase.TheVariants.{Copy, Switch}
+use Rattle.bk_store.specs.declared.job.Phase.TheVariants.{Copy}
 use Rattle.bk_store.specs.declared.log.LogState.TheVariants.{Copying, Readable}
 use Rattle.bk_store.proofs.JobStays.{job_stays, stays_same}
 use Rattle.bk_compact.specs.declared.answer.CopyAnswer.{CopyAnswer}
@@ -28,9 +23,9 @@ use Rattle.bk_compact.specs.declared.scanning.Unread.{Unread}
 use Rattle.bk_compact.specs.declared.scanning.Unread.TheVariants as unreads
 use Rattle.bk_compact.specs.declared.entries.Stopped.TheVariants as stops
 use Rattle.bk_step.specs.Faults.{TellsItsCause}
-use Rattle.bk_compact.specs.Compacting.{AreFound, CopyTurn, Copies, EndTurn, Examines, ExaminesAll, HasUnsoundSource}
+use Rattle.bk_compact.specs.Compacting.{AreFound, CopyTurn, EndTurn, Examines, ExaminesAll, HasUnsoundSource}
 use Rattle.bk_compact.specs.Compacting.{IsRunning, SourceFails, Steps, TellsFailures, entries_left, with_job}
-use Rattle.bk_compact.specs.Going.{CopiesAll, IsAtEnd, IsCopying, IsOut, told_unread}
+use Rattle.bk_compact.specs.Going.{CopiesAll, CopiesNext, IsAtEnd, IsCopying, told_unread}
 use Rattle.bk_compact.proofs.Stored.{kept_job}
 
 -- ---- a job that runs
@@ -131,6 +126,41 @@ unbegun s job n = record { founds = []; bound = omega arith; first = λ _. tt; e
 
 pub back_same : (s : State) (job : Job) → s.job ≡ Some job → s ≡ with_job s (Some job)
 back_same s job runs = ap (λ j. with_job s j) runs
+
+-- no entry is left, or none was to be examined
+module _ (s : State) (job : Job) (running : IsRunning s Copy job) (n : ℕ) where
+  pub none_turn : (mid : State) (after : Job) (t : State) → CopiesNext (with_job s None) job n (Ok None) mid after → t ≡ with_job mid (Some after)
+      → CopyTurn s n (Ok copies.AtEnd) t
+  none_turn mid after t next back = (
+    job,
+    running,
+    next.0,
+    back ∙ (λ i. with_job (next.1 i) (Some (next.2 i))) ∙ sym (back_same s job running.runs),
+  )
+
+  pub nothing_turn : n ≡ 0 → IsAtEnd s job false → CopyTurn s n (Ok (copies.Copied 0)) s
+  unfolding unbegun
+  nothing_turn none left = (
+    job,
+    running,
+    (
+      with_job s None,
+      (
+        job,
+        (unbegun s job n, λ honest. subst (λ (k : ℕ). AreFound (take k (entries_left s job)) []) (sym none) tt),
+        left,
+        back_same s job running.runs,
+      ),
+    ),
+  )
+
+-- what examining entries answered, told of the job that ran before it was taken out
+pub told_next : (s out : State) (job taken : Job) (n : ℕ) (t : State) (after : Job) → out ≡ with_job s None → taken ≡ job
+    → (told result : Result (Option ℕ) Stopped) → told ≡ result → CopiesNext out taken n told t after → CopiesNext (with_job s None) job n result t after
+told_next s out job taken n t after is_out same told result is next =
+    subst (λ (j : Job). CopiesNext (with_job s None) j n result t after) same
+    (subst (λ (u : State). CopiesNext u taken n result t after) is_out
+    (subst (λ (r : Result (Option ℕ) Stopped). CopiesNext out taken n r t after) is next))
 
 -- the copying did not begin
 module _ (s : State) (job : Job) (running : IsRunning s Copy job) (n : ℕ) where

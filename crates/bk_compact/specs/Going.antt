@@ -1,7 +1,6 @@
 -- What the parts of a compaction's calls do, while the job is out of the store.
-use Rattle.std.specs.Prelude.{◌≡◌, ◌⊎◌, ◌↔◌, ℕ, ◌+◌, ◌<◌, ◌≤◌, ◌^◌, Bool, true, false, if◌then◌else◌, IsTrue, List, [], ◌∷◌}
+use Rattle.std.specs.Prelude.{◌≡◌, ◌⊎◌, ◌↔◌, ℕ, ◌+◌, ◌<◌, ◌≤◌, ◌^◌, Bool, true, false, IsTrue, List, [], ◌∷◌}
 use Rattle.std.specs.Prelude.{length, take, drop, Contains, Option, Some, None, IfSome, Result, Ok, Err}
-use Rattle.std.specs.FinMap as finite
 use Rattle.bk_record.specs.Location.{Place}
 use Rattle.bk_record.specs.Record.{IsPayload, key_of}
 use Rattle.bk_disk.specs.Disk.{view_end}
@@ -13,13 +12,13 @@ use Rattle.bk_log.specs.declared.fault.ScanFault.TheVariants as scan_faults
 use Rattle.bk_log.specs.Places.{HasEntryAt}
 use Rattle.bk_log.specs.Scanned.{new_scan}
 use Rattle.bk_log.specs.Scanning.{Scan}
-use Rattle.bk_store.specs.Logs.{View, last_view, open_parts}
+use Rattle.bk_store.specs.Logs.{open_parts}
 use Rattle.bk_store.specs.State.{State}
 use Rattle.bk_store.specs.Jobs.{Job, with_move}
 use Rattle.bk_store.specs.JobKept.{IsJob, IsReadTo, entries_from}
 use Rattle.bk_store.specs.Copying.{IsLeastUsed}
 use Rattle.bk_store.specs.Doors.{SetTurn}
-use Rattle.bk_store.specs.declared.job.Phase.TheVariants.{Copy, Switch}
+use Rattle.bk_store.specs.declared.job.Phase.TheVariants.{Copy}
 use Rattle.bk_store.specs.declared.log.LogState.TheVariants.{Readable}
 use Rattle.bk_step.specs.declared.fault.StepFault.{StepFault}
 use Rattle.bk_step.specs.declared.fault.StepFault.TheVariants as step_faults
@@ -48,6 +47,11 @@ pub record ScansFrom (bytes : List ℕ) (honest sound : Bool) (at : ℕ) (scan :
   pub fits : end < 2 ^ 64
   pub whole : IsTrue honest → end ≡ view_end bytes
   pub is : scan ≡ new_scan bytes honest sound at end
+
+-- a scan of a view of these bytes
+pub record IsScanOf (bytes : List ℕ) (honest : Bool) (scan : Scan) : Type 0 where
+  pub file_is : scan.file ≡ bytes
+  pub honest_is : scan.honest ≡ honest
 
 -- a refused scan of a source: beside an honest disk it has no bad length
 abbrev pub told_read : ScanFault → Unread
@@ -136,6 +140,12 @@ CopiesAll s job n (Err stops.Failed) t after = (copied : ℕ) × ((mid : State) 
 CopiesAll s job n (Err stops.Odd) t after = (s.honest ≡ false) × ((copied : ℕ) × ((mid : State) × ((last : Job) × Steps s job n copied mid last
     × (SetTurn mid job.copy Readable t
     ⊎ ((found : Found) × ((payload : List ℕ) × Copies mid last found payload (Err log_faults.Odd) t))))))
+
+-- What examining so many entries, one at least, answers: none where no entry is left, which leaves all as it was.
+abbrev pub CopiesNext : State → Job → ℕ → Result (Option ℕ) Stopped → State → Job → Type 0
+CopiesNext s job n (Ok None) t after = IsAtEnd s job true × (t ≡ s) × (after ≡ job) × IsOut t after
+CopiesNext s job n (Ok (Some k)) t after = CopiesAll s job n (Ok k) t after × IsAtEnd s job false
+CopiesNext s job n (Err stopped) t after = CopiesAll s job n (Err stopped) t after
 
 -- ---- switching
 

@@ -12,7 +12,7 @@ ghost use Rattle.bk_compact.specs.Going.{IsBetter, IsChoosing};
 use crate::{BeginAnswer, Kind};
 use bk_disk::LogDisk;
 use bk_step::StepFault;
-use bk_store::{Job, LogState, Store};
+use bk_store::{Job, LogState, Store, TakenJob};
 
 /// Begins a compaction, unless one runs: chooses the log to compact, and makes the log that its entries will be copied to.
 ///
@@ -41,7 +41,7 @@ pub fn begin<D: LogDisk>(store: &mut Store<D>, kind: Kind) -> Result<BeginAnswer
     match store.make_log(LogState::Copying) {
         Ok(copy) => {
             let job = Job::new(store.alloc(), source, copy);
-            store.set_job(job);
+            store.set_job(TakenJob { job });
             Ok(BeginAnswer::Chosen(source))
         }
         Err(fault) => Err(StepFault::of_make(fault)),
@@ -75,11 +75,13 @@ fn chosen<D: LogDisk>(store: &Store<D>, threshold: u32) -> Option<u32>
 
 /// The better one of the best log so far and the next one that is held.
 fn best_of<D: LogDisk>(store: &Store<D>, threshold: u32, best: Option<u32>, log: u32) -> Option<u32>
-    requires { IfSome best (IsCandidate store.now) }
+    requires held { IsSome (finite.get store.now.logs log) }
+    requires best { IfSome best (IsCandidate store.now) }
     ensures { (from : ℕ) → IsNextHeld store.now.logs from (Some log) → IsChoosing store.now threshold from best
         → IsChoosing store.now threshold (log + 1) result }
 {
-    if is_candidate(store, log) && is_better(store, threshold, best, log) {
+    // Few logs are used that little, so that is asked first.
+    if is_better(store, threshold, best, log) && is_candidate(store, log) {
         Some(log)
     } else {
         best

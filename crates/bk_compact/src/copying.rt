@@ -3,7 +3,7 @@
 //! The job is out of the store while this goes on. It is given back unless the device failed while an entry was put in the
 //! copy, or the disk is odd: then the compaction is over, and the copy is read as it is.
 
-ghost use Rattle.std.specs.Prelude.{◌≡◌, false, IsTrue};
+ghost use Rattle.std.specs.Prelude.{◌≡◌, ◌≤◌, IsTrue};
 ghost use Rattle.bk_disk.specs.Disk.{AreSound};
 ghost use Rattle.bk_store.specs.Jobs.{Job as JobState};
 ghost use Rattle.bk_store.specs.Meaning.{MeansTheSame, KeepsMeaning};
@@ -11,7 +11,6 @@ ghost use Rattle.bk_store.specs.declared.job.Phase.TheVariants.{Copy as CopyPhas
 ghost use Rattle.bk_step.specs.Staying.{StandsStill};
 ghost use Rattle.bk_step.specs.Faults.{TellsItsCause};
 ghost use Rattle.bk_compact.specs.Compacting.{CopyTurn, IsRunning, TellsFailures};
-ghost use Rattle.bk_compact.specs.Going.{IsAtEnd};
 
 use crate::CopyAnswer;
 use crate::entries::{Stopped, copy_entries};
@@ -45,9 +44,13 @@ pub fn copy<D: LogDisk>(store: &mut Store<D>, count: u64) -> Result<CopyAnswer, 
         Phase::Switch => return Ok(CopyAnswer::NotNow),
         Phase::Copy => {}
     }
+    if count > 0 {
+        return go_on(store, count);
+    }
+    // No entry is to be examined, and it is told whether one is left.
     match is_at_end(store, job) {
         Ok(true) => Ok(CopyAnswer::AtEnd),
-        Ok(false) => go_on(store, count),
+        Ok(false) => Ok(CopyAnswer::Copied(0)),
         Err(Unread::Memory) => Err(StepFault::Memory { done: 0 }),
         Err(Unread::Disk) => Err(StepFault::Disk),
         Err(Unread::Odd) => {
@@ -57,9 +60,10 @@ pub fn copy<D: LogDisk>(store: &mut Store<D>, count: u64) -> Result<CopyAnswer, 
     }
 }
 
-/// Takes the job out, copies, and gives the job back where it goes on.
+/// Takes the job out, copies, and gives the job back, or ends the compaction.
 fn go_on<D: LogDisk>(store: &mut Store<D>, count: u64) -> Result<CopyAnswer, StepFault>
-    requires { (job : JobState) × IsRunning store.old CopyPhase job × IsAtEnd store.old job false }
+    requires some { 1 ≤ count }
+    requires runs { (job : JobState) × IsRunning store.old CopyPhase job }
     ensures turn { CopyTurn store.old count result store.new }
     ensures sound { AreSound D.View.sound → TellsItsCause store.old result store.new }
     ensures stays { KeepsMeaning store.old store.new }
@@ -74,23 +78,33 @@ fn go_on<D: LogDisk>(store: &mut Store<D>, count: u64) -> Result<CopyAnswer, Ste
     let Ok(view) = view.clone() else {
         return Err(StepFault::Memory { done: 0 });
     };
-    let Some(mut job) = store.take_job() else {
+    let Some(mut taken) = store.take_job() else {
         unreachable!();
     };
-    match copy_entries(store, &*view, &mut job, count) {
-        Ok(copied) => {
-            store.set_job(job);
+    match copy_entries(store, &*view, &mut taken.job, count) {
+        Ok(None) => {
+            store.set_job(taken);
+            Ok(CopyAnswer::AtEnd)
+        }
+        Ok(Some(copied)) => {
+            store.set_job(taken);
             Ok(CopyAnswer::Copied(copied))
         }
         Err(Stopped::Memory(done)) => {
-            store.set_job(job);
+            store.set_job(taken);
             Err(StepFault::Memory { done })
         }
         Err(Stopped::Unread) => {
-            store.set_job(job);
+            store.set_job(taken);
             Err(StepFault::Disk)
         }
-        Err(Stopped::Failed) => Err(StepFault::Disk),
-        Err(Stopped::Odd) => Err(StepFault::Odd),
+        Err(Stopped::Failed) => {
+            taken.end();
+            Err(StepFault::Disk)
+        }
+        Err(Stopped::Odd) => {
+            taken.end();
+            Err(StepFault::Odd)
+        }
     }
 }

@@ -58,18 +58,20 @@ fn seal_copy<D: LogDisk>(store: &mut Store<D>) -> Result<EndAnswer, StepFault>
     ensures stays { KeepsMeaning store.old store.new }
 {
     store.promise();
-    let Some(mut job) = store.take_job() else {
+    let Some(mut taken) = store.take_job() else {
         unreachable!();
     };
-    let copy = job.copy();
+    let copy = taken.job.copy();
     if let Err(fault) = store.seal(copy, LogState::Readable) {
+        taken.end();
         return Err(StepFault::of_log(fault));
     }
     if let Err(fault) = store.show(copy) {
+        taken.end();
         return Err(StepFault::of_log(fault));
     }
-    job.begin_switch();
-    let left = job.left();
-    store.set_job(job);
+    taken.job.begin_switch();
+    let left = taken.job.left();
+    store.set_job(taken);
     Ok(EndAnswer::Ended(left))
 }

@@ -2,18 +2,20 @@
 
 ghost use Rattle.std.specs.Prelude.{◌≡◌, ◌+◌, ◌<◌, ◌≤◌, ◌^◌, IsTrue, Ok, Some, length};
 ghost use Rattle.std.specs.FinMap as finite;
+ghost use Rattle.bk_log.specs.Places.{HasEntryAt};
 ghost use Rattle.bk_log.specs.Writing.{Writing};
 ghost use Rattle.bk_store.specs.Doors.{IsIn, SetTurn, writer_of};
 ghost use Rattle.bk_store.specs.Putting.{next_place};
-ghost use Rattle.bk_store.specs.Logs.{last_view, view_of};
+ghost use Rattle.bk_store.specs.Logs.{last_view, open_parts, view_of};
 ghost use Rattle.bk_store.specs.declared.log.LogState.TheVariants.{Copying as CopyingState, Readable as ReadableState};
 ghost use Rattle.bk_store.specs.Meaning.{KeepsMeaning};
 ghost use Rattle.bk_compact.specs.Compacting.{behind, place_of};
-ghost use Rattle.bk_compact.specs.Going.{CopiesAll, CopiesEntry, ExaminesOne, IsAhead, IsCopying, IsEntry, told_after, told_put};
+ghost use Rattle.bk_compact.specs.Going.{CopiesEntry, CopiesNext, ExaminesOne, IsAhead, IsCopying, IsEntry, IsScanOf, told_after, told_put};
 
 use crate::scanning::scan_from;
 use bk_disk::LogDisk;
-use bk_log::{FetchFault, Found, LogFault, ScanFault, fetch};
+use bk_index::Near;
+use bk_log::{FetchFault, Found, LogFault, ScanFault, Scanner, fetch};
 use bk_record::{Key, Location, key_of};
 use bk_store::{Job, LogState, Move, Store};
 
@@ -44,29 +46,36 @@ impl Stopped {
     }
 }
 
-/// Examines so many entries of what a view of the source shows, from the job's position on, or those that are left, and
-/// answers how many were copied.
+/// Examines so many entries, at least one, of what a view of the source shows, from the job's position on, or those that are
+/// left, and answers how many were copied; `None` where no entry is left.
 pub(crate) fn copy_entries<D: LogDisk>(
     store: &mut Store<D>,
     view: &D::View,
     job: &mut Job,
     count: u64,
-) -> Result<u64, Stopped>
+) -> Result<Option<u64>, Stopped>
+    requires some { 1 ≤ count }
     requires copying { IsCopying store.old job.old }
     requires view { last_view store.old.logs job.old.source ≡ Some (view_of D.View.bytes D.View.honest D.View.sound view.now) }
-    ensures turn { CopiesAll store.old job.old count result store.new job.new }
+    ensures turn { CopiesNext store.old job.old count result store.new job.new }
     ensures stays { KeepsMeaning store.old store.new }
 {
     store.promise();
     let Some(mut scanner) = scan_from(view, store.alloc(), job.at()) else {
         return Err(odd(store, job));
     };
+    let mut near = Near::start();
     let mut copied = 0;
-    for _number in 0..count {
+    for number in 0..count {
         store.promise();
         match scanner.next() {
-            Ok(None) => return Ok(copied),
-            Ok(Some(found)) => match examine(store, view, job, &found) {
+            Ok(None) => {
+                if number == 0 {
+                    return Ok(None);
+                }
+                return Ok(Some(copied));
+            }
+            Ok(Some(found)) => match examine(store, view, &scanner, &mut near, job, &found) {
                 Ok(is_copied) => {
                     if is_copied {
                         copied += 1;
@@ -81,7 +90,7 @@ pub(crate) fn copy_entries<D: LogDisk>(
         }
     }
     store.promise();
-    Ok(copied)
+    Ok(Some(copied))
 }
 
 /// Copies an entry of the source where the index sends its key there, and answers whether it did. The job has come behind
@@ -89,11 +98,14 @@ pub(crate) fn copy_entries<D: LogDisk>(
 fn examine<D: LogDisk>(
     store: &mut Store<D>,
     view: &D::View,
+    scanner: &Scanner<'_, D::View>,
+    near: &mut Near,
     job: &mut Job,
     found: &Found,
 ) -> Result<bool, Stopped>
     requires copying { IsCopying store.old job.old }
     requires view { last_view store.old.logs job.old.source ≡ Some (view_of D.View.bytes D.View.honest D.View.sound view.now) }
+    requires scans { IsScanOf (D.View.bytes view.now) (D.View.honest view.now) scanner.now }
     requires ahead { IsAhead store.old job.old found.now }
     ensures turn { ExaminesOne store.old job.old found.now result store.new job.new }
     ensures stays { KeepsMeaning store.old store.new }
@@ -106,35 +118,38 @@ fn examine<D: LogDisk>(
         return Err(odd(store, job));
     }
     let from = Location::pack(job.source(), found.at as u32).unwrap();
-    let named = is_sent(store, found.key, from);
+    let named = is_sent(store, near, found.key, from);
     if named {
-        copy_entry(store, view, job, found, from)?;
+        copy_entry(store, view, scanner, job, found, from)?;
     }
     job.go_to(behind);
     Ok(named)
 }
 
-/// Whether the index sends the key to this place.
-fn is_sent<D: LogDisk>(store: &Store<D>, key: Key, place: Location) -> bool
+/// Whether the index sends the key to this place. Entries mostly stand in the order of their keys, so each is looked for
+/// beside the one before.
+fn is_sent<D: LogDisk>(store: &Store<D>, near: &mut Near, key: Key, place: Location) -> bool
     ensures sent { IsTrue result → finite.get store.now.index key ≡ Some place }
     ensures unsent { finite.get store.now.index key ≡ Some place → IsTrue result }
 {
-    match store.index().get(&key) {
+    match store.index().get_near(&key, near) {
         Some(at) => at.log() == place.log() && at.at() == place.at(),
         None => false,
     }
 }
 
-/// Copies an entry of the source, and notes its move.
+/// Copies an entry of the source, and notes its move: from the window in which the scan found it, where that has all of it.
 fn copy_entry<D: LogDisk>(
     store: &mut Store<D>,
     view: &D::View,
+    scanner: &Scanner<'_, D::View>,
     job: &mut Job,
     found: &Found,
     from: Location,
 ) -> Result<(), Stopped>
     requires copying { IsCopying store.old job.old }
     requires view { last_view store.old.logs job.old.source ≡ Some (view_of D.View.bytes D.View.honest D.View.sound view.now) }
+    requires scans { IsScanOf (D.View.bytes view.now) (D.View.honest view.now) scanner.now }
     requires ahead { IsAhead store.old job.old found.now }
     requires near { behind found.now < 2 ^ 32 }
     requires place { from ≡ place_of job.old found.now }
@@ -143,6 +158,9 @@ fn copy_entry<D: LogDisk>(
     ensures stays { KeepsMeaning store.old store.new }
 {
     store.promise();
+    if let Some(payload) = scanner.payload(found) {
+        return put_entry(store, job, found, from, payload);
+    }
     let payload = match fetch(view, store.alloc(), from, found.key) {
         Ok(payload) => payload,
         Err(FetchFault::Memory) => return Err(Stopped::Memory(0)),
@@ -150,7 +168,28 @@ fn copy_entry<D: LogDisk>(
         Err(FetchFault::NotThere) => return Err(odd(store, job)),
         Err(FetchFault::Odd) => return Err(odd(store, job)),
     };
-    if !is_entry(&payload, found) {
+    put_entry(store, job, found, from, &payload)
+}
+
+/// Puts an entry of the source in the copy, and notes its move. Beside an honest disk the payload is the entry's.
+fn put_entry<D: LogDisk>(
+    store: &mut Store<D>,
+    job: &mut Job,
+    found: &Found,
+    from: Location,
+    payload: &[u8],
+) -> Result<(), Stopped>
+    requires copying { IsCopying store.old job.old }
+    requires ahead { IsAhead store.old job.old found.now }
+    requires near { behind found.now < 2 ^ 32 }
+    requires place { from ≡ place_of job.old found.now }
+    requires sent { finite.get store.old.index found.now.key ≡ Some from }
+    requires stands { IsTrue store.old.honest → HasEntryAt (open_parts store.old.logs job.old.source) found.now.at found.now.key payload.now }
+    ensures turn { CopiesEntry store.old job.old found.now result store.new job.new }
+    ensures stays { KeepsMeaning store.old store.new }
+{
+    store.promise();
+    if !is_entry(payload, found) {
         return Err(odd(store, job));
     }
     let to = place_in(store, job.copy());
@@ -158,7 +197,7 @@ fn copy_entry<D: LogDisk>(
     let Ok(()) = job.note(Move { key, from, to }) else {
         return Err(Stopped::Memory(0));
     };
-    let Err(fault) = store.put(job.copy(), key, &payload) else {
+    let Err(fault) = store.put(job.copy(), key, payload) else {
         return Ok(());
     };
     job.take_back();

@@ -37,8 +37,10 @@ pub fn finish<D: LogDisk>(store: &mut Store<D>) -> FinishAnswer
     let Some(named) = store.named(source) else {
         unreachable!();
     };
-    // The job is over.
-    let _ = store.take_job();
+    let Some(taken) = store.take_job() else {
+        unreachable!();
+    };
+    taken.end();
     if named > 0 {
         return FinishAnswer::StillNamed(named);
     }
@@ -61,7 +63,10 @@ pub fn give_up<D: LogDisk>(store: &mut Store<D>) -> GiveUpAnswer
     match job.phase() {
         Phase::Copy => abandon(store),
         Phase::Switch => {
-            let _ = store.take_job();
+            let Some(taken) = store.take_job() else {
+                unreachable!();
+            };
+            taken.end();
         }
     }
     GiveUpAnswer::GivenUp
@@ -74,8 +79,9 @@ pub(crate) fn abandon<D: LogDisk>(store: &mut Store<D>)
     ensures stays { KeepsMeaning store.old store.new }
 {
     store.promise();
-    let Some(job) = store.take_job() else {
+    let Some(taken) = store.take_job() else {
         unreachable!();
     };
-    store.set_log_state(job.copy(), LogState::Readable);
+    store.set_log_state(taken.job.copy(), LogState::Readable);
+    taken.end();
 }

@@ -27,12 +27,12 @@ pub fn switch<D: LogDisk>(store: &mut Store<D>, count: u64) -> SwitchAnswer
     if matches!(job.phase(), Phase::Copy) {
         return SwitchAnswer::NotNow;
     }
-    let Some(mut job) = store.take_job() else {
+    let Some(mut taken) = store.take_job() else {
         unreachable!();
     };
-    let moved = take_moves(store, &mut job, count);
-    let left = job.left();
-    store.set_job(job);
+    let moved = take_moves(store, &mut taken.job, count);
+    let left = taken.job.left();
+    store.set_job(taken);
     SwitchAnswer::Moved(moved, left)
 }
 

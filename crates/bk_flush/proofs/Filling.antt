@@ -1,6 +1,6 @@
 -- A log that is filled is sealed, and the next one is made.
-use Rattle.std.proofs.Common.{◌≡◌, ◌⊎◌, inl, inr, ℕ, ◌+◌, ◌<◌, ◌≤◌, ◌^◌, Bool, true, List, length, Option, Some}
-use Rattle.std.proofs.Common.{None, Result, Ok, Err, refl, sym, ap, subst, ◌∙◌, arith}
+use Rattle.std.proofs.Common.{◌≡◌, ◌⊎◌, inl, inr, ℕ, ◌≤◌, Bool, true, List, length, Option, Some}
+use Rattle.std.proofs.Common.{None, Ok, Err, refl, sym, ap, subst, ◌∙◌, arith}
 use Rattle.std.specs.FinMap as finite
 use Rattle.bk_record.specs.Limits.{max_added}
 use Rattle.bk_record.proofs.Limits.{first_ends_short}
@@ -12,7 +12,6 @@ use Rattle.bk_store.specs.State.{State}
 use Rattle.bk_store.specs.Doors.{CanTake, HasNoWriting, IsIn, IsWritingLog, MakeTurn, MayMake, Seals}
 use Rattle.bk_store.specs.declared.answer.MakeFault.{MakeFault}
 use Rattle.bk_store.specs.declared.answer.MakeFault.TheVariants as makes
-use Rattle.bk_store.specs.declared.log.LogState.{LogState}
 use Rattle.bk_store.specs.declared.log.LogState.TheVariants.{Writing, Filled}
 use Rattle.bk_store.proofs.LogMaps.{log-inserted, log-insert_cases}
 use Rattle.bk_store.proofs.OneLog.{same_len}

@@ -19,7 +19,7 @@ use Rattle.bk_store.specs.State.{State}
 use Rattle.bk_store.specs.Meaning.{MeansTheSame, KeepsMeaning}
 use Rattle.bk_store.specs.Doors.{IsRecentAfter, MayName, NameTurn}
 use Rattle.bk_store.proofs.KeyMaps.{inserted_here, get-insert_other}
-use Rattle.bk_store.proofs.Noted.{sorted_front}
+use Rattle.bk_record.proofs.SortedPairs.{sorted_front}
 use Rattle.bk_flush.specs.Flushing.{NamesFirst, Remembers, first_places}
 use Rattle.bk_flush.specs.Showing.{AllShown}
 use Rattle.bk_flush.proofs.NextLogs.{place_at, places_sorted}
@@ -52,12 +52,6 @@ remembers_more flush (x ∷ es) e payload old mid new so_far at after =
     (so_far.0, so_far.1, (so_far.2.0, so_far.2.1, remembers_more flush es e payload so_far.2.0 mid new so_far.2.2 at after))
 
 -- ---- one more entry
-
-pub none_named : (s : State) → IsNaming s 0 s
-none_named s = record {
-  named = record { index = λ key. refl; recent = refl; left = refl };
-  stays = record { honest = refl; meaning = λ _ _. refl };
-}
 
 module _ (s t : State) (n : ℕ) (is : IsNaming s n t) where
   pub still_places : t.places ≡ s.places

@@ -1,18 +1,17 @@
 -- A publish: all logs of the flush are shown, its entries are named, and it is over.
-use Rattle.std.proofs.Common.{◌≡◌, inl, inr, ℕ, Bool, true, false, IsSome, is_some, List, length, take, Option, Some}
-use Rattle.std.proofs.Common.{None, option_map, Result, Ok, Err, refl, sym, ap, subst, ◌∙◌, arith}
+use Rattle.std.proofs.Common.{◌≡◌, inr, ℕ, false, IsSome, is_some, List, take, Option, Some}
+use Rattle.std.proofs.Common.{None, option_map, Ok, Err, sym, ap, subst, ◌∙◌, arith}
 use Rattle.std.specs.Option.{option_or}
 use Rattle.std.specs.FinMap as finite
 use Rattle.std.specs.FinMap.{find}
 use Rattle.std.proofs.Math.Seq.{take-length}
 use Rattle.bk_record.specs.Key.{EntryKey, key_cmp}
-use Rattle.bk_record.specs.Location.{Place}
 use Rattle.bk_cache.specs.Caches.{flush_of}
 use Rattle.bk_store.specs.State.{State}
 use Rattle.bk_store.specs.Plain.{IsKept}
 use Rattle.bk_store.specs.Doors.{AllNamed, AllPlaced, Ends, IsNextEntry}
 use Rattle.bk_store.proofs.Cases.{some_value}
-use Rattle.bk_flush.specs.Flushing.{IsWritten, NamesFirst, Publishes, PublishTurn, ShowsPlaced, first_places}
+use Rattle.bk_flush.specs.Flushing.{NamesFirst, PublishTurn, ShowsPlaced, first_places}
 use Rattle.bk_flush.specs.Showing.{NamesEntries}
 use Rattle.bk_flush.specs.declared.answer.PublishAnswer.TheVariants as publishes
 use Rattle.bk_step.specs.declared.fault.StepFault.{StepFault}

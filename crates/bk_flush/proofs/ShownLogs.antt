@@ -16,7 +16,7 @@ use Rattle.bk_store.proofs.LogMaps.{log-inserted, log-insert_else}
 use Rattle.bk_store.proofs.KeptJob.{flush_idle}
 use Rattle.bk_store.proofs.SameMeaning.{stays_on}
 use Rattle.bk_step.specs.Faults.{step_fault_of}
-use Rattle.bk_flush.specs.Flushing.{HasPlace, IsShown, LeftBy, ShowsThose, ShowsPlaced, StopsShowing, RestartsShowing}
+use Rattle.bk_flush.specs.Flushing.{HasPlace, IsShown, LeftBy, ShowsThose, ShowsPlaced, StopsShowing}
 use Rattle.bk_flush.specs.Showing.{AllShown, ShowsLogs}
 use Rattle.bk_step.specs.declared.fault.StepFault.{StepFault}
 use Rattle.bk_flush.proofs.NextLogs.{IsNextLog}

@@ -1,41 +1,26 @@
 -- What a write, a roll and a publish leave as it was.
 use Rattle.std.proofs.Common.{◌≡◌, ◌<◌, inl, inr, ℕ, List, Option, Some, None, Result, Ok, Err, refl, sym, ap, subst, ◌∙◌}
 use Rattle.std.specs.FinMap as finite
-use Rattle.bk_record.specs.Location.{Place}
 use Rattle.bk_log.specs.declared.fault.LogFault.{LogFault}
 use Rattle.bk_store.specs.Logs.{unfilled_as}
 use Rattle.bk_store.specs.State.{State}
 use Rattle.bk_store.specs.Doors.{Ends}
-use Rattle.bk_store.specs.Turns.{SwapTurn}
-use Rattle.bk_store.specs.declared.answer.SwapAnswer.{SwapAnswer}
-use Rattle.bk_store.specs.declared.answer.SwapAnswer.TheVariants as swaps
 use Rattle.bk_store.specs.declared.log.LogState.TheVariants.{Writing}
 use Rattle.bk_step.specs.Staying.{Stays, SlotsStay, StandsStill}
 use Rattle.bk_step.proofs.Gone.{gone_ruled}
 use Rattle.bk_step.proofs.Still.{still_as, still_same, then, stays_then, slots_then, slots_same}
 use Rattle.bk_step.proofs.Doors.{make_still, write_still, seals_still, restarts_still}
 use Rattle.bk_flush.specs.Flushing.{LeftBy, FillTurn, NoNewLog, IsRefused, ReadyTurn, StepTurn, ShowsThose, StopsShowing, RestartsShowing, Publishes}
-use Rattle.bk_flush.specs.Flushing.{PublishCaches, PublishTurn, RollTurn}
+use Rattle.bk_flush.specs.Flushing.{PublishCaches, PublishTurn}
 use Rattle.bk_flush.specs.Showing.{ShowsLogs}
 use Rattle.bk_flush.specs.declared.answer.WriteAnswer.{WriteAnswer}
 use Rattle.bk_flush.specs.declared.answer.WriteAnswer.TheVariants as writes
 use Rattle.bk_flush.specs.declared.answer.PublishAnswer.{PublishAnswer}
 use Rattle.bk_flush.specs.declared.answer.PublishAnswer.TheVariants as publishes
-use Rattle.bk_flush.specs.declared.answer.RollAnswer.{RollAnswer}
-use Rattle.bk_flush.specs.declared.answer.RollAnswer.TheVariants as rolls
 use Rattle.bk_step.specs.declared.fault.StepFault.{StepFault}
 use Rattle.bk_step.specs.declared.fault.StepFault.TheVariants as step_faults
 
 -- ---- the beginning
-
--- what a swap leaves, beside the caches; it asks no device
-pub swap_stays : (s t : State) (r : SwapAnswer) → SwapTurn s r t → Stays s t × SlotsStay s.keeper t.keeper × (t.failures ≡ s.failures)
-swap_stays s t swaps.Running turn = let still = still_same s t turn.1 in (still.0, still.2, ap (λ (x : State). x.failures) turn.1)
-swap_stays s t swaps.Nothing turn = let still = still_same s t turn.2 in (still.0, still.2, ap (λ (x : State). x.failures) turn.2)
-swap_stays s t (swaps.Swapped n) turn =
-    let after : State = record s { caches = record s.caches { active = finite.empty; flush = Some s.caches.active } } in
-    subst (λ (x : State). Stays s x × SlotsStay s.keeper x.keeper × (x.failures ≡ s.failures)) (sym turn.3)
-    (record { settings = refl; ledgers = refl; gone = λ log is. is }, slots_same s.keeper after.keeper refl, refl)
 
 -- ---- writing
 
@@ -84,12 +69,6 @@ step_still s t (Err fault) turn = elim turn.1.2 [
 ]
 
 -- ---- rolling
-
-pub roll_still : (s t : State) (r : Result RollAnswer StepFault) → RollTurn s r t → StandsStill s t
-roll_still s t (Ok rolls.FlushRunning) turn = still_same s t turn.1
-roll_still s t (Ok rolls.NothingOpen) turn = still_same s t turn.2
-roll_still s t (Ok (rolls.Sealed id)) turn = seals_still turn.2
-roll_still s t (Err fault) turn = seals_still turn.1.1.3
 
 -- ---- publishing
 

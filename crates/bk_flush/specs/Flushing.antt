@@ -8,7 +8,6 @@ use Rattle.bk_record.specs.Location.{Place}
 use Rattle.bk_record.specs.Scan.{Payloads}
 use Rattle.bk_log.specs.Writing as writers
 use Rattle.bk_log.specs.declared.fault.LogFault.{LogFault}
-use Rattle.bk_log.specs.declared.fault.LogFault.TheVariants as log_faults
 use Rattle.bk_cache.specs.Caches.{flush_of}
 use Rattle.bk_cache.specs.Recents.{Recents}
 use Rattle.bk_store.specs.Logs.{View, Log, with_view}

@@ -49,8 +49,13 @@ pub fn write_one<D: LogDisk>(store: &mut Store<D>) -> Result<WriteAnswer, StepFa
     };
     let key = next.0;
     let size = next.1.len();
+    // The entry that was found is held while a log is made ready, so that it is not searched for again.
+    let held: Result<_, _> = next.1.clone();
     let log = ready(store, size)?;
-    match store.write(log, key) {
+    let Ok(payload) = held else {
+        return Err(StepFault::Memory { done: 0 });
+    };
+    match store.write(log, key, &payload) {
         Ok(location) => Ok(WriteAnswer::Wrote(location)),
         Err(fault) => Err(flush_fault(store, fault)),
     }

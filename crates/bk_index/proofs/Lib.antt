@@ -10,3 +10,4 @@ pub mod LedgerPairs
 pub mod CountedPages
 pub mod KeyPlaces
 pub mod PlaceEq
+pub mod Nearby

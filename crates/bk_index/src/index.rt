@@ -6,7 +6,7 @@ ghost use Rattle.std.specs.FinMap as map;
 ghost use Rattle.bk_index.specs.Keyed.{without_ledger, ledger_count, log_count};
 ghost use Rattle.bk_index.specs.Pages.{all_pairs, ArePageLens};
 
-use crate::{Pages, Walk};
+use crate::{Near, Pages, Walk};
 use bk_record::{Key, Location};
 use std::alloc::{AllocError, Global};
 use std::marker::Model;
@@ -16,6 +16,8 @@ use std::marker::Model;
 pub struct Index {
     pages: Pages,
     len: usize,
+    /// Behind the key that was sent on last.
+    near: Near,
 }
 
 impl Model for Index {
@@ -40,6 +42,7 @@ impl Index {
         Index {
             pages: Pages::new(alloc),
             len: 0,
+            near: Near::start(),
         }
     }
 
@@ -58,10 +61,20 @@ impl Index {
     }
 
     /// The location of a key, `None` where the index has none.
+    #[inline]
     pub fn get(&self, key: &Key) -> Option<Location>
         ensures { result ≡ map.get self.now key.now }
     {
         self.pages.get(key)
+    }
+
+    /// The same for one of several keys that are asked for one after another. Where they rise, and the index has no key
+    /// between two of them, each but the first is found without a search; `near` says where to look, and says nothing of
+    /// what is answered.
+    pub fn get_near(&self, key: &Key, near: &mut Near) -> Option<Location>
+        ensures { result ≡ map.get self.now key.now }
+    {
+        self.pages.get_near(key, near)
     }
 
     /// Sends a key to a location, and answers its location before. The only error is want of memory, which leaves the
@@ -82,13 +95,14 @@ impl Index {
     }
 
     /// Sends a key from one location to another, and answers whether it did: only where the index still sends the key
-    /// to `from`, and otherwise nothing changes.
+    /// to `from`, and otherwise nothing changes. A key right behind the one that was sent on before is found without a
+    /// search.
     pub fn replace_if(&mut self, key: &Key, from: Location, to: Location) -> bool
         ensures condition { IsTrue result ↔ (map.get self.old key.now ≡ Some from) }
         ensures replaced { OnTrue result (self.new ≡ map.insert self.old key.now to) }
         ensures kept { OnFalse result (self.new ≡ self.old) }
     {
-        self.pages.replace_if(key, from, to)
+        self.pages.replace_if(key, from, to, &mut self.near)
     }
 
     /// Takes the keys of a ledger out, and answers how many there were.

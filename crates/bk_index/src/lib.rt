@@ -2,11 +2,13 @@
 #![tactic(auto)]
 
 mod index;
+mod near;
 mod page;
 mod pages;
 mod walk;
 
 pub use index::Index;
+pub use near::Near;
 pub use pages::Pages;
 pub use walk::Walk;
 

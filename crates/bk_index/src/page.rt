@@ -10,6 +10,7 @@ ghost use Rattle.bk_index.specs.Pages.{first_key};
 
 use bk_record::{Key, Location};
 use std::alloc::{AllocError, Global};
+use std::cmp::Ordering;
 use std::marker::Model;
 
 /// Pairs of a key and a location, in the order of the keys.
@@ -79,6 +80,7 @@ impl Page {
     }
 
     /// The place of a key among the pairs, or the place where it would go.
+    #[inline]
     pub(crate) fn place_of(&self, key: &Key) -> Result<usize, usize>
         ensures found { IfOk result (IsAt self.now key.now) }
         ensures absent { IfErr result (IsGapFor self.now key.now) }
@@ -98,7 +100,44 @@ impl Page {
         self.place_of(key)
     }
 
+    /// Whether the pair at this place is of the key.
+    pub(crate) fn has_at(&self, key: &Key, place: usize) -> bool
+        ensures { IsTrue result → IsAt self.now key.now place }
+    {
+        let Some(pair) = self.pairs.get(place) else {
+            return false;
+        };
+        matches!(pair.0.cmp(key), Ordering::Equal)
+    }
+
+    /// The place of a key among the pairs, or the place where it would go; a place is asked first.
+    pub(crate) fn place_near(&self, key: &Key, near: usize) -> Result<usize, usize>
+        ensures found { IfOk result (IsAt self.now key.now) }
+        ensures absent { IfErr result (IsGapFor self.now key.now) }
+    {
+        if self.has_at(key, near) {
+            return Ok(near);
+        }
+        self.place_of(key)
+    }
+
+    /// The location of a key, `None` where the page has none. A place is asked first, and is the one behind the key
+    /// afterwards.
+    pub(crate) fn get_near(&self, key: &Key, near: &mut usize) -> Option<Location>
+        ensures { result ≡ find key_cmp key.now self.now }
+    {
+        match self.place_near(key, *near) {
+            Ok(place) => {
+                let location = self.pairs[place].1;
+                *near = place + 1;
+                Some(location)
+            }
+            Err(_) => None,
+        }
+    }
+
     /// The location of a key, `None` where the page has none.
+    #[inline]
     pub(crate) fn get(&self, key: &Key) -> Option<Location>
         ensures { result ≡ find key_cmp key.now self.now }
     {
@@ -121,17 +160,25 @@ impl Page {
         before
     }
 
-    /// Sends a key from one location to another, and answers whether it did: only where the page sends it to `from`.
-    pub(crate) fn replace_if(&mut self, key: &Key, from: Location, to: Location) -> bool
+    /// Sends a key from one location to another, and answers whether it did: only where the page sends it to `from`. A
+    /// place is asked first, and is the one behind the key afterwards.
+    pub(crate) fn replace_if(
+        &mut self,
+        key: &Key,
+        from: Location,
+        to: Location,
+        near: &mut usize,
+    ) -> bool
         ensures condition { IsTrue result ↔ (find key_cmp key.now self.old ≡ Some from) }
         ensures replaced { OnTrue result (self.new ≡ put key_cmp key.now to self.old) }
         ensures len { length self.new ≡ length self.old }
         ensures first { first_key self.new ≡ first_key self.old }
         ensures kept { OnFalse result (self.new ≡ self.old) }
     {
-        match self.place_of(key) {
+        match self.place_near(key, *near) {
             Ok(place) if self.pairs[place].1 == from => {
                 self.pairs[place] = (*key, to);
+                *near = place + 1;
                 true
             }
             _ => false,

@@ -9,6 +9,7 @@ ghost use Rattle.bk_record.specs.Key.{key_cmp};
 ghost use Rattle.bk_index.specs.Sorted.{IsAt, IsGapFor};
 ghost use Rattle.bk_index.specs.Pages.{all_pairs, IsHome, HoldsLedger};
 
+use crate::Near;
 use crate::page::Page;
 use bk_record::{Key, Location};
 use std::alloc::{AllocError, Global};
@@ -68,6 +69,7 @@ impl Pages {
     }
 
     // The page in which the key is, or would go: the last whose fence is not greater, else the first.
+    #[inline]
     fn home(&self, key: &Key) -> usize
         requires { IsTrue (is_sorted key_cmp (all_pairs self.now)) }
         ensures home { IsHome key.now self.now result }
@@ -91,7 +93,34 @@ impl Pages {
         self.home(key)
     }
 
+    // The same for one of several keys. They mostly rise, so the place behind the one before is asked first.
+    fn home_near(&self, key: &Key, near: &Near) -> usize
+        requires { IsTrue (is_sorted key_cmp (all_pairs self.now)) }
+        ensures home { IsHome key.now self.now result }
+        ensures bound { 0 < length self.now → result < length self.now }
+    {
+        if let Some(page) = self.list.get(near.page) {
+            if page.has_at(key, near.place) {
+                return near.page;
+            }
+        }
+        self.home(key)
+    }
+
+    /// The location of a key, `None` where no page has it. A place is asked first, and is the one behind the key
+    /// afterwards.
+    pub(crate) fn get_near(&self, key: &Key, near: &mut Near) -> Option<Location>
+        requires { IsTrue (is_sorted key_cmp (all_pairs self.now)) }
+        ensures { result ≡ find key_cmp key.now (all_pairs self.now) }
+    {
+        let at = self.home_near(key, near);
+        near.page = at;
+        let page = self.list.get(at)?;
+        page.get_near(key, &mut near.place)
+    }
+
     /// The location of a key, `None` where no page has it.
+    #[inline]
     pub(crate) fn get(&self, key: &Key) -> Option<Location>
         requires { IsTrue (is_sorted key_cmp (all_pairs self.now)) }
         ensures { result ≡ find key_cmp key.now (all_pairs self.now) }
@@ -197,20 +226,28 @@ impl Pages {
         Ok(())
     }
 
-    /// Sends a key from one location to another, and answers whether it did: only where the pages send it to `from`.
-    pub(crate) fn replace_if(&mut self, key: &Key, from: Location, to: Location) -> bool
+    /// Sends a key from one location to another, and answers whether it did: only where the pages send it to `from`. A
+    /// place is asked first, and is the one behind the key afterwards.
+    pub(crate) fn replace_if(
+        &mut self,
+        key: &Key,
+        from: Location,
+        to: Location,
+        near: &mut Near,
+    ) -> bool
         requires { IsTrue (is_sorted key_cmp (all_pairs self.old)) }
         ensures condition { IsTrue result ↔ (find key_cmp key.now (all_pairs self.old) ≡ Some from) }
         ensures replaced { OnTrue result (all_pairs self.new ≡ put key_cmp key.now to (all_pairs self.old)) }
         ensures len { length (all_pairs self.new) ≡ length (all_pairs self.old) }
         ensures kept { OnFalse result (self.new ≡ self.old) }
     {
-        let at = self.home(key);
+        let at = self.home_near(key, near);
         if at >= self.list.len() {
             return false;
         }
+        near.page = at;
         let page = &mut self.list[at];
-        page.replace_if(key, from, to)
+        page.replace_if(key, from, to, &mut near.place)
     }
 
     /// How many keys are sent to a log.

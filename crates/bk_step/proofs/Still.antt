@@ -1,5 +1,5 @@
 -- What stays over a change of the state, by the fields that it names.
-use Rattle.std.proofs.Common.{◌≡◌, ◌≢◌, ℕ, ◌+◌, Option, Some, refl, sym, ap, subst, ◌∙◌}
+use Rattle.std.proofs.Common.{◌≡◌, ℕ, Option, Some, refl, sym, ap, subst, ◌∙◌}
 use Rattle.std.specs.FinMap as finite
 use Rattle.bk_record.specs.Files.{Files}
 use Rattle.bk_record.specs.Keyed.{Places}
@@ -12,7 +12,7 @@ use Rattle.bk_store.specs.Logs.{Log, AllChanged}
 use Rattle.bk_store.specs.State.{State}
 use Rattle.bk_store.specs.Jobs.{Job}
 use Rattle.bk_store.specs.declared.log.LogState.{LogState}
-use Rattle.bk_step.specs.Staying.{Stays, CachesStay, SlotsStay, StandsStill}
+use Rattle.bk_step.specs.Staying.{Stays, SlotsStay, StandsStill}
 use Rattle.bk_step.proofs.Gone.{gone_same, gone_changed, gone_ruled}
 
 -- ---- slots

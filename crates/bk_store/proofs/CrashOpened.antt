@@ -1,5 +1,5 @@
 -- A store that is opened on what a crash left.
-use Rattle.std.proofs.Common.{◌≡◌, ℕ, List, Option, None, true, cond, refl, sym, ap, ◌∙◌, subst}
+use Rattle.std.proofs.Common.{◌≡◌, ℕ, List, None, true, cond, refl, sym, ap, ◌∙◌}
 use Rattle.std.specs.Option.{option_or}
 use Rattle.std.specs.FinMap as finite
 use Rattle.std.specs.FinSet as set
@@ -7,7 +7,6 @@ use Rattle.bk_record.specs.Key.{EntryKey, key_cmp}
 use Rattle.bk_record.specs.Files.{Files, file_of}
 use Rattle.bk_record.specs.Scan.{Payloads, scan_of, live}
 use Rattle.bk_cache.specs.Caches as caches
-use Rattle.bk_store.specs.Entries.{IsIndexOf}
 use Rattle.bk_store.specs.Carried.{Carries}
 use Rattle.bk_store.specs.Shown.{Shows}
 use Rattle.bk_store.specs.Logs.{open_parts}

@@ -1,20 +1,17 @@
 -- What a crash left of a file is the beginning of it behind the header, and has what was synced.
-use Rattle.std.proofs.Common.{◌≡◌, ◌⊎◌, inl, inr, ℕ, ◌+◌, ◌-◌, ◌≤◌, List, [], ◌++◌, length, take, drop, length-drop, Some, None, IsSome, Option, unwrap_or}
-use Rattle.std.proofs.Common.{refl, sym, ap, ◌∙◌, subst, arith, append_assoc}
-use Rattle.std.proofs.lemmas.List.{drop-drop, drop-take, take-append-drop, take-append-le, length-take-le}
-use Rattle.std.proofs.lemmas.Option.{same_Some, none-some}
+use Rattle.std.proofs.Common.{◌≡◌, ◌⊎◌, inl, inr, ℕ, ◌≤◌, List, [], ◌++◌, length, take, drop, Some, Option, unwrap_or}
+use Rattle.std.proofs.Common.{sym, ap, ◌∙◌, subst, arith, append_assoc}
+use Rattle.std.proofs.lemmas.List.{drop-drop, take-append-drop, take-append-le, length-take-le}
 use Rattle.std.specs.FinMap as finite
 use Rattle.bk_record.specs.Key.{EntryKey}
 use Rattle.bk_record.specs.Location.{Place}
-use Rattle.bk_record.specs.Files.{Files, file_of, header_length, records_of, In}
+use Rattle.bk_record.specs.Files.{Files, file_of, header_length}
 use Rattle.bk_record.specs.Longer.{IsLonger}
-use Rattle.bk_record.proofs.Growth.{records_of-short}
 use Rattle.bk_record.proofs.Longer.{longer_append, longer_trans}
 use Rattle.bk_store.proofs.LongerRecords.{records-longer}
 use Rattle.bk_store.specs.Entries.{Bytes, HasEntry}
-use Rattle.bk_store.specs.Crash.{IsCut, IsLeft, MayLeave, AreSynced, Survives, OpensAs}
-use Rattle.bk_log.specs.Growing.{HasNoBadLength}
-use Rattle.bk_store.proofs.Cases.{some_or_none, some_value}
+use Rattle.bk_store.specs.Crash.{IsCut, MayLeave, AreSynced, Survives, OpensAs}
+use Rattle.bk_store.proofs.Cases.{some_or_none}
 use Rattle.bk_store.proofs.Growing.{none_stands}
 
 -- ---- one file

@@ -11,11 +11,11 @@ use Rattle.bk_record.specs.Scan.{Payloads, Ledgers}
 use Rattle.bk_record.specs.Keyed.{Places, without_ledger}
 use Rattle.bk_record.proofs.Places.{precedes_trans}
 use Rattle.bk_disk.specs.Durable.{KeepsMore}
-use Rattle.bk_store.specs.Entries.{Bytes, HasEntry}
-use Rattle.bk_store.specs.Carried.{Cached, Carries, IsStale}
+use Rattle.bk_store.specs.Entries.{Bytes}
+use Rattle.bk_store.specs.Carried.{Cached, Carries}
 use Rattle.bk_store.specs.Crash.{AreHarmless}
 use Rattle.bk_store.proofs.Cases.{some_or_none, some_value}
-use Rattle.bk_store.proofs.KeyMaps.{get-insert_other, same_key, inserted_cases, inserted_here, left_same, still_lives}
+use Rattle.bk_store.proofs.KeyMaps.{get-insert_other, same_key, inserted_here, left_same, still_lives}
 use Rattle.bk_store.proofs.Growing.{entry_same, none_stands}
 use Rattle.bk_store.proofs.IndexMoves.{IsForward}
 

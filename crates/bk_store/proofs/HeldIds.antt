@@ -1,5 +1,5 @@
 -- The logs that are held, by rising ids: the first entry of a table from an id on.
-use Rattle.std.proofs.Common.{◌≡◌, ℕ, ◌<◌, ◌≤◌, false, List, [], ◌∷◌, Option, Some, None, IsSome, IfSome, is_some, is_gt, sym, ap, subst, ◌∙◌, arith}
+use Rattle.std.proofs.Common.{◌≡◌, ℕ, ◌<◌, ◌≤◌, false, List, [], ◌∷◌, Option, Some, None, IsSome, IfSome, is_some, is_gt, true, sym, ap, subst, ◌∙◌, arith}
 use Rattle.std.proofs.Math.Decide.{dec_le}
 use Rattle.std.specs.Ordering.{nat_cmp}
 use Rattle.std.specs.BTreeMap.{BTreeMap}
@@ -39,6 +39,11 @@ module _ {X : Type 0} (m : BTreeMap ℕ X) (table : finite.FinMap nat_cmp X) (vi
         λ other there above. le_from_not_gt e.0 other
             (ranged.2 other (not_gt from other above, tt) (ap is_some (sym (same_at other)) ∙ there)),
       )
+
+  -- the id itself, where its log is held
+  pub here_first : is_some (tree.get nat_cmp m from) ≡ true
+      → IsSome (finite.get table from) × (from ≤ from) × ((other : ℕ) → IsSome (finite.get table other) → from ≤ other → from ≤ other)
+  here_first there = (ap is_some (same_at from) ∙ there, omega arith, λ other held above. above)
 
 -- the id of a log that is held is one of a log
 pub held_from : (p : Parts) → Fits p → (from : ℕ) (o : Option ℕ) → IsNextHeld p.state.logs from o → IfSome o (λ id. id < 2147483648)

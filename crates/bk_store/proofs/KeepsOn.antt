@@ -1,5 +1,5 @@
 -- A call on an honest disk after which it keeps as much as before: the store's promise stands over what it keeps then.
-use Rattle.std.proofs.Common.{◌≡◌, ℕ, List, IsTrue, subst}
+use Rattle.std.proofs.Common.{ℕ, List}
 use Rattle.bk_record.specs.Files.{Files}
 use Rattle.bk_record.proofs.Longer.{longer_trans}
 use Rattle.bk_disk.specs.Durable.{HasKept, KeepsMore}
@@ -49,8 +49,3 @@ keeps_on p q keeps on = record {
   job = keeps.job;
   promises = λ honest. promises_on p q.synced q.gone (on honest) (keeps.promises honest);
 }
-
--- what a call keeps, where the parts that are seen are these
-pub keeps_seen : (p seen : Parts) → p ≡ seen → (synced gone : Files) → (IsTrue p.state.honest → KeepsMore p.synced p.gone synced gone)
-    → IsTrue seen.state.honest → KeepsMore seen.synced seen.gone synced gone
-keeps_seen p seen is synced gone on = subst (λ (x : Parts). IsTrue x.state.honest → KeepsMore x.synced x.gone synced gone) is on

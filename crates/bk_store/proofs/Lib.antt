@@ -17,6 +17,7 @@ pub mod Walks
 pub mod HeldWalks
 pub mod Indexes
 pub mod Noted
+pub mod PlacedLedgers
 pub mod TrailMoves
 pub mod KeptParts
 pub mod KeptJob

@@ -1,6 +1,6 @@
 -- A log is made: what its slot, its account and its file give the turn.
 use Rattle.std.proofs.Common.{◌≡◌, inl, inr, ℕ, ◌+◌, ◌<◌, Bool, true, false, cond, IsTrue, List, length, Option, Some, None}
-use Rattle.std.proofs.Common.{IsNone, is_some, option_map, not, Result, Ok, Err, refl, sym, ap, subst, ◌∙◌, arith}
+use Rattle.std.proofs.Common.{IsNone, is_some, option_map, Result, Ok, Err, refl, sym, ap, subst, ◌∙◌, arith}
 use Rattle.std.specs.FinMap as finite
 use Rattle.std.specs.Ordering.{nat_cmp}
 use Rattle.std.specs.FinMap.{nat_cmp-IsAntisymmetric}
@@ -31,10 +31,6 @@ use Rattle.bk_store.specs.declared.answer.MakeFault.{MakeFault}
 use Rattle.bk_store.proofs.KeptMake.{unheld}
 use Rattle.bk_store.proofs.LogMaps.{log-inserted}
 use Rattle.bk_store.proofs.ShowTurns.{not_failed, failed_once}
-
-pub not_made : (b : Bool) → not b ≡ true → b ≡ false
-not_made true wrong = sym wrong
-not_made false is = refl
 
 -- ---- the slot
 

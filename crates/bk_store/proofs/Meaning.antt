@@ -1,5 +1,5 @@
 -- What files, index, write caches and dead ledgers carry is what they mean, and they carry one map.
-use Rattle.std.proofs.Common.{◌≡◌, inl, inr, ℕ, List, Option, Some, None, IsSome, true, false, cond, is_some, ◌||◌, refl, sym, ap, ◌∙◌}
+use Rattle.std.proofs.Common.{◌≡◌, inl, inr, ℕ, List, Option, Some, None, true, false, cond, is_some, ◌||◌, refl, sym, ap, ◌∙◌}
 use Rattle.std.specs.FinMap as finite
 use Rattle.std.specs.FinSet as set
 use Rattle.std.specs.Option.{option_or}
@@ -12,7 +12,7 @@ use Rattle.bk_record.proofs.Scans.{scan-none}
 use Rattle.bk_record.specs.Keyed.{Places}
 use Rattle.bk_store.specs.Entries.{Bytes, HasEntry}
 use Rattle.bk_store.specs.Carried.{Cached, Carries}
-use Rattle.bk_store.proofs.Cases.{some_or_none, some_value}
+use Rattle.bk_store.proofs.Cases.{some_or_none}
 use Rattle.bk_store.proofs.OneEntry.{one_payload}
 use Rattle.bk_store.proofs.LastEntries.{entry_record, scan_entry}
 
@@ -29,12 +29,6 @@ module _ {bytes : Bytes} {index : Places} {cached : Cached} {dead : Ledgers} {ma
     | inl missing ↦ missing
     | inr there ↦ absurd (let lives = carries.lives key there.0 there.1 in cc)
   ]
-
-  pub cached_mapped : (key : EntryKey) → IsSome (cached key) → IsSome (finite.get map key)
-  cached_mapped key is = let found = some_value (cached key) is in ap is_some (carries.cached_is key found.0 found.1)
-
-  pub indexed_mapped : (key : EntryKey) → IsSome (finite.get index key) → IsSome (finite.get map key)
-  indexed_mapped key is = let found = some_value (finite.get index key) is in ap is_some (carries.indexed key found.0 found.1).mapped
 
   -- the map has a key exactly where it is cached or indexed
   pub held_exactly : (key : EntryKey) → is_some (finite.get map key) ≡ (is_some (cached key) || is_some (finite.get index key))

@@ -1,53 +1,36 @@
 -- Pairs in the order of their keys, with one more behind them.
 use Rattle.std.proofs.Common.{◌≡◌, ◌-◌, Bool, true, false, cond, List, [], ◌∷◌, ◌++◌, Some, Option, IsSome, IsTrue, Less}
-use Rattle.std.proofs.Common.{refl, sym, ap, subst, ◌∙◌, length, take, is_some, slice_get, option_map, arith}
+use Rattle.std.proofs.Common.{refl, sym, ap, subst, ◌∙◌, length, is_some, slice_get, option_map}
 use Rattle.std.specs.Ordering.{eq_by_cmp, is_eq, ordering_reverse}
 use Rattle.std.specs.List.{AllByRecursion}
 use Rattle.std.specs.Cmp.{IsTotalOrder, tied_itself}
 use Rattle.std.specs.declared.cmp.Ordering.{Ordering}
 use Rattle.std.specs.FinMap as finite
 use Rattle.std.specs.FinMap.{find, put, is_sorted}
-use Rattle.std.specs.FinMap.Entries.{below_all}
-use Rattle.std.proofs.lemmas.Bool.{and_parts}
-use Rattle.std.proofs.Math.Seq.{take-append_seam}
-use Rattle.std.proofs.lemmas.List.{length-append}
-use Rattle.std.specs.Cmp.Derive.{both_true}
 use Rattle.bk_record.specs.Key.{EntryKey, key_cmp}
 use Rattle.bk_record.specs.Location.{Place}
 use Rattle.bk_record.proofs.Keys.{key_cmp_total}
 use Rattle.bk_record.proofs.SortedPairs.{is_sorted_put}
-use Rattle.bk_record.proofs.SortedMaps.{get-sorted, insert-sorted, entries-sorted, len-sorted, from_sorted-entries}
+use Rattle.bk_record.proofs.SortedMaps.{get-sorted, insert-sorted, entries-sorted, len-sorted}
 use Rattle.bk_record.specs.Keyed.{Places}
 use Rattle.bk_store.specs.Placed.{IsBehind, last_key}
 
-module _ {K X : Type 0} (R : K → K → Ordering) where
-  below_front : (x : K) (front behind : List (K × X)) → IsTrue (below_all R x (front ++ behind)) → IsTrue (below_all R x front)
-  below_front x [] behind below = refl
-  below_front x (e ∷ front) behind below = let parts = and_parts _ _ below in both_true parts.0 (below_front x front behind parts.1)
+module _ {K X : Type 0} (R : K → K → Ordering) (o : IsTotalOrder R) (key : K) where
+  still_found : (b : Bool) (value : X) (rest : Option X) → IsSome rest → IsSome (cond b (Some value) rest)
+  still_found true value rest there = refl
+  still_found false value rest there = there
 
-  -- the first of some pairs in order are in order
-  pub sorted_front : (front behind : List (K × X)) → IsTrue (is_sorted R (front ++ behind)) → IsTrue (is_sorted R front)
-  sorted_front [] behind sorted = refl
-  sorted_front (e ∷ front) behind sorted =
-      let parts = and_parts _ _ sorted in
-      both_true (below_front e.0 front behind parts.0) (sorted_front front behind parts.1)
+  all_below : (es : List (K × X)) → ((q : K) → IsSome (find R q es) → R q key ≡ Less) → AllByRecursion (λ e. R e.0 key ≡ Less) es
+  all_below [] below = tt
+  all_below (e ∷ es) below = (
+    below e.0 (ap (λ b. is_some (cond b (Some e.1) (find R e.0 es))) (ap is_eq (tied_itself o e.0))),
+    all_below es (λ q there. below q (still_found (eq_by_cmp R q e.0) e.1 (find R q es) there)),
+  )
 
-  module _ (o : IsTotalOrder R) (key : K) where
-    still_found : (b : Bool) (value : X) (rest : Option X) → IsSome rest → IsSome (cond b (Some value) rest)
-    still_found true value rest there = refl
-    still_found false value rest there = there
-
-    all_below : (es : List (K × X)) → ((q : K) → IsSome (find R q es) → R q key ≡ Less) → AllByRecursion (λ e. R e.0 key ≡ Less) es
-    all_below [] below = tt
-    all_below (e ∷ es) below = (
-      below e.0 (ap (λ b. is_some (cond b (Some e.1) (find R e.0 es))) (ap is_eq (tied_itself o e.0))),
-      all_below es (λ q there. below q (still_found (eq_by_cmp R q e.0) e.1 (find R q es) there)),
-    )
-
-    put_behind : (value : X) (es : List (K × X)) → AllByRecursion (λ e. R e.0 key ≡ Less) es → put R key value es ≡ es ++ (key, value) ∷ []
-    put_behind value [] below = refl
-    put_behind value (e ∷ es) below =
-        rw (o.antisymm key e.0 ∙ ap ordering_reverse below.0) (ap (λ rest. e ∷ rest) (put_behind value es below.1))
+  put_behind : (value : X) (es : List (K × X)) → AllByRecursion (λ e. R e.0 key ≡ Less) es → put R key value es ≡ es ++ (key, value) ∷ []
+  put_behind value [] below = refl
+  put_behind value (e ∷ es) below =
+      rw (o.antisymm key e.0 ∙ ap ordering_reverse below.0) (ap (λ rest. e ∷ rest) (put_behind value es below.1))
 
 abbrev pairs_type : Type 0
 pairs_type = List (EntryKey × Place)
@@ -73,22 +56,6 @@ pub noted_sorted : (es : pairs_type) (places : Places) (key : EntryKey) (place :
 noted_sorted es places key place sorted is behind =
     let here : IsBehind (finite.from_sorted es) key = subst (λ m. IsBehind m key) (sym is) behind in
     subst (λ (l : pairs_type). IsTrue (is_sorted key_cmp l)) (put_last es key place sorted here) (is_sorted_put key_cmp_total key place es sorted)
-
--- what stands before the pair that was noted last
-pub taken_back : (es left : pairs_type) (places earlier : Places) (key : EntryKey) (place : Place) → IsTrue (is_sorted key_cmp es)
-    → finite.from_sorted es ≡ places
-    → left ≡ take (length es - 1) es → IsBehind earlier key → places ≡ finite.insert earlier key place → finite.from_sorted left ≡ earlier
-taken_back es left places earlier key place sorted is left_is behind old =
-    let front = finite.entries earlier in
-    let all : es ≡ front ++ (key, place) ∷ [] =
-    sym (entries-sorted key_cmp es sorted) ∙ ap finite.entries (is ∙ old) ∙ finite.entries-insert key_cmp_total earlier key place
-    ∙ put_behind key_cmp key_cmp_total key place front
-    (all_below key_cmp key_cmp_total key front (λ q there. behind q (ap is_some (finite.get-entries earlier q) ∙ there))) in
-    let cut : take (length es - 1) es ≡ front =
-    ap (λ (l : pairs_type). take (length l - 1) l) all
-    ∙ ap (λ n. take n (front ++ (key, place) ∷ [])) (let long = length-append front ((key, place) ∷ []) in omega (arith, long))
-    ∙ take-append_seam front ((key, place) ∷ []) in
-    ap finite.from_sorted (left_is ∙ cut) ∙ from_sorted-entries earlier
 
 -- the last pair has the last key
 pub last_of : (es : pairs_type) (places : Places) → IsTrue (is_sorted key_cmp es) → finite.from_sorted es ≡ places

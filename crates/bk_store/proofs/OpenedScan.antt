@@ -1,11 +1,10 @@
 -- A scan of a log that was found, entry by entry, to its end or to a fault.
 use Rattle.std.proofs.Common.{◌≡◌, ℕ, ◌+◌, ◌<◌, ◌≤◌, ◌^◌, Bool, true, false, ◌==◌, if◌then◌else◌, IsTrue}
-use Rattle.std.proofs.Common.{List, [], ◌∷◌, ◌++◌, length, take, drop, Option, Some, None, IsSome, Ok, Err}
+use Rattle.std.proofs.Common.{List, [], ◌∷◌, ◌++◌, length, take, drop, Option, Some, None, Ok, Err}
 use Rattle.std.proofs.Common.{slice_get, refl, sym, ap, subst, ◌∙◌, arith, eq-eqb}
 use Rattle.std.specs.Option.{option_map}
 use Rattle.std.proofs.lemmas.List.{take_all}
 use Rattle.std.proofs.lemmas.List.Sums.{sum_by_push}
-use Rattle.std.specs.FinMap as finite
 use Rattle.std.specs.FinSet as set
 use Rattle.bk_record.specs.Files.{header_length}
 use Rattle.bk_record.specs.Scan.{entries_of}
@@ -20,8 +19,7 @@ use Rattle.bk_log.specs.declared.fault.ScanFault.TheVariants as scans
 use Rattle.bk_log.specs.Ranges.{entries_in, part}
 use Rattle.bk_log.specs.Scanning.{Scan, part_of, NextMoves, NextTurn}
 use Rattle.bk_log.proofs.Ranges.{entries_in-file, whole_view}
-use Rattle.bk_accounts.specs.Account.{Account}
-use Rattle.bk_accounts.specs.Book.{HasAccount, total_in, after_ready, after_count, after_count_dead}
+use Rattle.bk_accounts.specs.Book.{total_in, after_ready, after_count, after_count_dead}
 use Rattle.bk_accounts.proofs.BookLaws.{total_in-after_count, total_in-after_count_dead, total_in-after_ready}
 use Rattle.bk_store.specs.Opening.{IsHeaded, FileFails}
 use Rattle.bk_store.specs.Found.{IsScanned, IsFoundAt, AreFoundAt, with_entry, with_entries, bytes_found, scan_told}
@@ -51,11 +49,6 @@ total_entry log t found total is =
           total_in-after_count (after_ready t.accounts log found.key.ledger) log found.key.ledger found.size log
           ∙ total_here log total found.size _ (total_in-after_ready t.accounts log found.key.ledger log ∙ is)
     ]
-
--- a log that has a total is open
-total_open : (o : Option Account) (total : ℕ) → option_map (λ (a : Account). a.total) o ≡ Some total → IsSome o
-total_open None total wrong = cc
-total_open (Some a) total _ = refl
 
 bytes_push : (founds : List Found) (found : Found) → bytes_found (founds ++ found ∷ []) ≡ bytes_found founds + found.size
 bytes_push founds found = sum_by_push (λ (f : Found). f.size) founds found
@@ -94,12 +87,6 @@ module _ (log end : ℕ) (honest : Bool) (file : List ℕ) (old : Tally) (s : Sc
 
   -- an entry more
   module _ (found : Found) (s' : Scan) (moves : NextMoves s (Ok (Some found)) s') where
-    pub next_begins : 1028 ≤ found.at
-    next_begins = omega (arith, so_far.from, moves.1.begins)
-
-    pub next_open : HasAccount now.accounts log
-    next_open = total_open (finite.get now.accounts log) (bytes_found so_far.founds) so_far.total
-
     pub scanning_on : (now' : Tally) → (IsTrue s.honest → NextTurn s (Ok (Some found)) s') → (IsTrue honest → end ≡ view_end file)
         → now' ≡ with_entry log now found → IsScanning log end honest file old s' now'
     scanning_on now' turn whole added = record {

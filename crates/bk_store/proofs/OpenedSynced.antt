@@ -1,5 +1,5 @@
 -- Logs that are found one after another are synced each, and stay so.
-use Rattle.std.proofs.Common.{◌≡◌, inl, inr, ℕ, ◌+◌, ◌<◌, Bool, IsTrue, List, take, length, get_or, Result, Ok, Err, sym, subst, ◌∙◌}
+use Rattle.std.proofs.Common.{◌≡◌, inl, inr, ℕ, ◌+◌, ◌<◌, Bool, IsTrue, List, take, length, get_or, Result, Ok, Err, subst, ◌∙◌}
 use Rattle.std.specs.Result.{OnOk}
 use Rattle.std.proofs.lemmas.List.{take_more}
 use Rattle.bk_record.specs.Files.{Files, file_of, In}

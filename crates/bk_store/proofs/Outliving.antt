@@ -1,12 +1,12 @@
 -- What a store means outlives a crash: its promise has all that the law of a crash asks.
-use Rattle.std.proofs.Common.{◌≡◌, ◌⊎◌, inl, inr, ℕ, Bool, true, false, cond, IsTrue, List, [], Option, Some, None, refl, sym, ap, ◌∙◌, subst}
+use Rattle.std.proofs.Common.{◌≡◌, ◌⊎◌, inl, inr, ℕ, Bool, true, false, cond, IsTrue, List, [], Option, Some, refl, sym, ap, subst}
 use Rattle.std.specs.Option.{option_map_or}
 use Rattle.std.specs.FinMap as finite
 use Rattle.bk_record.specs.Files.{Files}
 use Rattle.bk_record.specs.Longer.{IsLonger}
 use Rattle.bk_disk.specs.Durable.{HasKept}
 use Rattle.bk_store.specs.Logs.{View, Log, is_open, open_parts, published_part}
-use Rattle.bk_store.specs.State.{State, Parts}
+use Rattle.bk_store.specs.State.{Parts}
 use Rattle.bk_store.specs.Kept.{Keeps, Promises}
 use Rattle.bk_store.specs.Crash.{AreSynced}
 use Rattle.bk_store.specs.Outliving.{Outlives}

@@ -141,15 +141,6 @@ module _ {index : Places} {s : CacheState} {ledger : ℕ} {old now : Book} {alon
 -- ---- behind the last
 
 module _ {index : Places} {s : CacheState} {ledger : ℕ} {old now : Book} {alone : ℕ} (goes : Goes index s ledger old now alone []) where
-  pub all_named : AreNamedBy (without_ledger index ledger) old now
-  all_named log = goes.named log ∙ all (finite.get old log)
-    where
-      all : (o : Option Account)
-          → option_map (λ (account : Account). record account { named = log_count (without_ledger index ledger) log + 0 }) o
-          ≡ option_map (λ (account : Account). record account { named = log_count (without_ledger index ledger) log }) o
-      all None = refl
-      all (Some account) = ap (λ n. Some (record account { named = n })) (omega arith)
-
   pub all_counted : alone ≡ count_by (λ e. (e.0.ledger == ledger) && is_alone s e) (finite.entries index)
   all_counted = omega (arith, goes.counted)
 

@@ -7,9 +7,10 @@ use Rattle.bk_store.proofs.Cases.{some_value}
 use Rattle.std.specs.declared.cmp.Ordering.{Ordering}
 use Rattle.bk_record.specs.Key.{EntryKey, key_cmp}
 use Rattle.bk_record.specs.Location.{Place}
-use Rattle.bk_record.specs.Record.{record_of}
+use Rattle.bk_record.specs.Record.{IsPayload, key_of, record_of}
 use Rattle.bk_record.specs.Files.{Files, header_length}
 use Rattle.bk_record.proofs.Keys.{key_cmp_total, key_cmp_antisymmetric}
+use Rattle.bk_record.proofs.ReadKeys.{addable, addable_payload}
 use Rattle.bk_disk.specs.Disk.{IsCaused, grown}
 use Rattle.bk_log.specs.Writing as writers
 use Rattle.bk_log.specs.declared.fault.LogFault.{LogFault}
@@ -28,8 +29,9 @@ use Rattle.bk_store.specs.Placed.{IsBehind}
 use Rattle.bk_store.specs.State.{Parts}
 use Rattle.bk_store.specs.Kept.{Keeps}
 use Rattle.bk_store.specs.Putting.{MayPut, put_log, grown_log, next_place, IsPutAt}
-use Rattle.bk_store.specs.Doors.{CanTake, WriteTurn, PutTurn, IsNext}
+use Rattle.bk_store.specs.Doors.{CanTake, MayWrite, WriteTurn, PutTurn, IsNext}
 use Rattle.bk_store.specs.declared.log.LogState.{LogState}
+use Rattle.bk_store.specs.declared.log.LogState.TheVariants.{Writing}
 use Rattle.bk_store.proofs.LogMaps.{log-same}
 use Rattle.bk_store.proofs.ShowTurns.{not_failed, failed_once}
 
@@ -86,6 +88,31 @@ next_behind p keeps key payload next other there = ordered other key (key_cmp ot
     let placed = keeps.fits.placed.front other key found.0 found.1 after (ap is_some next.flushing) in
     let none = next.unplaced in
     cc)
+
+-- ---- the entry that is written
+
+-- what is known of the flush's next entry, and of the log that takes it
+pub record IsWritable (p : Parts) (id : ℕ) (key : EntryKey) (payload : List ℕ) : Type 0 where
+  pub room : IsRoomy p id payload
+  pub legal : IsPayload payload
+  pub keyed : key_of payload ≡ Some key
+  pub behind : IsBehind p.state.places key
+
+pub writable : (p now : Parts) → p ≡ now → Keeps now → (id : ℕ) (key : EntryKey) (payload : List ℕ) → MayWrite now.state id key
+    → finite.get (flush_of now.state.caches) key ≡ Some payload → IsSound p.state.caches → IsWritable p id key payload
+writable p now here keeps id key payload may flushing sound =
+    let mine = subst (λ (q : Parts). MayWrite q.state id key) (sym here) may in
+    let kept = subst Keeps (sym here) keeps in
+    let there = ap (λ (q : Parts). finite.get (flush_of q.state.caches) key) here ∙ flushing in
+    let both : Some payload ≡ Some mine.payload = sym there ∙ mine.next.flushing in
+    let same : payload ≡ mine.payload = cc in
+    let read = sound.flush_keyed key payload there in
+    record {
+      room = roomy_same (roomy p kept id Writing mine.payload mine.takes) (sym same);
+      legal = addable_payload payload key read;
+      keyed = (addable payload key read).keyed;
+      behind = next_behind p kept key mine.payload mine.next;
+    }
 
 -- ---- the account takes the record in
 

@@ -15,7 +15,7 @@ ghost use Rattle.bk_store.specs.declared.log.LogState.TheVariants.{Closed as Clo
 
 use crate::fields::Fields;
 use crate::showing::view_fault;
-use crate::{Job, Store};
+use crate::{Job, Store, TakenJob};
 use bk_disk::LogDisk;
 use bk_lease::Closed;
 use bk_log::LogFault;
@@ -102,19 +102,21 @@ impl<D: LogDisk> Store<D> {
     }
 
     /// Takes the job of the compaction that runs out of the store, so that it goes on or ends.
-    pub fn take_job(&mut self) -> Option<Job>
-        ensures job { result ≡ self.old.job }
+    pub fn take_job(&mut self) -> Option<TakenJob>
+        ensures job { option_map (λ taken. taken.job) result ≡ self.old.job }
         ensures left { self.new ≡ record self.old { job = None } }
     {
-        self.fields.job.take()
+        let job = self.fields.job.take()?;
+        Some(TakenJob { job })
     }
 
     /// Keeps this job as that of the compaction that runs.
-    pub fn set_job(&mut self, job: Job)
+    pub fn set_job(&mut self, taken: TakenJob)
         requires none { self.old.job ≡ None }
-        requires keeps { IsJob self.old job }
-        ensures { self.new ≡ record self.old { job = Some job } }
+        requires keeps { IsJob self.old taken.job }
+        ensures { self.new ≡ record self.old { job = Some taken.job } }
     {
+        let TakenJob { job } = taken;
         self.fields.job = Some(job);
     }
 

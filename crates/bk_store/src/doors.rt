@@ -2,7 +2,7 @@
 //! store keeps its promise through each of them. None changes what a store means: beside an honest disk each key has the
 //! payload that it had (`meaning`).
 
-ghost use Rattle.std.specs.Prelude.{◌≡◌, ℕ, List, Some, IsTrue, true};
+ghost use Rattle.std.specs.Prelude.{◌≡◌, Some, IsTrue, true};
 ghost use Rattle.std.specs.FinMap as map;
 ghost use Rattle.bk_cache.specs.Caches.{flush_of};
 ghost use Rattle.bk_store.specs.Logs.{is_written};
@@ -37,18 +37,18 @@ impl<D: LogDisk> Store<D> {
         self.fields.make_log(state)
     }
 
-    /// Puts the flush's next entry at the end of the log that flushes write, notes its place and answers it: the first
-    /// entry without a place, by their keys. The log stays at most 2^32 - 1 bytes long.
+    /// Puts the flush's next entry, which `next_entry` told, at the end of the log that flushes write, notes its place and
+    /// answers it: the first entry without a place, by their keys. The log stays at most 2^32 - 1 bytes long.
     ///
     /// Faults: `Memory` leaves store and files as they were. `Disk`, which leaves a part of the record, possibly all, and
     /// `Odd`: the log is Filled, written no more, and the entry has no place. `Failed` never comes.
-    pub fn write(&mut self, log: u32, key: Key) -> Result<Location, LogFault>
-        requires { MayWrite self.old log key }
-        ensures turn { (payload : List ℕ) → map.get (flush_of self.old.caches) key ≡ Some payload
-            → WriteTurn self.old log key payload result self.new }
+    pub fn write(&mut self, log: u32, key: Key, payload: &[u8]) -> Result<Location, LogFault>
+        requires may { MayWrite self.old log key }
+        requires flushing { map.get (flush_of self.old.caches) key ≡ Some payload.now }
+        ensures turn { WriteTurn self.old log key payload.now result self.new }
         ensures meaning { IsTrue self.old.honest → MeansTheSame self.old self.new }
     {
-        self.fields.write(log, key)
+        self.fields.write(log, key, payload)
     }
 
     /// Seals a log that is written: its ledgers map goes behind its records, and its header says where. The log that

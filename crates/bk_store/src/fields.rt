@@ -51,7 +51,7 @@ impl<D: LogDisk> Model for Fields<D> {
         honest = D.honest f.disk;
         failures = D.failures f.disk;
         caches = f.caches;
-        places = f.places;
+        places = f.places.places;
         index = f.index;
         logs = f.logs;
         keeper = f.keeper;

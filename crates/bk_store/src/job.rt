@@ -1,8 +1,8 @@
 //! A compaction that runs: the entries of one log that the index names are copied to another log, then the index is sent to
 //! the copies.
 //!
-//! A store keeps the job of a compaction between the calls of it. It is taken out while a call goes on with it, and given
-//! back; a job that is not given back is over.
+//! A store keeps the job of a compaction between the calls of it. It is taken out while a call goes on with it, and then
+//! given back, or the compaction is over.
 
 ghost use Rattle.std.specs.Prelude.{◌≡◌, List, [], ◌∷◌, ◌++◌, length, OnOk, OnErr, IfNone, IfSome};
 ghost use Rattle.bk_store.specs.Jobs.{Job as JobState, new_job, waits_from, with_move, with_rebuild};
@@ -41,6 +41,20 @@ pub struct Job {
     moves: Vec<Move>,
     taken: usize,
     rebuilt: bool,
+}
+
+/// The job of a compaction while a call goes on with it. It has no `Drop`: code that loses one does not compile. Give it back
+/// to the store by `set_job`, or end the compaction.
+pub struct TakenJob {
+    pub job: Job,
+}
+
+impl TakenJob {
+    /// The compaction is over, and nothing of it is kept.
+    pub fn end(self) {
+        let TakenJob { job } = self;
+        drop(job);
+    }
 }
 
 impl Model for Job {

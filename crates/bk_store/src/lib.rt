@@ -35,7 +35,7 @@ pub use answer::{
     AddFault, Added, DeleteFault, Fence, FenceFault, LogCause, MakeFault, OpenFault, SwapAnswer,
     TakeFault, Taken,
 };
-pub use job::{Job, Move, Phase};
+pub use job::{Job, Move, Phase, TakenJob};
 pub use laws::{
     add_is_plain, carried_is_held, carried_is_meaning, carried_is_one_map, delete_is_plain,
     deleted_ledger_leaves, fence_is_plain, files_have_an_index, index_is_one, opened_index_carries,

@@ -71,6 +71,10 @@ impl<V: LogView> LogTable<V> {
     pub fn next_from(&self, id: u32) -> Option<u32>
         ensures { IsNextHeld self.now id result }
     {
+        // Most ids are of logs that are held, and a look at one is cheaper than a walk.
+        if self.logs.contains_key(&id) {
+            return Some(id);
+        }
         let (next, _) = self.logs.range(id..).next()?;
         Some(*next)
     }

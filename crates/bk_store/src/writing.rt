@@ -1,15 +1,12 @@
 //! A record is put in a log, and a log is sealed.
 //!
-//! What can be refused comes first: a place is noted and an account has room before the device is asked.
+//! What can be refused comes first: there is room for a place and in an account before the device is asked.
 
-ghost use Rattle.std.specs.Prelude.{◌≡◌, ℕ, List, Some, true};
+ghost use Rattle.std.specs.Prelude.{◌≡◌, Some};
 ghost use Rattle.std.specs.FinMap as map;
 ghost use Rattle.bk_cache.specs.Caches.{flush_of};
 ghost use Rattle.bk_store.specs.Kept.{Keeps};
-ghost use Rattle.bk_log.specs.Writing.{Writing as LogWriting};
-ghost use Rattle.bk_store.specs.declared.log.LogState.TheVariants.{Writing};
-ghost use Rattle.bk_store.specs.Putting.{next_place};
-ghost use Rattle.bk_store.specs.Doors.{CanTake, MayWrite, WriteTurn, MaySeal, Seals, writer_of};
+ghost use Rattle.bk_store.specs.Doors.{MayWrite, WriteTurn, MaySeal, Seals};
 ghost use Rattle.bk_store.specs.Beside.{WritesBeside, SealsBeside, KeepsOn, kept_as, unless_log, unless_failed};
 
 use crate::LogState;
@@ -19,50 +16,36 @@ use bk_log::LogFault;
 use bk_record::{Key, Location};
 
 impl<D: LogDisk> Fields<D> {
-    /// Puts the flush's next entry at the end of its log.
+    /// Puts the flush's next entry, which has this payload, at the end of its log.
     #[tactic(auto, using(bk_disk::proofs::KeepsMore::kept_rules))]
-    pub fn write(&mut self, log: u32, key: Key) -> Result<Location, LogFault>
+    pub fn write(&mut self, log: u32, key: Key, payload: &[u8]) -> Result<Location, LogFault>
         requires keeps { Keeps self.old }
         requires may { MayWrite self.old.state log key }
-        ensures turn { (payload : List ℕ) → map.get (flush_of self.old.state.caches) key ≡ Some payload
-            → WriteTurn self.old.state log key payload result self.new.state }
-        ensures beside { (payload : List ℕ) → map.get (flush_of self.old.state.caches) key ≡ Some payload
-            → WritesBeside (kept_as self.old self.new) log key payload result self.new }
+        requires flushing { map.get (flush_of self.old.state.caches) key ≡ Some payload.now }
+        ensures turn { WriteTurn self.old.state log key payload.now result self.new.state }
+        ensures beside { WritesBeside (kept_as self.old self.new) log key payload.now result self.new }
         ensures kept { KeepsOn self.old self.new }
     {
-        let place = self.next_place(log);
-        let Some(payload) = self.caches.get(&key) else {
-            unreachable!();
-        };
-        let Ok(()) = self.places.note(key, place) else {
+        // Each payload stands under its own key: what the caches say of themselves.
+        let _ = self.caches.limit();
+        let Ok(()) = self.places.make_room() else {
             return Err(LogFault::Memory);
         };
         let Ok(()) = self.accounts.ready(log, key.ledger()) else {
-            self.places.take_back();
             return Err(LogFault::Memory);
         };
         match self.logs.put(log, &mut self.disk, self.alloc, payload) {
             Ok(place) => {
                 let size = payload.len() as u32 + 4;
+                self.places.note(key, place);
                 self.accounts.count(log, key.ledger(), size);
                 Ok(place)
             }
             Err(fault) => {
-                self.places.take_back();
                 stop(&mut self.writing, fault);
                 Err(fault)
             }
         }
-    }
-
-    /// Where the next record of a log will stand.
-    fn next_place(&self, log: u32) -> Location
-        requires keeps { Keeps self.now }
-        requires may { (payload : List ℕ) × CanTake self.now.state log Writing payload }
-        ensures { (w : LogWriting) → writer_of self.now.state.logs log ≡ Some w → result ≡ next_place w }
-    {
-        let end = self.logs.get(log).unwrap().acknowledged;
-        Location::pack(log, end as u32 + 4).unwrap()
     }
 
     /// Seals a log, which is in this state from then on, and written no more.

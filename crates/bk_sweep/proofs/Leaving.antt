@@ -19,17 +19,6 @@ use Rattle.bk_compact.specs.declared.answer.BeginAnswer.TheVariants as begins
 use Rattle.bk_compact.specs.declared.answer.Kind.{Kind}
 use Rattle.bk_sweep.specs.Sweeping.{IsSwept, Leaves, MeanTheSame, live_at}
 
-pub leaves_all : (s : State) → Leaves s s
-leaves_all s = record { stays = (still_all s).0; caches = (still_all s).1; meaning = record { honest = refl; meaning = λ _ key. refl } }
-
-pub leaves_then : {s t u : State} → Leaves s t → Leaves t u → Leaves s u
-leaves_then first second = record {
-  stays = stays_then first.stays second.stays;
-  caches = record { active = second.caches.active ∙ first.caches.active; flush = second.caches.flush ∙ first.caches.flush };
-  meaning = record {
-    honest = second.meaning.honest ∙ first.meaning.honest;
-    meaning = λ honest key. second.meaning.meaning (first.meaning.honest ∙ honest) key ∙ first.meaning.meaning honest key;
-  };
 }
 
 -- ---- beside caches that are empty

@@ -1,5 +1,4 @@
-use Rattle.std.proofs.Common.{rules, ◌≡◌, Some, None, Ok, Err, IsTrue, sym, ap, subst, ◌∙◌}
-use Rattle.bk_store.specs.State.{State}
+use Rattle.std.proofs.Common.{rules, Some, Ok, Err, sym, ap, subst, ◌∙◌}
 use Rattle.bk_store.specs.Jobs.{new_job}
 use Rattle.bk_store.specs.JobKept.{IsJob}
 use Rattle.bk_compact.specs.Compacting.{Chooses}

@@ -4,8 +4,8 @@ use Rattle.bk_compact.proofs.beginning.chosen.Goals as goal
 pub loop-log-init : goal.loop-log-init
 loop-log-init g c = choosing_starts c.args.store.now c.args.threshold
 
-pub best_of-best-requires-after_bounds : goal.best_of-best-requires-after_bounds
-best_of-best-requires-after_bounds g c κs within =
+pub best_of-best-requires-clause-best : goal.best_of-best-requires-clause-best
+best_of-best-requires-clause-best g c κs within =
     chosen_candidate c.args.store.now c.args.threshold c.loop-log.from c.loop-log.best c.loop-log.invariant
 
 pub loop-log-preserved : goal.loop-log-preserved

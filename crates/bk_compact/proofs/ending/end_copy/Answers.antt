@@ -1,4 +1,4 @@
-use Rattle.std.proofs.Common.{◌≡◌, ◌∙◌, Err, sym}
+use Rattle.std.proofs.Common.{◌∙◌, Err, sym}
 use Rattle.bk_store.specs.declared.job.Phase.TheVariants.{Copy}
 use Rattle.bk_compact.specs.Compacting.{IsRunning}
 use Rattle.bk_compact.proofs.Stored.{kept_job}

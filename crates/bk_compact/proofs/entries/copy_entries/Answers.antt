@@ -1,15 +1,15 @@
-use Rattle.std.proofs.Common.{◌≡◌, ℕ, ◌+◌, ◌<◌, IsTrue, true, false, Bool, Option, Some, None, Ok, Err, sym, ap, subst, ◌∙◌, arith}
+use Rattle.std.proofs.Common.{◌≡◌, ℕ, ◌+◌, ◌<◌, IsTrue, Bool, Option, Some, None, Ok, Err, sym, ap, subst, ◌∙◌, arith}
 use Rattle.bk_log.specs.declared.found.Found.{Found}
 use Rattle.bk_log.specs.declared.fault.ScanFault.{ScanFault}
 use Rattle.bk_log.specs.declared.fault.ScanFault.TheVariants as scans
-use Rattle.bk_log.specs.Scanning.{NextMoves, NextTurn}
+use Rattle.bk_log.specs.Scanning.{Scan, NextMoves, NextTurn}
 use Rattle.bk_store.specs.Logs.{View, view_of}
 use Rattle.bk_compact.specs.declared.entries.Stopped.{Stopped}
 use Rattle.bk_disk.specs.Disk.{view_end}
 use Rattle.bk_store.proofs.SameMeaning.{stays_on}
 use Rattle.bk_compact.specs.Compacting.{with_job}
 use Rattle.bk_compact.specs.Going.{CopiesAll, ScansFrom}
-use Rattle.bk_compact.proofs.Stepping.{IsGoing, copied_few, going_starts, going_ahead, going_on, going_stops, going_done, going_ends}
+use Rattle.bk_compact.proofs.Stepping.{IsGoing, copied_few, going_starts, going_ahead, going_on, going_stops, going_done, going_ends, going_some, going_none}
 use Rattle.bk_compact.proofs.Stepping.{going_memory, going_unread, going_odd, never_bad, never_odd, one, short_odd}
 use Rattle.bk_compact.proofs.entries.copy_entries.Goals as goal
 use Rattle.bk_compact.proofs.entries.copy_entries.Goals.{then-is_copied, else-is_copied}
@@ -35,7 +35,7 @@ loop-number-preserved g c =
     let moves = subst (λ (o : Option Found). NextMoves c.loop-number.scanner (Ok o) c.next.new.self) is c.in-Ok-Some.ensures.moves in
     let turn = subst (λ (o : Option Found). IsTrue c.loop-number.scanner.honest → NextTurn c.loop-number.scanner (Ok o) c.next.new.self) is
     c.in-Ok-Some.ensures.turn in
-    let on = going_on view c.args.store.now c.args.job.now c.loop-number._number c.loop-number.scanner c.loop-number.copied c.loop-number.store
+    let on = going_on view c.args.store.now c.args.job.now c.loop-number.number c.loop-number.scanner c.loop-number.copied c.loop-number.store
     c.promise-in-loop-number.ensures c.loop-number.job c.loop-number.invariant
     c.in-Ok-Some.found c.next.new.self moves turn c.in-Ok.is_copied c.examine.new.store c.examine.new.job c.in-Ok.ensures.turn c.examine.ensures.stays in
     let count : c.if-is_copied.copied ≡ c.loop-number.copied + one c.in-Ok.is_copied = elim c.if-is_copied.branch [
@@ -43,10 +43,24 @@ loop-number-preserved g c =
       | else-is_copied w ↦ w.copied-is ∙ none c.loop-number.copied ∙ ap (λ (b : Bool). c.loop-number.copied + one b) (sym w.if-is_copied.false)
     ] in
     subst (λ (n : ℕ). IsGoing view c.args.store.now c.args.job.now
-    (c.loop-number._number + 1) c.next.new.self n c.examine.new.store c.examine.new.job) (sym count) on
+    (c.loop-number.number + 1) c.next.new.self n c.examine.new.store c.examine.new.job) (sym count) on
   where
     none : (n : ℕ) → n ≡ n + 0
     none n = omega arith
+
+pub returns-then-number-eq0-clause-turn : goal.returns-then-number-eq0-clause-turn
+returns-then-number-eq0-clause-turn g c =
+    let view : View = view_of g.D.View.LogView.bytes g.D.View.LogView.honest g.D.View.LogView.sound c.args.view.now in
+    let is : c.in-Ok-None.field-0 ≡ None = c.in-Ok-None.field-0-is in
+    let moves = subst (λ (o : Option Found). NextMoves c.loop-number.scanner (Ok o) c.next.new.self) is c.in-Ok-None.ensures.moves in
+    let turn = subst (λ (o : Option Found). IsTrue c.loop-number.scanner.honest → NextTurn c.loop-number.scanner (Ok o) c.next.new.self) is
+    c.in-Ok-None.ensures.turn in
+    going_none view c.args.store.now c.args.job.now c.loop-number.number c.loop-number.scanner c.loop-number.copied c.loop-number.store
+    c.promise-in-loop-number.ensures c.loop-number.job c.loop-number.invariant
+    c.args.count (omega arith) (omega arith) c.requires.copying.out.none c.next.new.self moves turn
+
+pub returns-then-number-eq0-clause-stays : goal.returns-then-number-eq0-clause-stays
+returns-then-number-eq0-clause-stays g c = c.loop-number.invariant.stays
 
 pub returns-in-Ok-None-clause-turn : goal.returns-in-Ok-None-clause-turn
 returns-in-Ok-None-clause-turn g c =
@@ -55,9 +69,12 @@ returns-in-Ok-None-clause-turn g c =
     let moves = subst (λ (o : Option Found). NextMoves c.loop-number.scanner (Ok o) c.next.new.self) is c.in-Ok-None.ensures.moves in
     let turn = subst (λ (o : Option Found). IsTrue c.loop-number.scanner.honest → NextTurn c.loop-number.scanner (Ok o) c.next.new.self) is
     c.in-Ok-None.ensures.turn in
-    going_ends view c.args.store.now c.args.job.now c.loop-number._number c.loop-number.scanner c.loop-number.copied c.loop-number.store
+    going_some view c.args.store.now c.args.job.now c.loop-number.number c.loop-number.scanner c.loop-number.copied c.loop-number.store
     c.promise-in-loop-number.ensures c.loop-number.job c.loop-number.invariant
-    c.args.count (omega arith) c.next.new.self moves turn
+    c.args.count (omega arith) (omega arith)
+    (going_ends view c.args.store.now c.args.job.now c.loop-number.number c.loop-number.scanner c.loop-number.copied c.loop-number.store
+    c.promise-in-loop-number.ensures c.loop-number.job c.loop-number.invariant
+    c.args.count (omega arith) c.next.new.self moves turn)
 
 pub returns-in-Ok-None-clause-stays : goal.returns-in-Ok-None-clause-stays
 returns-in-Ok-None-clause-stays g c = c.loop-number.invariant.stays
@@ -68,6 +85,15 @@ examine-requires-clause-copying g c κs within = c.loop-number.invariant.copying
 pub examine-requires-clause-view : goal.examine-requires-clause-view
 examine-requires-clause-view g c κs within = c.loop-number.invariant.last
 
+pub examine-requires-clause-scans : goal.examine-requires-clause-scans
+examine-requires-clause-scans g c κs within =
+    let is : c.in-Ok-Some.field-0 ≡ Some c.in-Ok-Some.found = c.in-Ok-Some.field-0-is in
+    let moves = subst (λ (o : Option Found). NextMoves c.loop-number.scanner (Ok o) c.next.new.self) is c.in-Ok-Some.ensures.moves in
+    record {
+      file_is = ap (λ (x : Scan). x.file) moves.2 ∙ c.loop-number.invariant.file;
+      honest_is = ap (λ (x : Scan). x.honest) moves.2 ∙ c.loop-number.invariant.is_honest;
+    }
+
 pub examine-requires-clause-ahead : goal.examine-requires-clause-ahead
 examine-requires-clause-ahead g c κs within =
     let view : View = view_of g.D.View.LogView.bytes g.D.View.LogView.honest g.D.View.LogView.sound c.args.view.now in
@@ -75,7 +101,7 @@ examine-requires-clause-ahead g c κs within =
     let moves = subst (λ (o : Option Found). NextMoves c.loop-number.scanner (Ok o) c.next.new.self) is c.in-Ok-Some.ensures.moves in
     let turn = subst (λ (o : Option Found). IsTrue c.loop-number.scanner.honest → NextTurn c.loop-number.scanner (Ok o) c.next.new.self) is
     c.in-Ok-Some.ensures.turn in
-    going_ahead view c.args.store.now c.args.job.now c.loop-number._number c.loop-number.scanner c.loop-number.copied c.loop-number.store
+    going_ahead view c.args.store.now c.args.job.now c.loop-number.number c.loop-number.scanner c.loop-number.copied c.loop-number.store
     c.promise-in-loop-number.ensures c.loop-number.job c.loop-number.invariant
     c.in-Ok-Some.found c.next.new.self moves turn
 
@@ -94,7 +120,7 @@ returns-in-Err-clause-turn g c =
     let turn = subst (λ (o : Option Found). IsTrue c.loop-number.scanner.honest → NextTurn c.loop-number.scanner (Ok o) c.next.new.self) is
     c.in-Ok-Some.ensures.turn in
     subst (λ (r : Stopped). CopiesAll c.args.store.now c.args.job.now c.args.count (Err r) c.examine.new.store c.examine.new.job) (sym c.after.ensures)
-    (going_stops view c.args.store.now c.args.job.now c.loop-number._number c.loop-number.scanner c.loop-number.copied c.loop-number.store
+    (going_stops view c.args.store.now c.args.job.now c.loop-number.number c.loop-number.scanner c.loop-number.copied c.loop-number.store
     c.promise-in-loop-number.ensures c.loop-number.job c.loop-number.invariant
     c.in-Ok-Some.found c.next.new.self moves turn c.in-Err.stopped c.examine.new.store c.examine.new.job c.args.count (omega arith) c.in-Err.ensures.turn)
 
@@ -104,7 +130,7 @@ returns-in-Err-clause-stays g c = stays_on _ _ _ c.loop-number.invariant.stays c
 pub returns-in-Err-Memory-clause-turn : goal.returns-in-Err-Memory-clause-turn
 returns-in-Err-Memory-clause-turn g c =
     let view : View = view_of g.D.View.LogView.bytes g.D.View.LogView.honest g.D.View.LogView.sound c.args.view.now in
-    going_memory view c.args.store.now c.args.job.now c.loop-number._number c.loop-number.scanner c.loop-number.copied c.loop-number.store
+    going_memory view c.args.store.now c.args.job.now c.loop-number.number c.loop-number.scanner c.loop-number.copied c.loop-number.store
     c.promise-in-loop-number.ensures c.loop-number.job c.loop-number.invariant
     c.args.count (omega arith)
 
@@ -114,7 +140,7 @@ returns-in-Err-Memory-clause-stays g c = c.loop-number.invariant.stays
 pub returns-in-Err-Disk-clause-turn : goal.returns-in-Err-Disk-clause-turn
 returns-in-Err-Disk-clause-turn g c =
     let view : View = view_of g.D.View.LogView.bytes g.D.View.LogView.honest g.D.View.LogView.sound c.args.view.now in
-    going_unread view c.args.store.now c.args.job.now c.loop-number._number c.loop-number.scanner c.loop-number.copied c.loop-number.store
+    going_unread view c.args.store.now c.args.job.now c.loop-number.number c.loop-number.scanner c.loop-number.copied c.loop-number.store
     c.promise-in-loop-number.ensures c.loop-number.job c.loop-number.invariant
     c.args.count (omega arith) (c.in-Err-Disk.ensures.cause (ap Err c.in-Err-Disk.field-0-is))
 
@@ -134,10 +160,10 @@ returns-in-Err-BadLength-clause-turn g c =
     c.in-Err-BadLength.ensures.turn in
     subst (λ (r : Stopped). CopiesAll c.args.store.now c.args.job.now c.args.count (Err r) c.odd-in-Err-BadLength.new.store c.loop-number.job)
     (sym c.odd-in-Err-BadLength.ensures.value)
-    (going_odd view c.args.store.now c.args.job.now c.loop-number._number c.loop-number.scanner c.loop-number.copied c.loop-number.store
+    (going_odd view c.args.store.now c.args.job.now c.loop-number.number c.loop-number.scanner c.loop-number.copied c.loop-number.store
     c.promise-in-loop-number.ensures c.loop-number.job c.loop-number.invariant
     c.args.count (omega arith) c.odd-in-Err-BadLength.new.store c.loop-number.job
-    (never_bad view c.args.store.now c.args.job.now c.loop-number._number c.loop-number.scanner c.loop-number.copied c.loop-number.store
+    (never_bad view c.args.store.now c.args.job.now c.loop-number.number c.loop-number.scanner c.loop-number.copied c.loop-number.store
     c.promise-in-loop-number.ensures c.loop-number.job c.loop-number.invariant c.in-Err-BadLength.field-0-0 c.in-Err-BadLength.field-0-1
     c.next.new.self moves turn)
     c.odd-in-Err-BadLength.ensures.turn)
@@ -157,10 +183,10 @@ returns-in-Err-Odd-clause-turn g c =
     c.in-Err-Odd.ensures.turn in
     subst (λ (r : Stopped). CopiesAll c.args.store.now c.args.job.now c.args.count (Err r) c.odd-in-Err-Odd.new.store c.loop-number.job)
     (sym c.odd-in-Err-Odd.ensures.value)
-    (going_odd view c.args.store.now c.args.job.now c.loop-number._number c.loop-number.scanner c.loop-number.copied c.loop-number.store
+    (going_odd view c.args.store.now c.args.job.now c.loop-number.number c.loop-number.scanner c.loop-number.copied c.loop-number.store
     c.promise-in-loop-number.ensures c.loop-number.job c.loop-number.invariant
     c.args.count (omega arith) c.odd-in-Err-Odd.new.store c.loop-number.job
-    (never_odd view c.args.store.now c.args.job.now c.loop-number._number c.loop-number.scanner c.loop-number.copied c.loop-number.store
+    (never_odd view c.args.store.now c.args.job.now c.loop-number.number c.loop-number.scanner c.loop-number.copied c.loop-number.store
     c.promise-in-loop-number.ensures c.loop-number.job c.loop-number.invariant c.next.new.self turn)
     c.odd-in-Err-Odd.ensures.turn)
 
@@ -170,9 +196,11 @@ returns-in-Err-Odd-clause-stays g c = stays_on _ _ _ c.loop-number.invariant.sta
 pub returns-clause-turn : goal.returns-clause-turn
 returns-clause-turn g c =
     let view : View = view_of g.D.View.LogView.bytes g.D.View.LogView.honest g.D.View.LogView.sound c.args.view.now in
-    going_done view c.args.store.now c.args.job.now c.loop-number._number c.loop-number.scanner c.loop-number.copied c.loop-number.store
+    going_some view c.args.store.now c.args.job.now c.loop-number.number c.loop-number.scanner c.loop-number.copied c.loop-number.store
+    c.promise-2.ensures c.loop-number.job c.loop-number.invariant c.args.count (omega arith) (omega (arith, c.requires.some))
+    (going_done view c.args.store.now c.args.job.now c.loop-number.number c.loop-number.scanner c.loop-number.copied c.loop-number.store
     c.promise-2.ensures c.loop-number.job
-    c.loop-number.invariant c.args.count (omega arith) (omega arith)
+    c.loop-number.invariant c.args.count (omega arith) (omega arith))
 
 pub returns-clause-stays : goal.returns-clause-stays
 returns-clause-stays g c = c.loop-number.invariant.stays

@@ -1,4 +1,4 @@
-use Rattle.std.proofs.Common.{◌≡◌, ℕ, ◌+◌, ◌≤◌, sym, ◌∙◌, ap, Some, length, arith}
+use Rattle.std.proofs.Common.{◌≡◌, ◌+◌, ◌≤◌, sym, ◌∙◌, ap, Some, length, arith}
 use Rattle.bk_record.proofs.SortedPairs.{Some-same}
 use Rattle.bk_record.proofs.ReadKeys.{read_key-some, read_key-none}
 use Rattle.bk_log.proofs.Keys.{same_key, key_is_itself}

@@ -1,4 +1,4 @@
-use Rattle.std.proofs.Common.{◌≡◌, ℕ, Some, sym, ap, subst, ◌∙◌}
+use Rattle.std.proofs.Common.{◌≡◌, ℕ, sym, ap, subst, ◌∙◌}
 use Rattle.std.proofs.lemmas.Option.{same_Some}
 use Rattle.bk_store.specs.Doors.{MaySet}
 use Rattle.bk_store.specs.Jobs.{Job}
@@ -10,6 +10,6 @@ pub set_log_state-requires-after_bounds : goal.set_log_state-requires-after_boun
 set_log_state-requires-after_bounds g c κs within =
     let s = c.args.store.now in
     let job = c.requires.0 in
-    let same : c.in-Some.job ≡ job = same_Some c.in-Some.job job (sym c.in-Some.is ∙ c.take_job.ensures.job ∙ c.requires.1.runs) in
+    let same : c.in-Some.taken.job ≡ job = same_Some c.in-Some.taken.job job (c.in-Some.ensures.job ∙ c.requires.1.runs) in
     subst (λ (n : ℕ). MaySet c.take_job.new.self n Readable) (sym (c.copy.ensures ∙ ap (λ (j : Job). j.copy) same))
     (may_abandon s c.promise.ensures job c.requires.1 c.take_job.new.self c.take_job.ensures.left)

@@ -1,4 +1,4 @@
-use Rattle.std.proofs.Common.{◌≡◌, Some, None, option_map, sym, ap, subst, ◌∙◌}
+use Rattle.std.proofs.Common.{◌≡◌, Some, None, option_map, sym, subst}
 use Rattle.std.specs.FinMap as finite
 use Rattle.bk_record.specs.Keyed.{log_count}
 use Rattle.bk_store.specs.Logs.{Log}

@@ -1,4 +1,4 @@
-use Rattle.std.proofs.Common.{rules, ◌≡◌, Some, length, take, sym, ap, subst, ◌∙◌}
+use Rattle.std.proofs.Common.{rules, Some, length, take, sym, ap, subst, ◌∙◌}
 use Rattle.bk_store.specs.Jobs.{Job}
 use Rattle.bk_store.specs.State.{State}
 use Rattle.bk_compact.specs.Compacting.{TakesMoves}
@@ -9,15 +9,15 @@ use Rattle.bk_compact.proofs.switching.switch.Goals as goal
 
 pub take_moves-moved-requires-clause-out : goal.take_moves-moved-requires-clause-out
 take_moves-moved-requires-clause-out g c = λ κs within.
-    taken_out c.args.store.now c.take_job.new.self c.promise.ensures c.in-Some-take_job.job (sym c.take_job.ensures.job ∙ c.in-Some-take_job.is)
+    taken_out c.args.store.now c.take_job.new.self c.promise.ensures c.in-Some-take_job.taken.job (sym c.in-Some-take_job.ensures.job)
     c.take_job.ensures.left
 
 pub returns-clause-turn : goal.returns-clause-turn
 returns-clause-turn g c =
-    let job = c.in-Some-take_job.job in
+    let job = c.in-Some-take_job.taken.job in
     let turn = c.take_moves-moved.ensures.turn in (
       job,
-      record { runs = sym c.take_job.ensures.job ∙ c.in-Some-take_job.is; phase_is = search rules },
+      record { runs = sym c.in-Some-take_job.ensures.job; phase_is = search rules },
       c.left-left.ensures ∙ ap (λ (j : Job). length j.moves) turn.left,
       (
         c.take_moves-moved.new.store,

@@ -1,7 +1,7 @@
-use Rattle.std.proofs.Common.{◌≡◌, ◌+◌, true, false, subst, sym, arith}
+use Rattle.std.proofs.Common.{◌+◌, true, false, subst, sym, arith}
 use Rattle.bk_compact.specs.Going.{Switches}
 use Rattle.bk_compact.proofs.Ended.{may_rename}
-use Rattle.bk_compact.proofs.Switched.{IsTaking, after_phase, taking_more, taking_stops, taking_ends}
+use Rattle.bk_compact.proofs.Switched.{IsTaking, after_phase, taking_more, taking_stops}
 use Rattle.bk_compact.proofs.switching.take_moves.Goals as goal
 use Rattle.bk_compact.proofs.switching.take_moves.Goals.{then-rename, else-rename}
 

@@ -12,7 +12,7 @@ invariant_of-self c =
     let pages = c.self.inside.list.items in
     let held = c.index_mut-page.result.now in
     let read = c.index_mut-page.ensures.value in
-    let at = c.home-at.result in
+    let at = c.home_near-at.result in
     let within : at < length pages = omega arith in
     let sized = c.self.invariant.sizes at held within in
     let same = ap length read in
@@ -22,17 +22,17 @@ invariant_of-self c =
 
 pub returns-clause-condition : goal.returns-clause-condition
 returns-clause-condition c =
-    let at = c.home-at.result in
+    let at = c.home_near-at.result in
     let within : at < length c.self.inside.list.items = omega arith in
-    let home = rw (← c.self.view_is) at c.home-at.ensures.home in
+    let home = rw (← c.self.view_is) at c.home_near-at.ensures.home in
     let found = find_there c.self.inside.list.items at within c.index_mut-page.result.now c.index_mut-page.ensures.value c.args.key.now home in
     rw (← c.self.view_is, found) c.replace_if.ensures.condition
 
 pub returns-clause-replaced : goal.returns-clause-replaced
 returns-clause-replaced c =
-    let at = c.home-at.result in
+    let at = c.home_near-at.result in
     let within : at < length c.self.inside.list.items = omega arith in
-    let home = rw (← c.self.view_is) at c.home-at.ensures.home in
+    let home = rw (← c.self.view_is) at c.home_near-at.ensures.home in
     OnTrue_from c.replace_if.result (all_pairs (set c.self.inside.list.items at c.replace_if.new.self)
     ≡ put key_cmp c.args.key.now c.args.to (all_pairs c.args.self.now)) (λ moved. rw (← c.self.view_is)
     (put_there c.self.inside.list.items at within c.index_mut-page.result.now c.index_mut-page.ensures.value c.args.key.now home c.args.to c.replace_if.new.self
@@ -41,7 +41,7 @@ returns-clause-replaced c =
 pub returns-clause-len : goal.returns-clause-len
 returns-clause-len c =
     let pages = c.self.inside.list.items in
-    let at = c.home-at.result in
+    let at = c.home_near-at.result in
     let within : at < length pages = omega arith in
     let page = read_page pages at within c.index_mut-page.result.now c.index_mut-page.ensures.value in
     rw (← c.self.view_is) (omega (arith, length_set pages at c.replace_if.new.self within, c.replace_if.ensures.len, ap length page))

@@ -51,7 +51,7 @@ returns-clause-kept g c =
     c.find_all.new.logs was c.find_all.new.keeper (c.in_ok-next.ensures.honest ∙ c.in-Ok-list.ensures.honest)
     (λ is. c.in_ok-next.ensures.files (c.in-Ok-list.ensures.honest ∙ is) ∙ (c.in-Ok-list.ensures.turn is).1)
     (λ is. c.deref.ensures.value ∙ (c.in-Ok-list.ensures.turn is).0)
-    c.in-Ok-new.caches c.new-3.result c.name_all.new.self c.opened.result.known c.new-4.result.items
+    c.in-Ok-new.caches c.new-3.result.places c.name_all.new.self c.opened.result.known c.new-4.result.items
     (c.in-Ok-new.ensures.value ∙ ap (λ l. new_caches l c.args.settings.recent) c.from-2.ensures) c.new-3.ensures c.name_all.ensures c.opened.ensures c.new-4.ensures.items
     (c.is_allowed.ensures.0 allowed)
     (seated_by c.args.settings c.in-Ok.keeper c.find_all.new.keeper c.find_all.new.logs c.in-Ok.ensures.free
@@ -72,6 +72,6 @@ returns-clause-opened g c =
     c.find_all.new.logs was c.find_all.new.keeper (c.in_ok-next.ensures.honest ∙ c.in-Ok-list.ensures.honest)
     (λ is. c.in_ok-next.ensures.files (c.in-Ok-list.ensures.honest ∙ is) ∙ (c.in-Ok-list.ensures.turn is).1)
     (λ is. c.deref.ensures.value ∙ (c.in-Ok-list.ensures.turn is).0)
-    c.in-Ok-new.caches c.new-3.result c.name_all.new.self c.opened.result.known c.new-4.result.items
+    c.in-Ok-new.caches c.new-3.result.places c.name_all.new.self c.opened.result.known c.new-4.result.items
     (c.in-Ok-new.ensures.value ∙ ap (λ l. new_caches l c.args.settings.recent) c.from-2.ensures) c.new-3.ensures c.name_all.ensures c.opened.ensures c.new-4.ensures.items
     c.args.dead.now c.in-Ok-of.ensures

@@ -1,111 +1,68 @@
-use Rattle.std.proofs.Common.{◌≡◌, ◌+◌, length, Some, IfSome, is_some, ◌<◌, ◌^◌, option_map, Err, sym, ap, subst, ◌∙◌}
+use Rattle.std.proofs.Common.{◌+◌, ◌<◌, ◌^◌, IfSome, length, is_some, refl, sym, ap, subst, ◌∙◌}
 use Rattle.std.specs.FinMap as finite
-use Rattle.bk_record.specs.Record.{IsPayload, key_of, record_of}
-use Rattle.bk_disk.specs.Disk.{grown}
-use Rattle.bk_log.specs.Writing.{PutTurn}
-use Rattle.std.specs.Option.{option_and_then}
-use Rattle.bk_store.specs.Putting.{grown_log, put_log}
-use Rattle.bk_record.proofs.ReadKeys.{addable, addable_payload}
-use Rattle.bk_cache.specs.Caches.{flush_of}
+use Rattle.bk_record.specs.Keyed.{Places}
 use Rattle.bk_accounts.specs.Book.{total_in}
-use Rattle.bk_store.specs.Logs.{Log}
-use Rattle.bk_store.specs.Kept.{Keeps}
-use Rattle.bk_store.specs.State.{Parts}
-use Rattle.bk_store.specs.Doors.{MayWrite}
-use Rattle.bk_store.specs.declared.log.LogState.TheVariants.{Writing}
-use Rattle.bk_store.proofs.Written.{roomy, roomy_same, next_behind, total_fits, written_turn, failed_turn, found_payload, refused_turn, may_put}
+use Rattle.bk_store.specs.Placed.{IsBehind}
+use Rattle.bk_store.proofs.Written.{writable, total_fits, written_turn, failed_turn, refused_turn, may_put}
 use Rattle.bk_store.proofs.fields.Fields.write.Goals as goal
 
-pub note-requires : goal.note-requires
-note-requires g c =
-    let may = subst (λ (p : Parts). MayWrite p.state c.args.log c.args.key) (sym c.self.view_is) c.requires.may in
-    next_behind _ (subst Keeps (sym c.self.view_is) c.requires.keeps) c.args.key may.payload may.next
+pub returns-in_default-clause-turn : goal.returns-in_default-clause-turn
+returns-in_default-clause-turn g c =
+    refused_turn _ c.args.self.now c.self.view_is c.args.log c.args.key c.args.payload.now c.make_room.new.self.places
+    c.make_room.ensures.same
 
 pub returns-in_default-ready-clause-turn : goal.returns-in_default-ready-clause-turn
-returns-in_default-ready-clause-turn g c = λ payload flushing.
-    let may = subst (λ (p : Parts). MayWrite p.state c.args.log c.args.key) (sym c.self.view_is) c.requires.may in
-    let behind = next_behind _ (subst Keeps (sym c.self.view_is) c.requires.keeps) c.args.key may.payload may.next in
-    refused_turn _ c.args.self.now c.self.view_is c.args.log c.args.key payload c.take_back.new.self
-    (c.take_back.ensures c.self.inside.places c.args.key c.next_place-place.result behind c.in-Ok.ensures.ok)
+returns-in_default-ready-clause-turn g c =
+    refused_turn _ c.args.self.now c.self.view_is c.args.log c.args.key c.args.payload.now c.make_room.new.self.places
+    c.make_room.ensures.same
 
 pub put-requires-clause-payload : goal.put-requires-clause-payload
 put-requires-clause-payload g c = λ κs lives.
-    let may = subst (λ (p : Parts). MayWrite p.state c.args.log c.args.key) (sym c.self.view_is) c.requires.may in
-    let is = roomy _ (subst Keeps (sym c.self.view_is) c.requires.keeps) c.args.log Writing may.payload may.takes in
-    let found = sym (ap (option_map (λ b. b.now.value.items)) c.in-Some.is) ∙ c.get.ensures.value in
-    let bytes : c.deref-2.result.now ≡ may.payload = c.deref-2.ensures.value ∙ ap (λ v. v.items) c.deref.ensures
-    ∙ found_payload c.self.inside.caches c.args.key may.payload _ c.get.ensures.sound may.next.flushing found in
-    subst IsPayload (sym bytes) (addable_payload may.payload c.args.key (c.get.ensures.sound.flush_keyed c.args.key may.payload may.next.flushing))
+    let is = writable _ c.args.self.now c.self.view_is c.requires.keeps c.args.log c.args.key c.args.payload.now c.requires.may
+    c.requires.flushing c.limit.ensures.sound in
+    is.legal
 
 pub put-requires-clause-keyed : goal.put-requires-clause-keyed
 put-requires-clause-keyed g c = λ κs lives.
-    let may = subst (λ (p : Parts). MayWrite p.state c.args.log c.args.key) (sym c.self.view_is) c.requires.may in
-    let is = roomy _ (subst Keeps (sym c.self.view_is) c.requires.keeps) c.args.log Writing may.payload may.takes in
-    let found = sym (ap (option_map (λ b. b.now.value.items)) c.in-Some.is) ∙ c.get.ensures.value in
-    let bytes : c.deref-2.result.now ≡ may.payload = c.deref-2.ensures.value ∙ ap (λ v. v.items) c.deref.ensures
-    ∙ found_payload c.self.inside.caches c.args.key may.payload _ c.get.ensures.sound may.next.flushing found in
-    ap (λ b. is_some (key_of b)) bytes
-    ∙ ap is_some (addable may.payload c.args.key (c.get.ensures.sound.flush_keyed c.args.key may.payload may.next.flushing)).keyed
+    let is = writable _ c.args.self.now c.self.view_is c.requires.keeps c.args.log c.args.key c.args.payload.now c.requires.may
+    c.requires.flushing c.limit.ensures.sound in
+    ap is_some is.keyed
 
 pub put-requires-clause-may : goal.put-requires-clause-may
 put-requires-clause-may g c = λ κs lives log held.
-    let may = subst (λ (p : Parts). MayWrite p.state c.args.log c.args.key) (sym c.self.view_is) c.requires.may in
-    let is = roomy _ (subst Keeps (sym c.self.view_is) c.requires.keeps) c.args.log Writing may.payload may.takes in
-    let found = sym (ap (option_map (λ b. b.now.value.items)) c.in-Some.is) ∙ c.get.ensures.value in
-    let bytes : c.deref-2.result.now ≡ may.payload = c.deref-2.ensures.value ∙ ap (λ v. v.items) c.deref.ensures
-    ∙ found_payload c.self.inside.caches c.args.key may.payload _ c.get.ensures.sound may.next.flushing found in
-    may_put _ c.args.log may.payload c.deref-2.result.now is bytes log held
+    let is = writable _ c.args.self.now c.self.view_is c.requires.keeps c.args.log c.args.key c.args.payload.now c.requires.may
+    c.requires.flushing c.limit.ensures.sound in
+    may_put _ c.args.log c.args.payload.now c.args.payload.now is.room refl log held
+
+pub note-requires-clause-behind : goal.note-requires-clause-behind
+note-requires-clause-behind g c =
+    let is = writable _ c.args.self.now c.self.view_is c.requires.keeps c.args.log c.args.key c.args.payload.now c.requires.may
+    c.requires.flushing c.limit.ensures.sound in
+    subst (λ (m : Places). IsBehind m c.args.key) (sym c.make_room.ensures.same) is.behind
 
 pub count-requires-clause-fits : goal.count-requires-clause-fits
 count-requires-clause-fits g c =
-    let may = subst (λ (p : Parts). MayWrite p.state c.args.log c.args.key) (sym c.self.view_is) c.requires.may in
-    let is = roomy _ (subst Keeps (sym c.self.view_is) c.requires.keeps) c.args.log Writing may.payload may.takes in
-    let found = sym (ap (option_map (λ b. b.now.value.items)) c.in-Some.is) ∙ c.get.ensures.value in
-    let items = ap (λ v. v.items) c.deref-in-Ok-put.ensures
-    ∙ found_payload c.self.inside.caches c.args.key may.payload _ c.get.ensures.sound may.next.flushing found in
-    let long : c.len.result ≡ length may.payload = c.len.ensures ∙ c.deref-in-Ok-put.result.now.ok.0 ∙ ap length items in
-    subst (λ b. IfSome (total_in b c.args.log) (λ total. total + (c.len.result + 4) < 2 ^ 32)) (sym c.in-Ok-ready.ensures.ok)
-    (total_fits _ c.args.log c.ledger.result (c.len.result + 4) may.payload is (ap (λ n. n + 4) long))
+    let is = writable _ c.args.self.now c.self.view_is c.requires.keeps c.args.log c.args.key c.args.payload.now c.requires.may
+    c.requires.flushing c.limit.ensures.sound in
+    subst (λ b. IfSome (total_in b c.args.log) (λ total. total + (length c.args.payload.now + 4) < 2 ^ 32)) (sym c.in-Ok-ready.ensures.ok)
+    (total_fits _ c.args.log c.ledger.result (length c.args.payload.now + 4) c.args.payload.now is.room refl)
 
 pub returns-in-Ok-put-clause-turn : goal.returns-in-Ok-put-clause-turn
-returns-in-Ok-put-clause-turn g c = λ payload flushing.
-    let may = subst (λ (p : Parts). MayWrite p.state c.args.log c.args.key) (sym c.self.view_is) c.requires.may in
-    let is = roomy _ (subst Keeps (sym c.self.view_is) c.requires.keeps) c.args.log Writing may.payload may.takes in
-    let found = sym (ap (option_map (λ b. b.now.value.items)) c.in-Some.is) ∙ c.get.ensures.value in
-    let bytes : c.deref-2.result.now ≡ may.payload = c.deref-2.ensures.value ∙ ap (λ v. v.items) c.deref.ensures
-    ∙ found_payload c.self.inside.caches c.args.key may.payload _ c.get.ensures.sound may.next.flushing found in
-    let both : Some payload ≡ Some may.payload =
-    sym flushing ∙ ap (λ (p : Parts). finite.get (flush_of p.state.caches) c.args.key) (sym c.self.view_is) ∙ may.next.flushing in
-    let same : payload ≡ may.payload = cc in
-    let mine = roomy_same is (sym same) in
-    let put = bytes ∙ sym same in
-    let known = ap (option_and_then (λ (l : Log). l.writer)) (ap (λ (p : Parts). finite.get p.state.logs c.args.log) (sym c.self.view_is)
-    ∙ mine.held) ∙ mine.writer in
-    let at = c.in-Ok-put.ensures.place mine.log mine.w mine.held mine.writer in
-    written_turn _ c.args.self.now c.self.view_is c.args.log c.args.key payload mine _ _ _ _ c.put.ensures.honest c.in-Ok-put.place c.note.new.self
-    (c.in-Ok.ensures.ok ∙ ap (finite.insert c.self.inside.places c.args.key) (c.next_place-place.ensures mine.w known ∙ sym at))
-    (c.in-Ok-put.ensures.logs mine.log mine.w mine.held mine.writer
-    ∙ ap (λ b. finite.insert c.self.inside.logs c.args.log (grown_log mine.log mine.w b)) put) at c.in-Ok-put.ensures.cause
-    (λ honest. c.in-Ok-put.ensures.turn mine.log mine.w mine.held mine.writer honest
-    ∙ ap (λ b. grown (g.D.LogDisk.files c.self.inside.disk) mine.w.log (record_of b)) put)
+returns-in-Ok-put-clause-turn g c =
+    let is = writable _ c.args.self.now c.self.view_is c.requires.keeps c.args.log c.args.key c.args.payload.now c.requires.may
+    c.requires.flushing c.limit.ensures.sound in
+    let mine = is.room in
+    written_turn _ c.args.self.now c.self.view_is c.args.log c.args.key c.args.payload.now mine _ _ _ _ c.put.ensures.honest c.in-Ok-put.place
+    c.note.new.self.places (c.note.ensures ∙ ap (λ (m : Places). finite.insert m c.args.key c.in-Ok-put.place) c.make_room.ensures.same)
+    (c.in-Ok-put.ensures.logs mine.log mine.w mine.held mine.writer) (c.in-Ok-put.ensures.place mine.log mine.w mine.held mine.writer)
+    c.in-Ok-put.ensures.cause (λ honest. c.in-Ok-put.ensures.turn mine.log mine.w mine.held mine.writer honest)
 
 pub returns-in-Err-clause-turn : goal.returns-in-Err-clause-turn
-returns-in-Err-clause-turn g c = λ payload flushing.
-    let may = subst (λ (p : Parts). MayWrite p.state c.args.log c.args.key) (sym c.self.view_is) c.requires.may in
-    let is = roomy _ (subst Keeps (sym c.self.view_is) c.requires.keeps) c.args.log Writing may.payload may.takes in
-    let found = sym (ap (option_map (λ b. b.now.value.items)) c.in-Some.is) ∙ c.get.ensures.value in
-    let bytes : c.deref-2.result.now ≡ may.payload = c.deref-2.ensures.value ∙ ap (λ v. v.items) c.deref.ensures
-    ∙ found_payload c.self.inside.caches c.args.key may.payload _ c.get.ensures.sound may.next.flushing found in
-    let both : Some payload ≡ Some may.payload =
-    sym flushing ∙ ap (λ (p : Parts). finite.get (flush_of p.state.caches) c.args.key) (sym c.self.view_is) ∙ may.next.flushing in
-    let same : payload ≡ may.payload = cc in
-    let mine = roomy_same is (sym same) in
-    let put = bytes ∙ sym same in
-    let behind = next_behind _ (subst Keeps (sym c.self.view_is) c.requires.keeps) c.args.key may.payload may.next in
-    failed_turn _ c.args.self.now c.self.view_is c.args.log c.args.key payload mine _ _ _ _ c.put.ensures.honest c.in-Err.fault c.take_back-in-Err.new.self
-    (c.take_back-in-Err.ensures c.self.inside.places c.args.key c.next_place-place.result behind c.in-Ok.ensures.ok)
-    (c.in-Err.ensures.logs mine.log mine.w mine.held mine.writer
-    ∙ ap (λ b. finite.insert c.self.inside.logs c.args.log (put_log mine.log mine.w b (Err c.in-Err.fault))) put)
-    (c.in-Err.ensures.place mine.log mine.w mine.held mine.writer) c.in-Err.ensures.cause
-    (λ honest. subst (λ b. PutTurn (g.D.LogDisk.files c.self.inside.disk) mine.w b (Err c.in-Err.fault) (g.D.LogDisk.files c.put.new.disk)) put
-    (c.in-Err.ensures.turn mine.log mine.w mine.held mine.writer honest))
+returns-in-Err-clause-turn g c =
+    let is = writable _ c.args.self.now c.self.view_is c.requires.keeps c.args.log c.args.key c.args.payload.now c.requires.may
+    c.requires.flushing c.limit.ensures.sound in
+    let mine = is.room in
+    failed_turn _ c.args.self.now c.self.view_is c.args.log c.args.key c.args.payload.now mine _ _ _ _ c.put.ensures.honest c.in-Err.fault
+    c.make_room.new.self.places c.make_room.ensures.same
+    (c.in-Err.ensures.logs mine.log mine.w mine.held mine.writer) (c.in-Err.ensures.place mine.log mine.w mine.held mine.writer)
+    c.in-Err.ensures.cause (λ honest. c.in-Err.ensures.turn mine.log mine.w mine.held mine.writer honest)

@@ -1,4 +1,4 @@
-use Rattle.std.proofs.Common.{IsTrue, sym, ap, subst, ◌∙◌}
+use Rattle.std.proofs.Common.{sym, ap, subst, ◌∙◌}
 use Rattle.bk_record.specs.Files.{Files}
 use Rattle.bk_store.specs.State.{State}
 use Rattle.bk_store.specs.Outliving.{Outlives}
