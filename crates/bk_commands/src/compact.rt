@@ -8,10 +8,10 @@ ghost use Rattle.bk_dir.specs.Reading.{OnlyReads};
 mod fault;
 mod rows;
 
-use crate::cli::{CompactAsk, DEFAULTS};
 use crate::dead::dead_ledgers;
 use crate::opening::OpeningDisk;
 use crate::progress::Progress;
+use bk_cli::{CompactAsk, DEFAULTS};
 use bk_dir::{Form, unlisted};
 use bk_disk::{DirDisk, DiskFault, LogDisk};
 use bk_drive::Settings;
@@ -267,13 +267,7 @@ fn show_plan<W: Write>(
     dead: &[u64],
     writer: &mut W,
 ) -> Result<Summary, CompactFault> {
-    let store = match Store::open(alloc, disk, settings_below(ask.below), dead) {
-        Ok(store) => store,
-        Err(fault) => return Err(CompactFault::Sweep(SweepFault::Open(fault))),
-    };
-    let planned = plan(&store, Kind::Major)?;
-    // With the store goes what stands on the terminal.
-    drop(store);
+    let planned = plan_on(alloc, disk, ask.below, dead)?;
     let mut summary = still(size_of(lengths));
     for planned in planned.iter() {
         let length = lengths.get(&planned.log).copied().unwrap_or(0);
@@ -281,6 +275,19 @@ fn show_plan<W: Write>(
         take_in(&mut summary, planned.fate, length);
     }
     Ok(summary)
+}
+
+/// The logs of a disk that a compaction would take. With the store goes what stands on the terminal.
+fn plan_on(
+    alloc: Global,
+    disk: OpeningDisk,
+    below: u32,
+    dead: &[u64],
+) -> Result<Vec<Planned>, CompactFault> {
+    match Store::open(alloc, disk, settings_below(below), dead) {
+        Ok(store) => Ok(plan(&store, Kind::Major)?),
+        Err(fault) => Err(CompactFault::Sweep(SweepFault::Open(fault))),
+    }
 }
 
 /// The line of a log that a compaction would take.

@@ -1,8 +1,8 @@
 //! The ledgers that a compaction takes for deleted.
 
-use crate::cli::CompactAsk;
+use bk_cli::CompactAsk;
+use bk_digits::number;
 use bk_record::LAST_ID;
-use bk_script::number;
 use std::alloc::AllocError;
 use std::fmt::{Display, Formatter};
 use std::{error, fmt, fs, io};

@@ -1,7 +1,6 @@
 //! The commands of the program that need no threads: what its command line asks for, and what it then does, on any streams.
 #![tactic(auto)]
 
-mod cli;
 mod compact;
 mod dead;
 mod line;
@@ -11,7 +10,7 @@ mod progress;
 mod script;
 mod way_on;
 
-pub use cli::{
+pub use bk_cli::{
     COMMANDS, CompactAsk, DEFAULTS, FolderAsk, FolderCall, ScriptCall, command_of, folder_call,
     form_of, is_folder_call, json_arg, script_call, text_of,
 };

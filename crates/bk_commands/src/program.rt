@@ -3,17 +3,17 @@
 ghost use Rattle.std.specs.Prelude.{◌≡◌, ◌≤◌, ℕ, List, None, Option, Some, map};
 ghost use Rattle.bk_store.specs.declared.settings.Settings.{Settings};
 ghost use Rattle.bk_script.specs.Run.{RunsScript};
-ghost use Rattle.bk_commands.specs.CommandLine.{Asks};
+ghost use Rattle.bk_cli.specs.CommandLine.{Asks};
 ghost use Rattle.bk_commands.specs.Folder.{RunsOverFolder};
 ghost use Rattle.clap.specs.Values.{kind_of};
 ghost use Rattle.clap.specs.Walk.{Text};
 
-use crate::cli::{
+use crate::compact::run_compact;
+use crate::script::{run_in_memory, run_over_folder};
+use bk_cli::{
     ABOUT, COMMANDS, FolderAsk, FolderCall, PROGRAM_HELP, VERSION, folder_call, is_folder_call,
     script_call, text_of,
 };
-use crate::compact::run_compact;
-use crate::script::{run_in_memory, run_over_folder};
 use bk_dir::{FolderCommand, run_cut_and_seal_folder, run_folder_as, run_seal_folder};
 use clap::Error;
 use clap::error::ErrorKind;

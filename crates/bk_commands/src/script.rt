@@ -4,9 +4,9 @@ ghost use Rattle.std.specs.Prelude.{◌≡◌, ◌≤◌};
 ghost use Rattle.bk_script.specs.Run.{RunsScript};
 ghost use Rattle.bk_commands.specs.Folder.{RunsOverFolder};
 
-use crate::cli::ScriptCall;
 use crate::opening::OpeningDisk;
 use crate::way_on::WayOn;
+use bk_cli::ScriptCall;
 use bk_dir::unlisted;
 use bk_disk::{DirDisk, FolderFault, MemDisk};
 use bk_script::{RunFault, ScriptFault, run_on};

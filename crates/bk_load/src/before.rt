@@ -29,6 +29,14 @@ pub(crate) fn logs_on<D: LogDisk>(alloc: Global, disk: &mut D) -> Result<u64, Lo
     }
 }
 
+/// The disk of a store of which no lease is out.
+pub(crate) fn disk_of<D: LogDisk>(store: Store<D>) -> Result<D, LoadFault> {
+    match store.into_disk() {
+        Ok(disk) => Ok(disk),
+        Err(_) => Err(LoadFault::Leased),
+    }
+}
+
 /// A ledger that is not below this one, and past the other.
 fn past(free: u64, ledger: u64) -> u64
     requires { ledger < 2 ^ 63 }
@@ -49,6 +57,15 @@ fn free_ledger(index: &Index) -> u64
     free
 }
 
+/// What a disk has of so many logs, whose entries these are.
+fn before_of(logs: u64, index: &Index) -> Before {
+    Before {
+        logs,
+        entries: index.len() as u64,
+        first: free_ledger(index),
+    }
+}
+
 /// Looks at what a disk has, and hands it back.
 pub(crate) fn survey<D: LogDisk>(
     alloc: Global,
@@ -57,16 +74,9 @@ pub(crate) fn survey<D: LogDisk>(
 ) -> Result<(D, Before), LoadFault> {
     let logs = logs_on(alloc, &mut disk)?;
     let store = Store::open(alloc, disk, settings, &[]).map_err(LoadFault::Open)?;
-    let before = Before {
-        logs,
-        entries: store.index().len() as u64,
-        first: free_ledger(store.index()),
-    };
+    let before = before_of(logs, store.index());
     if before.first > LAST_FIRST {
         return Err(LoadFault::NoLedger);
     }
-    match store.into_disk() {
-        Ok(disk) => Ok((disk, before)),
-        Err(_) => Err(LoadFault::Leased),
-    }
+    Ok((disk_of(store)?, before))
 }

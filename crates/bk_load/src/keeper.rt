@@ -4,7 +4,8 @@ use crate::caller::Shared;
 use bk_bookie::{AddLedger, Bookie};
 use bk_disk::LogDisk;
 use bk_drive::{
-    Answer, BeginAnswer, FinishAnswer, Kind, RemoveAnswer, RollAnswer, Work, WriteAnswer,
+    Answer, BeginAnswer, CopyAnswer, FinishAnswer, Kind, RemoveAnswer, RollAnswer, SwitchAnswer,
+    Work, WriteAnswer,
 };
 use crossbeam_channel::Sender;
 use std::io::Write;
@@ -108,26 +109,10 @@ impl Keeper {
             return;
         };
         self.highest = self.highest.max(log);
-        for _ in 0..u32::MAX {
-            match bookie.step(rt, Work::Copy(STRIDE)) {
-                Answer::Copy(Ok(bk_drive::CopyAnswer::Copied(_))) => {}
-                _ => break,
-            }
-        }
-        let _ = bookie.step(rt, Work::EndCopy);
-        for _ in 0..u32::MAX {
-            match bookie.step(rt, Work::Switch(STRIDE)) {
-                Answer::Switch(bk_drive::SwitchAnswer::Moved(_, left)) if left > 0 => {}
-                _ => break,
-            }
-        }
-        match bookie.step(rt, Work::Finish) {
-            Answer::Finish(FinishAnswer::Retired(_)) => {
-                self.compacted = self.compacted.saturating_add(1);
-            }
-            _ => {
-                let _ = bookie.step(rt, Work::GiveUp);
-            }
+        copy_all(rt, bookie);
+        switch_all(rt, bookie);
+        if is_finished(rt, bookie) {
+            self.compacted = self.compacted.saturating_add(1);
         }
     }
 
@@ -160,6 +145,38 @@ pub(crate) fn end_flush<R: Wait, L: AddLedger, D: LogDisk>(rt: &R, bookie: &Book
         }
     }
     let _ = bookie.step(rt, Work::Publish);
+}
+
+/// Copies what the index names in the log that is compacted, and ends the copy.
+fn copy_all<R: Wait, L: AddLedger, D: LogDisk>(rt: &R, bookie: &Bookie<L, D>) {
+    for _ in 0..u32::MAX {
+        match bookie.step(rt, Work::Copy(STRIDE)) {
+            Answer::Copy(Ok(CopyAnswer::Copied(_))) => {}
+            _ => break,
+        }
+    }
+    let _ = bookie.step(rt, Work::EndCopy);
+}
+
+/// Sends the keys of what was copied to the copy.
+fn switch_all<R: Wait, L: AddLedger, D: LogDisk>(rt: &R, bookie: &Bookie<L, D>) {
+    for _ in 0..u32::MAX {
+        match bookie.step(rt, Work::Switch(STRIDE)) {
+            Answer::Switch(SwitchAnswer::Moved(_, left)) if left > 0 => {}
+            _ => break,
+        }
+    }
+}
+
+/// Ends a compaction, or gives it up. Whether the log is named by no key any more.
+fn is_finished<R: Wait, L: AddLedger, D: LogDisk>(rt: &R, bookie: &Bookie<L, D>) -> bool {
+    match bookie.step(rt, Work::Finish) {
+        Answer::Finish(FinishAnswer::Retired(_)) => true,
+        _ => {
+            let _ = bookie.step(rt, Work::GiveUp);
+            false
+        }
+    }
 }
 
 /// Seals the log that is written; `None` where there is none, or one flush after another runs.

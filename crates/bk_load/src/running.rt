@@ -2,11 +2,13 @@
 
 ghost use Rattle.std.specs.Prelude.{◌≡◌, ◌+◌, ◌<◌, IfOk, vec_len};
 
-use crate::before::{Before, logs_on, survey};
+use crate::before::{Before, disk_of, logs_on, survey};
 use crate::checking::check;
+use crate::done::Done;
+use crate::keeper::Keeper;
 use crate::latency::ranks_of;
 use crate::serving::{Served, serve};
-use crate::{Load, LoadFault, Logs, Report};
+use crate::{Checked, Load, LoadFault, Logs, Report};
 use bk_disk::LogDisk;
 use bk_store::{Settings, Store};
 use std::alloc::Global;
@@ -17,7 +19,33 @@ use std::sync::Wait;
 use std::sync::ledger::Blank;
 use std::thread::Threads;
 
-/// Opens the files that a load leaves, and looks at what stands in them.
+/// Opens the files that a load leaves, and looks for what these receipts are of; how many logs there are, and what was found.
+fn look_at<D: LogDisk>(
+    alloc: Global,
+    settings: Settings,
+    first: u64,
+    store: Store<D>,
+    done: &Done,
+) -> Result<(u64, Checked), LoadFault>
+    ensures { IfOk result (λ r. r.1.found + r.1.deleted + r.1.lost ≡ vec_len done.now.receipts) }
+{
+    let mut disk = disk_of(store)?;
+    let logs = logs_on(alloc, &mut disk)?;
+    let mut store = Store::open(alloc, disk, settings, &done.dead).map_err(LoadFault::Open)?;
+    let checked = check(alloc, &mut store, first, &done.receipts)?;
+    Ok((logs, checked))
+}
+
+/// What became of the logs, of which there were so many before and so many are there now.
+fn logs_of(before: u64, now: u64, keeper: &Keeper) -> Logs {
+    Logs {
+        made: now.saturating_add(keeper.removed).saturating_sub(before),
+        compacted: keeper.compacted,
+        removed: keeper.removed,
+    }
+}
+
+/// What came of a load.
 fn report_on<D: LogDisk>(
     alloc: Global,
     settings: Settings,
@@ -35,31 +63,24 @@ fn report_on<D: LogDisk>(
         keeper,
         milliseconds,
     } = served;
-    let Ok(mut disk) = store.into_disk() else {
-        return Err(LoadFault::Leased);
-    };
-    let after = logs_on(alloc, &mut disk)?;
-    let mut store = Store::open(alloc, disk, settings, &done.dead).map_err(LoadFault::Open)?;
-    let checked = check(alloc, &mut store, before.first, &done.receipts)?;
+    let (now, checked) = look_at(alloc, settings, before.first, store, &done)?;
+    let logs = logs_of(before.logs, now, &keeper);
+    let receipts = done.receipts.len() as u64;
+    let deletes = done.dead.len() as u64;
+    let latencies = ranks_of(done.times).map_err(|_| LoadFault::Memory)?;
     Ok(Report {
         adds,
-        receipts: done.receipts.len() as u64,
+        receipts,
         bytes: done.bytes,
         held: done.held,
         refused: done.refused,
         takes: done.takes,
         wrong: done.wrong,
-        deletes: done.dead.len() as u64,
+        deletes,
         works,
-        logs: Logs {
-            made: after
-                .saturating_add(keeper.removed)
-                .saturating_sub(before.logs),
-            compacted: keeper.compacted,
-            removed: keeper.removed,
-        },
+        logs,
         milliseconds,
-        latencies: ranks_of(done.times).map_err(|_| LoadFault::Memory)?,
+        latencies,
         earlier: before.entries,
         checked,
     })

@@ -4,7 +4,7 @@ ghost use Rattle.std.specs.Prelude.{◌≡◌, ◌∷◌, [], ℕ, ◌≤◌, If
 ghost use Rattle.std.specs.Fmt.{decimal};
 ghost use Rattle.hex.specs.Hex.{decode_of};
 
-use bk_script::number;
+use bk_digits::number;
 use hex::{FromHexError, decode};
 use std::alloc::{AllocError, Global};
 

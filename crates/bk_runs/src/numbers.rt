@@ -3,7 +3,7 @@
 ghost use Rattle.std.specs.Prelude.{◌≡◌, ◌≢◌, ◌≤◌, ℕ, IfSome, IfNone};
 ghost use Rattle.std.specs.Fmt.{decimal};
 
-use bk_script::number;
+use bk_digits::number;
 
 /// The number that a word is, below 2^32.
 pub(crate) fn small_number(word: &str) -> Option<u32>

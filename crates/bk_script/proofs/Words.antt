@@ -11,7 +11,7 @@ use Rattle.std.proofs.Math.Dec.{eqb-suc-zero}
 use Rattle.std.proofs.lemmas.List.Sums.{AllPass-from_list_all}
 use Rattle.std.proofs.lemmas.Bool.{ne_eqb, false≢true}
 use Rattle.bk_script.specs.Line.{IsWord, followed}
-use Rattle.bk_script.proofs.Numbers.{own}
+use Rattle.bk_digits.proofs.Numbers.{own}
 
 -- a text up to its first space, and what is behind it
 cut : List ℕ → List ℕ × Option (List ℕ)

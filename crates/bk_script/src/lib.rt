@@ -1,7 +1,6 @@
 //! Scripts of steps: what their lines spell, their run over a store, and the texts of the answers.
 #![tactic(auto)]
 
-mod digits;
 mod disk;
 mod fault;
 mod input;
@@ -10,7 +9,6 @@ mod run;
 mod script;
 mod text;
 
-pub use digits::number;
 pub use disk::ScriptDisk;
 pub use fault::{RunFault, ScriptFault};
 pub use line::{LAST_READER, LineFault, read_step};

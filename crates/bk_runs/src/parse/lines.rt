@@ -6,8 +6,9 @@ use crate::hexadecimal::text_bytes;
 use crate::noting::line_of;
 use crate::numbers::small_number;
 use crate::worked::{Failing, Other, Worked};
+use bk_digits::number;
 use bk_drive::Settings;
-use bk_script::{LineFault, number, read_step};
+use bk_script::{LineFault, read_step};
 use std::alloc::{AllocError, Global};
 
 /// The number of the last reader that a run may name. A script ends at 3, so that no script is answered `no reader`.

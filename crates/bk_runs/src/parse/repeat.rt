@@ -6,7 +6,7 @@
 ghost use Rattle.std.specs.Prelude.{◌≡◌, ◌∷◌, ◌++◌, ◌+◌, ◌*◌, ◌^◌, ◌<◌, IfSome};
 ghost use Rattle.std.specs.Fmt.{decimal};
 
-use bk_script::number;
+use bk_digits::number;
 use std::alloc::{AllocError, Global};
 
 /// The most lines, and the most times that a word repeats its text.

@@ -7,7 +7,7 @@ use crate::line::LineFault;
 use crate::line::numbers::Numbers;
 use crate::line::payload::{add, pad};
 use crate::line::words::{split_number, split_word};
-use crate::number;
+use bk_digits::number;
 use bk_drive::{AddKind, Step};
 use bk_record::{LAST_ID, MAX_PAD};
 use std::alloc::Global;

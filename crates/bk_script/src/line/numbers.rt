@@ -6,7 +6,7 @@ ghost use Rattle.bk_script.specs.Line.{numbered};
 ghost use Rattle.bk_script.specs.Numbers.{listed};
 
 use crate::line::words::split_number;
-use crate::number;
+use bk_digits::number;
 
 /// The numbers of a line, of which there are three at most.
 #[derive(Clone, Copy, Debug, PartialEq, Eq)]

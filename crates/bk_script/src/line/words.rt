@@ -5,7 +5,7 @@ ghost use Rattle.std.specs.Option.{option_copied};
 ghost use Rattle.std.specs.Fmt.{decimal};
 ghost use Rattle.bk_script.specs.Line.{IsWord, followed};
 
-use crate::number;
+use bk_digits::number;
 
 /// A text up to its first space, and what is behind that space, where there is one.
 pub(crate) fn split_word(text: &str) -> (&str, Option<&str>)

@@ -4,9 +4,9 @@
 mod tests;
 
 use bk_commands::{form_of, json_arg};
+use bk_digits::number;
 use bk_dir::Form;
 use bk_load::{Load, Until};
-use bk_script::number;
 use clap::error::ErrorKind;
 use clap::{Arg, ArgMatches, Command, Error};
 use std::alloc::{AllocError, Global};
@@ -99,11 +99,7 @@ pub(super) fn load_call<'a, S: AsStr>(
     alloc: Global,
     words: &'a [S],
 ) -> Result<LoadCall<'a>, Error> {
-    let mut commands = Command::new(alloc, "bk_shell")
-        .about("Entry log storage of a bookie")
-        .subcommand_required(true)
-        .arg(json_arg(alloc))?
-        .subcommand(load_command(alloc)?)?;
+    let mut commands = commands(alloc)?;
     let matches = commands.try_get_matches_from_mut(words)?;
     let Some(found) = matches.subcommand_matches("load") else {
         return Err(commands.error(ErrorKind::MissingSubcommand, "a command is asked for")?);
@@ -114,14 +110,24 @@ pub(super) fn load_call<'a, S: AsStr>(
             load,
             folder: found.get_str("folder"),
         }),
-        Err(bad) => {
-            let told = format!(in alloc; "{bad}")?;
-            let mut command = Command::new(alloc, "bk_shell").override_usage(
-                "bk_shell load [OPTIONS]",
-            );
-            Err(command.error(ErrorKind::ValueValidation, &told)?)
-        }
+        Err(bad) => Err(bad_value(alloc, &bad)?),
     }
+}
+
+/// The program's command line, as far as it is about `load`.
+fn commands<'a>(alloc: Global) -> Result<Command<'a>, AllocError> {
+    Command::new(alloc, "bk_shell")
+        .about("Entry log storage of a bookie")
+        .subcommand_required(true)
+        .arg(json_arg(alloc))?
+        .subcommand(load_command(alloc)?)
+}
+
+/// What is told of an option's value that is no number of its range.
+fn bad_value(alloc: Global, bad: &BadNumber<'_>) -> Result<Error, AllocError> {
+    let told = format!(in alloc; "{bad}")?;
+    let mut command = Command::new(alloc, "bk_shell").override_usage("bk_shell load [OPTIONS]");
+    command.error(ErrorKind::ValueValidation, &told)
 }
 
 /// The command `load`.

@@ -32,27 +32,69 @@ impl From<io::Error> for LoadFault {
     }
 }
 
-/// The object of a report.
+/// The object of a report. The members of its parts are its own.
 #[derive(Clone, Copy, Serialize)]
 struct ReportRow {
     good: bool,
+    #[serde(flatten)]
+    adds: AddsRow,
+    #[serde(flatten)]
+    takes: TakesRow,
+    #[serde(flatten)]
+    logs: LogsRow,
+    #[serde(flatten)]
+    works: WorksRow,
+    #[serde(flatten)]
+    latencies: LatenciesRow,
+    #[serde(flatten)]
+    files: FilesRow,
+}
+
+/// What it says of adds.
+#[derive(Clone, Copy, Serialize)]
+struct AddsRow {
     adds: u64,
     receipts: u64,
     bytes: u64,
     held: u64,
     refused: u64,
     milliseconds: u64,
+}
+
+/// Of takes and deletions.
+#[derive(Clone, Copy, Serialize)]
+struct TakesRow {
     takes: u64,
     wrong: u64,
     deletes: u64,
+}
+
+/// Of logs.
+#[derive(Clone, Copy, Serialize)]
+struct LogsRow {
     made: u64,
     compacted: u64,
     removed: u64,
+}
+
+/// Of the workers.
+#[derive(Clone, Copy, Serialize)]
+struct WorksRow {
     works: u64,
     faults: u64,
+}
+
+/// Of the times of adds.
+#[derive(Clone, Copy, Serialize)]
+struct LatenciesRow {
     at_500: u32,
     at_990: u32,
     at_999: u32,
+}
+
+/// Of the files that were opened again.
+#[derive(Clone, Copy, Serialize)]
+struct FilesRow {
     found: u64,
     deleted: u64,
     lost: u64,
@@ -71,23 +113,39 @@ struct FaultRow<'a> {
 fn row_of(report: &Report) -> ReportRow {
     ReportRow {
         good: report.is_good(),
-        adds: report.adds,
-        receipts: report.receipts,
-        bytes: report.bytes,
-        held: report.held,
-        refused: report.refused,
-        milliseconds: report.milliseconds,
-        takes: report.takes,
-        wrong: report.wrong,
-        deletes: report.deletes,
-        made: report.logs.made,
-        compacted: report.logs.compacted,
-        removed: report.logs.removed,
-        works: report.works.answered,
-        faults: report.works.faults,
-        at_500: report.latencies.at_500,
-        at_990: report.latencies.at_990,
-        at_999: report.latencies.at_999,
+        adds: AddsRow {
+            adds: report.adds,
+            receipts: report.receipts,
+            bytes: report.bytes,
+            held: report.held,
+            refused: report.refused,
+            milliseconds: report.milliseconds,
+        },
+        takes: TakesRow {
+            takes: report.takes,
+            wrong: report.wrong,
+            deletes: report.deletes,
+        },
+        logs: LogsRow {
+            made: report.logs.made,
+            compacted: report.logs.compacted,
+            removed: report.logs.removed,
+        },
+        works: WorksRow {
+            works: report.works.answered,
+            faults: report.works.faults,
+        },
+        latencies: LatenciesRow {
+            at_500: report.latencies.at_500,
+            at_990: report.latencies.at_990,
+            at_999: report.latencies.at_999,
+        },
+        files: files_row(report),
+    }
+}
+
+fn files_row(report: &Report) -> FilesRow {
+    FilesRow {
         found: report.checked.found,
         deleted: report.checked.deleted,
         lost: report.checked.lost,

@@ -1,7 +1,7 @@
 use Rattle.std.proofs.Common.{◌≡◌, List, Option, Some, None, arith, codes, map, option_map, sym, subst, ◌∙◌}
 use Rattle.clap.specs.Walk.{Text}
-use Rattle.bk_commands.specs.CommandLine.{Asks}
-use Rattle.bk_commands.proofs.CommandLines.{one_folder}
+use Rattle.bk_cli.specs.CommandLine.{Asks}
+use Rattle.bk_cli.proofs.CommandLines.{one_folder}
 use Rattle.bk_commands.proofs.program.run_words.Goals as goal
 
 none_is_none : {path : Text} {A : Type 0} → None ≡ Some path → A

@@ -1,0 +1,6 @@
+//! Numbers as scripts and command lines have them.
+#![tactic(auto)]
+
+mod digits;
+
+pub use digits::number;
