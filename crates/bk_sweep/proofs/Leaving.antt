@@ -1,5 +1,5 @@
 -- What steps leave, one after another, and what files mean beside caches that are empty.
-use Rattle.std.proofs.Common.{◌≡◌, ℕ, Bool, List, Option, Some, None, Ok, cond, IsTrue, refl, sym, ap, subst, ◌∙◌}
+use Rattle.std.proofs.Common.{◌≡◌, ℕ, Bool, List, Option, None, Ok, cond, IsTrue, sym, ap, subst, ◌∙◌}
 use Rattle.std.specs.Option.{option_or}
 use Rattle.std.specs.FinMap as finite
 use Rattle.std.specs.FinSet as set
@@ -13,13 +13,10 @@ use Rattle.bk_store.specs.Meaning.{meaning_at}
 use Rattle.bk_store.specs.Opening.{IsOpened}
 use Rattle.bk_store.specs.Turns.{valid_ledgers}
 use Rattle.bk_store.specs.declared.settings.Settings.{Settings}
-use Rattle.bk_step.proofs.Still.{still_all, stays_then}
 use Rattle.bk_compact.specs.Compacting.{BeginTurn}
 use Rattle.bk_compact.specs.declared.answer.BeginAnswer.TheVariants as begins
 use Rattle.bk_compact.specs.declared.answer.Kind.{Kind}
 use Rattle.bk_sweep.specs.Sweeping.{IsSwept, Leaves, MeanTheSame, live_at}
-
-}
 
 -- ---- beside caches that are empty
 
