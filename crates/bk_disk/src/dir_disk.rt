@@ -9,7 +9,7 @@ ghost use Rattle.bk_disk.specs.Disk.{HasCause};
 
 use crate::disk::HEADER;
 use crate::folder::{Folder, fault_of};
-use crate::{DirView, DiskFault, FolderFault, LogDisk};
+use crate::{DirView, DiskFault, FolderFault, LogDisk, MarkDisk};
 use std::alloc::Global;
 
 /// A folder of entry logs, each a file of the name that `name_of` gives it. Other names are passed over, and so is a folder
@@ -140,6 +140,20 @@ impl LogDisk for DirDisk {
 
     fn remove(&mut self, alloc: Global, log: u32) -> Result<(), DiskFault> {
         let answer = self.folder.unlink(alloc, log);
+        counted(&mut self.failures, answer)
+    }
+}
+
+impl MarkDisk for DirDisk {
+    ghost marks = { λ _. map.empty };
+
+    fn begin_marks(&mut self, alloc: Global) -> Result<(), DiskFault> {
+        let answer = self.folder.begin_marks(alloc);
+        counted(&mut self.failures, answer)
+    }
+
+    fn mark(&mut self, alloc: Global, log: u32, length: u64) -> Result<(), DiskFault> {
+        let answer = self.folder.write_mark(alloc, log, length);
         counted(&mut self.failures, answer)
     }
 }

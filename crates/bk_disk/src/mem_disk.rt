@@ -7,7 +7,7 @@ ghost use Rattle.std.specs.FinMap as map;
 ghost use Rattle.bk_disk.specs.Logs.{listed, IsListing};
 
 use crate::blocks::Blocks;
-use crate::{DiskFault, LogDisk, MemView};
+use crate::{DiskFault, LogDisk, MarkDisk, MemView};
 use bk_record::MAX_LOG_LENGTH;
 use std::alloc::{AllocError, Global};
 use std::collections::BTreeMap;
@@ -158,5 +158,18 @@ impl LogDisk for MemDisk {
             Some(_) => Ok(()),
             None => Err(DiskFault::NoLog),
         }
+    }
+}
+
+/// Nothing that a disk in memory has is lost to a crash, so it has no marks.
+impl MarkDisk for MemDisk {
+    ghost marks = { λ _. map.empty };
+
+    fn begin_marks(&mut self, _alloc: Global) -> Result<(), DiskFault> {
+        Ok(())
+    }
+
+    fn mark(&mut self, alloc: Global, log: u32, _length: u64) -> Result<(), DiskFault> {
+        self.sync(alloc, log)
     }
 }
