@@ -1,5 +1,5 @@
 -- A disk that marks how far each of its logs is to be believed, and what outlives a crash by it.
-use Rattle.std.specs.Prelude.{◌≡◌, ◌⊎◌, ℕ, ◌+◌, ◌≤◌, Bool, List, [], ◌∷◌, length, take, drop, Option, None, Some, IsTrue}
+use Rattle.std.specs.Prelude.{◌≡◌, ◌⊎◌, ℕ, ◌+◌, ◌<◌, ◌≤◌, Bool, List, [], ◌∷◌, length, take, drop, Option, None, Some, IsTrue}
 use Rattle.std.specs.Ordering.{nat_cmp}
 use Rattle.std.specs.Option.{option_map_or}
 use Rattle.std.proofs.Common.{refl}
@@ -45,3 +45,13 @@ pub record AreCovered (kept : Files) (marks : Written) : Type 0 where
   pub order : (log : ℕ) (mark : Mark) → map.get marks log ≡ Some mark → mark.sure ≤ mark.last
   pub covers : (log : ℕ) (mark : Mark) → map.get marks log ≡ Some mark
       → (file : List ℕ) × (map.get kept log ≡ Some file) × (mark.last ≤ header_length + length (drop header_length file))
+
+-- each mark is still there, and no lower
+pub record AreHigher (marks marks' : Written) : Type 0 where
+  pub each : (log : ℕ) (mark : Mark) → map.get marks log ≡ Some mark → (now : Mark) × (map.get marks' log ≡ Some now) × (mark.sure ≤ now.sure)
+
+-- what is written of a log of so many bytes that had this mark: it has the same for sure, and may have one up to its length
+abbrev pub IsNextMark : Option Mark → ℕ → Mark → Type 0
+IsNextMark None length next = (next.sure ≡ 0) × (next.last ≡ length)
+IsNextMark (Some mark) length next =
+    (mark.sure < length) × (next.sure ≡ mark.sure) × (length ≤ next.last) × (mark.last ≤ next.last) × ((next.last ≡ length) ⊎ (next.last ≡ mark.last))

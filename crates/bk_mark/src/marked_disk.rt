@@ -1,9 +1,6 @@
 //! A disk over another one, whose every sync leaves a mark: so many bytes of the log are to be believed.
 
 ghost use Rattle.std.specs.Prelude.{◌≡◌, IsTrue, IfOk};
-ghost use Rattle.bk_record.specs.Files.{file_of};
-ghost use Rattle.bk_disk.specs.Disk.{HasCause, Syncs};
-ghost use Rattle.bk_disk.specs.Durable.{KeepsMore, HasKept, SyncKeeps};
 ghost use Rattle.bk_disk.specs.Marks.{AreCut};
 ghost use Rattle.bk_mark.specs.Marking.{AreCovered, sure_fronts};
 
@@ -44,6 +41,7 @@ impl<D: MarkDisk> Model for MarkedDisk<D> {
     ghost invariant = { λ disk. IsTrue (D.honest disk.inner) → AreCovered (D.synced disk.inner) (disk.marks) };
 }
 
+#[tactic(auto, using(crate::proofs::Fronts::front_rules))]
 impl<D: MarkDisk> MarkedDisk<D> {
     /// The disk, each of whose logs is cut to its mark, where it has one. Faults: `Disk`, `Memory`.
     pub fn open(inner: D, alloc: Global) -> Result<Self, DiskFault>
@@ -69,35 +67,9 @@ impl<D: MarkDisk> MarkedDisk<D> {
     {
         let _ = &self.marks;
     }
-
-    /// Writes the mark of a log that was synced, and syncs it again, so that the log has this mark for sure. Where it has it
-    /// already nothing is done. Faults: `NoLog`, `Disk`, `Memory`.
-    fn mark(&mut self, alloc: Global, log: u32) -> Result<(), DiskFault>
-        requires { IsTrue self.old.honest → HasKept self.old.kept log (file_of self.old.files log) }
-        ensures honest { self.new.honest ≡ self.old.honest }
-        ensures cause { HasCause self.old.failures self.new.failures result }
-        ensures turn { IsTrue self.old.honest → Syncs self.old.files log result self.new.files }
-        ensures kept { IsTrue self.old.honest
-            → KeepsMore (sure_fronts self.old.kept self.old.marks) self.old.gone (sure_fronts self.new.kept self.new.marks) self.new.gone }
-        ensures syncs { IsTrue self.old.honest → SyncKeeps self.old.files log result (sure_fronts self.new.kept self.new.marks) }
-    {
-        let length = self.inner.length(alloc, log)?;
-        let (sure, last) = match self.marks.get(log) {
-            Some(mark) if length <= mark.sure => return Ok(()),
-            Some(mark) => (mark.sure, length.max(mark.last)),
-            None => (0, length),
-        };
-        self.marks
-            .put(log, Mark { sure, last })
-            .map_err(|_| DiskFault::Memory)?;
-        self.inner.mark(alloc, log, length)?;
-        self.inner.sync(alloc, log)?;
-        self.marks
-            .put(log, Mark { sure: length, last })
-            .map_err(|_| DiskFault::Memory)
-    }
 }
 
+#[tactic(auto, using(crate::proofs::Fronts::front_rules))]
 impl<D: MarkDisk> LogDisk for MarkedDisk<D> {
     type View = D::View;
 
@@ -134,15 +106,24 @@ impl<D: MarkDisk> LogDisk for MarkedDisk<D> {
     fn patch(&mut self, alloc: Global, log: u32, bytes: &[u8; 12]) -> Result<(), DiskFault> {
         self.inner.patch(alloc, log, bytes)?;
         // The log is sealed. Where its mark finds no memory the ledgers map may be gone after a crash, and no entry.
-        match self.sync(alloc, log) {
-            Err(DiskFault::Disk) => Err(DiskFault::Disk),
-            _ => Ok(()),
+        if self.sync(alloc, log) == Err(DiskFault::Disk) {
+            return Err(DiskFault::Disk);
         }
+        Ok(())
     }
 
     fn sync(&mut self, alloc: Global, log: u32) -> Result<(), DiskFault> {
         self.inner.sync(alloc, log)?;
-        self.mark(alloc, log)
+        let length = self.inner.length(alloc, log)?;
+        let Some(next) = self.marks.next(log, length) else {
+            return Ok(());
+        };
+        self.marks.put(log, next)?;
+        self.inner.mark(alloc, log, length)?;
+        self.inner.sync(alloc, log)?;
+        let last = next.last;
+        self.marks.put(log, Mark { sure: length, last })?;
+        Ok(())
     }
 
     fn read_at(&mut self, alloc: Global, log: u32, at: u64, n: u64) -> Result<Vec<u8>, DiskFault> {

@@ -1,9 +1,11 @@
 //! The marks of the logs that a disk synced.
 
-ghost use Rattle.std.specs.Prelude.{◌≡◌, OnOk, OnErr};
+ghost use Rattle.std.specs.Prelude.{◌≡◌, ◌≤◌, Some, IfSome, IfNone, IsErrOf, OnOk, OnErr};
 ghost use Rattle.std.specs.FinMap as map;
+ghost use Rattle.bk_mark.specs.Marking.{IsNextMark};
 
-use std::alloc::{AllocError, Global};
+use bk_disk::DiskFault;
+use std::alloc::Global;
 use std::collections::BTreeMap;
 use std::marker::Model;
 
@@ -42,18 +44,38 @@ impl Marks {
     }
 
     /// The mark of a log, where it was synced.
-    pub(crate) fn get(&self, log: u32) -> Option<Mark>
+    fn get(&self, log: u32) -> Option<Mark>
         ensures { result ≡ map.get self.now log }
     {
         self.by_log.get(&log).copied()
     }
 
-    pub(crate) fn put(&mut self, log: u32, mark: Mark) -> Result<(), AllocError>
+    pub(crate) fn put(&mut self, log: u32, mark: Mark) -> Result<(), DiskFault>
         ensures ok { OnOk result (self.new ≡ map.insert self.old log mark) }
-        ensures err { OnErr result (self.new ≡ self.old) }
+        ensures err { OnErr result ((self.new ≡ self.old) × IsErrOf result DiskFault.Memory) }
     {
-        self.by_log.insert(log, mark)?;
+        let Ok(_) = self.by_log.insert(log, mark) else {
+            return Err(DiskFault::Memory);
+        };
         Ok(())
+    }
+
+    /// What is to be written of a log of so many bytes, all of which were synced; `None` where its mark says so already.
+    pub(crate) fn next(&self, log: u32, length: u64) -> Option<Mark>
+        ensures none { IfNone result ((mark : Mark) × (map.get self.now log ≡ Some mark) × (length ≤ mark.sure)) }
+        ensures some { IfSome result (IsNextMark (map.get self.now log) length) }
+    {
+        match self.get(log) {
+            Some(mark) if length <= mark.sure => None,
+            Some(mark) => Some(Mark {
+                sure: mark.sure,
+                last: length.max(mark.last),
+            }),
+            None => Some(Mark {
+                sure: 0,
+                last: length,
+            }),
+        }
     }
 
     /// Forgets a log.
