@@ -5,7 +5,7 @@ use Rattle.bk_record.specs.Files.{Files, file_of, header_length}
 use Rattle.bk_record.specs.Longer.{IsLonger}
 use Rattle.bk_disk.specs.Marks.{Marks}
 use Rattle.bk_mark.specs.Marking.{Written}
-use Rattle.bk_mark.specs.declared.marked_disk.Mark.{Mark}
+use Rattle.bk_mark.specs.declared.marks.Mark.{Mark}
 use Rattle.bk_store.specs.Crash.{IsCut}
 
 -- A file that was kept up to some byte, and what is left of it: that much stands behind its header, and then any bytes. Of the

@@ -254,7 +254,8 @@ impl WrittenLog {
 }
 
 /// A record that nobody wrote.
-const RECORD: [u8; 28] = *b"\x00\x00\x00\x18\x00\x00\x00\x00\x00\x00\x00\x4d\x00\x00\x00\x00\x00\x00\x00\x01mmmmmmmm";
+const RECORD: [u8; 28] =
+    *b"\x00\x00\x00\x18\x00\x00\x00\x00\x00\x00\x00\x4d\x00\x00\x00\x00\x00\x00\x00\x01mmmmmmmm";
 
 /// What a device may leave behind the bytes that were synced: nothing, zeros, old bytes, what was written there, or a record
 /// that nobody wrote.

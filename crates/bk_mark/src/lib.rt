@@ -5,3 +5,4 @@ mod marked_disk;
 mod marks;
 
 pub use marked_disk::MarkedDisk;
+pub use marks::Mark;

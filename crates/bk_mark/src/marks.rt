@@ -11,7 +11,7 @@ use std::marker::Model;
 
 /// The mark that a log has for sure, and the last that was written, which may be in its place after a crash.
 #[derive(Clone, Copy, Debug)]
-pub(crate) struct Mark {
+pub struct Mark {
     pub sure: u64,
     pub last: u64,
 }
