@@ -194,14 +194,19 @@ impl<D: MarkDisk> MarkDisk for PowerDisk<D> {
         self.inner.begin_marks(alloc)
     }
 
-    fn mark(&mut self, alloc: Global, log: u32, length: u64) -> Result<(), DiskFault> {
+    fn keep_mark(&mut self, alloc: Global, log: u32, mark: u64) -> Result<(), DiskFault> {
+        let was_dead = self.power.refused > 0;
         if self.power.fails() {
+            if !was_dead {
+                self.written.mark(log, mark);
+            }
             return Err(DiskFault::Disk);
         }
-        let marked = self.inner.mark(alloc, log, length);
-        if marked.is_ok() {
-            self.written.mark(log, length);
+        let kept = self.inner.keep_mark(alloc, log, mark);
+        if kept.is_ok() {
+            self.written.mark(log, mark);
+            self.written.sync(log);
         }
-        marked
+        kept
     }
 }

@@ -166,9 +166,10 @@ impl Written {
         }
     }
 
-    pub(crate) fn mark(&mut self, log: u32, length: u64) {
+    /// A mark was written. It may be on the device or not, until the log is synced.
+    pub(crate) fn mark(&mut self, log: u32, mark: u64) {
         if let Some(written) = self.logs.get_mut(&log) {
-            written.mark.last = length as usize;
+            written.mark.last = mark as usize;
         }
     }
 

@@ -152,8 +152,8 @@ impl MarkDisk for DirDisk {
         counted(&mut self.failures, answer)
     }
 
-    fn mark(&mut self, alloc: Global, log: u32, length: u64) -> Result<(), DiskFault> {
-        let answer = self.folder.write_mark(alloc, log, length);
+    fn keep_mark(&mut self, alloc: Global, log: u32, mark: u64) -> Result<(), DiskFault> {
+        let answer = self.folder.keep_mark(alloc, log, mark);
         counted(&mut self.failures, answer)
     }
 }

@@ -248,25 +248,25 @@ impl Folder {
         }
     }
 
-    /// Writes a mark into a log's header: so many bytes of the file are to be believed. A file that has something else in its
-    /// place is from elsewhere, and is left as it is; one that is too short for a mark has none in front of its first record.
-    pub(crate) fn write_mark(
+    /// Writes a mark into a log's header, so many bytes of the file being to be believed, and asks the device to keep it. A file
+    /// that has something else in its place is from elsewhere, and is left as it is; one that is too short for a mark has none
+    /// in front of its first record.
+    pub(crate) fn keep_mark(
         &mut self,
         alloc: Global,
         log: u32,
-        length: u64,
+        mark: u64,
     ) -> Result<(), DiskFault> {
         self.begin_write(alloc)?;
         let (file, has) = self.open_to_change(alloc, log)?;
-        if has < MARK_END as u64 {
-            return Ok(());
+        if has >= MARK_END as u64 {
+            let front = front_of(&file)?;
+            if takes_mark(&front) && mark_in(&front) != Some(mark) {
+                file.write_all_at(&mark_bytes(mark), MARK_AT)
+                    .map_err(|error| device_fault(&error))?;
+            }
         }
-        let front = front_of(&file)?;
-        if !takes_mark(&front) || mark_in(&front) == Some(length) {
-            return Ok(());
-        }
-        file.write_all_at(&mark_bytes(length), MARK_AT)
-            .map_err(|error| device_fault(&error))
+        self.write_through(alloc, log)
     }
 
     // A log's file, opened to be read and written, and its length.

@@ -5,6 +5,7 @@
 ghost use Rattle.std.specs.Prelude.{◌≡◌, true, IfOk};
 ghost use Rattle.std.specs.FinMap as map;
 ghost use Rattle.bk_disk.specs.Logs.{listed, IsListing};
+ghost use Rattle.bk_disk.specs.Marks.{whole_marks};
 
 use crate::blocks::Blocks;
 use crate::{DiskFault, LogDisk, MarkDisk, MemView};
@@ -161,15 +162,15 @@ impl LogDisk for MemDisk {
     }
 }
 
-/// Nothing that a disk in memory has is lost to a crash, so it has no marks.
+/// Nothing that a disk in memory has is lost to a crash: each log is believed whole.
 impl MarkDisk for MemDisk {
-    ghost marks = { λ _. map.empty };
+    ghost marks = { λ disk. whole_marks disk };
 
     fn begin_marks(&mut self, _alloc: Global) -> Result<(), DiskFault> {
         Ok(())
     }
 
-    fn mark(&mut self, alloc: Global, log: u32, _length: u64) -> Result<(), DiskFault> {
+    fn keep_mark(&mut self, alloc: Global, log: u32, _mark: u64) -> Result<(), DiskFault> {
         self.sync(alloc, log)
     }
 }

@@ -18,6 +18,7 @@ use Rattle.bk_record.proofs.Longer.{longer_trans}
 use Rattle.bk_record.proofs.Maps.{get-insert_else, get-remove_here, get-remove_else}
 use Rattle.bk_record.proofs.NumberMaps.{get-insert_same}
 use Rattle.bk_disk.specs.Durable.{HasKept, KeepsMore, IsLetGo}
+use Rattle.bk_disk.specs.Marks.{Covers}
 use Rattle.bk_mark.specs.Marking.{Written, fronts, sure_fronts, AreCovered, AreHigher, IsNextMark}
 use Rattle.bk_mark.specs.declared.marks.Mark.{Mark}
 
@@ -346,3 +347,7 @@ begun files kept gone kept' gone' marks log n next file there is has covered mor
       within = omega (arith, long, order.2);
       long = long;
     }
+
+-- what was kept of a log covers a mark at its end
+pub covers_length : (kept : Files) (log n : ℕ) (file : List ℕ) → HasKept kept log file → n ≡ length file → Covers kept log n
+covers_length kept log n file has is = (has.0, has.1, omega (arith, is, within_header file, no_fewer file has.0 has.2))

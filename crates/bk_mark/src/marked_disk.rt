@@ -1,8 +1,11 @@
 //! A disk over another one, whose every sync leaves a mark: so many bytes of the log are to be believed.
 
-ghost use Rattle.std.specs.Prelude.{◌≡◌, IsTrue, IfOk};
+ghost use Rattle.std.specs.Prelude.{◌≡◌, IsTrue, IfOk, OnOk};
+ghost use Rattle.bk_record.specs.Files.{file_of};
+ghost use Rattle.bk_disk.specs.Disk.{HasCause, Syncs};
+ghost use Rattle.bk_disk.specs.Durable.{KeepsMore, SyncKeeps};
 ghost use Rattle.bk_disk.specs.Marks.{AreCut};
-ghost use Rattle.bk_mark.specs.Marking.{AreCovered, sure_fronts};
+ghost use Rattle.bk_mark.specs.Marking.{AreCovered, IsMarked, sure_fronts};
 
 use crate::marks::{Mark, Marks};
 use bk_disk::{DiskFault, LogDisk, MarkDisk};
@@ -12,7 +15,7 @@ use std::marker::Model;
 /// A disk whose logs have marks. After a crash a log is believed up to its mark, and what a device left behind it, zeros, old
 /// blocks or bytes that spell a record, is none of the log's.
 ///
-/// A sync asks the disk underneath for one, writes the mark, and asks for another; where the log has not grown since its mark
+/// A sync asks the disk underneath for one, and then for the mark to be written and kept; where the log has not grown since its mark
 /// was written, one is enough. A header is patched when the log is sealed, which syncs it too, so that the ledgers map stands in
 /// front of the mark.
 #[derive(Drop)]
@@ -35,6 +38,7 @@ impl<D: MarkDisk> Model for MarkedDisk<D> {
       gone = D.gone disk.inner;
       honest = D.honest disk.inner;
       failures = D.failures disk.inner;
+      found = D.marks disk.inner;
       marks = disk.marks;
     } };
 
@@ -112,15 +116,22 @@ impl<D: MarkDisk> LogDisk for MarkedDisk<D> {
         Ok(())
     }
 
-    fn sync(&mut self, alloc: Global, log: u32) -> Result<(), DiskFault> {
+    fn sync(&mut self, alloc: Global, log: u32) -> Result<(), DiskFault>
+        ensures honest { self.new.honest ≡ self.old.honest }
+        ensures kept { IsTrue self.old.honest
+            → KeepsMore (sure_fronts self.old.kept self.old.marks) self.old.gone (sure_fronts self.new.kept self.new.marks) self.new.gone }
+        ensures syncs { IsTrue self.old.honest → SyncKeeps self.old.files log result (sure_fronts self.new.kept self.new.marks) }
+        ensures cause { HasCause self.old.failures self.new.failures result }
+        ensures turn { IsTrue self.old.honest → Syncs self.old.files log result self.new.files }
+        ensures marked { IsTrue self.old.honest → OnOk result (IsMarked self.old.marks log (file_of self.old.files log) self.new.found) }
+    {
         self.inner.sync(alloc, log)?;
         let length = self.inner.length(alloc, log)?;
         let Some(next) = self.marks.next(log, length) else {
             return Ok(());
         };
         self.marks.put(log, next)?;
-        self.inner.mark(alloc, log, length)?;
-        self.inner.sync(alloc, log)?;
+        self.inner.keep_mark(alloc, log, length)?;
         let last = next.last;
         self.marks.put(log, Mark { sure: length, last })?;
         Ok(())
