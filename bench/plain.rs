@@ -261,6 +261,55 @@ fn records(bytes: &[u8]) -> impl Iterator<Item = (Key, usize, &[u8])> {
     })
 }
 
+/// Reads the records of a log piece by piece, as whoever has it in a file and not in memory does.
+struct Window<'a> {
+    file: &'a [u8],
+    piece: Vec<u8>,
+    /// Where the piece begins in the file, and how far it is read.
+    begin: usize,
+    at: usize,
+}
+
+impl Window<'_> {
+    const LENGTH: usize = 65_536;
+
+    fn new(file: &[u8]) -> Window<'_> {
+        Window {
+            file,
+            piece: Vec::with_capacity(Window::LENGTH),
+            begin: HEADER,
+            at: 0,
+        }
+    }
+
+    /// So many bytes that come next; a new piece is read where this one ends before.
+    fn next_bytes(&mut self, count: usize) -> Option<&[u8]> {
+        if self.piece.len() < self.at + count {
+            self.begin += self.at;
+            self.at = 0;
+            let end = self.file.len().min(self.begin + Window::LENGTH.max(count));
+            self.piece.clear();
+            self.piece.extend_from_slice(&self.file[self.begin..end]);
+        }
+        let bytes = self.piece.get(self.at..self.at + count)?;
+        self.at += count;
+        Some(bytes)
+    }
+
+    fn next_record(&mut self) -> Option<Key> {
+        let length = u32::from_be_bytes(self.next_bytes(4)?.try_into().unwrap());
+        key_of(self.next_bytes(length as usize)?)
+    }
+}
+
+/// The C library puts in order what was given back when somebody asks for much at once. This has it do so, before what is
+/// counted next.
+fn tidy() {
+    for _ in 0..32 {
+        black_box(vec![0u8; 65_536]);
+    }
+}
+
 /// A stage has ended.
 #[inline(never)]
 fn stage_tell(stage: &str, count: u64) {
@@ -308,8 +357,9 @@ fn stage_fetch(store: &Store, keys: &[Key]) -> u64 {
 fn stage_scan(store: &Store) -> u64 {
     let mut count = 0;
     for log in store.logs.values() {
-        for record in records(&log.bytes) {
-            black_box(record);
+        let mut window = Window::new(&log.bytes);
+        while let Some(key) = window.next_record() {
+            black_box(key);
             count += 1;
         }
     }
@@ -372,6 +422,7 @@ fn run_entries(count: u64, rising: bool) {
     stage_tell("write", stage_write(&mut store));
     stage_tell("publish", stage_publish(&mut store));
     stage_tell("fetch", stage_fetch(&store, &keys));
+    tidy();
     stage_tell("scan", stage_scan(&store));
     let (mut store, opened) = stage_reopen(store);
     stage_tell("reopen", opened);

@@ -6,7 +6,8 @@
 use crate::BenchFault;
 use crate::entries::{Amount, LEDGERS, Order, payload_of};
 use crate::stages::{SETTINGS, add, compact, digest, fetch, publish, write};
-use bk_disk::DirDisk;
+use bk_disk::{DirDisk, LogDisk};
+use bk_mark::MarkedDisk;
 use bk_store::{Settings, Store};
 use std::alloc::{AllocError, Global};
 use std::time::Instant;
@@ -19,6 +20,8 @@ const IDS: u64 = 16;
 pub(crate) enum FolderWork {
     /// Entries are added, flushed, and read by leases.
     Fill(Filling),
+    /// The same, and each log is marked.
+    Mark(Filling),
     /// A store is opened on the logs that are there.
     Open,
     /// The log of which the least lives is compacted, while every tenth ledger is dead.
@@ -61,22 +64,31 @@ struct Times {
 /// Does the work over the folder at a path, and tells what it took.
 pub(crate) fn run(rt: &HostRuntime, path: &str, work: FolderWork) -> Result<(), BenchFault> {
     match work {
-        FolderWork::Fill(filling) => fill(rt, path, filling),
+        FolderWork::Fill(filling) => fill(rt, disk_at(rt, path)?, filling),
+        FolderWork::Mark(filling) => match MarkedDisk::open(disk_at(rt, path)?, rt.alloc()) {
+            Ok(disk) => fill(rt, disk, filling),
+            Err(_) => Err(BenchFault::Answer("marks")),
+        },
         FolderWork::Open => open(rt, path),
         FolderWork::Compact => compact_one(rt, path),
     }
 }
 
-/// A store over the folder, while these ledgers are dead.
-fn opened(
+/// The disk of the folder.
+fn disk_at(rt: &HostRuntime, path: &str) -> Result<DirDisk, BenchFault> {
+    match DirDisk::open(rt, path) {
+        Ok(disk) => Ok(disk),
+        Err(_) => Err(BenchFault::Answer("folder")),
+    }
+}
+
+/// A store over the disk of a folder, while these ledgers are dead.
+fn opened<D: LogDisk>(
     rt: &HostRuntime,
-    path: &str,
+    disk: D,
     settings: Settings,
     dead: &[u64],
-) -> Result<Store<DirDisk>, BenchFault> {
-    let Ok(disk) = DirDisk::open(rt, path) else {
-        return Err(BenchFault::Answer("folder"));
-    };
+) -> Result<Store<D>, BenchFault> {
     match Store::open(rt.alloc(), disk, settings, dead) {
         Ok(store) => Ok(store),
         Err(_) => Err(BenchFault::Answer("open")),
@@ -96,19 +108,19 @@ fn tell_time(rt: &HostRuntime, stage: &str, count: u64, time: u64) -> Result<(),
     Ok(())
 }
 
-fn fill(rt: &HostRuntime, path: &str, filling: Filling) -> Result<(), BenchFault> {
+fn fill<D: LogDisk>(rt: &HostRuntime, disk: D, filling: Filling) -> Result<(), BenchFault> {
     let settings = Settings {
         log_limit: filling.limit,
         ..SETTINGS
     };
-    let mut store = opened(rt, path, settings, &[])?;
+    let mut store = opened(rt, disk, settings, &[])?;
     fill_store(rt, &mut store, filling)
 }
 
 /// Adds and flushes all entries, and reads them.
-fn fill_store(
+fn fill_store<D: LogDisk>(
     rt: &HostRuntime,
-    store: &mut Store<DirDisk>,
+    store: &mut Store<D>,
     filling: Filling,
 ) -> Result<(), BenchFault> {
     let mut times = Times {
@@ -144,9 +156,9 @@ fn payloads_of(alloc: Global, filling: Filling, flush: u64) -> Result<Vec<Vec<u8
 }
 
 /// Makes the digests of these payloads, as an add does; then adds and flushes them.
-fn flush(
+fn flush<D: LogDisk>(
     rt: &HostRuntime,
-    store: &mut Store<DirDisk>,
+    store: &mut Store<D>,
     payloads: &[Vec<u8>],
     times: &mut Times,
 ) -> Result<(), BenchFault> {
@@ -169,7 +181,11 @@ fn flush(
 }
 
 /// Reads all entries by leases.
-fn read(rt: &HostRuntime, store: &mut Store<DirDisk>, amount: Amount) -> Result<(), BenchFault> {
+fn read<D: LogDisk>(
+    rt: &HostRuntime,
+    store: &mut Store<D>,
+    amount: Amount,
+) -> Result<(), BenchFault> {
     let keys = amount.keys(rt.alloc())?;
     let begun = Instant::now(rt)?;
     let fetched = fetch(store, rt.alloc(), &keys)?;
@@ -179,14 +195,14 @@ fn read(rt: &HostRuntime, store: &mut Store<DirDisk>, amount: Amount) -> Result<
 
 fn open(rt: &HostRuntime, path: &str) -> Result<(), BenchFault> {
     let begun = Instant::now(rt)?;
-    let store = opened(rt, path, SETTINGS, &[])?;
+    let store = opened(rt, disk_at(rt, path)?, SETTINGS, &[])?;
     let time = since(rt, begun)?;
     tell_time(rt, "open", store.index().len() as u64, time)
 }
 
 fn compact_one(rt: &HostRuntime, path: &str) -> Result<(), BenchFault> {
     let dead = tenths(rt.alloc())?;
-    let mut store = opened(rt, path, SETTINGS, &dead)?;
+    let mut store = opened(rt, disk_at(rt, path)?, SETTINGS, &dead)?;
     compact_store(rt, &mut store)
 }
 

@@ -9,7 +9,7 @@ use bk_disk::MemDisk;
 use bk_flush::{RollAnswer, roll};
 use bk_record::Key;
 use bk_store::Store;
-use std::alloc::Global;
+use std::alloc::{AllocError, Global};
 
 /// Takes all stages over so many entries.
 pub(crate) fn run(rt: &HostRuntime, amount: Amount) -> Result<(), BenchFault> {
@@ -56,8 +56,18 @@ fn fill(
     tell(rt, "publish", published)?;
     let fetched = fetch(store, alloc, keys)?;
     tell(rt, "fetch", fetched)?;
+    tidy(alloc)?;
     let scanned = scan(store, alloc, keys.len() as u64)?;
     tell(rt, "scan", scanned)?;
+    Ok(())
+}
+
+/// The C library puts in order what was given back when somebody asks for much at once. This has it do so, before what is
+/// counted next.
+fn tidy(alloc: Global) -> Result<(), AllocError> {
+    for _ in 0..32 {
+        drop(vec![in alloc; 0u8; 65_536]?);
+    }
     Ok(())
 }
 

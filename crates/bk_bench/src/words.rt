@@ -53,10 +53,12 @@ fn numbers(alloc: Global, words: &[&str]) -> Result<Vec<u64>, BenchFault> {
     Ok(numbers)
 }
 
-/// Reads what is to be done over a folder: `fill DIR LENGTH BATCH PUBLISHES LIMIT`, `open DIR`, `compact DIR`.
+/// Reads what is to be done over a folder: `fill DIR LENGTH BATCH PUBLISHES LIMIT`, `mark` with the same words, `open DIR`,
+/// `compact DIR`.
 fn folder_work(alloc: Global, words: &[&str]) -> Result<Work, BenchFault> {
     let (path, work) = match words {
         ["fill", path, numbers @ ..] => (path, FolderWork::Fill(filling(numbers)?)),
+        ["mark", path, numbers @ ..] => (path, FolderWork::Mark(filling(numbers)?)),
         ["open", path] => (path, FolderWork::Open),
         ["compact", path] => (path, FolderWork::Compact),
         _ => return Err(BenchFault::Words),

@@ -10,7 +10,7 @@ ghost use Rattle.bk_record.specs.Keyed.{ledger_count};
 ghost use Rattle.bk_cache.specs.Recents.{recent_of, remembered, IsOldOrRemembered};
 ghost use Rattle.bk_cache.specs.Caches.{used_of, flush_of, held, cached, AllKeyed, AreApart, first_after, new_caches, without};
 ghost use Rattle.bk_cache.specs.Kept.{IsSound};
-ghost use Rattle.bk_cache.specs.Turns.{AddTurn, SwapTurn};
+ghost use Rattle.bk_cache.specs.Turns.{CacheAddTurn, CacheSwapTurn};
 
 use crate::cache::Cache;
 use crate::recent::Recent;
@@ -123,7 +123,7 @@ impl Caches {
     /// they were.
     pub fn add(&mut self, key: Key, payload: &[u8]) -> Result<CacheAdd, CacheFault>
         requires { read_added payload.now ≡ Ok key }
-        ensures turn { AddTurn self.old key payload.now result self.new }
+        ensures turn { CacheAddTurn self.old key payload.now result self.new }
         ensures sound { IsSound self.new }
     {
         if self.is_in_flush(&key) {
@@ -157,7 +157,7 @@ impl Caches {
     /// Makes the active cache the flushing one, and answers how many entries it has. `Running` where a flush runs, also
     /// one whose entries were all taken out, and else `Nothing` where no entry came in: then nothing changes.
     pub fn swap(&mut self) -> Swap
-        ensures turn { SwapTurn self.old result self.new }
+        ensures turn { CacheSwapTurn self.old result self.new }
         ensures sound { IsSound self.new }
     {
         if self.flush.is_some() {

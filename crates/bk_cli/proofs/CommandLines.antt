@@ -14,7 +14,7 @@ use Rattle.clap.specs.Values.{kind_of}
 use Rattle.clap.specs.declared.error.Error.{Error}
 use Rattle.clap.specs.declared.error.kind.ErrorKind.TheVariants.{OutOfMemory}
 use Rattle.clap.specs.Matches.{first_value, matched_of, raw_values}
-use Rattle.clap.specs.Walk.{Row, Text, all_of, first_of, rows_of, texts}
+use Rattle.clap.specs.Walk.{Row, Text, all_of, first_of, one_of, rows_of, texts}
 use Rattle.clap.specs.Simple.{App, HasMatchesOf, is_simple, subcommand_of, subcommand_rows, subcommand_rows_of}
 use Rattle.clap.specs.declared.parser.matches.ArgMatches.{ArgMatches}
 use Rattle.clap.specs.declared.parser.matches.ArgMatches.TheViews.{out-SubCommand}
@@ -24,7 +24,7 @@ use Rattle.clap.proofs.OnLiterals.{clap_on_literals}
 use Rattle.clap.proofs.WalkLemmas.{first_value-rows, raw_values-rows}
 use Rattle.bk_store.specs.declared.settings.Settings.{Settings}
 use Rattle.bk_cli.specs.declared.script.ScriptCall.{ScriptCall}
-use Rattle.bk_cli.specs.CommandLine.{program, last_ledger, Asks, AsksLedgers, AsksSettings, IsNumberIn}
+use Rattle.bk_cli.specs.CommandLine.{program, last_ledger, Asks, AsksFlag, AsksLedgers, AsksMarks, AsksSettings, IsNumberIn}
 
 -- a word is one number
 pub same_number : (word : Text) (m n : ℕ) → m < 2 ^ 64 → n < 2 ^ 64 → word ≡ decimal m → word ≡ decimal n → m ≡ n
@@ -38,6 +38,12 @@ row_none f id r e is = sym (first_value-rows f id) ∙ (sym e ∙ ap (option_map
 pub row_some : (f : Found) (id : Text) (r : Option (Bor Text)) (text : Bor Text) → option_map (λ s. s.now) r ≡ first_value f id → r ≡ Some text
     → first_of id (rows_of f) ≡ Some text.now
 row_some f id r text e is = sym (first_value-rows f id) ∙ (sym e ∙ ap (option_map (λ (s : Bor Text). s.now)) is)
+
+-- an option without a value in the rows of a parse
+pub flag_read : (word : Option Text) (is_given : Bool) → (word ≡ None → is_given ≡ false) → (word ≡ Some (codes "true") → is_given ≡ true)
+    → (word ≡ Some (codes "false") → is_given ≡ false) → AsksFlag word is_given
+flag_read None is_given none given other = none refl
+flag_read (Some word) is_given none given other = (λ is. given (ap Some is), λ is. other (ap Some is))
 
 -- the words of an argument in the rows of a parse
 pub words_none : (f : Found) (id : Text) (r : Option (Bor (List (Bor Text))))
@@ -149,6 +155,11 @@ module _ (words : List Text) (rows : List Row) (called : subcommand_of program w
   asked_by faultless (Ok call) asked over ledgers =
       record { faultless = faultless; rows = rows; called = called; asked = asked; over = over; ledgers = ledgers }
   asked_by faultless (Err error) asked over ledgers = tt
+
+  pub marks_by : (result : Result ScriptCall Error) → IfOk result (λ call. AsksFlag (one_of (codes "marks") rows) call.marks)
+      → IfOk result (λ call. AsksMarks words call.marks)
+  marks_by (Ok call) asked = record { rows = rows; called = called; asked = asked }
+  marks_by (Err error) asked = tt
 
   pub refused_by : (result : Result ScriptCall Error)
       → IfErr result (λ error. (settings : Settings) (dead : List ℕ) → AsksSettings rows settings → AsksLedgers (all_of (codes "LEDGER") rows) dead

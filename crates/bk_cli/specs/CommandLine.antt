@@ -1,12 +1,12 @@
 -- The command line, and the settings and dead ledgers that it asks for. How words are read as options is clap's; what the
 -- options and the words beside them mean is said here.
-use Rattle.std.specs.Prelude.{◌≡◌, ℕ, ◌≤◌, ◌^◌, true, List, [], codes, Option, Some, None}
+use Rattle.std.specs.Prelude.{◌≡◌, ℕ, ◌≤◌, ◌^◌, Bool, true, false, List, [], codes, Option, Some, None}
 use Rattle.std.specs.Fmt.{decimal}
 use Rattle.std.specs.List.{AllZip}
 use Rattle.clap.specs.Faults.{fault_of}
-use Rattle.clap.specs.Walk.{Row, Rule, Text, all_of, first_of}
+use Rattle.clap.specs.Walk.{Row, Rule, Text, all_of, first_of, one_of}
 use Rattle.clap.specs.Simple.{App, new_app, new_rule, on_top, subcommand_of, with_rule, with_subcommand}
-use Rattle.clap.specs.declared.builder.action.ArgAction.TheVariants.{Append}
+use Rattle.clap.specs.declared.builder.action.ArgAction.TheVariants.{Append, SetTrue}
 use Rattle.bk_record.specs.Limits.{max_log_limit, max_cache_limit}
 use Rattle.bk_store.specs.declared.settings.Settings.{Settings}
 
@@ -14,16 +14,20 @@ use Rattle.bk_store.specs.declared.settings.Settings.{Settings}
 abbrev pub option_rule : Text → Rule
 option_rule name = record (new_rule name) { long = Some name; value_names = 1 }
 
+-- an option without a value, `--NAME`
+abbrev pub flag_rule : Text → Rule
+flag_rule name = record (new_rule name) { action = Some SetTrue; long = Some name }
+
 -- any number of words beside the options
 abbrev pub words_rule : Text → Rule
 words_rule name = record (new_rule name) { action = Some Append; value_names = 1 }
 
 -- the command `script`, with its options and the words beside them
 abbrev pub script : App
-script = with_rule (with_rule (with_rule (with_rule (with_rule (with_rule (with_rule (with_rule (with_rule (new_app (codes "script"))
+script = with_rule (with_rule (with_rule (with_rule (with_rule (with_rule (with_rule (with_rule (with_rule (with_rule (new_app (codes "script"))
     (option_rule (codes "log-limit"))) (option_rule (codes "cache-limit"))) (option_rule (codes "recent"))) (option_rule (codes "slots")))
     (option_rule (codes "leases"))) (option_rule (codes "minor"))) (option_rule (codes "major"))) (option_rule (codes "folder")))
-    (words_rule (codes "LEDGER"))
+    (flag_rule (codes "marks"))) (words_rule (codes "LEDGER"))
 
 -- the program, which is called with a command
 abbrev pub program : App
@@ -37,6 +41,11 @@ IsNumberIn least most word n = (least ≤ n) × (n ≤ most) × (word ≡ decima
 abbrev pub AsksNumber : ℕ → ℕ → ℕ → Option Text → ℕ → Type 0
 AsksNumber default least most None n = n ≡ default
 AsksNumber default least most (Some word) n = IsNumberIn least most word n
+
+-- An option without a value is given, or it is not: clap reads it as `true` where it is, and else as `false`.
+abbrev pub AsksFlag : Option Text → Bool → Type 0
+AsksFlag None is_given = is_given ≡ false
+AsksFlag (Some word) is_given = (word ≡ codes "true" → is_given ≡ true) × (word ≡ codes "false" → is_given ≡ false)
 
 -- the greatest ledger id
 abbrev pub last_ledger : ℕ
@@ -67,3 +76,9 @@ pub record Asks (words : List Text) (folder : Option Text) (settings : Settings)
   pub asked : AsksSettings rows settings
   pub over : first_of (codes "folder") rows ≡ folder
   pub ledgers : AsksLedgers (all_of (codes "LEDGER") rows) dead
+
+-- The words call `script`, and ask for marks or for none.
+pub record AsksMarks (words : List Text) (marks : Bool) : Type 0 where
+  pub rows : List Row
+  pub called : subcommand_of program words ≡ Some (codes "script", rows)
+  pub asked : AsksFlag (one_of (codes "marks") rows) marks

@@ -134,6 +134,10 @@ to name them again, as words: a folder does not tell which they were. One progra
 is refused, and told which process writes there. Without a fault the answers are those of a store in memory. Where the error
 stream is a terminal and the opening takes longer than a second, a line there tells how many of the logs are read.
 
+With --marks each log of DIR gets a mark in its header, which says how far it is to be believed; a flush then asks the device
+twice to keep what it wrote. When DIR is opened, what a loss of power left behind a mark is cut off, whatever bytes it has. A
+folder with a mark in one of its logs goes on with marks without being told.
+
 The status is 0 where every step was answered. It is 1 where a read fails, the input has more than 16777216 bytes or
 takes more than 1048576 reads, or a line spells no step; where the store is not opened, or the folder can't be written;
 where no memory is to be had outside a step; and where answers or this help cannot be written. It is 2 where the command

@@ -4,12 +4,12 @@ ghost use Rattle.std.specs.Prelude.{◌≡◌, ℕ, List, Option, codes, map, op
 ghost use Rattle.clap.specs.Matches.{found_of};
 ghost use Rattle.clap.specs.Simple.{app_of};
 ghost use Rattle.clap.specs.Values.{kind_of};
-ghost use Rattle.clap.specs.Walk.{Text, all_of, first_of, rows_of};
+ghost use Rattle.clap.specs.Walk.{Text, all_of, first_of, one_of, rows_of};
 ghost use Rattle.bk_store.specs.Limits.{IsAllowed};
 ghost use Rattle.bk_store.specs.declared.settings.Settings.{Settings};
-ghost use Rattle.bk_cli.specs.CommandLine.{program, Asks, AsksLedgers, AsksSettings};
+ghost use Rattle.bk_cli.specs.CommandLine.{program, Asks, AsksFlag, AsksLedgers, AsksMarks, AsksSettings};
 
-use crate::folder_option::{FOLDER, folder_arg, read_folder};
+use crate::folder_option::{FOLDER, MARKS, folder_arg, marks_arg, read_folder, read_marks};
 use crate::help::{ABOUT_SCRIPT, PROGRAM_HELP, SCRIPT_HELP};
 use crate::ledgers::{ledgers_arg, read_ledgers};
 use crate::number_option::{BadValue, NumberOption};
@@ -29,6 +29,8 @@ pub struct ScriptCall<'a> {
     pub settings: Settings,
     /// The path of the folder that it runs over; `None` for a new disk in memory.
     pub folder: Option<&'a str>,
+    /// Whether the logs of the folder get marks, which say how far each is to be believed after a crash.
+    pub marks: bool,
     /// The ledgers that were deleted before, in the order of the words, each 0 to 9223372036854775807.
     pub dead: Vec<u64>,
 }
@@ -114,6 +116,7 @@ pub fn script_call<'a, S: AsStr>(alloc: Global, words: &'a [S]) -> Result<Script
     ensures allowed { IfOk result (λ call. IsAllowed call.settings) }
     ensures asked { IfOk result (λ call. Asks (map S.text words.now) (option_map (λ path. path.now) call.folder) call.settings
         call.dead.items) }
+    ensures marked { IfOk result (λ call. AsksMarks (map S.text words.now) call.marks) }
     ensures refused { IfErr result (λ error. (folder : Option Text) (settings : Settings) (dead : List ℕ)
         → Asks (map S.text words.now) folder settings dead → kind_of error ≡ ErrorKind.OutOfMemory) }
 {
@@ -130,6 +133,7 @@ fn read_script<'a>(alloc: Global, script: &ArgMatches<'a>) -> Result<ScriptCall<
     ensures allowed { IfOk result (λ call. IsAllowed call.settings) }
     ensures asked { IfOk result (λ call. AsksSettings (rows_of (found_of script.now)) call.settings) }
     ensures over { IfOk result (λ call. first_of (codes "folder") (rows_of (found_of script.now)) ≡ option_map (λ path. path.now) call.folder) }
+    ensures marked { IfOk result (λ call. AsksFlag (one_of (codes "marks") (rows_of (found_of script.now))) call.marks) }
     ensures ledgers { IfOk result (λ call. AsksLedgers (all_of (codes "LEDGER") (rows_of (found_of script.now))) call.dead.items) }
     ensures refused { IfErr result (λ error. (settings : Settings) (dead : List ℕ) → AsksSettings (rows_of (found_of script.now)) settings
         → AsksLedgers (all_of (codes "LEDGER") (rows_of (found_of script.now))) dead → kind_of error ≡ ErrorKind.OutOfMemory) }
@@ -142,6 +146,7 @@ fn read_script<'a>(alloc: Global, script: &ArgMatches<'a>) -> Result<ScriptCall<
         Ok(dead) => Ok(ScriptCall {
             settings,
             folder: read_folder(script),
+            marks: read_marks(script),
             dead,
         }),
         Err(bad) => Err(bad_script(alloc, &bad)?),
@@ -208,7 +213,11 @@ fn unknown_word<'t>(error: &Error, text: &'t str) -> Option<&'t str> {
 /// The option of `script` that is this word but for one slip: a letter too many, too few, another, or two exchanged.
 fn near_option(alloc: Global, word: &str) -> Result<Option<&'static str>, AllocError> {
     let numbers = [LOG_LIMIT, CACHE_LIMIT, RECENT, SLOTS, LEASES, MINOR, MAJOR];
-    for name in numbers.iter().map(|option| option.name).chain([FOLDER]) {
+    for name in numbers
+        .iter()
+        .map(|option| option.name)
+        .chain([FOLDER, MARKS])
+    {
         if osa_distance(alloc, word.trim_start_matches('-'), name)? <= 1 {
             return Ok(Some(name));
         }
@@ -241,6 +250,7 @@ fn command<'a>(alloc: Global) -> Result<Command<'a>, AllocError>
         .arg(MINOR.arg(alloc))?
         .arg(MAJOR.arg(alloc))?
         .arg(folder_arg(alloc))?
+        .arg(marks_arg(alloc))?
         .arg(ledgers_arg(alloc))?;
     Command::new(alloc, "bk_shell")
         .about("Entry log storage of a bookie")

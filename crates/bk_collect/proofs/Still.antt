@@ -6,7 +6,7 @@ use Rattle.bk_store.specs.Copying as copying
 use Rattle.bk_step.specs.Staying.{Stays, CachesStay}
 use Rattle.bk_step.proofs.Gone.{gone_changed, gone_removed}
 
-pub closed_stays : (s t : State) (id : ℕ) → leasing.CloseTurn s id (Ok tt) t → Stays s t × CachesStay s t × (t.failures ≡ s.failures)
+pub closed_stays : (s t : State) (id : ℕ) → leasing.CloseLogTurn s id (Ok tt) t → Stays s t × CachesStay s t × (t.failures ≡ s.failures)
 closed_stays s t id turn =
     let is = turn.1.2 in (
       record {
@@ -18,7 +18,7 @@ closed_stays s t id turn =
       ap (λ (x : State). x.failures) is,
     )
 
-pub removed_stays : (s t : State) (id : ℕ) → copying.RemoveTurn s id (Ok tt) t → Stays s t × CachesStay s t
+pub removed_stays : (s t : State) (id : ℕ) → copying.RemoveLogTurn s id (Ok tt) t → Stays s t × CachesStay s t
 removed_stays s t id turn =
     let is = turn.3 in (
       record {

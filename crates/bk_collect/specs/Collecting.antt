@@ -57,7 +57,7 @@ abbrev pub CloseTurn : State → ℕ → CloseAnswer → State → Type 0
 CloseTurn s id closes.NoLog t = (finite.get s.logs id ≡ None) × (t ≡ s)
 CloseTurn s id closes.NotRetired t = IsOpenLog s id × (t ≡ s)
 CloseTurn s id (closes.Leased n) t = IsIn s id Retired × IsLeased s.keeper s.logs id n × (t ≡ s)
-CloseTurn s id closes.Closed t = (IsIn s id Closed × (t ≡ s)) ⊎ (IsIn s id Retired × leasing.CloseTurn s id (Ok tt) t)
+CloseTurn s id closes.Closed t = (IsIn s id Closed × (t ≡ s)) ⊎ (IsIn s id Retired × leasing.CloseLogTurn s id (Ok tt) t)
 
 -- ---- removing
 
@@ -69,11 +69,11 @@ IsUnclosed s id = IsOpenLog s id ⊎ IsIn s id Retired
 abbrev pub RemoveTurn : State → ℕ → Result RemoveAnswer CollectFault → State → Type 0
 RemoveTurn s id (Ok removes.NoLog) t = (finite.get s.logs id ≡ None) × (t ≡ s)
 RemoveTurn s id (Ok removes.NotClosed) t = IsUnclosed s id × (t ≡ s)
-RemoveTurn s id (Ok removes.Removed) t = IsIn s id Closed × copying.RemoveTurn s id (Ok tt) t
-RemoveTurn s id (Err faults.Disk) t = IsIn s id Closed × copying.RemoveTurn s id (Err log_faults.Disk) t
-RemoveTurn s id (Err faults.Memory) t = IsIn s id Closed × copying.RemoveTurn s id (Err log_faults.Memory) t
+RemoveTurn s id (Ok removes.Removed) t = IsIn s id Closed × copying.RemoveLogTurn s id (Ok tt) t
+RemoveTurn s id (Err faults.Disk) t = IsIn s id Closed × copying.RemoveLogTurn s id (Err log_faults.Disk) t
+RemoveTurn s id (Err faults.Memory) t = IsIn s id Closed × copying.RemoveLogTurn s id (Err log_faults.Memory) t
 RemoveTurn s id (Err (faults.Log log cause)) t = ⊥
-RemoveTurn s id (Err faults.Odd) t = IsIn s id Closed × copying.RemoveTurn s id (Err log_faults.Odd) t
+RemoveTurn s id (Err faults.Odd) t = IsIn s id Closed × copying.RemoveLogTurn s id (Err log_faults.Odd) t
 
 -- ---- rebuilding
 

@@ -9,6 +9,7 @@ mod fault;
 mod rows;
 
 use crate::dead::dead_ledgers;
+use crate::folder_disk::FolderDisk;
 use crate::opening::OpeningDisk;
 use crate::progress::Progress;
 use bk_cli::{CompactAsk, DEFAULTS};
@@ -109,13 +110,14 @@ fn find_work<W: Write, E: Write>(
         return Ok(None);
     }
     if ask.is_dry {
-        let disk = OpeningDisk::new(rt, disk);
+        let disk = OpeningDisk::new(rt, FolderDisk::Plain(disk));
         let summary = show_plan(rt.alloc(), form, disk, &logs, ask, &dead, writer)?;
         write_summary(rt.alloc(), form, &summary, writer)?;
         return Ok(None);
     }
     drop(disk);
-    let disk = OpeningDisk::new(rt, DirDisk::open_to_write(rt, path)?);
+    let disk = FolderDisk::open(rt.alloc(), DirDisk::open_to_write(rt, path)?, false)?;
+    let disk = OpeningDisk::new(rt, disk);
     Ok(Some(Work { disk, dead }))
 }
 

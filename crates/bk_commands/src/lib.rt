@@ -3,6 +3,7 @@
 
 mod compact;
 mod dead;
+mod folder_disk;
 mod line;
 mod opening;
 mod program;
@@ -17,4 +18,4 @@ pub use bk_cli::{
 pub use compact::compact_disk;
 pub use opening::{Opened, OpeningDisk};
 pub use program::{StartFault, run_words, tell, tell_fault, words_of};
-pub use script::open_or_make;
+pub use script::{OpeningFault, open_or_make};

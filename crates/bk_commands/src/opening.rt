@@ -5,9 +5,11 @@
 
 ghost use Rattle.std.specs.Prelude.{false};
 ghost use Rattle.std.specs.FinMap as map;
+ghost use Rattle.bk_commands.specs.Failures.{failures_of};
 
+use crate::folder_disk::FolderDisk;
 use crate::line::Line;
-use bk_disk::{DirDisk, DirView, DiskFault, LogDisk, LogView};
+use bk_disk::{DirView, DiskFault, LogDisk, LogView};
 use bk_drive::{Answer, OpenFault, Settings, Step, drive};
 use bk_script::ScriptDisk;
 use std::alloc::Global;
@@ -51,13 +53,13 @@ impl Display for Opened {
 /// opening syncs each log. In all else this is the disk of the folder.
 #[derive(Drop)]
 pub struct OpeningDisk {
-    disk: DirDisk,
+    disk: FolderDisk,
     opening: Opening,
 }
 
 impl OpeningDisk {
     /// Over the disk of a folder.
-    pub(crate) fn new(rt: &HostRuntime, disk: DirDisk) -> OpeningDisk {
+    pub(crate) fn new(rt: &HostRuntime, disk: FolderDisk) -> OpeningDisk {
         OpeningDisk {
             disk,
             opening: Opening {
@@ -127,7 +129,7 @@ impl LogDisk for OpeningDisk {
 
     ghost honest = { λ _. false };
 
-    ghost failures = { λ opening. opening.disk.failures };
+    ghost failures = { λ opening. failures_of opening.disk };
 
     fn bounds(&self) {}
 

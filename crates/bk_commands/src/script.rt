@@ -4,16 +4,18 @@ ghost use Rattle.std.specs.Prelude.{◌≡◌, ◌≤◌};
 ghost use Rattle.bk_script.specs.Run.{RunsScript};
 ghost use Rattle.bk_commands.specs.Folder.{RunsOverFolder};
 
+use crate::folder_disk::FolderDisk;
 use crate::opening::OpeningDisk;
 use crate::way_on::WayOn;
 use bk_cli::ScriptCall;
 use bk_dir::unlisted;
-use bk_disk::{DirDisk, FolderFault, MemDisk};
+use bk_disk::{DirDisk, DiskFault, FolderFault, MemDisk};
 use bk_script::{RunFault, ScriptFault, run_on};
 use std::alloc::Global;
 use std::fs::{self, File};
 use std::io::{self, ErrorKind, Read, Write};
 use std::path::Path;
+use thiserror::Error;
 
 /// Runs the script that a reader gives on a new disk in memory. Returns the status: 0, or 1 with a line on the error stream that
 /// tells why (`RunFault`); without it where nobody reads the answers any more.
@@ -54,7 +56,7 @@ pub(crate) fn run_over_folder<R: Read, W: Write, E: Write>(
     ensures done { result ≡ 0 → RunsOverFolder call.now.settings call.now.dead.items (R.remaining reader.old) (R.remaining reader.new)
         (W.contents writer.old) (W.contents writer.new) }
 {
-    match open_or_make(rt, path) {
+    match open_or_make(rt, path, call.marks) {
         Ok(disk) => run_on_folder(rt.alloc(), disk, call, reader, writer, errors),
         Err(fault) => {
             let _ = writeln!(errors, "fault {fault}");
@@ -101,12 +103,41 @@ fn tell<E: Write>(fault: &RunFault, errors: &mut E) {
     }
 }
 
+/// Why there is no disk of a folder to be written. Its text is what the program tells of it.
+#[derive(Debug, Error, Drop)]
+pub enum OpeningFault {
+    /// The folder is not opened.
+    #[error("{0}")]
+    Folder(FolderFault),
+    /// A log can't be cut to its mark, or not be asked for it: `Disk`, `Memory`, or `NoLog` where it went meanwhile.
+    #[error("{0}")]
+    Marks(DiskFault),
+}
+
+impl From<FolderFault> for OpeningFault {
+    fn from(fault: FolderFault) -> OpeningFault {
+        OpeningFault::Folder(fault)
+    }
+}
+
+impl From<DiskFault> for OpeningFault {
+    fn from(fault: DiskFault) -> OpeningFault {
+        OpeningFault::Marks(fault)
+    }
+}
+
 /// The disk of the folder at a path, to be written, of which it is the one writer until it is dropped. Where nothing is there, the
-/// folder is made, if its parent is there. It tells how far an opening of a store on it is (`OpeningDisk`). `Refused` where the
-/// system refuses the folder, or can't list it, with the path and the system's reason; `InUse` where another disk writes there,
-/// of this process or of another one; `Memory`.
-pub fn open_or_make(rt: &HostRuntime, path: &str) -> Result<OpeningDisk, FolderFault> {
-    Ok(OpeningDisk::new(rt, dir_disk(rt, path)?))
+/// folder is made, if its parent is there. Its logs get marks where `marks` says so, or one has a mark already. It tells how far an
+/// opening of a store on it is (`OpeningDisk`). `Folder` where the system refuses the folder, or can't list it, with the path and
+/// the system's reason, where another disk writes there, of this process or of another one, or where no memory is to be had;
+/// `Marks` where a log's mark is not to be had.
+pub fn open_or_make(
+    rt: &HostRuntime,
+    path: &str,
+    marks: bool,
+) -> Result<OpeningDisk, OpeningFault> {
+    let disk = FolderDisk::open(rt.alloc(), dir_disk(rt, path)?, marks)?;
+    Ok(OpeningDisk::new(rt, disk))
 }
 
 /// The same, without a word of how far an opening is.

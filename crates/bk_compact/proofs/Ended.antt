@@ -13,7 +13,7 @@ use Rattle.bk_record.specs.Keyed.{log_count, Places}
 use Rattle.bk_record.proofs.KeyedCounts.{log_count-none}
 use Rattle.bk_log.specs.Writing as writers
 use Rattle.bk_store.specs.Entries.{HasEntry}
-use Rattle.bk_store.specs.Logs.{Log, Logs, HasOpenView, closed_log, is_open, open_parts, with_view}
+use Rattle.bk_store.specs.Logs.{Log, Logs, HasOpenView, unwritten_log, is_open, open_parts, with_view}
 use Rattle.bk_store.specs.State.{State}
 use Rattle.bk_store.specs.Jobs.{Job, Waits, waits_from}
 use Rattle.bk_store.specs.JobKept.{IsJob, IsReadTo, entries_from, copied_in, copy_state}
@@ -54,17 +54,17 @@ module _ (s mid t : State) (job : Job) (is : IsCopying s job) (all : IsTrue s.ho
   apart : job.source ≢ job.copy
   apart same = omega (arith, is.out.keeps.later, same)
 
-  closed_now : shows.0 ≡ closed_log Readable seals.log
-  closed_now = same_Some shows.0 (closed_log Readable seals.log)
+  closed_now : shows.0 ≡ unwritten_log Readable seals.log
+  closed_now = same_Some shows.0 (unwritten_log Readable seals.log)
       (sym shows.1 ∙ ap (λ (x : State). finite.get x.logs job.copy) seals.left
-      ∙ log-inserted s.logs job.copy (closed_log Readable seals.log) job.copy refl)
+      ∙ log-inserted s.logs job.copy (unwritten_log Readable seals.log) job.copy refl)
 
   shown_now : finite.get t.logs job.copy ≡ Some shown_log
   shown_now = ap (λ (x : State). finite.get x.logs job.copy) shows.2.3 ∙ log-inserted mid.logs job.copy shown_log job.copy refl
 
   source_stays : finite.get t.logs job.source ≡ finite.get s.logs job.source
   source_stays = ap (λ (x : State). finite.get x.logs job.source) shows.2.3 ∙ log-insert_else mid.logs job.copy shown_log job.source apart
-      ∙ ap (λ (x : State). finite.get x.logs job.source) seals.left ∙ log-insert_else s.logs job.copy (closed_log Readable seals.log) job.source apart
+      ∙ ap (λ (x : State). finite.get x.logs job.source) seals.left ∙ log-insert_else s.logs job.copy (unwritten_log Readable seals.log) job.source apart
 
   honest_stays : t.honest ≡ s.honest
   honest_stays = ap (λ (x : State). x.honest) shows.2.3 ∙ ap (λ (x : State). x.honest) seals.left

@@ -1,11 +1,14 @@
 mod Positions
 mod Stored
+mod CopyWriter
 mod Copied
 mod Ended
 mod Chosen
 mod Begun
 mod Finished
+mod Examined
 mod Stepping
+mod SteppingEnds
 mod Switched
 mod Sealed
 mod Turns

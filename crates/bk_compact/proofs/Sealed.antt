@@ -6,7 +6,7 @@ use Rattle.std.specs.FinMap as finite
 use Rattle.bk_log.specs.declared.fault.LogFault.{LogFault}
 use Rattle.bk_store.specs.Jobs.{Job}
 use Rattle.bk_store.specs.JobKept.{IsJob}
-use Rattle.bk_store.specs.Logs.{closed_log}
+use Rattle.bk_store.specs.Logs.{unwritten_log}
 use Rattle.bk_store.specs.State.{State}
 use Rattle.bk_store.specs.Doors.{MayShow, Seals, ShowTurn}
 use Rattle.bk_store.specs.Plain.{IsKept}
@@ -24,10 +24,10 @@ use Rattle.bk_compact.proofs.Finished.{taken_out}
 -- a log that was just sealed may be shown, where no job has it
 pub may_show_sealed : (s mid : State) (id : ℕ) → s.job ≡ None → Seals s id Readable (Ok tt) mid → MayShow mid id
 may_show_sealed s mid id none seals =
-    let held : finite.get mid.logs id ≡ Some (closed_log Readable seals.log) =
-    ap (λ (x : State). finite.get x.logs id) seals.left ∙ log-inserted s.logs id (closed_log Readable seals.log) id refl in
+    let held : finite.get mid.logs id ≡ Some (unwritten_log Readable seals.log) =
+    ap (λ (x : State). finite.get x.logs id) seals.left ∙ log-inserted s.logs id (unwritten_log Readable seals.log) id refl in
     record {
-      open_is = record { log = closed_log Readable seals.log; held = held; opened = refl };
+      open_is = record { log = unwritten_log Readable seals.log; held = held; opened = refl };
       idle = λ job runs. absurd (none-some job (sym none ∙ sym (ap (λ (x : State). x.job) seals.left) ∙ runs));
     }
 

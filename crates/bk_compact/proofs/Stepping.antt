@@ -1,6 +1,6 @@
 -- Entries are examined one after another, as a scan of the source gives them.
 use Rattle.std.proofs.Common.{◌≡◌, ◌≢◌, inl, inr, ℕ, ◌+◌, ◌-◌, ◌<◌, ◌≤◌, ◌^◌, Bool, true, false}
-use Rattle.std.proofs.Common.{if◌then◌else◌, IsTrue, List, [], ◌∷◌, ◌++◌, length, take, drop, slice_get, not, is_some, Option}
+use Rattle.std.proofs.Common.{IsTrue, List, [], ◌∷◌, ◌++◌, length, take, drop, not}
 use Rattle.std.proofs.Common.{Some, None, Ok, Err, refl, sym, ap, subst, ◌∙◌, arith, length-append}
 use Rattle.std.specs.Option.{option_and_then}
 use Rattle.std.proofs.lemmas.List.{take_all}
@@ -11,12 +11,11 @@ use Rattle.bk_log.specs.Growing.{HasNoBadLength}
 use Rattle.bk_log.specs.Ranges.{entries_in, part}
 use Rattle.bk_log.specs.Scanning.{Scan, NextMoves, NextTurn, part_of}
 use Rattle.bk_log.specs.declared.found.Found.{Found}
-use Rattle.bk_log.specs.declared.fault.ScanFault.{ScanFault}
 use Rattle.bk_log.specs.declared.fault.ScanFault.TheVariants as scans
 use Rattle.bk_store.specs.Logs.{Log, Logs, View, last_view, open_parts}
 use Rattle.bk_store.specs.State.{State}
 use Rattle.bk_store.specs.Jobs.{Job}
-use Rattle.bk_store.specs.JobKept.{IsJob, IsReadTo, entries_from}
+use Rattle.bk_store.specs.JobKept.{IsReadTo, entries_from}
 use Rattle.bk_store.specs.Doors.{SetTurn}
 use Rattle.bk_store.specs.Plain.{IsKept}
 use Rattle.bk_store.specs.declared.log.LogState.TheVariants.{Readable}
@@ -26,87 +25,13 @@ use Rattle.bk_store.specs.Meaning.{KeepsMeaning}
 use Rattle.bk_store.proofs.SameMeaning.{stays_on}
 use Rattle.bk_compact.specs.declared.entries.Stopped.{Stopped}
 use Rattle.bk_compact.specs.declared.entries.Stopped.TheVariants as stops
-use Rattle.bk_compact.specs.Compacting.{AreFound, Examines, ExaminesAll, HasUnsoundSource, IsFound}
-use Rattle.bk_compact.specs.Compacting.{SourceFails, Steps, behind, entries_left, with_job}
-use Rattle.bk_compact.specs.Going.{CopiesAll, CopiesNext, ExaminesOne, IsAhead, IsAtEnd, IsCopying, IsNextFound, IsOut}
-use Rattle.bk_compact.specs.Going.{ScansFrom, StopsAt, told_after, told_read, told_unread}
+use Rattle.bk_compact.specs.Compacting.{AreFound, Examines, HasUnsoundSource}
+use Rattle.bk_compact.specs.Compacting.{Steps, behind, entries_left, with_job}
+use Rattle.bk_compact.specs.Going.{CopiesAll, CopiesNext, ExaminesOne, IsAhead, IsCopying, IsNextFound, IsOut}
+use Rattle.bk_compact.specs.Going.{ScansFrom, StopsAt, told_after}
 use Rattle.bk_compact.proofs.Positions.{none_bad}
 use Rattle.bk_compact.proofs.Stored.{scan_found, scan_come, scan_taken, source_bytes, source_honest, source_spelled}
-
--- ---- one entry more
-
-pub found_push : (entries : List (ℕ × List ℕ)) (founds : List Found) (entry : ℕ × List ℕ) (found : Found) → AreFound entries founds → IsFound entry found
-    → AreFound (entries ++ entry ∷ []) (founds ++ found ∷ [])
-found_push [] [] entry found all is = (is, tt)
-found_push [] (f ∷ founds) entry found all is = absurd all
-found_push (e ∷ entries) [] entry found all is = absurd all
-found_push (e ∷ entries) (f ∷ founds) entry found all is = (all.0, found_push entries founds entry found all.1 is)
-
-abbrev pub one : Bool → ℕ
-one is_copied = if is_copied then 1 else 0
-
-pub examined_push : (s : State) (job : Job) (founds : List Found) (copied : ℕ) (mid : State) (next : Job) (found : Found) (is_copied : Bool)
-    (t : State) (after : Job)
-    → ExaminesAll s job founds copied mid next → Examines mid next found is_copied t after
-    → ExaminesAll s job (founds ++ found ∷ []) (copied + one is_copied) t after
-examined_push s job [] copied mid next found is_copied t after all last =
-    let here : Examines s job found is_copied t after =
-    subst (λ (j : Job). Examines s j found is_copied t after) all.2 (subst (λ (u : State). Examines u next found is_copied t after) all.1 last) in
-    (is_copied, (t, (after, here, (0, omega (arith, all.0), (refl, refl, refl)))))
-examined_push s job (f ∷ founds) copied mid next found is_copied t after all last =
-    let rest = all.1.1.2 in (
-      all.0,
-      (
-        all.1.0,
-        (
-          all.1.1.0,
-          all.1.1.1,
-          (
-            rest.0 + one is_copied,
-            omega (arith, rest.1),
-            examined_push all.1.0 all.1.1.0 founds rest.0 mid next found is_copied t after rest.2 last,
-          ),
-        ),
-      ),
-    )
-
--- no more were copied than were examined
-pub copied_few : (s : State) (job : Job) (founds : List Found) (copied : ℕ) (t : State) (after : Job) → ExaminesAll s job founds copied t after
-    → copied ≤ length founds
-copied_few s job [] copied t after all = omega (arith, all.0)
-copied_few s job (f ∷ founds) copied t after all =
-    let rest = all.1.1.2 in
-    let few = copied_few all.1.0 all.1.1.0 founds rest.0 t after rest.2 in
-    omega (arith, rest.1, few, at_most all.0)
-  where
-    at_most : (b : Bool) → one b ≤ 1
-    at_most true = omega arith
-    at_most false = omega arith
-
--- ---- whether any was examined
-
--- where some were, some were left
-some_left : (l : List (ℕ × List ℕ)) (founds : List Found) → AreFound (take (length founds) l) founds → 1 ≤ length founds → ¬ (l ≡ [])
-some_left [] [] found some none = absurd (omega (arith, some))
-some_left [] (f ∷ founds) found some none = found
-some_left (e ∷ l) founds found some none = cc
-
-no_entries : (l : List (ℕ × List ℕ)) → length l ≤ 0 → l ≡ []
-no_entries [] few = refl
-no_entries (e ∷ l) few = absurd (omega (arith, few))
-
-none_examined : (s : State) (job : Job) (founds : List Found) (copied : ℕ) (t : State) (after : Job) → ExaminesAll s job founds copied t after
-    → length founds ≡ 0 → (t ≡ s) × (after ≡ job)
-none_examined s job [] copied t after all none = (all.1, all.2)
-none_examined s job (f ∷ founds) copied t after all none = absurd (omega (arith, none))
-
-pub out_same : (s : State) → s.job ≡ None → s ≡ with_job s None
-out_same s none = ap (λ j. with_job s j) none
-
-pub stays_itself : (s : State) → KeepsMeaning s s
-stays_itself s = record { honest = refl; meaning = λ _ key. refl }
-
--- ---- the copying so far
+use Rattle.bk_compact.proofs.Examined.{found_push, one, examined_push, some_left, no_entries, none_examined, out_same, stays_itself}
 
 -- So many entries were examined, as the scan gave them, which is one of what the source shows from where the job was.
 pub record IsGoing (view : View) (s : State) (job : Job) (number : ℕ) (scan : Scan) (copied : ℕ) (t : State) (after : Job) : Type 0 where
@@ -440,105 +365,3 @@ module _ (view : View) (s : State) (job : Job) (number : ℕ) (scan : Scan) (cop
 
   pub never_odd : (scan' : Scan) → (IsTrue scan.honest → NextTurn scan (Err scans.Odd) scan') → t.honest ≡ false
   never_odd scan' turn = false_from_ne_true t.honest (λ honest. turn (view_truth honest))
-
--- ---- the scan does not begin
-
-module _ (view : View) (s : State) (kept : IsKept s) (job : Job) (is : IsCopying s job) (last : last_view s.logs job.source ≡ Some view)
-    (before : IsTrue view.is_honest → view_end view.bytes < job.at) where
-  pub view_short : s.honest ≡ false
-  view_short = false_from_ne_true s.honest (λ honest.
-      let read = (is.out.keeps.honest honest).read in
-      let within : job.at ≤ view_end view.bytes =
-      subst (λ (b : List ℕ). job.at ≤ view_end b) (source_bytes s kept job is.out.keeps view last) read.within in
-      omega (arith, within, before (source_honest s kept job is.out.keeps view last honest)))
-
-  pub short_odd : (n : ℕ) (u : State) (later : Job) → SetTurn s job.copy Readable u → CopiesAll s job n (Err stops.Odd) u later
-  short_odd n u later set = (
-    view_short,
-    (
-      0,
-      (
-        s,
-        (
-          job,
-          record { founds = []; bound = omega arith; first = λ _. tt; examined = (refl, out_same s is.out.none, refl) },
-          inl set,
-        ),
-      ),
-    ),
-  )
-
--- ---- whether an entry is left
-
-module _ (view : View) (s : State) (kept : IsKept s) (job : Job) (is : IsJob s job) (last : last_view s.logs job.source ≡ Some view)
-    (scan : Scan) (begins : ScansFrom view.bytes view.is_honest view.is_sound job.at scan) where
-  first_truth : IsTrue s.honest → IsTrue scan.honest
-  first_truth honest = ap (λ (x : Scan). x.honest) begins.is ∙ source_honest s kept job is view last honest
-
-  first_file : scan.file ≡ view.bytes
-  first_file = ap (λ (x : Scan). x.file) begins.is
-
-  first_ends : IsTrue s.honest → scan.end ≡ view_end scan.file
-  first_ends honest = ap (λ (x : Scan). x.end) begins.is ∙ begins.whole (source_honest s kept job is view last honest) ∙ ap view_end (sym first_file)
-
-  first_list : entries_from scan.file scan.from ≡ entries_left s job
-  first_list = ap (λ (b : List ℕ). entries_from b scan.from) (first_file ∙ sym (source_bytes s kept job is view last))
-      ∙ ap (entries_from (open_parts s.logs job.source)) (ap (λ (x : Scan). x.from) begins.is)
-
-  part_list : IsTrue s.honest → entries_in scan.from (part_of scan) ≡ entries_left s job
-  part_list honest = ap (λ k. entries_in scan.from (part scan.file scan.from k)) (first_ends honest) ∙ first_list
-
-  none_given : scan.given ≡ 0
-  none_given = ap (λ (x : Scan). x.given) begins.is
-
-  pub at_end_none : (scan' : Scan) → NextMoves scan (Ok None) scan' → (IsTrue scan.honest → NextTurn scan (Ok None) scan') → IsAtEnd s job true
-  at_end_none scan' moves turn = λ honest.
-      let is' = turn (first_truth honest) in
-      let shape = moves.1 in
-      let list : entries_in scan'.from (part_of scan') ≡ entries_left s job =
-      (λ i. entries_in (ap (λ (x : Scan). x.from) shape i)
-      (part (ap (λ (x : Scan). x.file) shape i) (ap (λ (x : Scan). x.from) shape i) (ap (λ (x : Scan). x.end) shape i)))
-      ∙ part_list honest in
-      let count : 0 ≡ length (entries_left s job) = sym none_given ∙ sym (ap (λ (x : Scan). x.given) shape) ∙ is'.given ∙ ap length list in
-      empty (entries_left s job) (omega (arith, count))
-    where
-      empty : (l : List (ℕ × List ℕ)) → length l ≤ 0 → l ≡ []
-      empty [] few = refl
-      empty (x ∷ l) few = absurd (omega arith)
-
-  pub at_end_some : (found : Found) (scan' : Scan) → (IsTrue scan.honest → NextTurn scan (Ok (Some found)) scan') → IsAtEnd s job false
-  at_end_some found scan' turn = λ honest none.
-      let is' = turn (first_truth honest) in
-      let listed : slice_get (entries_left s job) 0 ≡ Some (found.at, is'.payload) =
-      ap (λ (l : List (ℕ × List ℕ)). slice_get l 0) (sym (part_list honest))
-      ∙ ap (slice_get (entries_in scan.from (part_of scan))) (sym none_given) ∙ is'.listed in
-      not_there (entries_left s job) (found.at, is'.payload) none listed
-    where
-      not_there : (l : List (ℕ × List ℕ)) (e : ℕ × List ℕ) → l ≡ [] → slice_get l 0 ≡ Some e → ⊥
-      not_there [] e none wrong = cc
-      not_there (x ∷ l) e none wrong = cc
-
-  pub at_end : (o : Option Found) (answer : Bool) → is_some o ≡ not answer → (scan' : Scan) → NextMoves scan (Ok o) scan'
-      → (IsTrue scan.honest → NextTurn scan (Ok o) scan') → IsAtEnd s job answer
-  at_end None true told scan' moves turn = at_end_none scan' moves turn
-  at_end None false told scan' moves turn = cc
-  at_end (Some found) true told scan' moves turn = cc
-  at_end (Some found) false told scan' moves turn = at_end_some found scan' turn
-
-  pub read_fails : (fault : ScanFault) (scan' : Scan) → NextMoves scan (Err fault) scan' → (IsTrue scan.honest → NextTurn scan (Err fault) scan')
-      → (fault ≡ scans.Disk → scan.sound ≡ false) → SourceFails s job (told_unread (told_read fault))
-  read_fails scans.Disk scan' moves turn cause = (view, last, sym (ap (λ (x : Scan). x.sound) begins.is) ∙ cause refl)
-  read_fails scans.Memory scan' moves turn cause = refl
-  read_fails scans.Odd scan' moves turn cause = false_from_ne_true s.honest (λ honest. turn (first_truth honest))
-  read_fails (scans.BadLength at value) scan' moves turn cause = false_from_ne_true s.honest (λ honest.
-      let bad = (turn (first_truth honest)).1 in
-      let list : part_of scan' ≡ part scan.file scan.from (view_end scan.file) =
-      (λ i. part (ap (λ (x : Scan). x.file) moves i) (ap (λ (x : Scan). x.from) moves i) (ap (λ (x : Scan). x.end) moves i))
-      ∙ ap (part scan.file scan.from) (first_ends honest) in
-      let spelled = source_spelled s kept job is view last honest in
-      let bytes : open_parts s.logs job.source ≡ scan.file = source_bytes s kept job is view last ∙ sym first_file in
-      let read = subst (λ (b : List ℕ). IsReadTo b scan.from) bytes
-      (subst (IsReadTo (open_parts s.logs job.source)) (sym (ap (λ (x : Scan). x.from) begins.is)) (is.honest honest).read) in
-      none_bad scan.file scan.from read (subst HasNoBadLength (sym first_file) spelled) at value
-      (subst (λ (b : List ℕ). IsBadAt scan.from b at value) list
-      (subst (λ n. IsBadAt n (part_of scan') at value) (ap (λ (x : Scan). x.from) moves) bad)))

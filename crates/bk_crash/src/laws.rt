@@ -3,6 +3,9 @@
 ghost use Rattle.std.specs.Prelude.{◌≡◌, ℕ, List, true};
 ghost use Rattle.bk_record.specs.Files.{Files, file_of};
 ghost use Rattle.bk_record.specs.Scan.{Payloads};
+ghost use Rattle.bk_disk.specs.Marks.{Marks, AreCut};
+ghost use Rattle.bk_mark.specs.Marking.{Written, AreCovered, sure_fronts};
+ghost use Rattle.bk_crash.specs.Damage.{MayDamage};
 ghost use Rattle.bk_store.specs.Carried.{Carries};
 ghost use Rattle.bk_store.specs.Shown.{Shows};
 ghost use Rattle.bk_store.specs.Logs.{open_parts};
@@ -27,4 +30,13 @@ pub fn a_crash_loses_nothing()
         → AreHarmless (file_of gone) s.index (written_at s) s.ledgers.dead map → AreSynced kept (open_parts s.logs)
         → MayLeave s.files gone kept left → IsOpened true left settings dead t → StayDead s.ledgers.dead t.ledgers.dead
         → (found : Payloads) × (IsMeaning found t × IsBetween s.index map t.ledgers.dead found) }
+{}
+
+/// What a crash leaves of logs that have marks, whatever a device left behind the bytes that it was asked to keep, is what a
+/// crash may leave once each log is cut to its mark. So all that holds of what a store keeps through a crash holds beside a
+/// disk that marks its logs, on such a device too.
+pub fn a_mark_makes_a_cut()
+    ensures { (files gone kept left seen : Files) (marks : Written) (found : Marks)
+        → AreCovered kept marks → MayDamage files gone kept marks left found → AreCut left found seen
+        → MayLeave files gone (sure_fronts kept marks) seen }
 {}

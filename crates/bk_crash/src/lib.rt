@@ -5,6 +5,6 @@ mod laws;
 mod power_disk;
 mod written;
 
-pub use laws::{a_crash_loses_nothing, a_cut_opens};
+pub use laws::{a_crash_loses_nothing, a_cut_opens, a_mark_makes_a_cut};
 pub use power_disk::PowerDisk;
 pub use written::{Choices, File, Written};

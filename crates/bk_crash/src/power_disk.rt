@@ -4,7 +4,7 @@ ghost use Rattle.std.specs.Prelude.{◌≡◌, ◌+◌};
 ghost use Rattle.std.specs.Bool.{OnTrue, OnFalse};
 
 use crate::Written;
-use bk_disk::{DiskFault, LogDisk};
+use bk_disk::{DiskFault, LogDisk, MarkDisk};
 use std::alloc::Global;
 
 /// A disk that passes so many calls on. It writes down what was asked of it, for what a loss of power may leave.
@@ -181,5 +181,32 @@ impl<D: LogDisk> LogDisk for PowerDisk<D> {
             self.written.remove(log);
         }
         removed
+    }
+}
+
+impl<D: MarkDisk> MarkDisk for PowerDisk<D> {
+    ghost marks = { λ disk. D.marks disk.inner };
+
+    fn begin_marks(&mut self, alloc: Global) -> Result<(), DiskFault> {
+        if self.power.fails() {
+            return Err(DiskFault::Disk);
+        }
+        self.inner.begin_marks(alloc)
+    }
+
+    fn keep_mark(&mut self, alloc: Global, log: u32, mark: u64) -> Result<(), DiskFault> {
+        let was_dead = self.power.refused > 0;
+        if self.power.fails() {
+            if !was_dead {
+                self.written.mark(log, mark);
+            }
+            return Err(DiskFault::Disk);
+        }
+        let kept = self.inner.keep_mark(alloc, log, mark);
+        if kept.is_ok() {
+            self.written.mark(log, mark);
+            self.written.sync(log);
+        }
+        kept
     }
 }

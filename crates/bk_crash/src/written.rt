@@ -3,6 +3,7 @@
 
 ghost use Rattle.std.specs.Prelude.{◌≤◌};
 
+use bk_record::HEADER_LENGTH;
 use std::alloc::{AllocError, Global};
 use std::collections::BTreeMap;
 
@@ -27,6 +28,22 @@ struct WrittenLog {
     synced: Option<usize>,
     /// Whether the header was patched since.
     is_patched: bool,
+    mark: Mark,
+}
+
+/// The mark that a log has on the device for sure, and the last that was written: how many bytes are to be believed.
+#[derive(Clone, Copy)]
+struct Mark {
+    sure: usize,
+    last: usize,
+}
+
+/// The mark of a log that is made, and of one that was found without one: it has its header, or all that it has.
+fn unmarked(length: usize) -> Mark {
+    Mark {
+        sure: length,
+        last: length,
+    }
 }
 
 /// What was written to the logs of a disk.
@@ -59,6 +76,7 @@ impl Written {
                     bytes: written.bytes.clone()?,
                     synced: written.synced,
                     is_patched: written.is_patched,
+                    mark: written.mark,
                 },
             );
         }
@@ -89,13 +107,14 @@ impl Written {
 
     /// A log that is on the device with all its bytes.
     pub fn find(&mut self, log: u32, bytes: Vec<u8>) {
-        let synced = Some(bytes.len());
+        let length = bytes.len();
         self.put(
             log,
             WrittenLog {
                 bytes,
-                synced,
+                synced: Some(length),
                 is_patched: false,
+                mark: unmarked(length),
             },
         );
     }
@@ -113,6 +132,7 @@ impl Written {
                 bytes,
                 synced: None,
                 is_patched: false,
+                mark: unmarked(HEADER_LENGTH),
             },
         );
     }
@@ -142,6 +162,14 @@ impl Written {
         if let Some(written) = self.logs.get_mut(&log) {
             written.synced = Some(written.bytes.len());
             written.is_patched = false;
+            written.mark.sure = written.mark.last;
+        }
+    }
+
+    /// A mark was written. It may be on the device or not, until the log is synced.
+    pub(crate) fn mark(&mut self, log: u32, mark: u64) {
+        if let Some(written) = self.logs.get_mut(&log) {
+            written.mark.last = mark as usize;
         }
     }
 
@@ -178,6 +206,85 @@ impl Written {
         }
         Ok(left)
     }
+}
+
+impl Written {
+    /// Files that a loss of power may leave on a device that leaves any bytes behind those that were synced, each cut to the
+    /// mark that is found in it.
+    pub fn damaged<C: Choices>(
+        &self,
+        alloc: Global,
+        choices: &mut C,
+    ) -> Result<Vec<File>, AllocError> {
+        let mut left = Vec::new(alloc);
+        for (log, written) in self.logs.iter() {
+            if written.synced.is_none() && choices.up_to(3) == 0 {
+                continue;
+            }
+            left.push((*log, written.damaged(alloc, choices)?))?;
+        }
+        for (log, bytes) in self.gone.iter() {
+            if !self.logs.contains_key(log) && choices.up_to(1) == 0 {
+                left.push((*log, beginning(alloc, bytes, 0, choices)?))?;
+            }
+        }
+        Ok(left)
+    }
+}
+
+impl WrittenLog {
+    /// What a loss of power leaves in front of the mark.
+    fn damaged<C: Choices>(&self, alloc: Global, choices: &mut C) -> Result<Vec<u8>, AllocError> {
+        let mark = match choices.up_to(1) {
+            0 => self.mark.sure,
+            _ => self.mark.last,
+        };
+        let mut bytes = match self.synced {
+            Some(synced) => first(alloc, &self.bytes, synced)?,
+            None => beginning(alloc, &self.bytes, 0, choices)?,
+        };
+        if self.synced.is_some() {
+            add_damage(alloc, &mut bytes, &self.bytes, choices)?;
+        }
+        if self.is_patched {
+            spoil(&mut bytes, choices);
+        }
+        bytes.truncate(mark);
+        Ok(bytes)
+    }
+}
+
+/// A record that nobody wrote.
+const RECORD: [u8; 28] =
+    *b"\x00\x00\x00\x18\x00\x00\x00\x00\x00\x00\x00\x4d\x00\x00\x00\x00\x00\x00\x00\x01mmmmmmmm";
+
+/// What a device may leave behind the bytes that were synced: nothing, zeros, old bytes, what was written there, or a record
+/// that nobody wrote.
+fn add_damage<C: Choices>(
+    alloc: Global,
+    bytes: &mut Vec<u8>,
+    file: &[u8],
+    choices: &mut C,
+) -> Result<(), AllocError> {
+    match choices.up_to(4) {
+        0 => Ok(()),
+        1 => add_all(bytes, &vec![in alloc; 0u8; choices.up_to(100)]?),
+        2 => add_all(bytes, &vec![in alloc; 0xa5u8; choices.up_to(100)]?),
+        3 => {
+            let from = bytes.len().min(file.len());
+            add_all(bytes, &file[from..])
+        }
+        _ => add_all(bytes, &RECORD),
+    }
+}
+
+fn add_all(bytes: &mut Vec<u8>, more: &[u8]) -> Result<(), AllocError> {
+    bytes.extend_from_slice(more)
+}
+
+/// The first bytes of a file, so many, or all where it has fewer.
+fn first(alloc: Global, file: &[u8], count: usize) -> Result<Vec<u8>, AllocError> {
+    Vec::from_slice(alloc, &file[..count.min(file.len())])
 }
 
 /// Writes twelve bytes over those at byte 8, where there are so many.

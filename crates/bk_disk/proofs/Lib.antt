@@ -8,3 +8,4 @@ pub mod Bounds
 pub mod Causes
 pub mod Digits
 pub mod KeepsMore
+pub mod Marks

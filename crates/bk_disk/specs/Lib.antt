@@ -4,3 +4,4 @@ pub mod Logs
 pub mod Failing
 pub mod Names
 pub mod Durable
+pub mod Marks

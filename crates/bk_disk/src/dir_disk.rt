@@ -9,7 +9,7 @@ ghost use Rattle.bk_disk.specs.Disk.{HasCause};
 
 use crate::disk::HEADER;
 use crate::folder::{Folder, fault_of};
-use crate::{DirView, DiskFault, FolderFault, LogDisk};
+use crate::{DirView, DiskFault, FolderFault, LogDisk, MarkDisk};
 use std::alloc::Global;
 
 /// A folder of entry logs, each a file of the name that `name_of` gives it. Other names are passed over, and so is a folder
@@ -59,6 +59,12 @@ impl DirDisk {
             folder,
             failures: 0,
         })
+    }
+
+    /// Whether a log of the folder has a mark. Faults: `Disk`, `Memory`; `NoLog` where one goes meanwhile.
+    pub fn has_marks(&mut self, alloc: Global) -> Result<bool, DiskFault> {
+        let answer = self.folder.has_marks(alloc);
+        counted(&mut self.failures, answer)
     }
 }
 
@@ -140,6 +146,24 @@ impl LogDisk for DirDisk {
 
     fn remove(&mut self, alloc: Global, log: u32) -> Result<(), DiskFault> {
         let answer = self.folder.unlink(alloc, log);
+        counted(&mut self.failures, answer)
+    }
+}
+
+/// A log's mark stands in its header at 20 to 32: the letters `mark`, and how many bytes of the file are to be believed, eight
+/// bytes, big-endian (this project's rule; a bookie has zeros there and ignores them). Something else there is left as it is,
+/// and the log read to its end; a file that is shorter, or begins with 32 zeros, had its header not written. A log that has a
+/// mark is marked anew when its header is patched.
+impl MarkDisk for DirDisk {
+    ghost marks = { λ _. map.empty };
+
+    fn begin_marks(&mut self, alloc: Global) -> Result<(), DiskFault> {
+        let answer = self.folder.begin_marks(alloc);
+        counted(&mut self.failures, answer)
+    }
+
+    fn keep_mark(&mut self, alloc: Global, log: u32, mark: u64) -> Result<(), DiskFault> {
+        let answer = self.folder.keep_mark(alloc, log, mark);
         counted(&mut self.failures, answer)
     }
 }

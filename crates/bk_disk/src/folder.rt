@@ -3,9 +3,13 @@
 //! A log that this disk makes or writes is kept open until it is sealed (`kept.rt`); every other call opens the log's file
 //! anew. The folder itself is synced with each file that is made or removed, so that a name stays as the file does.
 
+ghost use Rattle.std.specs.Prelude.{◌≤◌, length};
+
 use crate::dir_view::read_range;
+use crate::disk::HEADER;
 use crate::kept::{KeptLog, KeptLogs};
 use crate::lock::WriterLock;
+use crate::mark::{MARK_AT, MARK_END, has_mark, mark_bytes, mark_in, takes_mark};
 use crate::{DiskFault, FolderFault, log_of, name_of};
 use std::alloc::Global;
 use std::fs::{self, DirEntry, File, OpenOptions};
@@ -20,6 +24,8 @@ pub(crate) struct Folder {
     /// The lock of the folder, from the first call on that writes.
     lock: Option<WriterLock>,
     kept: KeptLogs,
+    /// Whether a log that is made gets a mark.
+    has_marks: bool,
 }
 
 impl Folder {
@@ -33,6 +39,7 @@ impl Folder {
                 path,
                 lock: None,
                 kept,
+                has_marks: false,
             }),
             Err(reason) => Err(FolderFault::Refused { path, reason }),
         }
@@ -177,6 +184,9 @@ impl Folder {
         bytes: &[u8],
     ) -> Result<(), DiskFault> {
         if let Some(kept) = self.kept.find(log) {
+            if self.has_marks && kept.is_empty() && bytes.len() >= MARK_END {
+                return kept.append(&marked(alloc, bytes)?);
+            }
             return kept.append(bytes);
         }
         self.begin_write(alloc)?;
@@ -189,7 +199,7 @@ impl Folder {
     }
 
     /// Writes twelve bytes over those at byte 8 of a log's file. By this a log is sealed, so its file is synced and kept no
-    /// longer.
+    /// longer. Where it has a mark, this says then that the file is to be believed to its end.
     pub(crate) fn write_patch(
         &mut self,
         alloc: Global,
@@ -197,18 +207,87 @@ impl Folder {
         bytes: &[u8; 12],
     ) -> Result<(), DiskFault> {
         self.begin_write(alloc)?;
-        let (file, length) = self.open_log(alloc, log, OpenOptions::new().write(true))?;
+        let (file, length) = self.open_to_change(alloc, log)?;
         if length < 20 {
             return Err(DiskFault::PastEnd);
         }
         file.write_all_at(bytes, 8)
             .map_err(|error| device_fault(&error))?;
-        match self.kept.find(log) {
-            Some(kept) => kept.sync()?,
-            None => file.sync_all().map_err(|error| device_fault(&error))?,
+        self.sync_log(log, &file)?;
+        if length >= MARK_END as u64 && has_mark(&front_of(&file)?) {
+            write_mark(&file, length)?;
+            self.sync_log(log, &file)?;
         }
         self.kept.let_go(log);
         Ok(())
+    }
+
+    // Asks the device to keep a log's file, which is open here, and may be kept open too.
+    fn sync_log(&mut self, log: u32, file: &File) -> Result<(), DiskFault> {
+        match self.kept.find(log) {
+            Some(kept) => kept.sync(),
+            None => file.sync_all().map_err(|error| device_fault(&error)),
+        }
+    }
+
+    /// Whether a log of the folder has a mark.
+    pub(crate) fn has_marks(&mut self, alloc: Global) -> Result<bool, DiskFault> {
+        for log in &self.ids(alloc)? {
+            let (file, length) = self.open_to_read(alloc, *log)?;
+            if length >= MARK_END as u64 && has_mark(&front_of(&file)?) {
+                return Ok(true);
+            }
+        }
+        Ok(false)
+    }
+
+    /// Begins to keep marks: each log's file is cut to its mark, where it has one, and each that is made from now on has one
+    /// behind its header.
+    pub(crate) fn begin_marks(&mut self, alloc: Global) -> Result<(), DiskFault> {
+        self.begin_write(alloc)?;
+        for log in &self.ids(alloc)? {
+            self.cut_to_mark(alloc, *log)?;
+        }
+        self.has_marks = true;
+        Ok(())
+    }
+
+    // Cuts a log's file to its mark, where it has one. A file that is too short for a mark had its header not written.
+    fn cut_to_mark(&mut self, alloc: Global, log: u32) -> Result<(), DiskFault> {
+        let (file, length) = self.open_to_change(alloc, log)?;
+        let mark = if length < MARK_END as u64 {
+            Some(0)
+        } else {
+            mark_in(&front_of(&file)?)
+        };
+        match mark {
+            Some(mark) if mark < length => {
+                file.set_len(mark).map_err(|error| device_fault(&error))
+            }
+            _ => Ok(()),
+        }
+    }
+
+    /// Writes a mark into a log's header, so many bytes of the file being to be believed, and asks the device to keep it. A file
+    /// that has something else in its place is from elsewhere, and is left as it is; one that is too short for a mark has none
+    /// in front of its first record.
+    pub(crate) fn keep_mark(
+        &mut self,
+        alloc: Global,
+        log: u32,
+        mark: u64,
+    ) -> Result<(), DiskFault> {
+        self.begin_write(alloc)?;
+        let (file, has) = self.open_to_change(alloc, log)?;
+        if has >= MARK_END as u64 {
+            write_mark(&file, mark)?;
+        }
+        self.write_through(alloc, log)
+    }
+
+    // A log's file, opened to be read and written, and its length.
+    fn open_to_change(&mut self, alloc: Global, log: u32) -> Result<(File, u64), DiskFault> {
+        self.open_log(alloc, log, OpenOptions::new().read(true).write(true))
     }
 
     /// `n` bytes of a log's file from a position on.
@@ -247,6 +326,34 @@ impl Folder {
         self.kept.let_go(log);
         self.sync_names().map_err(|error| device_fault(&error))
     }
+}
+
+// The bytes of a file that tell of its mark.
+fn front_of(file: &File) -> Result<[u8; MARK_END], DiskFault> {
+    let mut front = [0; MARK_END];
+    match file.read_exact_at(&mut front, 0) {
+        Ok(()) => Ok(front),
+        Err(error) => Err(device_fault(&error)),
+    }
+}
+
+// Writes a mark into a file that has room for one, where nothing else stands there, or this very mark.
+fn write_mark(file: &File, mark: u64) -> Result<(), DiskFault> {
+    let front = front_of(file)?;
+    if !takes_mark(&front) || mark_in(&front) == Some(mark) {
+        return Ok(());
+    }
+    file.write_all_at(&mark_bytes(mark), MARK_AT)
+        .map_err(|error| device_fault(&error))
+}
+
+// A new log's header with a mark: nothing behind it is to be believed.
+fn marked(alloc: Global, header: &[u8]) -> Result<Vec<u8>, DiskFault>
+    requires { 32 ≤ length header.now }
+{
+    let mut bytes = Vec::from_slice(alloc, header).map_err(|_| DiskFault::Memory)?;
+    bytes[20..32].copy_from_slice(&mark_bytes(HEADER));
+    Ok(bytes)
 }
 
 /// What a refusal of the folder is to a call on the disk.

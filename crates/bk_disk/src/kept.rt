@@ -39,6 +39,11 @@ impl KeptLog {
         }
     }
 
+    /// Whether nothing was written yet.
+    pub(crate) fn is_empty(&self) -> bool {
+        self.length == 0
+    }
+
     /// Writes at the file's end. Faults: `Disk`, also where the log is lost, `TooLong`.
     pub(crate) fn append(&mut self, bytes: &[u8]) -> Result<(), DiskFault> {
         if self.is_lost {

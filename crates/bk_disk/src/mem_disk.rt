@@ -5,9 +5,10 @@
 ghost use Rattle.std.specs.Prelude.{◌≡◌, true, IfOk};
 ghost use Rattle.std.specs.FinMap as map;
 ghost use Rattle.bk_disk.specs.Logs.{listed, IsListing};
+ghost use Rattle.bk_disk.specs.Marks.{whole_marks};
 
 use crate::blocks::Blocks;
-use crate::{DiskFault, LogDisk, MemView};
+use crate::{DiskFault, LogDisk, MarkDisk, MemView};
 use bk_record::MAX_LOG_LENGTH;
 use std::alloc::{AllocError, Global};
 use std::collections::BTreeMap;
@@ -158,5 +159,18 @@ impl LogDisk for MemDisk {
             Some(_) => Ok(()),
             None => Err(DiskFault::NoLog),
         }
+    }
+}
+
+/// Nothing that a disk in memory has is lost to a crash: each log is believed whole.
+impl MarkDisk for MemDisk {
+    ghost marks = { λ disk. whole_marks disk };
+
+    fn begin_marks(&mut self, _alloc: Global) -> Result<(), DiskFault> {
+        Ok(())
+    }
+
+    fn keep_mark(&mut self, alloc: Global, log: u32, _mark: u64) -> Result<(), DiskFault> {
+        self.sync(alloc, log)
     }
 }

@@ -6,6 +6,7 @@ mod failing;
 mod folder;
 mod large;
 mod listing;
+mod marks;
 mod names;
 mod refused;
 mod table;

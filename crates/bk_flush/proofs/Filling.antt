@@ -7,7 +7,7 @@ use Rattle.bk_record.proofs.Limits.{first_ends_short}
 use Rattle.bk_log.specs.declared.fault.LogFault.{LogFault}
 use Rattle.bk_log.specs.declared.fault.LogFault.TheVariants as log_faults
 use Rattle.bk_log.specs.Writing.{new_writing}
-use Rattle.bk_store.specs.Logs.{Log, closed_log, made_log}
+use Rattle.bk_store.specs.Logs.{Log, unwritten_log, made_log}
 use Rattle.bk_store.specs.State.{State}
 use Rattle.bk_store.specs.Doors.{CanTake, HasNoWriting, IsIn, IsWritingLog, MakeTurn, MayMake, Seals}
 use Rattle.bk_store.specs.declared.answer.MakeFault.{MakeFault}
@@ -50,9 +50,9 @@ fill_refused s mid filled id fault same seals = subst (λ f. FillTurn s f (Err f
 -- no log is Writing once that one is sealed
 none_sealed : (s mid : State) (id : ℕ) → ((other : ℕ) → IsIn s other Writing → other ≡ id) → Seals s id Filled (Ok tt) mid → HasNoWriting mid
 none_sealed s mid id only seals other is =
-    let at : finite.get (finite.insert s.logs id (closed_log Filled seals.log)) other ≡ Some is.log =
+    let at : finite.get (finite.insert s.logs id (unwritten_log Filled seals.log)) other ≡ Some is.log =
     ap (λ (x : State). finite.get x.logs other) (sym seals.left) ∙ is.held in
-    elim (log-insert_cases s.logs id (closed_log Filled seals.log) other is.log at) [
+    elim (log-insert_cases s.logs id (unwritten_log Filled seals.log) other is.log at) [
       | inl here ↦ let wrong : Filled ≡ Writing = ap (λ (l : Log). l.state) here.1 ∙ is.state_is in cc
       | inr else ↦ else.0 (only other (record { log = is.log; held = else.1; state_is = is.state_is }))
     ]
@@ -66,7 +66,7 @@ pub still_may : (s mid : State) (filled : Option ℕ) → FillTurn s filled (Ok 
 still_may s mid None same may = subst MayMake (sym same) may
 still_may s mid (Some id) seals may =
     let logs : finite.len mid.logs ≡ finite.len s.logs =
-    ap (λ (x : State). finite.len x.logs) seals.left ∙ same_len s.logs id seals.log (closed_log Filled seals.log) seals.writer.held in
+    ap (λ (x : State). finite.len x.logs) seals.left ∙ same_len s.logs id seals.log (unwritten_log Filled seals.log) seals.writer.held in
     let slots : mid.settings.slots ≡ s.settings.slots = ap (λ (x : State). x.settings.slots) seals.left in
     let next : mid.next ≡ s.next = ap (λ (x : State). x.next) seals.left in
     let room = may.room in

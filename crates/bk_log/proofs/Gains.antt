@@ -29,7 +29,7 @@ use Rattle.bk_log.specs.declared.fault.LogFault.{LogFault}
 use Rattle.bk_log.specs.declared.fault.LogFault.TheVariants.{Disk, Failed, Memory, Odd}
 use Rattle.bk_log.specs.declared.fault.CreateFault.{CreateFault}
 use Rattle.bk_log.specs.Places.{HasRecordAt}
-use Rattle.bk_log.specs.Writing.{Writing, Writes, CreateTurn, CreateFails, PutTurn}
+use Rattle.bk_log.specs.Writing.{Writing, Writes, CreateTurn, CreateFails, AppendTurn}
 use Rattle.bk_log.specs.Growing.{Gains, HasNoBadLength, PutGains, put_record}
 use Rattle.bk_log.proofs.Fetches.{record_fits}
 use Rattle.bk_log.proofs.Files.{grown-stands}
@@ -190,7 +190,7 @@ put_part files files' w payload n writes legal is =
     ]
 
 pub put_gains : (files files' : Files) (w : Writing) (payload : List ℕ) (result : Result Place LogFault) → Writes files w → IsPayload payload
-    → PutTurn files w payload result files' → PutGains files w payload result files'
+    → AppendTurn files w payload result files' → PutGains files w payload result files'
 put_gains files files' w payload (Ok place) writes legal is = put_whole files files' w payload writes legal is
 put_gains files files' w payload (Err Disk) writes legal (n, is) = put_part files files' w payload n writes legal is
 put_gains files files' w payload (Err Failed) writes legal is = gains_same files files' w.log is

@@ -17,7 +17,7 @@ use Rattle.bk_log.specs.Faults.{is_lasting}
 use Rattle.bk_log.specs.Text.{IsLogText}
 use Rattle.bk_log.specs.Sizes.{Sizes, with_bytes, with_record}
 use Rattle.bk_log.specs.Calls.{HasRoom, Adds}
-use Rattle.bk_log.specs.Writing.{Writing, with_put, Puts, PutTurn, Writes}
+use Rattle.bk_log.specs.Writing.{Writing, with_put, Puts, AppendTurn, Writes}
 use Rattle.bk_log.proofs.Files.{grown-stands}
 use Rattle.bk_log.proofs.Sums.{sizes_of-push}
 use Rattle.bk_log.proofs.Makes.{length-empty_header}
@@ -106,21 +106,21 @@ puts_refused w now payload back lasting fault is same told whole never =
 
 -- and the files as the disk left them
 turn_at : (files files' : Files) (w : Writing) (payload : List ℕ) (fault : LogFault)
-    → Adds files w.log (record_of payload) (Err fault) files' → PutTurn files w payload (Err fault) files'
+    → Adds files w.log (record_of payload) (Err fault) files' → AppendTurn files w payload (Err fault) files'
 turn_at files files' w payload Disk adds = adds
 turn_at files files' w payload Failed adds = absurd adds
 turn_at files files' w payload Memory adds = adds
 turn_at files files' w payload Odd adds = adds
 
 pub turn_refused : (files files' : Files) (w now : Writing) (payload bytes : List ℕ) (fault : LogFault) → w ≡ now → bytes ≡ record_of payload
-    → Adds files w.log bytes (Err fault) files' → PutTurn files now payload (Err fault) files'
+    → Adds files w.log bytes (Err fault) files' → AppendTurn files now payload (Err fault) files'
 turn_refused files files' w now payload bytes fault is same adds =
     turn_at files files' now payload fault
     (subst (λ (b : List ℕ). Adds files now.log b (Err fault) files') same (subst (λ (v : Writing). Adds files v.log bytes (Err fault) files') is adds))
 
 -- a writer that may go on is that of the same log
 pub writes_refused : (files files' : Files) (w w' : Writing) (payload : List ℕ) (fault : LogFault) → Writes files w
-    → Puts w payload (Err fault) w' → PutTurn files w payload (Err fault) files' → w'.failed ≡ false → Writes files' w'
+    → Puts w payload (Err fault) w' → AppendTurn files w payload (Err fault) files' → w'.failed ≡ false → Writes files' w'
 writes_refused files files' w w' payload Disk writes puts turn whole = absurd (true≢false (sym (ap (λ v. v.failed) puts.1) ∙ whole))
 writes_refused files files' w w' payload Failed writes puts turn whole = absurd (true≢false (sym puts.0 ∙ sym (ap (λ v. v.failed) puts.1) ∙ whole))
 writes_refused files files' w w' payload Memory writes puts turn whole = rw (puts.1, turn) writes

@@ -55,12 +55,12 @@ Puts w payload (Err Memory) w' = (w.failed ≡ false) × (w' ≡ w)
 Puts w payload (Err Odd) w' = (w.failed ≡ false) × (w' ≡ broken w)
 
 -- `put`, on an honest disk: the record at the end of the log. A failing device leaves a prefix of it, possibly all of it.
-abbrev pub PutTurn : Files → Writing → List ℕ → Result Place LogFault → Files → Type 0
-PutTurn files w payload (Ok _) files' = files' ≡ grown files w.log (record_of payload)
-PutTurn files w payload (Err Disk) files' = (n : ℕ) × (files' ≡ grown files w.log (take n (record_of payload)))
-PutTurn files w payload (Err Failed) files' = files' ≡ files
-PutTurn files w payload (Err Memory) files' = files' ≡ files
-PutTurn files w payload (Err Odd) files' = ⊥
+abbrev pub AppendTurn : Files → Writing → List ℕ → Result Place LogFault → Files → Type 0
+AppendTurn files w payload (Ok _) files' = files' ≡ grown files w.log (record_of payload)
+AppendTurn files w payload (Err Disk) files' = (n : ℕ) × (files' ≡ grown files w.log (take n (record_of payload)))
+AppendTurn files w payload (Err Failed) files' = files' ≡ files
+AppendTurn files w payload (Err Memory) files' = files' ≡ files
+AppendTurn files w payload (Err Odd) files' = ⊥
 
 -- What a refused `create` leaves, by whether it made the file: a file with a prefix of the header, where there was none; or
 -- the files as they were. Want of memory is told only where there was no such file.

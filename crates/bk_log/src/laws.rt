@@ -10,7 +10,7 @@ ghost use Rattle.bk_log.specs.Growing.{Gains, PutGains};
 ghost use Rattle.bk_log.specs.Places.{StandsOnce};
 ghost use Rattle.bk_log.specs.Ranges.{GoesOn, IsPassed, IsWholePart, part};
 ghost use Rattle.bk_log.specs.Sizes.{AddsUp};
-ghost use Rattle.bk_log.specs.Writing.{CreateTurn, PutTurn, Writes, Writing};
+ghost use Rattle.bk_log.specs.Writing.{CreateTurn, AppendTurn, Writes, Writing};
 
 /// A scan from the header's end to a log's end is a scan of the log: the same entries, foreign records and rest.
 pub fn whole_log_is_one_part()
@@ -42,5 +42,5 @@ pub fn logs_only_grow()
     ensures created { (files files' : Files) (log : ℕ) (result : Result Writing CreateFault)
         → CreateTurn files log result files' → Gains files log [] files' }
     ensures put { (files files' : Files) (w : Writing) (payload : List ℕ) (result : Result Place LogFault) → Writes files w
-        → IsPayload payload → PutTurn files w payload result files' → PutGains files w payload result files' }
+        → IsPayload payload → AppendTurn files w payload result files' → PutGains files w payload result files' }
 {}

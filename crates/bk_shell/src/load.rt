@@ -77,7 +77,7 @@ fn load_and_show<T: Threads + Wait + Clock + Sync, W: Write>(
 ) -> Result<bool, LoadFault> {
     let report = match call.folder {
         None => load_on(rt, threads, MemDisk::new(rt.alloc()), call.load)?,
-        Some(path) => match open_or_make(rt, path) {
+        Some(path) => match open_or_make(rt, path, call.marks) {
             Ok(disk) => load_on(rt, threads, disk, call.load)?,
             Err(fault) => return Err(LoadFault::Folder(fault)),
         },

@@ -7,7 +7,7 @@ use Rattle.std.proofs.lemmas.Bool.{eqb-true, eq-eqb}
 use Rattle.bk_record.specs.Key.{EntryKey}
 use Rattle.bk_record.specs.Record.{key_of, is_foreign}
 use Rattle.bk_record.specs.Files.{In}
-use Rattle.bk_store.specs.Logs.{Log, Logs, is_open, is_written, closed_log, published_part, open_parts}
+use Rattle.bk_store.specs.Logs.{Log, Logs, is_open, is_written, unwritten_log, published_part, open_parts}
 use Rattle.bk_store.specs.Kept.{IsHeld}
 use Rattle.bk_store.specs.Beside.{unless_log}
 use Rattle.bk_store.specs.declared.log.LogState.{LogState}
@@ -16,7 +16,7 @@ use Rattle.bk_store.proofs.Cases.{same_or_apart}
 use Rattle.bk_store.proofs.LogMaps.{log-inserted, log-insert_else, log-insert_cases}
 
 -- what is kept of a log that is closed
-pub held_closed : (next id : ℕ) (state : LogState) (log : Log) → is_written state ≡ false → IsHeld next id log → IsHeld next id (closed_log state log)
+pub held_closed : (next id : ℕ) (state : LogState) (log : Log) → is_written state ≡ false → IsHeld next id log → IsHeld next id (unwritten_log state log)
 held_closed next id state log closed was = record {
   below = was.below;
   written = λ wrong. absurd (let both : true ≡ false = sym wrong ∙ closed in cc);

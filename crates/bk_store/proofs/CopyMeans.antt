@@ -12,7 +12,7 @@ use Rattle.bk_store.specs.State.{Parts}
 use Rattle.bk_store.specs.Meaning.{MeansTheSame}
 use Rattle.bk_store.specs.Kept.{Keeps}
 use Rattle.bk_store.specs.Doors.{IsIn, PutTurn}
-use Rattle.bk_store.specs.Copying.{MayCopy, RemoveTurn, without_log}
+use Rattle.bk_store.specs.Copying.{MayCopy, RemoveLogTurn, without_log}
 use Rattle.bk_store.specs.declared.log.LogState.TheVariants.{Closed}
 use Rattle.bk_store.proofs.KeptCopy.{named_mapped}
 use Rattle.bk_store.proofs.SameMeaning.{put_means, part_means, same_files, same_map}
@@ -45,7 +45,7 @@ copy_means p q id key place payload (Err log_faults.Failed) keeps may never hone
 
 -- ---- a log is removed
 
-pub remove_means : (p q : Parts) (id : ℕ) (result : Result (Unit {0}) LogFault) → Keeps p → IsIn p.state id Closed → RemoveTurn p.state id result q.state
+pub remove_means : (p q : Parts) (id : ℕ) (result : Result (Unit {0}) LogFault) → Keeps p → IsIn p.state id Closed → RemoveLogTurn p.state id result q.state
     → IsTrue p.state.honest → MeansTheSame p.state q.state
 remove_means p q id (Ok _) keeps known turn honest =
     subst (MeansTheSame p.state) (sym turn.3)

@@ -49,7 +49,7 @@ module _ (p now : Parts) (here : p ≡ now) (id : ℕ) (key : EntryKey) (payload
 
   pub uncopied_turn : (fault : LogFault) → logs ≡ finite.insert p.state.logs id (put_log is.log is.w payload (Err fault)) → IsPutAt is.w (Err fault)
       → IsCaused p.state.failures failures (◌≡◌ {A = Result Place LogFault} (Err fault) (Err log_faults.Disk))
-      → (IsTrue p.state.honest → writers.PutTurn p.state.files is.w payload (Err fault) files)
+      → (IsTrue p.state.honest → writers.AppendTurn p.state.files is.w payload (Err fault) files)
       → PutTurn now.state id payload (Err fault) later
   uncopied_turn fault put at cause turn =
       subst (λ (n : Parts). PutTurn n.state id payload (Err fault) later) here

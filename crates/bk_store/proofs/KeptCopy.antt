@@ -14,7 +14,7 @@ use Rattle.bk_log.specs.declared.fault.LogFault.{LogFault}
 use Rattle.bk_log.specs.declared.fault.LogFault.TheVariants as log_faults
 use Rattle.bk_log.proofs.Gains.{put_gains}
 use Rattle.bk_accounts.specs.Book.{Book, after_ready, after_count}
-use Rattle.bk_store.specs.Logs.{Log, is_open, closed_log, halted_as, halted_log}
+use Rattle.bk_store.specs.Logs.{Log, is_open, unwritten_log, halted_as, halted_log}
 use Rattle.bk_store.specs.State.{State, Parts}
 use Rattle.bk_store.specs.Kept.{Keeps, Promises}
 use Rattle.bk_store.specs.Putting.{grown_log}
@@ -26,7 +26,8 @@ use Rattle.bk_store.proofs.OneEntry.{one_payload}
 use Rattle.bk_store.proofs.KeptSet.{one_log}
 use Rattle.bk_store.proofs.KeptSeal.{closed_promise, closed_fits, copy_flush, readable_unflushed}
 use Rattle.bk_store.proofs.KeptOne.{with_one, job_in, keeps_failures}
-use Rattle.bk_store.proofs.KeptWrite.{keeps_ready, put_fits, put_gained, put_promises, put_mapped}
+use Rattle.bk_store.proofs.KeptWrite.{put_fits, put_gained, put_promises}
+use Rattle.bk_store.proofs.KeptNoted.{keeps_ready, put_mapped}
 
 -- what the index names has what the map has
 pub named_mapped : (p : Parts) (promise : Promises p) (id : ℕ) (key : EntryKey) (place : Place) (payload : List ℕ) → MayCopy p.state id key place payload
@@ -100,12 +101,12 @@ module _ (p : Parts) (id : ℕ) (key : EntryKey) (place : Place) (payload : List
     halted_kept : Keeps (with_one p id (halted_log log) files failures p.accounts p.writing)
     halted_kept =
         let opened : is_open log.state ≡ true = ap is_open was in
-        let state : closed_log Readable log ≡ halted_log log = ap (λ s. closed_log (halted_as s) log) (sym was) in
+        let state : unwritten_log Readable log ≡ halted_log log = ap (λ s. unwritten_log (halted_as s) log) (sym was) in
         subst (λ l. Keeps (with_one p id l files failures p.accounts p.writing)) state
-        (subst (λ o. Keeps (with_one p id (closed_log Readable log) files failures p.accounts o)) (unwritten_copy p keeps id log held was) (record {
+        (subst (λ o. Keeps (with_one p id (unwritten_log Readable log) files failures p.accounts o)) (unwritten_copy p keeps id log held was) (record {
           fits = closed_fits p keeps id Readable log held takes.w writer refl refl opened files failures (copy_flush p keeps id log held was)
               (λ wrong. absurd (readable_unflushed wrong));
-          job = job_in p.state.keeper p id (closed_log Readable log) files failures p.accounts (unless_log p.writing id) keeps may.idle
+          job = job_in p.state.keeper p id (unwritten_log Readable log) files failures p.accounts (unless_log p.writing id) keeps may.idle
               (λ honest. elim (gained honest) [ inl all ↦ (own_gains (put_record takes.w payload) all).only | inr none ↦ (own_gains [] none).only ]);
           promises = λ honest.
               let promise = keeps.promises honest in

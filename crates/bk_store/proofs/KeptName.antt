@@ -29,7 +29,7 @@ use Rattle.bk_store.proofs.Growing.{entry_same}
 use Rattle.bk_store.proofs.IndexMoves.{carries_sent}
 use Rattle.bk_store.proofs.ShownMoves.{shows_sent}
 use Rattle.bk_store.proofs.Harmless.{harmless_sent}
-use Rattle.bk_store.proofs.KeptWrite.{flush_written}
+use Rattle.bk_store.proofs.KeptNoted.{flush_written}
 use Rattle.bk_store.proofs.JobStays.{job_stays, job_unflushed}
 
 -- ---- the accounts

@@ -23,7 +23,7 @@ use Rattle.bk_store.specs.State.{State, Parts}
 use Rattle.bk_store.specs.Shown.{Shows}
 use Rattle.bk_store.specs.Kept.{Keeps, Fits, Promises, IsBacked, entry_measure, acknowledged_entries}
 use Rattle.bk_store.specs.Doors.{IsIn}
-use Rattle.bk_store.specs.Copying.{RemoveTurn, without_log}
+use Rattle.bk_store.specs.Copying.{RemoveLogTurn, without_log}
 use Rattle.bk_store.specs.Beside.{RemovesBeside, LetsGo, kept_as}
 use Rattle.bk_store.specs.declared.log.LogState.TheVariants.{Writing, Filled, Closed}
 use Rattle.bk_store.proofs.Cases.{same_or_apart}
@@ -242,7 +242,7 @@ module _ (p : Parts) (keeps : Keeps p) (id : ℕ) (log : Log) (held : finite.get
     promises = λ honest. removed_promises (gone honest) (let_go honest) (keeps.promises honest);
   }
 
-pub keeps_remove : (p q : Parts) (id : ℕ) (result : Result (Unit {0}) LogFault) → Keeps p → IsIn p.state id Closed → RemoveTurn p.state id result q.state
+pub keeps_remove : (p q : Parts) (id : ℕ) (result : Result (Unit {0}) LogFault) → Keeps p → IsIn p.state id Closed → RemoveLogTurn p.state id result q.state
     → RemovesBeside (kept_as p q) id result q → LetsGo p id result q → Keeps q
 keeps_remove p q id (Ok _) keeps known turn beside let_go =
     subst Keeps (sym (beside ∙ ap (λ (s : State). record (kept_as p q) { state = s; accounts = after_drop p.accounts id }) turn.3))

@@ -14,7 +14,7 @@ use Rattle.bk_log.specs.Growing.{Gains}
 use Rattle.bk_log.specs.declared.fault.LogFault.{LogFault}
 use Rattle.bk_accounts.specs.Sums.{AreSums}
 use Rattle.bk_store.specs.Shown.{Shows}
-use Rattle.bk_store.specs.Logs.{Log, IsFlushLog, is_open, is_written, closed_log}
+use Rattle.bk_store.specs.Logs.{Log, IsFlushLog, is_open, is_written, unwritten_log}
 use Rattle.bk_store.specs.State.{State, Parts}
 use Rattle.bk_store.specs.Kept.{Keeps, Fits, Promises, entry_measure}
 use Rattle.bk_store.specs.Doors.{IsIdle, MaySeal, Seals, failed_in}
@@ -43,7 +43,7 @@ module _ (p : Parts) (keeps : Keeps p) (id : ℕ) (state : LogState) (log : Log)
     (writer : log.writer ≡ Some w) (closed : is_written state ≡ false) (opened : is_open state ≡ true) (was_open : is_open log.state ≡ true)
     (files : Files) (failures : ℕ) where
   abbrev new : Log
-  new = closed_log state log
+  new = unwritten_log state log
 
   unwritten : ¬ (state ≡ Writing)
   unwritten wrong = absurd (let both : true ≡ false = sym (ap is_written wrong) ∙ closed in cc)
@@ -85,15 +85,15 @@ module _ (p : Parts) (keeps : Keeps p) (id : ℕ) (state : LogState) (log : Log)
 module _ (p : Parts) (keeps : Keeps p) (id : ℕ) (log : Log) (held : finite.get p.state.logs id ≡ Some log) where
   -- the flush's log is Filled, and its places stay in it
   pub filled_flush : log.state ≡ Writing → (key : EntryKey) (place : Place) → finite.get p.state.places key ≡ Some place
-      → IsFlushLog (finite.insert p.state.logs id (closed_log Filled log)) place.log
+      → IsFlushLog (finite.insert p.state.logs id (unwritten_log Filled log)) place.log
   filled_flush was key place is =
-      flush_logs_stay p.state.logs id log (closed_log Filled log) held (λ _. inr refl) place.log (keeps.fits.placed.logs key place is)
+      flush_logs_stay p.state.logs id log (unwritten_log Filled log) held (λ _. inr refl) place.log (keeps.fits.placed.logs key place is)
 
   -- no place is in a copy
   pub copy_flush : log.state ≡ Copying → (key : EntryKey) (place : Place) → finite.get p.state.places key ≡ Some place
-      → IsFlushLog (finite.insert p.state.logs id (closed_log Readable log)) place.log
+      → IsFlushLog (finite.insert p.state.logs id (unwritten_log Readable log)) place.log
   copy_flush was key place is =
-      flush_logs_stay p.state.logs id log (closed_log Readable log) held (λ f. absurd (not_flushed log (inl was) f)) place.log
+      flush_logs_stay p.state.logs id log (unwritten_log Readable log) held (λ f. absurd (not_flushed log (inl was) f)) place.log
       (keeps.fits.placed.logs key place is)
 
 pub readable_unflushed : ¬ ((Readable ≡ Writing) ⊎ (Readable ≡ Filled))
@@ -103,7 +103,7 @@ readable_unflushed (inr wrong) = cc
 module _ (p q : Parts) (id : ℕ) (state : LogState) (result : Result (Unit {0}) LogFault) (keeps : Keeps p) (turn : Seals p.state id state result q.state)
     (closed : is_written state ≡ false) (opened : is_open state ≡ true) (was_open : is_open turn.log.state ≡ true) (beside : SealsBeside p id q) where
   sealed_kept : IsIdle p.state id
-      → Fits (with_one p id (closed_log state turn.log) q.state.files (p.state.failures + failed_in result) p.accounts (unless_log p.writing id)) → Keeps q
+      → Fits (with_one p id (unwritten_log state turn.log) q.state.files (p.state.failures + failed_in result) p.accounts (unless_log p.writing id)) → Keeps q
   sealed_kept idle fits =
       let log = turn.log in
       let by = (keeps.fits.logs.each id log turn.writer.held).by turn.w turn.writer.writer in
@@ -111,7 +111,7 @@ module _ (p q : Parts) (id : ℕ) (state : LogState) (result : Result (Unit {0})
       subst (λ n. Gains p.state.files n (turn.sealed honest).gains.others q.state.files) by.own (turn.sealed honest).gains.gains in
       subst Keeps (sym (beside ∙ ap (λ (s : State). record p { state = s; writing = unless_log p.writing id }) turn.left)) (record {
         fits = fits;
-        job = job_in p.state.keeper p id (closed_log state log) q.state.files (p.state.failures + failed_in result) p.accounts (unless_log p.writing id)
+        job = job_in p.state.keeper p id (unwritten_log state log) q.state.files (p.state.failures + failed_in result) p.accounts (unless_log p.writing id)
             keeps idle (λ honest. (gained honest).only);
         promises = λ honest.
             let promise = keeps.promises honest in

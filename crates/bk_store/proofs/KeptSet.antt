@@ -13,11 +13,11 @@ use Rattle.bk_store.specs.Shown.{Shows}
 use Rattle.bk_lease.specs.declared.slot.Slot.TheVariants as slots
 use Rattle.bk_lease.specs.Values.{SlotTable, with_state as with_slot}
 use Rattle.bk_store.specs.Seated.{IsSeated, slot_state}
-use Rattle.bk_store.specs.Logs.{Log, HasOpenView, is_open, is_written, closed_log, open_parts}
+use Rattle.bk_store.specs.Logs.{Log, HasOpenView, is_open, is_written, unwritten_log, open_parts}
 use Rattle.bk_store.specs.State.{Parts}
 use Rattle.bk_store.specs.Kept.{Keeps, entry_measure}
 use Rattle.bk_store.specs.Doors.{MaySet, SetTurn, IsIn, IsIdle}
-use Rattle.bk_store.specs.Leasing.{CloseTurn}
+use Rattle.bk_store.specs.Leasing.{CloseLogTurn}
 use Rattle.bk_lease.specs.declared.answers.Leased.{Leased}
 use Rattle.bk_store.specs.declared.log.LogState.{LogState}
 use Rattle.bk_store.specs.declared.log.LogState.TheVariants.{Writing, Filled, Copying, Readable, Retired, Closed}
@@ -40,16 +40,16 @@ not_flushed log (inr (inr is)) (inr wrong) = cc
 
 module _ (p : Parts) (keeps : Keeps p) (id : ℕ) (state : LogState) (log : Log) (held : finite.get p.state.logs id ≡ Some log) (idle : IsIdle p.state id)
     (other : ¬ (IsFlushed log)) (closed : is_written state ≡ false) (unflushed : ¬ ((state ≡ Writing) ⊎ (state ≡ Filled)))
-    (keeper : SlotTable) (seated : IsSeated p.state.settings keeper (finite.insert p.state.logs id (closed_log state log))) where
+    (keeper : SlotTable) (seated : IsSeated p.state.settings keeper (finite.insert p.state.logs id (unwritten_log state log))) where
   keeps_closed : ((key : EntryKey) (place : Place) → finite.get p.state.index key ≡ Some place
-      → HasOpenView (finite.insert p.state.logs id (closed_log state log)) place.log)
+      → HasOpenView (finite.insert p.state.logs id (unwritten_log state log)) place.log)
       → (Shows (file_of p.state.files) (open_parts p.state.logs) p.state.index
-      → Shows (file_of p.state.files) (open_parts (finite.insert p.state.logs id (closed_log state log))) p.state.index)
-      → Keeps (with_one_in keeper p id (closed_log state log) p.state.files p.state.failures p.accounts p.writing)
+      → Shows (file_of p.state.files) (open_parts (finite.insert p.state.logs id (unwritten_log state log))) p.state.index)
+      → Keeps (with_one_in keeper p id (unwritten_log state log) p.state.files p.state.failures p.accounts p.writing)
   keeps_closed sent shows =
       let fits = keeps.fits in
       let files = p.state.files in
-      let new = closed_log state log in
+      let new = unwritten_log state log in
       record {
         fits = fits_in p id log new held files p.state.failures p.accounts p.writing keeper seated fits
             (held_closed p.state.next id state log closed (fits.logs.each id log held)) sent
@@ -75,12 +75,12 @@ one_log p id log state held known =
 
 module _ (p : Parts) (keeps : Keeps p) (id : ℕ) (log : Log) (held : finite.get p.state.logs id ≡ Some log) where
   still_seated : (state : LogState) → slot_state id state ≡ slot_state id log.state
-      → IsSeated p.state.settings p.state.keeper (finite.insert p.state.logs id (closed_log state log))
-  still_seated state same = seated_one p.state.settings p.state.keeper p.state.logs keeps.fits.logs.seated id log (closed_log state log) held refl same
+      → IsSeated p.state.settings p.state.keeper (finite.insert p.state.logs id (unwritten_log state log))
+  still_seated state same = seated_one p.state.settings p.state.keeper p.state.logs keeps.fits.logs.seated id log (unwritten_log state log) held refl same
 
-  readable_kept : log.state ≡ Copying → IsIdle p.state id → Keeps (with_one p id (closed_log Readable log) p.state.files p.state.failures p.accounts p.writing)
+  readable_kept : log.state ≡ Copying → IsIdle p.state id → Keeps (with_one p id (unwritten_log Readable log) p.state.files p.state.failures p.accounts p.writing)
   readable_kept was idle =
-      let new = closed_log Readable log in
+      let new = unwritten_log Readable log in
       let opened : is_open new.state ≡ is_open log.state = sym (ap is_open was) in
       keeps_closed p keeps id Readable log held idle (not_flushed log (inl was)) refl (λ wrong. elim wrong [ inl w ↦ cc | inr w ↦ cc ])
       p.state.keeper (still_seated Readable (sym (ap (slot_state id) was)))
@@ -88,9 +88,9 @@ module _ (p : Parts) (keeps : Keeps p) (id : ℕ) (log : Log) (held : finite.get
       (λ shows. subst (λ ps. Shows (file_of p.state.files) ps p.state.index) (λ i q. sym (parts_same p.state.logs id log new held opened refl q) i) shows)
 
   retired_kept : log.state ≡ Readable → log_count p.state.index id ≡ 0 → IsIdle p.state id
-      → Keeps (with_one p id (closed_log Retired log) p.state.files p.state.failures p.accounts p.writing)
+      → Keeps (with_one p id (unwritten_log Retired log) p.state.files p.state.failures p.accounts p.writing)
   retired_kept was none idle =
-      let new = closed_log Retired log in
+      let new = unwritten_log Retired log in
       let unnamed = log_count-zero p.state.index id none in
       keeps_closed p keeps id Retired log held idle (not_flushed log (inr (inl was))) refl (λ wrong. elim wrong [ inl w ↦ cc | inr w ↦ cc ])
       p.state.keeper (still_seated Retired (sym (ap (slot_state id) was)))
@@ -101,9 +101,9 @@ module _ (p : Parts) (keeps : Keeps p) (id : ℕ) (log : Log) (held : finite.get
   -- the log is closed, and its slot with it
   pub closed_kept : log.state ≡ Retired
       → Keeps (with_one_in (with_slot p.state.keeper log.slot (slots.Closed id)) p id
-      (closed_log Closed log) p.state.files p.state.failures p.accounts p.writing)
+      (unwritten_log Closed log) p.state.files p.state.failures p.accounts p.writing)
   closed_kept was =
-      let new = closed_log Closed log in
+      let new = unwritten_log Closed log in
       let hidden : is_open new.state ≡ is_open log.state = sym (ap is_open was) in
       let idle : IsIdle p.state id = λ job is. job_apart p.state job (keeps.job job is) id log held (λ wrong. cc) (λ wrong. cc) in
       keeps_closed p keeps id Closed log held idle (not_flushed log (inr (inr was))) refl (λ wrong. elim wrong [ inl w ↦ cc | inr w ↦ cc ])
@@ -125,7 +125,7 @@ keeps_set p q id Copying keeps never turn beside = absurd never
 
 -- ---- a log is closed to leases
 
-pub keeps_close : (p q : Parts) (id : ℕ) (result : Result (Unit {0}) Leased) → Keeps p → IsIn p.state id Retired → CloseTurn p.state id result q.state
+pub keeps_close : (p q : Parts) (id : ℕ) (result : Result (Unit {0}) Leased) → Keeps p → IsIn p.state id Retired → CloseLogTurn p.state id result q.state
     → q ≡ with_state p q.state → Keeps q
 keeps_close p q id (Ok _) keeps known turn beside =
     subst Keeps (sym (beside ∙ ap (with_state p) turn.1.2)) (closed_kept p keeps id turn.1.0 turn.1.1 (one_log p id turn.1.0 Retired turn.1.1 known))

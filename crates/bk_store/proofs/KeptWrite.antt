@@ -1,16 +1,14 @@
 -- An entry of the flush that is written keeps what a store keeps.
 use Rattle.std.proofs.Common.{◌≡◌, ◌≢◌, inl, inr, ℕ, ◌+◌, ◌≤◌, Bool, true, false, cond, eqb, IsTrue, List, [], ◌∷◌, ◌++◌, length, take}
-use Rattle.std.proofs.Common.{Option, Some, None, IsSome, is_some, option_map, unwrap_or, Result, Ok, Err, Less, refl, sym, ap, subst, ◌∙◌, arith}
-use Rattle.std.specs.Option.{option_or}
+use Rattle.std.proofs.Common.{Option, Some, None, is_some, option_map, unwrap_or, Result, Ok, Err, refl, sym, ap, subst, ◌∙◌, arith}
 use Rattle.std.specs.FinMap as finite
 use Rattle.std.specs.FinSet as set
 use Rattle.std.proofs.lemmas.Bool.{eqb-true, eq-eqb}
-use Rattle.std.proofs.lemmas.Option.{same_Some}
-use Rattle.bk_record.specs.Key.{EntryKey, key_cmp}
+use Rattle.bk_record.specs.Key.{EntryKey}
 use Rattle.bk_record.specs.Location.{Place}
 use Rattle.bk_record.specs.Record.{IsPayload, key_of, record_of}
-use Rattle.bk_record.specs.Files.{Files, file_of, records_of, header_length, In}
-use Rattle.bk_record.specs.Scan.{Payloads, entries_of}
+use Rattle.bk_record.specs.Files.{Files, file_of, records_of, In}
+use Rattle.bk_record.specs.Scan.{entries_of}
 use Rattle.bk_record.specs.Keyed.{log_count}
 use Rattle.bk_record.proofs.Growth.{In-append_right}
 use Rattle.bk_record.proofs.ReadKeys.{addable, addable_payload}
@@ -25,22 +23,19 @@ use Rattle.bk_log.proofs.Writes.{writes_put}
 use Rattle.bk_log.proofs.Tallies.{key_of-ledger}
 use Rattle.bk_cache.specs.Caches as caches
 use Rattle.bk_cache.specs.Kept.{IsSound}
-use Rattle.bk_accounts.specs.Book.{Book, total_in, total_at, after_ready, after_count}
+use Rattle.bk_accounts.specs.Book.{Book, total_in, after_ready, after_count}
 use Rattle.bk_accounts.specs.Sums.{AreSums}
-use Rattle.bk_accounts.proofs.BookLaws.{total_in-after_count, total_in-after_ready, named_in-after_count, named_in-after_ready}
+use Rattle.bk_accounts.proofs.BookLaws.{total_in-after_count, named_in-after_count, named_in-after_ready}
 use Rattle.bk_accounts.proofs.CallerLaws.{sums_ready, sums_count}
 use Rattle.bk_store.specs.Entries.{HasEntry}
 use Rattle.bk_store.specs.Shown.{Shows}
-use Rattle.bk_store.specs.Logs.{Log, IsFlushLog, is_open, closed_log, halted_as, halted_log}
+use Rattle.bk_store.specs.Logs.{Log, is_open, unwritten_log, halted_as, halted_log}
 use Rattle.bk_store.specs.State.{State, Parts}
-use Rattle.bk_store.specs.Meaning.{written_at}
 use Rattle.bk_store.specs.Kept.{Keeps, Fits, Promises, IsHeld, IsWrittenBy, entry_measure, acknowledged_entries}
 use Rattle.bk_store.specs.Putting.{next_place, grown_log}
-use Rattle.bk_store.specs.Doors.{IsIn, MayWrite, WriteTurn, noted}
+use Rattle.bk_store.specs.Doors.{MayWrite, WriteTurn, noted}
 use Rattle.bk_store.specs.Beside.{WritesBeside, unless_log}
 use Rattle.bk_store.specs.declared.log.LogState.TheVariants.{Writing, Filled}
-use Rattle.bk_store.proofs.Cases.{some_or_none}
-use Rattle.bk_store.proofs.KeyMaps.{get-insert_other, inserted_cases, inserted_here, same_key}
 use Rattle.bk_store.proofs.KeptParts.{with_state}
 use Rattle.bk_store.proofs.ShownMoves.{shows_grown}
 use Rattle.bk_store.proofs.LogMaps.{log-inserted}
@@ -51,143 +46,7 @@ use Rattle.bk_store.proofs.KeptSet.{one_log}
 use Rattle.bk_store.proofs.KeptSeal.{closed_promise, closed_fits, filled_flush}
 use Rattle.bk_store.proofs.KeptOne.{with_one, fits_one, promises_one, job_in, keeps_failures}
 use Rattle.bk_store.proofs.JobStays.{job_unflushed}
-
--- a key of the flush has there what the write caches have of it
-pub flush_held : (held : caches.CacheState) (key : EntryKey) (payload : List ℕ) → caches.AreApart held → finite.get (caches.flush_of held) key ≡ Some payload
-    → caches.held held key ≡ Some payload
-flush_held held key payload apart there = elim (some_or_none (finite.get held.active key)) [
-  | inl none ↦ ap (λ o. option_or o (finite.get (caches.flush_of held) key)) none ∙ there
-  | inr active ↦ absurd (let none = apart key (ap is_some active.1) in cc)
-]
-
-pub flush_written : (s : State) (key : EntryKey) (payload : List ℕ) → caches.AreApart s.caches → finite.get (caches.flush_of s.caches) key ≡ Some payload
-    → written_at s key ≡ Some payload
-flush_written s key payload = flush_held s.caches key payload
-
--- the record that is put has what the map has
-pub put_mapped : (map : Payloads) (w : writers.Writing) (key : EntryKey) (payload : List ℕ) → key_of payload ≡ Some key → finite.get map key ≡ Some payload
-    → (at : ℕ) (b : List ℕ) (k : EntryKey) → In (at, b) (put_record w payload) → key_of b ≡ Some k → finite.get map k ≡ Some b
-put_mapped map w key payload keyed mapped at b k there is_key = elim there [
-  | inr never ↦ absurd never
-  | inl here ↦
-      let same : payload ≡ b = ap (λ (r : ℕ × List ℕ). r.1) here in
-      let one : key ≡ k = same_Some key k (sym keyed ∙ ap key_of same ∙ is_key) in
-      ap (λ x. finite.get map x) (sym one) ∙ mapped ∙ ap (λ (x : List ℕ). Some x) same
-]
-
--- ---- room is made in an account
-
-total_readied : (book : Book) (log ledger q : ℕ) → total_at (after_ready book log ledger) q ≡ total_at book q
-total_readied book log ledger q = ap (λ o. unwrap_or o 0) (total_in-after_ready book log ledger q)
-
-pub keeps_ready : (p : Parts) (log ledger : ℕ) → Keeps p → Keeps (record p { accounts = after_ready p.accounts log ledger })
-keeps_ready p log ledger keeps =
-    let fits = keeps.fits in
-    record {
-      fits = record {
-        limits = fits.limits;
-        logs = fits.logs;
-        sent = fits.sent;
-        placed = fits.placed;
-        ledgers = fits.ledgers;
-        accounts = record {
-          named = λ q. named_in-after_ready p.accounts log ledger q ∙ fits.accounts.named q;
-          total = λ q l is. subst (λ n. n + header_length ≤ l.acknowledged) (sym (total_readied p.accounts log ledger q)) (fits.accounts.total q l is);
-        };
-      };
-      job = keeps.job;
-      promises = λ honest.
-          let promise = keeps.promises honest in
-          record {
-            map = promise.map;
-            shows = promise.shows;
-            counted = sums_ready entry_measure promise.counted log ledger;
-            logs = promise.logs;
-            placed = promise.placed;
-          };
-    }
-
--- ---- a place is noted
-
-pub keeps_noted : (p : Parts) (key : EntryKey) (payload : List ℕ) (place : Place) → Keeps p → finite.get (caches.flush_of p.state.caches) key ≡ Some payload
-    → IsIn p.state place.log Writing → finite.get p.state.places key ≡ None
-    → ((earlier : EntryKey) → key_cmp earlier key ≡ Less → IsSome (finite.get (caches.flush_of p.state.caches) earlier)
-    → IsSome (finite.get p.state.places earlier))
-    → (IsTrue p.state.honest → HasEntry (file_of p.state.files) place key payload)
-    → Keeps (with_state p (noted p.state key place))
-keeps_noted p key payload place keeps flushing in_log unplaced first stands =
-    let fits = keeps.fits in
-    let still : (q : EntryKey) → IsSome (finite.get p.state.places q) → IsSome (finite.get (finite.insert p.state.places key place) q) =
-    λ q there. elim (same_key q key) [
-      | inl here ↦ ap is_some (inserted_here p.state.places key place q here)
-      | inr apart ↦ ap is_some (get-insert_other p.state.places key place q apart) ∙ there
-    ] in
-    let not_above : (k : EntryKey) (pl : Place) → finite.get (finite.insert p.state.places key place) k ≡ Some pl → pl.log ≤ place.log =
-    λ k pl is. elim (inserted_cases p.state.places key place k pl is) [
-      | inl here ↦ subst (λ (x : Place). x.log ≤ place.log) here.1 (omega arith)
-      | inr old ↦ fits.placed.newest place.log in_log.log in_log.held in_log.state_is k pl old.1
-    ] in
-    record {
-      fits = record {
-        limits = fits.limits;
-        logs = fits.logs;
-        sent = fits.sent;
-        placed = record {
-          idle = λ none.
-              let gone = ap (λ f. finite.get (caches.flush_of (record p.state.caches { flush = f })) key) none ∙ finite.get-empty key_cmp key in
-              let wrong : ◌≡◌ {A = Option (List ℕ)} (Some payload) None = sym flushing ∙ gone in
-              cc;
-          flushing = λ k pl is. elim (inserted_cases p.state.places key place k pl is) [
-            | inl here ↦ ap (λ (x : EntryKey). is_some (finite.get (caches.flush_of p.state.caches) x)) here.0 ∙ ap is_some flushing
-            | inr old ↦ fits.placed.flushing k pl old.1
-          ];
-          logs = λ k pl is. elim (inserted_cases p.state.places key place k pl is) [
-            | inl here ↦ subst (λ (x : Place). IsFlushLog p.state.logs x.log) here.1
-                (record { log = in_log.log; held = in_log.held; flushed = inl in_log.state_is })
-            | inr old ↦ fits.placed.logs k pl old.1
-          ];
-          front = λ k earlier pl is less there. elim (inserted_cases p.state.places key place k pl is) [
-            | inl here ↦ still earlier (first earlier (ap (λ (x : EntryKey). key_cmp earlier x) (sym here.0) ∙ less) there)
-            | inr old ↦ still earlier (fits.placed.front k earlier pl old.1 less there)
-          ];
-          rising = λ k later pl other is there less. elim (inserted_cases p.state.places key place later other there) [
-            | inl last ↦ subst (λ (x : Place). pl.log ≤ x.log) last.1 (not_above k pl is)
-            | inr was ↦ elim (inserted_cases p.state.places key place k pl is) [
-              | inr old ↦ fits.placed.rising k later pl other old.1 was.1 less
-              | inl here ↦
-                  let had = fits.placed.front later key other was.1 (ap (λ (x : EntryKey). key_cmp x later) (sym here.0) ∙ less) (ap is_some flushing) in
-                  absurd (let both : true ≡ false = sym had ∙ ap is_some unplaced in cc)
-            ]
-          ];
-          newest = λ id log held now k pl is.
-              let one : Some id ≡ Some place.log = sym ((fits.logs.writing id).1 (log, held, now))
-              ∙ (fits.logs.writing place.log).1 (in_log.log, in_log.held, in_log.state_is) in
-              subst (λ n. pl.log ≤ n) (sym (same_Some id place.log one)) (not_above k pl is);
-        };
-        ledgers = fits.ledgers;
-        accounts = fits.accounts;
-      };
-      job = keeps.job;
-      promises = λ honest.
-          let promise = keeps.promises honest in
-          record {
-            map = promise.map;
-            shows = promise.shows;
-            counted = promise.counted;
-            logs = promise.logs;
-            placed = λ k pl is. elim (inserted_cases p.state.places key place k pl is) [
-              | inl here ↦ record {
-                payload = payload;
-                flushing = ap (λ (x : EntryKey). finite.get (caches.flush_of p.state.caches) x) here.0 ∙ flushing;
-                stands = subst (λ x. HasEntry (file_of p.state.files) x k payload) here.1
-                    (subst (λ x. HasEntry (file_of p.state.files) place x payload) (sym here.0) (stands honest));
-              }
-              | inr old ↦
-                  let was = promise.placed k pl old.1 in
-                  record { payload = was.payload; flushing = was.flushing; stands = was.stands }
-            ];
-          };
-    }
+use Rattle.bk_store.proofs.KeptNoted.{flush_written, put_mapped, total_readied, keeps_ready, keeps_noted}
 
 -- ---- the record is written
 
@@ -386,12 +245,12 @@ failed_kept p id key payload keeps may flushing sound log held files failures pa
     (grew.0, grew.1 ∙ ap (λ n. grown p.state.files n (take grew.0 (record_of payload))) (sym own)) in
     let own_gains : (others : List (ℕ × List ℕ)) → Gains p.state.files w.log others files → Gains p.state.files id others files =
     λ others gains. subst (λ n. Gains p.state.files n others files) own gains in
-    let state : closed_log Filled log ≡ halted_log log = ap (λ s. closed_log (halted_as s) log) (sym was) in
+    let state : unwritten_log Filled log ≡ halted_log log = ap (λ s. unwritten_log (halted_as s) log) (sym was) in
     subst (λ l. Keeps (with_one p id l files failures p.accounts None)) state
-    (subst (λ o. Keeps (with_one p id (closed_log Filled log) files failures p.accounts o)) closes (record {
+    (subst (λ o. Keeps (with_one p id (unwritten_log Filled log) files failures p.accounts o)) closes (record {
       fits = closed_fits p keeps id Filled log held w writer refl refl opened files failures (filled_flush p keeps id log held was)
           (λ _. keeps.fits.logs.filled id log held (inl was));
-      job = job_in p.state.keeper p id (closed_log Filled log) files failures p.accounts (unless_log p.writing id) keeps
+      job = job_in p.state.keeper p id (unwritten_log Filled log) files failures p.accounts (unless_log p.writing id) keeps
           (λ job is. job_unflushed p.state job (keeps.job job is) id log held (inl was))
           (λ honest. elim (gained honest) [ inl all ↦ (own_gains (put_record w payload) all).only | inr none ↦ (own_gains [] none).only ]);
       promises = λ honest.

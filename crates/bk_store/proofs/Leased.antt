@@ -4,7 +4,7 @@ use Rattle.std.specs.FinMap as finite
 use Rattle.bk_lease.specs.declared.slot.Slot.TheVariants as slots
 use Rattle.bk_lease.specs.Leases.{IsOpen, state_at}
 use Rattle.bk_lease.specs.Values.{SlotTable, Ticket, MayMeet, held_ticket, new_ticket, with_closed, with_given, with_state}
-use Rattle.bk_store.specs.Logs.{View, Log, Logs, HasOpenView, closed_log, is_open}
+use Rattle.bk_store.specs.Logs.{View, Log, Logs, HasOpenView, unwritten_log, is_open}
 use Rattle.bk_store.specs.Seated.{slot_state}
 use Rattle.bk_store.specs.State.{Parts}
 use Rattle.bk_store.specs.Kept.{Keeps}
@@ -70,7 +70,7 @@ module _ (p now : Parts) (here : p ≡ now) (keeps : Keeps now) (id : ℕ) (log 
     pub close_open : IsOpen p.state.keeper.slots log.slot
     close_open = lent_open (retired_lent log.state (ap (λ (l : Log). l.state) (log_stands known.log known.held) ∙ known.state_is))
 
-    pub log_closed : (logs : Logs) (keeper : SlotTable) → logs ≡ finite.insert p.state.logs id (closed_log Closed log)
+    pub log_closed : (logs : Logs) (keeper : SlotTable) → logs ≡ finite.insert p.state.logs id (unwritten_log Closed log)
         → keeper ≡ with_closed p.state.keeper log.slot → MayMeet p.state.keeper log.slot 0
         → IsMet now.state.keeper now.state.logs id 0
         × ((l : Log) × (finite.get now.state.logs id ≡ Some l) × (record p.state { logs = logs; keeper = keeper } ≡ with_closed_log now.state id l))
@@ -81,11 +81,11 @@ module _ (p now : Parts) (here : p ≡ now) (keeps : Keeps now) (id : ℕ) (log 
         held_now,
         (λ i. record p.state { logs = changed i; keeper = closed i })
             ∙ ap (λ (q : Parts). record q.state {
-              logs = finite.insert q.state.logs id (closed_log Closed log);
+              logs = finite.insert q.state.logs id (unwritten_log Closed log);
               keeper = with_closed q.state.keeper log.slot;
             }) here
             ∙ ap (λ n. record now.state {
-              logs = finite.insert now.state.logs id (closed_log Closed log);
+              logs = finite.insert now.state.logs id (unwritten_log Closed log);
               keeper = with_state now.state.keeper log.slot (slots.Closed n);
             }) (stands_log now.state.keeper now.state.logs keeps.fits.logs.seated.seats id log held_now),
       ),

@@ -34,6 +34,7 @@ pub mod OpenedLogs
 pub mod OpenedLists
 pub mod OpenedHeads
 pub mod OpenedTotals
+pub mod OpenedParts
 pub mod OpenedKeeps
 pub mod OpenedScan
 pub mod OpenedFinds
@@ -51,11 +52,13 @@ pub mod KeptOne
 pub mod KeptShow
 pub mod Closing
 pub mod KeptSet
+pub mod ListedLogs
 pub mod KeptMake
 pub mod MadeLogs
 pub mod ShowTurns
 pub mod KeptSeal
 pub mod Sealing
+pub mod KeptNoted
 pub mod KeptWrite
 pub mod Written
 pub mod AllChanged

@@ -28,7 +28,7 @@ use Rattle.bk_store.specs.Beside.{MakesBeside, HasSlot, HasNoSlot, ListGoesOn, m
 use Rattle.bk_store.specs.declared.log.LogState.{LogState}
 use Rattle.bk_store.specs.declared.log.LogState.TheVariants.{Writing}
 use Rattle.bk_store.specs.declared.answer.MakeFault.{MakeFault}
-use Rattle.bk_store.proofs.KeptMake.{unheld}
+use Rattle.bk_store.proofs.ListedLogs.{unheld}
 use Rattle.bk_store.proofs.LogMaps.{log-inserted}
 use Rattle.bk_store.proofs.ShowTurns.{not_failed, failed_once}
 

@@ -23,7 +23,7 @@ use Rattle.bk_store.specs.Meaning.{KeepsMeaning, MeansTheSame, meaning_at, writt
 use Rattle.bk_store.specs.Kept.{Keeps, Promises}
 use Rattle.bk_store.specs.Putting.{next_place}
 use Rattle.bk_lease.specs.declared.answers.Leased.{Leased}
-use Rattle.bk_store.specs.Leasing.{CloseTurn}
+use Rattle.bk_store.specs.Leasing.{CloseLogTurn}
 use Rattle.bk_store.specs.Doors.{MakeTurn, IsUnmade, MayWrite, WriteTurn, Seals, AllNamed, Ends}
 use Rattle.bk_store.specs.Beside.{WritesBeside}
 use Rattle.bk_store.specs.declared.log.LogState.{LogState}
@@ -33,7 +33,7 @@ use Rattle.bk_store.proofs.Meaning.{carries_meaning}
 use Rattle.bk_store.proofs.Growing.{grows_behind, carries_grown}
 use Rattle.bk_store.proofs.CachedMoves.{carries_let_go}
 use Rattle.bk_store.proofs.Closing.{none_keyed}
-use Rattle.bk_store.proofs.KeptWrite.{flush_written, put_mapped}
+use Rattle.bk_store.proofs.KeptNoted.{flush_written, put_mapped}
 use Rattle.bk_store.proofs.KeptRuled.{let_go}
 
 -- two states of which the same map is carried mean the same
@@ -160,7 +160,7 @@ end_means p q keeps named turn honest =
 
 -- ---- a log is closed
 
-pub close_means : (s t : State) (id : ℕ) (result : Result (Unit {0}) Leased) → CloseTurn s id result t → MeansTheSame s t
+pub close_means : (s t : State) (id : ℕ) (result : Result (Unit {0}) Leased) → CloseLogTurn s id result t → MeansTheSame s t
 close_means s t id (Ok _) turn = subst (MeansTheSame s) (sym turn.1.2) (λ key. refl)
 close_means s t id (Err leased) turn = means_same s t turn.1
 

@@ -8,7 +8,7 @@ use Rattle.bk_disk.specs.Disk.{IsCaused}
 use Rattle.bk_log.specs.Writing as writers
 use Rattle.bk_log.specs.declared.fault.LogFault.{LogFault}
 use Rattle.bk_log.specs.declared.fault.LogFault.TheVariants as log_faults
-use Rattle.bk_store.specs.Logs.{Log, Logs, is_written, closed_log}
+use Rattle.bk_store.specs.Logs.{Log, Logs, is_written, unwritten_log}
 use Rattle.bk_store.specs.State.{Parts}
 use Rattle.bk_store.specs.Kept.{Keeps}
 use Rattle.bk_store.specs.Doors.{MaySeal, Seals, IsWriter, IsSealed, failed_in}
@@ -57,7 +57,7 @@ counted before now (Err log_faults.Odd) cause = let same = not_failed cause (λ 
 sealed_inside : (p : Parts) (id : ℕ) (state : LogState) (is : IsWrittenLog p id) (w : writers.Writing) (result : Result (Unit {0}) LogFault)
     (files : Files) (honest : Bool) (failures : ℕ) (logs : Logs) → w ≡ is.w → honest ≡ p.state.honest
     → IsCaused p.state.failures failures (result ≡ Err log_faults.Disk)
-    → logs ≡ finite.insert p.state.logs id (closed_log state is.log)
+    → logs ≡ finite.insert p.state.logs id (unwritten_log state is.log)
     → ((result ≡ Err log_faults.Failed) ↔ (w.failed ≡ true))
     → (IsTrue p.state.honest → IsSealed p.state w result files)
     → Seals p.state id state result (record p.state { files = files; honest = honest; failures = failures; logs = logs })
@@ -74,7 +74,7 @@ sealed_inside p id state is w result files honest failures logs same same_honest
 pub seal_turn : (p now : Parts) → p ≡ now → (id : ℕ) (state : LogState) (is : IsWrittenLog p id) (w : writers.Writing) (result : Result (Unit {0}) LogFault)
     (files : Files) (honest : Bool) (failures : ℕ) (logs : Logs) → w ≡ is.w → honest ≡ p.state.honest
     → IsCaused p.state.failures failures (result ≡ Err log_faults.Disk)
-    → logs ≡ finite.insert p.state.logs id (closed_log state is.log)
+    → logs ≡ finite.insert p.state.logs id (unwritten_log state is.log)
     → ((result ≡ Err log_faults.Failed) ↔ (w.failed ≡ true))
     → (IsTrue p.state.honest → IsSealed p.state w result files)
     → Seals now.state id state result (record p.state { files = files; honest = honest; failures = failures; logs = logs })

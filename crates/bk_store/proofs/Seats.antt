@@ -9,7 +9,7 @@ use Rattle.bk_lease.specs.Leases.{state_at, log_of, log_at, IsOpen}
 use Rattle.bk_lease.specs.Slots.{IsFree, taken_of}
 use Rattle.bk_lease.specs.Values.{SlotTable, with_state}
 use Rattle.bk_lease.proofs.Slots.{inside_slots, taken_count-set, state_at-set_here, state_at-set_else, other_slot}
-use Rattle.bk_store.specs.Logs.{Log, Logs, closed_log, is_open, is_written}
+use Rattle.bk_store.specs.Logs.{Log, Logs, unwritten_log, is_open, is_written}
 use Rattle.bk_store.specs.Seated.{AreSeated, IsSeated, slot_state}
 use Rattle.bk_store.specs.declared.log.LogState.{LogState}
 use Rattle.bk_store.specs.declared.log.LogState.TheVariants.{Writing, Filled, Copying, Readable, Retired, Closed}
@@ -119,13 +119,13 @@ module _ (keeper : SlotTable) (logs : Logs) (seats : AreSeated keeper logs) wher
 
   -- ---- a log is closed, and its slot
   pub seats_closed : (id : ℕ) (log : Log) → finite.get logs id ≡ Some log
-      → AreSeated (with_state keeper log.slot (slots.Closed id)) (finite.insert logs id (closed_log Closed log))
+      → AreSeated (with_state keeper log.slot (slots.Closed id)) (finite.insert logs id (unwritten_log Closed log))
   seats_closed id log held = record {
     taken = let more = taken_count-set keeper.slots log.slot (slots.Closed id) (stands_inside id log held) in
         let was : taken_of (state_at keeper.slots log.slot) ≡ 1 = ap taken_of (seats.stands id log held) ∙ slot_state-taken id log.state in
-        let len = same_len logs id log (closed_log Closed log) held in
+        let len = same_len logs id log (unwritten_log Closed log) held in
         let same = seats.taken in omega arith;
-    stands = each_log logs id log (closed_log Closed log) held (λ q l. state_at (set keeper.slots log.slot (slots.Closed id)) l.slot ≡ slot_state q l.state)
+    stands = each_log logs id log (unwritten_log Closed log) held (λ q l. state_at (set keeper.slots log.slot (slots.Closed id)) l.slot ≡ slot_state q l.state)
         (state_at-set_here keeper.slots log.slot (slots.Closed id) (stands_inside id log held))
         (λ q l apart is. state_at-set_else keeper.slots log.slot l.slot (slots.Closed id) (slots_apart id q log l held is apart) ∙ seats.stands q l is);
   }
@@ -163,7 +163,7 @@ module _ (settings : Settings) (keeper : SlotTable) (logs : Logs) (seated : IsSe
   }
 
   pub seated_closed : (id : ℕ) (log : Log) → finite.get logs id ≡ Some log
-      → IsSeated settings (with_state keeper log.slot (slots.Closed id)) (finite.insert logs id (closed_log Closed log))
+      → IsSeated settings (with_state keeper log.slot (slots.Closed id)) (finite.insert logs id (unwritten_log Closed log))
   seated_closed id log held = record {
     slots = length-set keeper.slots log.slot (slots.Closed id) ∙ seated.slots;
     most = seated.most;

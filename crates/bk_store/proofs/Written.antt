@@ -20,7 +20,7 @@ use Rattle.std.proofs.lemmas.Bool.{false_from_ne_true}
 use Rattle.bk_cache.specs.Caches.{CacheState, flush_of, cached}
 use Rattle.bk_cache.specs.Kept.{IsSound}
 use Rattle.bk_cache.specs.Recents.{recent_of}
-use Rattle.bk_store.proofs.KeptWrite.{flush_held}
+use Rattle.bk_store.proofs.KeptNoted.{flush_held}
 use Rattle.bk_accounts.specs.Book.{total_in, total_at, after_ready}
 use Rattle.bk_accounts.proofs.BookLaws.{total_in-after_ready}
 use Rattle.bk_record.specs.Keyed.{Places}
@@ -162,7 +162,7 @@ module _ (p now : Parts) (here : p ≡ now) (id : ℕ) (key : EntryKey) (payload
 
   pub failed_inside : (fault : LogFault) → logs ≡ finite.insert p.state.logs id (put_log is.log is.w payload (Err fault)) → IsPutAt is.w (Err fault)
       → IsCaused p.state.failures failures (◌≡◌ {A = Result Place LogFault} (Err fault) (Err log_faults.Disk))
-      → (IsTrue p.state.honest → writers.PutTurn p.state.files is.w payload (Err fault) files)
+      → (IsTrue p.state.honest → writers.AppendTurn p.state.files is.w payload (Err fault) files)
       → PutTurn p.state id payload (Err fault) (record p.state { files = files; honest = honest; failures = failures; logs = logs })
   failed_inside log_faults.Memory put at cause turn = (
     turn,
@@ -192,7 +192,7 @@ module _ (p now : Parts) (here : p ≡ now) (id : ℕ) (key : EntryKey) (payload
   pub failed_turn : (fault : LogFault) (places : Places) → places ≡ p.state.places
       → logs ≡ finite.insert p.state.logs id (put_log is.log is.w payload (Err fault)) → IsPutAt is.w (Err fault)
       → IsCaused p.state.failures failures (◌≡◌ {A = Result Place LogFault} (Err fault) (Err log_faults.Disk))
-      → (IsTrue p.state.honest → writers.PutTurn p.state.files is.w payload (Err fault) files)
+      → (IsTrue p.state.honest → writers.AppendTurn p.state.files is.w payload (Err fault) files)
       → WriteTurn now.state id key payload (Err fault) (record p.state { files = files; honest = honest; failures = failures; logs = logs; places = places })
   failed_turn fault places back put at cause turn =
       subst (λ (n : Parts). WriteTurn n.state id key payload (Err fault)

@@ -52,13 +52,13 @@ abbrev pub without_log : State → ℕ → Log → State
 without_log s id log = record s { logs = finite.remove s.logs id; keeper = with_state s.keeper log.slot Free }
 
 -- A closed log goes, with its file and no other, and its slot is free. A refusal leaves it as it was, and its file.
-abbrev pub RemoveTurn : State → ℕ → Result (Unit {0}) LogFault → State → Type 0
-RemoveTurn s id (Ok _) t = (log : Log) × (finite.get s.logs id ≡ Some log)
+abbrev pub RemoveLogTurn : State → ℕ → Result (Unit {0}) LogFault → State → Type 0
+RemoveLogTurn s id (Ok _) t = (log : Log) × (finite.get s.logs id ≡ Some log)
     × (IsTrue s.honest → t.files ≡ finite.remove s.files id) × (t ≡ without_log (record s { files = t.files }) id log)
-RemoveTurn s id (Err log_faults.Disk) t = (IsTrue s.honest → t.files ≡ s.files) × (t ≡ record s { files = t.files; failures = s.failures + 1 })
-RemoveTurn s id (Err log_faults.Memory) t = (IsTrue s.honest → t.files ≡ s.files) × (t ≡ record s { files = t.files })
-RemoveTurn s id (Err log_faults.Odd) t = (s.honest ≡ false) × (t ≡ record s { files = t.files })
-RemoveTurn s id (Err log_faults.Failed) t = ⊥
+RemoveLogTurn s id (Err log_faults.Disk) t = (IsTrue s.honest → t.files ≡ s.files) × (t ≡ record s { files = t.files; failures = s.failures + 1 })
+RemoveLogTurn s id (Err log_faults.Memory) t = (IsTrue s.honest → t.files ≡ s.files) × (t ≡ record s { files = t.files })
+RemoveLogTurn s id (Err log_faults.Odd) t = (s.honest ≡ false) × (t ≡ record s { files = t.files })
+RemoveLogTurn s id (Err log_faults.Failed) t = ⊥
 
 -- ---- choosing
 

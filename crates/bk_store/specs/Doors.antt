@@ -23,7 +23,7 @@ use Rattle.bk_lease.specs.declared.slot.Slot.TheVariants.{Open}
 use Rattle.bk_lease.specs.Slots.{IsFree}
 use Rattle.bk_lease.specs.Values.{SlotTable, with_state}
 use Rattle.bk_store.specs.Entries.{IsIndexOf}
-use Rattle.bk_store.specs.Logs.{View, Log, Logs, made_log, unmade_log, closed_log, halted_log, with_view, settled_as}
+use Rattle.bk_store.specs.Logs.{View, Log, Logs, made_log, unmade_log, unwritten_log, halted_log, with_view, settled_as}
 use Rattle.bk_store.specs.Logs.{unfilled_as, AllChanged, is_open, open_parts, HasOpenView, IsHeldIn}
 use Rattle.bk_store.specs.Jobs.{Job, with_rebuild}
 use Rattle.bk_store.specs.Putting.{next_place, grown_log}
@@ -177,7 +177,7 @@ pub record Seals (s : State) (id : ℕ) (state : LogState) (result : Result (Uni
   pub sealed : IsTrue s.honest → IsSealed s w result t.files
   pub never : ¬ (result ≡ Err log_faults.Failed)
   pub odd : result ≡ Err log_faults.Odd → s.honest ≡ false
-  pub left : t ≡ with_log s t.files (s.failures + failed_in result) id (closed_log state log)
+  pub left : t ≡ with_log s t.files (s.failures + failed_in result) id (unwritten_log state log)
 
 -- ---- showing a log
 
@@ -289,7 +289,7 @@ MaySet s id Copying = ⊥
 -- A log is in this state from then on, and written no more.
 abbrev pub SetTurn : State → ℕ → LogState → State → Type 0
 SetTurn s id state t = (log : Log) × (finite.get s.logs id ≡ Some log)
-    × (t ≡ record s { logs = finite.insert s.logs id (closed_log state log) })
+    × (t ≡ record s { logs = finite.insert s.logs id (unwritten_log state log) })
 
 -- an index made anew: of all entries that the logs show, and it sends keys to logs with a view alone
 pub record MayReplace (s : State) (index : Places) : Type 0 where

@@ -7,7 +7,7 @@ use Rattle.bk_lease.specs.declared.slot.Slot.TheVariants as slots
 use Rattle.bk_lease.specs.declared.answers.Leased.{Leased}
 use Rattle.bk_lease.specs.Leases.{state_at}
 use Rattle.bk_lease.specs.Values.{SlotTable, Ticket, MayMeet, held_ticket, with_state}
-use Rattle.bk_store.specs.Logs.{View, Log, Logs, closed_log, is_open}
+use Rattle.bk_store.specs.Logs.{View, Log, Logs, unwritten_log, is_open}
 use Rattle.bk_store.specs.State.{State}
 use Rattle.bk_store.specs.declared.log.LogState.{LogState}
 use Rattle.bk_store.specs.declared.log.LogState.TheVariants.{Writing, Filled, Copying, Readable, Retired, Closed}
@@ -41,14 +41,14 @@ pub record IsLeaseOf (keeper : SlotTable) (logs : Logs) (id : ℕ) (ticket : Tic
 -- the state with a log closed, and its slot at once
 abbrev pub with_closed_log : State → ℕ → Log → State
 with_closed_log s id log = record s {
-  logs = finite.insert s.logs id (closed_log Closed log);
+  logs = finite.insert s.logs id (unwritten_log Closed log);
   keeper = with_state s.keeper log.slot (slots.Closed id);
 }
 
 -- A log is closed where no lease of it is out; where some are, it is told how many, and nothing changes.
-abbrev pub CloseTurn : State → ℕ → Result (Unit {0}) Leased → State → Type 0
-CloseTurn s id (Ok _) t = IsMet s.keeper s.logs id 0 × ((log : Log) × (finite.get s.logs id ≡ Some log) × (t ≡ with_closed_log s id log))
-CloseTurn s id (Err leased) t = IsLeased s.keeper s.logs id leased.count × (t ≡ s)
+abbrev pub CloseLogTurn : State → ℕ → Result (Unit {0}) Leased → State → Type 0
+CloseLogTurn s id (Ok _) t = IsMet s.keeper s.logs id 0 × ((log : Log) × (finite.get s.logs id ≡ Some log) × (t ≡ with_closed_log s id log))
+CloseLogTurn s id (Err leased) t = IsLeased s.keeper s.logs id leased.count × (t ≡ s)
 
 -- ---- closing all logs
 

@@ -58,8 +58,8 @@ abbrev pub unmade_log : ℕ → Log
 unmade_log slot = record { state = Readable; slot = slot; view = None; acknowledged = header_length; writer = None }
 
 -- the log in another state, written no more
-abbrev pub closed_log : LogState → Log → Log
-closed_log state log = record log { state = state; writer = None }
+abbrev pub unwritten_log : LogState → Log → Log
+unwritten_log state log = record log { state = state; writer = None }
 
 -- the log in another state
 abbrev pub in_state : LogState → Log → Log
@@ -114,7 +114,7 @@ halted_as Closed = Closed
 
 -- the log when a write of it failed: it is written no more
 abbrev pub halted_log : Log → Log
-halted_log log = closed_log (halted_as log.state) log
+halted_log log = unwritten_log (halted_as log.state) log
 
 -- the log is held, keys may be sent to it, and this is its last view
 pub record HasOpenView (logs : Logs) (id : ℕ) : Type 0 where
@@ -138,7 +138,7 @@ pub record IsFlushLog (logs : Logs) (id : ℕ) : Type 0 where
 
 -- when the flush starts again, a log that it wrote is written no more (this project's rule)
 abbrev pub settled_as : LogState → Log → Log
-settled_as Writing log = closed_log Readable log
+settled_as Writing log = unwritten_log Readable log
 settled_as Filled log = in_state Readable log
 settled_as Copying log = log
 settled_as Readable log = log

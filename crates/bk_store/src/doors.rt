@@ -2,18 +2,22 @@
 //! store keeps its promise through each of them. None changes what a store means: beside an honest disk each key has the
 //! payload that it had (`meaning`).
 
-ghost use Rattle.std.specs.Prelude.{◌≡◌, Some, IsTrue, true};
+ghost use Rattle.std.specs.Prelude.{◌≡◌, Some, None, IsSome, IsTrue, true, option_map};
+ghost use Rattle.std.specs.List.{All};
 ghost use Rattle.std.specs.FinMap as map;
+ghost use Rattle.bk_record.specs.Location.{Place};
 ghost use Rattle.bk_cache.specs.Caches.{flush_of};
+ghost use Rattle.bk_store.specs.JobKept.{IsJob};
 ghost use Rattle.bk_store.specs.Logs.{is_written};
 ghost use Rattle.bk_store.specs.Meaning.{MeansTheSame};
-ghost use Rattle.bk_store.specs.declared.log.LogState.TheVariants.{Writing, Retired};
+ghost use Rattle.bk_store.specs.declared.log.LogState.TheVariants.{Writing, Retired, Closed};
 ghost use Rattle.bk_lease.specs.Leases.{IsClosed};
-ghost use Rattle.bk_store.specs.Leasing.{CloseTurn};
+ghost use Rattle.bk_store.specs.Copying.{IsLeastUsed, MayCopy, MayRename, RemoveLogTurn, RenameTurn};
+ghost use Rattle.bk_store.specs.Leasing.{CloseLogTurn};
 ghost use Rattle.bk_store.specs.Doors.{MakeTurn, HasNoWriting, IsIn, MayWrite, WriteTurn, MaySeal, Seals, MayShow, ShowTurn, MayName};
-ghost use Rattle.bk_store.specs.Doors.{NameTurn, AllNamed, Restarts, Ends, MaySet, SetTurn, MayReplace, Replaces};
+ghost use Rattle.bk_store.specs.Doors.{PutTurn, NameTurn, AllNamed, Restarts, Ends, MaySet, SetTurn, MayReplace, Replaces};
 
-use crate::{LogState, MakeFault, Store};
+use crate::{Job, LogState, MakeFault, Store, TakenJob};
 use bk_disk::LogDisk;
 use bk_index::Index;
 use bk_lease::{Lease, Leased};
@@ -119,7 +123,7 @@ impl<D: LogDisk> Store<D> {
     /// The fault tells how many leases of the log were out, 1 to as many as one log may have; the store is as it was.
     pub fn close_log(&mut self, log: u32) -> Result<(), Leased>
         requires { IsIn self.old log Retired }
-        ensures turn { CloseTurn self.old log result self.new }
+        ensures turn { CloseLogTurn self.old log result self.new }
         ensures meaning { IsTrue self.old.honest → MeansTheSame self.old self.new }
     {
         self.fields.close_log(log)
@@ -142,5 +146,74 @@ impl<D: LogDisk> Store<D> {
         ensures meaning { IsTrue self.old.honest → MeansTheSame self.old self.new }
     {
         self.fields.replace_index(index);
+    }
+
+    /// The compaction that runs, `None` where none runs.
+    pub fn job(&self) -> Option<&Job>
+        ensures { option_map (λ job. job.now) result ≡ self.now.job }
+    {
+        self.fields.job.as_ref()
+    }
+
+    /// Takes the job of the compaction that runs out of the store, so that it goes on or ends.
+    pub fn take_job(&mut self) -> Option<TakenJob>
+        ensures job { option_map (λ taken. taken.job) result ≡ self.old.job }
+        ensures left { self.new ≡ record self.old { job = None } }
+    {
+        let job = self.fields.job.take()?;
+        Some(TakenJob { job })
+    }
+
+    /// Keeps this job as that of the compaction that runs.
+    pub fn set_job(&mut self, taken: TakenJob)
+        requires none { self.old.job ≡ None }
+        requires keeps { IsJob self.old taken.job }
+        ensures { self.new ≡ record self.old { job = Some taken.job } }
+    {
+        let TakenJob { job } = taken;
+        self.fields.job = Some(job);
+    }
+
+    /// Of these logs, which are held, the one to compact: of those of which less than `threshold` thousandths are of live
+    /// ledgers, the one of which the least part is; of several such the lowest id. `None` where there is none.
+    pub fn least_used(&self, threshold: u32, allowed: &[u32]) -> Option<u32>
+        requires { All (λ id. IsSome (map.get self.now.logs id)) allowed.now }
+        ensures { IsTrue self.now.honest → IsLeastUsed self.now threshold allowed.now result }
+    {
+        self.fields.least_used(threshold, allowed)
+    }
+
+    /// Puts an entry that the index names at the end of a log that is a copy, and answers its place. The log stays at most
+    /// 2^32 - 1 bytes long.
+    ///
+    /// Faults: `Memory` leaves store and files as they were. `Disk`, which leaves a part of the record, possibly all, and
+    /// `Odd`: the log is Readable, written no more. `Failed` never comes.
+    pub fn put(&mut self, log: u32, key: Key, payload: &[u8]) -> Result<Location, LogFault>
+        requires { (place : Place) × MayCopy self.old log key place payload.now }
+        ensures turn { PutTurn self.old log payload.now result self.new }
+        ensures meaning { IsTrue self.old.honest → MeansTheSame self.old self.new }
+    {
+        self.fields.put(log, key, payload)
+    }
+
+    /// Sends a key from one place to another one, in a later log that shows an entry of the key there, and answers whether it
+    /// did: only where the index still sends the key to the first. It takes no memory.
+    pub fn rename(&mut self, key: Key, from: Location, to: Location) -> bool
+        requires { MayRename self.old key from to }
+        ensures turn { RenameTurn self.old key from to result self.new }
+        ensures meaning { IsTrue self.old.honest → MeansTheSame self.old self.new }
+    {
+        self.fields.rename(key, from, to)
+    }
+
+    /// Removes a log that is closed, and its file; its slot is free from then on.
+    ///
+    /// Faults: `Memory`, `Disk`, `Odd`. The log stays closed, and its file stands, after each of them. `Failed` never comes.
+    pub fn remove_log(&mut self, log: u32) -> Result<(), LogFault>
+        requires { IsIn self.old log Closed }
+        ensures turn { RemoveLogTurn self.old log result self.new }
+        ensures meaning { IsTrue self.old.honest → MeansTheSame self.old self.new }
+    {
+        self.fields.remove_log(log)
     }
 }

@@ -5,7 +5,7 @@ ghost use Rattle.bk_store.specs.Kept.{Keeps};
 ghost use Rattle.bk_store.specs.Doors.{IsIn};
 ghost use Rattle.bk_store.specs.Logs.{HasOpenView};
 ghost use Rattle.bk_store.specs.Turns.{TakeTurn, LeaseTurn};
-ghost use Rattle.bk_store.specs.Leasing.{AreUnleased, CloseTurn, IsLowestLeased};
+ghost use Rattle.bk_store.specs.Leasing.{AreUnleased, CloseLogTurn, IsLowestLeased};
 ghost use Rattle.bk_store.specs.declared.log.LogState.TheVariants.{Retired};
 
 use crate::fields::Fields;
@@ -75,14 +75,14 @@ impl<D: LogDisk> Fields<D> {
     pub fn close_log(&mut self, log: u32) -> Result<(), Leased>
         requires keeps { Keeps self.old }
         requires retired { IsIn self.old.state log Retired }
-        ensures turn { CloseTurn self.old.state log result self.new.state }
+        ensures turn { CloseLogTurn self.old.state log result self.new.state }
         ensures beside { self.new ≡ record self.old { state = self.new.state } }
     {
         let Some(held) = self.logs.get(log) else {
             unreachable!();
         };
         self.keeper.close(held.slot)?;
-        self.logs.close(log, LogState::Closed);
+        self.logs.end_writing(log, LogState::Closed);
         Ok(())
     }
 }

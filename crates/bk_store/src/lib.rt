@@ -3,7 +3,7 @@
 
 mod adding;
 mod answer;
-mod copying;
+mod choice;
 mod deleting;
 mod doors;
 mod fencing;
@@ -18,10 +18,12 @@ mod log;
 mod logs;
 mod making;
 mod mark;
+mod moving;
 mod naming;
 mod open;
 mod places;
 mod reading;
+mod removing;
 mod replacing;
 mod settings;
 mod showing;

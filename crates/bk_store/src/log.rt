@@ -4,8 +4,8 @@ ghost use Rattle.std.specs.Prelude.{◌≡◌, ◌+◌, ◌<◌, ◌^◌, Some, 
 ghost use Rattle.bk_record.specs.Record.{IsPayload, key_of};
 ghost use Rattle.bk_disk.specs.Disk.{IsCaused};
 ghost use Rattle.bk_disk.specs.Durable.{KeepsMore};
-ghost use Rattle.bk_log.specs.Writing.{Writing, Writes, PutTurn};
-ghost use Rattle.bk_store.specs.Logs.{in_state, closed_log, halted_log, settled_as, unfilled_as, unmade_log, with_view, view_of};
+ghost use Rattle.bk_log.specs.Writing.{Writing, Writes, AppendTurn};
+ghost use Rattle.bk_store.specs.Logs.{in_state, unwritten_log, halted_log, settled_as, unfilled_as, unmade_log, with_view, view_of};
 ghost use Rattle.bk_store.specs.Putting.{put_log, IsPutAt, MayPut};
 ghost use Rattle.bk_store.specs.Leasing.{slot_lent};
 
@@ -99,8 +99,8 @@ impl<V: LogView> HeldLog<V> {
     }
 
     /// Puts the log into a state in which it is written no more, and gives its writer back.
-    pub fn close(&mut self, state: LogState) -> Option<LogWriter>
-        ensures log { self.new ≡ closed_log state self.old }
+    pub fn end_writing(&mut self, state: LogState) -> Option<LogWriter>
+        ensures log { self.new ≡ unwritten_log state self.old }
         ensures writer { result ≡ self.old.writer }
     {
         self.state = state;
@@ -166,7 +166,7 @@ impl<V: LogView> HeldLog<V> {
         ensures log { (w : Writing) → self.old.writer ≡ Some w → self.new ≡ put_log self.old w payload.now result }
         ensures place { (w : Writing) → self.old.writer ≡ Some w → IsPutAt w result }
         ensures turn { (w : Writing) → self.old.writer ≡ Some w → IsTrue (D.honest disk.old)
-            → PutTurn (D.files disk.old) w payload.now result (D.files disk.new) }
+            → AppendTurn (D.files disk.old) w payload.now result (D.files disk.new) }
     {
         let Some(writer) = &mut self.writer else {
             unreachable!();

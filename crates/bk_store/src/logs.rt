@@ -6,8 +6,8 @@ ghost use Rattle.bk_record.specs.Record.{IsPayload, key_of};
 ghost use Rattle.bk_record.specs.Files.{In};
 ghost use Rattle.bk_disk.specs.Disk.{IsCaused};
 ghost use Rattle.bk_disk.specs.Durable.{KeepsMore};
-ghost use Rattle.bk_log.specs.Writing.{Writing, Writes, PutTurn};
-ghost use Rattle.bk_store.specs.Logs.{Log, AllChanged, IsFlushLog, IsNextHeld, in_state, closed_log, settled_as, unfilled_as, last_view, view_of, with_view};
+ghost use Rattle.bk_log.specs.Writing.{Writing, Writes, AppendTurn};
+ghost use Rattle.bk_store.specs.Logs.{Log, AllChanged, IsFlushLog, IsNextHeld, in_state, unwritten_log, settled_as, unfilled_as, last_view, view_of, with_view};
 ghost use Rattle.bk_store.specs.Putting.{put_log, IsPutAt, MayPut};
 ghost use Rattle.bk_store.specs.Doors.{writer_of};
 ghost use Rattle.bk_store.specs.Seated.{AreSeated};
@@ -127,12 +127,12 @@ impl<V: LogView> LogTable<V> {
     }
 
     /// Puts a log into a state in which it is written no more, and gives its writer back.
-    pub fn close(&mut self, id: u32, state: LogState) -> Option<LogWriter>
+    pub fn end_writing(&mut self, id: u32, state: LogState) -> Option<LogWriter>
         requires { IsSome (map.get self.old id) }
-        ensures logs { (log : Log) → map.get self.old id ≡ Some log → self.new ≡ map.insert self.old id (closed_log state log) }
+        ensures logs { (log : Log) → map.get self.old id ≡ Some log → self.new ≡ map.insert self.old id (unwritten_log state log) }
         ensures writer { (log : Log) → map.get self.old id ≡ Some log → result ≡ log.writer }
     {
-        self.logs.get_mut(&id).unwrap().close(state)
+        self.logs.get_mut(&id).unwrap().end_writing(state)
     }
 
     /// Gives a log its next view.
@@ -165,7 +165,7 @@ impl<V: LogView> LogTable<V> {
             → self.new ≡ map.insert self.old id (put_log log w payload.now result) }
         ensures place { (log : Log) (w : Writing) → map.get self.old id ≡ Some log → log.writer ≡ Some w → IsPutAt w result }
         ensures turn { (log : Log) (w : Writing) → map.get self.old id ≡ Some log → log.writer ≡ Some w
-            → IsTrue (D.honest disk.old) → PutTurn (D.files disk.old) w payload.now result (D.files disk.new) }
+            → IsTrue (D.honest disk.old) → AppendTurn (D.files disk.old) w payload.now result (D.files disk.new) }
     {
         self.logs.get_mut(&id).unwrap().put(disk, alloc, payload)
     }

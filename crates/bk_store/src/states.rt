@@ -16,6 +16,6 @@ impl<D: LogDisk> Fields<D> {
         ensures turn { SetTurn self.old.state log state self.new.state }
         ensures beside { self.new ≡ record self.old { state = self.new.state } }
     {
-        self.logs.close(log, state);
+        self.logs.end_writing(log, state);
     }
 }

@@ -58,7 +58,7 @@ impl<D: LogDisk> Fields<D> {
         ensures kept { KeepsOn self.old self.new }
     {
         leave(&mut self.writing, log);
-        let Some(writer) = self.logs.close(log, state) else {
+        let Some(writer) = self.logs.end_writing(log, state) else {
             unreachable!();
         };
         writer.seal(&mut self.disk, self.alloc)

@@ -19,7 +19,7 @@ pub(super) enum CompactFault {
     /// The folder is not opened.
     #[error("{0}")]
     Folder(FolderFault),
-    /// The logs of the folder can't be listed.
+    /// The logs of the folder can't be listed, or not be cut to their marks.
     #[error("{0}")]
     Disk(DiskFault),
     /// A file does not tell the dead ledgers.

@@ -3,9 +3,9 @@
 use super::{CACHE, FLUSH, HALF_DELETED, LATEST, ROLL, Shown, run};
 use bk_commands::run_words;
 use std::alloc::Global;
-use std::io::Read;
+use std::fs::{self, OpenOptions};
+use std::io::{self, Read, Write};
 use std::test::Fail;
-use std::{fs, io};
 
 /// A flush, a compaction of its log from the choice to the removal, and reads at each end of it.
 const COMPACTED: &str =
@@ -103,6 +103,42 @@ fn what_was_published_stays(rt: HostRuntime) -> Result<(), Fail> {
         assert!(rt; stays(&rt, lines), "after {lines} lines");
     }
     fs::remove_dir_all(&rt, "bk_shell_stays")?;
+    Ok(())
+}
+
+/// What a device may leave behind the bytes that it was asked to keep: zeros, other bytes, a record that nobody added.
+const DAMAGES: [&[u8]; 3] = [
+    &[0; 100],
+    &[0xa5; 100],
+    b"\x00\x00\x00\x18\x00\x00\x00\x00\x00\x00\x00\x4d\x00\x00\x00\x00\x00\x00\x00\x01mmmmmmmm",
+];
+
+/// What reads of an entry that was published and of the one in that record show.
+const IN_FRONT: &[u8] = b"leased 1028\nbytes 68656c6c6f\nnot held\n";
+
+/// Publishes entries with marks, has a device leave something behind them, and comes back without a word of marks: what was
+/// published is found, and nothing else.
+fn is_found_in_front(rt: &HostRuntime, damage: &[u8]) -> Result<bool, Fail> {
+    let over: &[&str] = &["--folder", "bk_shell_marks"];
+    let _ = fs::remove_dir_all(rt, "bk_shell_marks");
+    let made = shown(rt, &["--marks"], over, first_lines(COMPACTED, 10));
+    let mut log = OpenOptions::new()
+        .append(true)
+        .open(rt, "bk_shell_marks/0.log")?;
+    log.write_all(damage)?;
+    let read = shown(rt, &[], over, "take 0 1 0\nfetch 0\ntake 1 77 1\n");
+    Ok(
+        made.is_some_and(|it| it.status == 0)
+            && read.is_some_and(|it| it.output.as_slice() == IN_FRONT),
+    )
+}
+
+#[test]
+fn what_stands_behind_a_mark_is_gone(rt: HostRuntime) -> Result<(), Fail> {
+    for damage in DAMAGES.iter() {
+        assert!(rt; is_found_in_front(&rt, damage)?, "{damage:?}");
+    }
+    fs::remove_dir_all(&rt, "bk_shell_marks")?;
     Ok(())
 }
 

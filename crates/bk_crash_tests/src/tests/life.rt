@@ -5,6 +5,7 @@ use bk_crash::{Choices, File, PowerDisk, Written};
 use bk_disk::{LogDisk, MemDisk};
 use bk_drive::{Answer, OpenFault, PublishAnswer, Settings, Step, Store, SwapAnswer, Work, apply};
 use bk_log::fetch;
+use bk_mark::MarkedDisk;
 use bk_record::{Key, key_of};
 use bk_store::{Added, Taken};
 use rand_core::Rng;
@@ -194,12 +195,63 @@ fn next_disk(alloc: Global, written: &Written) -> Result<PowerDisk<MemDisk>, Sto
     Ok(PowerDisk::new(disk, written.copy(alloc)?, u64::MAX, 0))
 }
 
-/// A store over a disk whose power goes.
-type Powered = Store<PowerDisk<MemDisk>>;
+/// How the disk of a store stands over one whose power goes. (The bound of a disk stands where it is asked for.)
+pub(super) trait Powered<D> {
+    /// The disk of a store over this one. `None` where the power goes meanwhile.
+    fn over(alloc: Global, disk: PowerDisk<MemDisk>) -> Option<D>;
+
+    /// The disk underneath.
+    fn power(disk: &D) -> &PowerDisk<MemDisk>;
+
+    /// Files that a loss of power leaves of what was written, as the next such disk shows them.
+    fn left(written: &Written, alloc: Global, chance: &mut Chance) -> Result<Vec<File>, AllocError>;
+}
+
+/// It is that disk.
+pub(super) struct Bare;
+
+impl Powered<PowerDisk<MemDisk>> for Bare {
+    fn over(_alloc: Global, disk: PowerDisk<MemDisk>) -> Option<PowerDisk<MemDisk>> {
+        Some(disk)
+    }
+
+    fn power(disk: &PowerDisk<MemDisk>) -> &PowerDisk<MemDisk> {
+        disk
+    }
+
+    fn left(
+        written: &Written,
+        alloc: Global,
+        chance: &mut Chance,
+    ) -> Result<Vec<File>, AllocError> {
+        written.left(alloc, chance)
+    }
+}
+
+/// It marks its logs, and there is damage behind what was synced.
+pub(super) struct Marked;
+
+impl Powered<MarkedDisk<PowerDisk<MemDisk>>> for Marked {
+    fn over(alloc: Global, disk: PowerDisk<MemDisk>) -> Option<MarkedDisk<PowerDisk<MemDisk>>> {
+        MarkedDisk::open(disk, alloc).ok()
+    }
+
+    fn power(disk: &MarkedDisk<PowerDisk<MemDisk>>) -> &PowerDisk<MemDisk> {
+        disk.inner()
+    }
+
+    fn left(
+        written: &Written,
+        alloc: Global,
+        chance: &mut Chance,
+    ) -> Result<Vec<File>, AllocError> {
+        written.damaged(alloc, chance)
+    }
+}
 
 /// Takes steps from files on, with power for so many calls on the disk, and answers the files that are left when it goes,
 /// and whether it went before the steps ended. Where it goes while the store is opened, the files are as they were.
-pub(super) fn live(
+pub(super) fn live<D: LogDisk, P: Powered<D>>(
     alloc: Global,
     owed: &mut Owed,
     files: Vec<File>,
@@ -208,17 +260,17 @@ pub(super) fn live(
     chance: &mut Chance,
 ) -> Result<(Vec<File>, bool), Stop> {
     let disk = disk_of(alloc, &files, calls, chance.up_to(60))?;
-    let Some(mut store) = opened(alloc, disk, &owed.dead)? else {
+    let Some(mut store) = opened::<D, P>(alloc, disk, &owed.dead)? else {
         return Ok((files, true));
     };
-    take_all(alloc, &mut store, owed, steps)?;
-    left_by(alloc, &store, chance)
+    take_all::<D, P>(alloc, &mut store, owed, steps)?;
+    left_by::<D, P>(alloc, &store, chance)
 }
 
 /// Takes steps on a new disk until so many calls on it are made, where the process ends. The next one opens a store on the files,
 /// all of which are there, and then the power goes. What the second store found is owed from then on. Answers the files that are
 /// left, and whether the first process ended before the steps did.
-pub(super) fn live_twice(
+pub(super) fn live_twice<D: LogDisk, P: Powered<D>>(
     alloc: Global,
     owed: &mut Owed,
     steps: &[Step],
@@ -226,48 +278,58 @@ pub(super) fn live_twice(
     chance: &mut Chance,
 ) -> Result<(Vec<File>, bool), Stop> {
     let disk = disk_of(alloc, &[], calls, chance.up_to(60))?;
-    let (written, is_ended) = written_by(alloc, owed, disk, steps)?;
-    let left = left_behind(alloc, owed, &written, chance)?;
+    let (written, is_ended) = written_by::<D, P>(alloc, owed, disk, steps)?;
+    let left = left_behind::<D, P>(alloc, owed, &written, chance)?;
     Ok((left, is_ended))
 }
 
 /// What a process wrote that took steps until the calls of its disk were made, and whether it ended before the steps did.
-fn written_by(
+fn written_by<D: LogDisk, P: Powered<D>>(
     alloc: Global,
     owed: &mut Owed,
     disk: PowerDisk<MemDisk>,
     steps: &[Step],
 ) -> Result<(Written, bool), Stop> {
-    let Some(mut store) = opened(alloc, disk, &owed.dead)? else {
+    let Some(mut store) = opened::<D, P>(alloc, disk, &owed.dead)? else {
         return Ok((Written::new(alloc), true));
     };
-    take_all(alloc, &mut store, owed, steps)?;
-    Ok((copy_of(alloc, &store)?, is_dead(&store)))
+    take_all::<D, P>(alloc, &mut store, owed, steps)?;
+    Ok((copy_of::<D, P>(alloc, &store)?, is_dead::<D, P>(&store)))
 }
 
 /// What was written to a store's files.
-fn copy_of(alloc: Global, store: &Powered) -> Result<Written, AllocError> {
-    store.disk().written().copy(alloc)
+fn copy_of<D: LogDisk, P: Powered<D>>(
+    alloc: Global,
+    store: &Store<D>,
+) -> Result<Written, AllocError> {
+    P::power(store.disk()).written().copy(alloc)
 }
 
 /// Opens a store on what a process wrote, and answers the files that a loss of power leaves then.
-fn left_behind(
+fn left_behind<D: LogDisk, P: Powered<D>>(
     alloc: Global,
     owed: &mut Owed,
     written: &Written,
     chance: &mut Chance,
 ) -> Result<Vec<File>, Stop> {
     let disk = next_disk(alloc, written)?;
-    let Some(mut store) = opened(alloc, disk, &owed.dead)? else {
+    let Some(mut store) = opened::<D, P>(alloc, disk, &owed.dead)? else {
         return Err(not_opened(OpenFault::Disk));
     };
     find_all(alloc, &mut store, owed)?;
-    let (left, _) = left_by(alloc, &store, chance)?;
+    let (left, _) = left_by::<D, P>(alloc, &store, chance)?;
     Ok(left)
 }
 
 /// A store on the files of a disk; `None` where the power went while it was opened.
-fn opened(alloc: Global, disk: PowerDisk<MemDisk>, dead: &[u64]) -> Result<Option<Powered>, Stop> {
+fn opened<D: LogDisk, P: Powered<D>>(
+    alloc: Global,
+    disk: PowerDisk<MemDisk>,
+    dead: &[u64],
+) -> Result<Option<Store<D>>, Stop> {
+    let Some(disk) = P::over(alloc, disk) else {
+        return Ok(None);
+    };
     match Store::open(alloc, disk, SETTINGS, dead) {
         Ok(store) => Ok(Some(store)),
         Err(OpenFault::Disk) => Ok(None),
@@ -276,15 +338,15 @@ fn opened(alloc: Global, disk: PowerDisk<MemDisk>, dead: &[u64]) -> Result<Optio
 }
 
 /// Takes steps until the power goes.
-fn take_all(
+fn take_all<D: LogDisk, P: Powered<D>>(
     alloc: Global,
-    store: &mut Powered,
+    store: &mut Store<D>,
     owed: &mut Owed,
     steps: &[Step],
 ) -> Result<(), Stop> {
     for step in steps {
         take(alloc, store, owed, step)?;
-        if is_dead(store) {
+        if is_dead::<D, P>(store) {
             break;
         }
     }
@@ -292,22 +354,31 @@ fn take_all(
 }
 
 /// Whether the power is gone.
-fn is_dead(store: &Powered) -> bool {
-    store.disk().is_dead()
+fn is_dead<D: LogDisk, P: Powered<D>>(store: &Store<D>) -> bool {
+    P::power(store.disk()).is_dead()
 }
 
 /// What a loss of power leaves of a store's files, and whether it was.
-fn left_by(alloc: Global, store: &Powered, chance: &mut Chance) -> Result<(Vec<File>, bool), Stop> {
-    let written = store.disk().written();
+fn left_by<D: LogDisk, P: Powered<D>>(
+    alloc: Global,
+    store: &Store<D>,
+    chance: &mut Chance,
+) -> Result<(Vec<File>, bool), Stop> {
+    let written = P::power(store.disk()).written();
     if written.is_lost() {
         return Err(Stop::new("no memory", 0, 0));
     }
-    let left = written.left(alloc, chance)?;
-    Ok((left, is_dead(store)))
+    let left = P::left(written, alloc, chance)?;
+    Ok((left, is_dead::<D, P>(store)))
 }
 
 /// Takes a step, and notes what is owed then. Readers are passed over.
-fn take(alloc: Global, store: &mut Powered, owed: &mut Owed, step: &Step) -> Result<(), Stop> {
+fn take<D: LogDisk>(
+    alloc: Global,
+    store: &mut Store<D>,
+    owed: &mut Owed,
+    step: &Step,
+) -> Result<(), Stop> {
     match step {
         Step::Add(payload) => {
             if is_accepted(store, payload) {
@@ -330,12 +401,12 @@ fn take(alloc: Global, store: &mut Powered, owed: &mut Owed, step: &Step) -> Res
 }
 
 /// Whether an add is accepted.
-fn is_accepted(store: &mut Powered, payload: &[u8]) -> bool {
+fn is_accepted<D: LogDisk>(store: &mut Store<D>, payload: &[u8]) -> bool {
     matches!(store.add(payload), Ok(Added::Accepted(_)))
 }
 
 /// Whether a ledger is deleted.
-fn is_deleted(store: &mut Powered, ledger: u64) -> bool {
+fn is_deleted<D: LogDisk>(store: &mut Store<D>, ledger: u64) -> bool {
     store.delete(ledger).is_ok()
 }
 
@@ -347,7 +418,7 @@ enum Done {
 }
 
 /// Takes a step of the store alone.
-fn work_done(store: &mut Powered, work: Work) -> Done {
+fn work_done<D: LogDisk>(store: &mut Store<D>, work: Work) -> Done {
     done_by(&apply(store, work))
 }
 
@@ -362,16 +433,20 @@ fn done_by(answer: &Answer) -> Done {
 
 /// Opens a store on what a crash left, and compares: each published entry is found, with its bytes, and nothing is found
 /// that was not added. What is found is owed from then on, and nothing else is.
-pub(super) fn compare(alloc: Global, owed: &mut Owed, files: &[File]) -> Result<(), Stop> {
+pub(super) fn compare<D: LogDisk, P: Powered<D>>(
+    alloc: Global,
+    owed: &mut Owed,
+    files: &[File],
+) -> Result<(), Stop> {
     let disk = disk_of(alloc, files, u64::MAX, 0)?;
-    let Some(mut store) = opened(alloc, disk, &owed.dead)? else {
+    let Some(mut store) = opened::<D, P>(alloc, disk, &owed.dead)? else {
         return Err(not_opened(OpenFault::Disk));
     };
     find_all(alloc, &mut store, owed)
 }
 
 /// Compares what a store has that was just opened.
-fn find_all(alloc: Global, store: &mut Powered, owed: &mut Owed) -> Result<(), Stop> {
+fn find_all<D: LogDisk>(alloc: Global, store: &mut Store<D>, owed: &mut Owed) -> Result<(), Stop> {
     let found = found_in(alloc, store, &owed.entries)?;
     let more = keys_of(store).saturating_sub(found.len());
     if more > 0 {
@@ -382,12 +457,16 @@ fn find_all(alloc: Global, store: &mut Powered, owed: &mut Owed) -> Result<(), S
 }
 
 /// How many keys a store has whose caches are empty.
-fn keys_of(store: &Powered) -> usize {
+fn keys_of<D: LogDisk>(store: &Store<D>) -> usize {
     store.index().len()
 }
 
 /// The entries that a store has, each of which is one of these.
-fn found_in(alloc: Global, store: &mut Powered, owed: &[Entry]) -> Result<Vec<Entry>, Stop> {
+fn found_in<D: LogDisk>(
+    alloc: Global,
+    store: &mut Store<D>,
+    owed: &[Entry],
+) -> Result<Vec<Entry>, Stop> {
     let mut found = Vec::new(alloc);
     for entry in owed {
         let payload = read(alloc, store, entry.ledger, entry.entry)?;
@@ -444,9 +523,9 @@ pub(super) fn push_step(steps: &mut Vec<Step>, step: Step) -> Result<(), AllocEr
 }
 
 /// The payload that a store has of an entry.
-fn read(
+fn read<D: LogDisk>(
     alloc: Global,
-    store: &mut Powered,
+    store: &mut Store<D>,
     ledger: u64,
     entry: u64,
 ) -> Result<Option<Vec<u8>>, Stop> {

@@ -1,9 +1,12 @@
 //! Lives by chance: a store takes steps until its power goes, is opened on what is left, goes on, and so on.
 
-use super::life::{Chance, Owed, Stop, add_of, compare, live, push_step};
-use bk_crash::{Choices, File};
+use super::life::{Bare, Chance, Marked, Owed, Powered, Stop, add_of, compare, live, push_step};
+use bk_crash::{Choices, File, PowerDisk};
+use bk_disk::{LogDisk, MemDisk};
 use bk_drive::{Kind, Step, Work};
+use bk_mark::MarkedDisk;
 use std::alloc::{AllocError, Global};
+use std::process::Abort;
 
 /// A step by chance: half of them adds and writes.
 fn step(alloc: Global, chance: &mut Chance) -> Result<Step, AllocError> {
@@ -52,7 +55,7 @@ fn steps_of(alloc: Global, chance: &mut Chance) -> Result<Vec<Step>, AllocError>
 }
 
 /// A life on these files. Answers what its crash left.
-fn life(
+fn life<D: LogDisk, P: Powered<D>>(
     alloc: Global,
     owed: &mut Owed,
     files: Vec<File>,
@@ -60,26 +63,26 @@ fn life(
 ) -> Result<Vec<File>, Stop> {
     let steps = steps_of(alloc, chance)?;
     let calls = chance.up_to(120) as u64;
-    let (left, _) = live(alloc, owed, files, &steps, calls, chance)?;
-    compare(alloc, owed, &left)?;
+    let (left, _) = live::<D, P>(alloc, owed, files, &steps, calls, chance)?;
+    compare::<D, P>(alloc, owed, &left)?;
     Ok(left)
 }
 
 /// So many lives of one store, each on what the crash of the one before left.
-fn lives(alloc: Global, seed: u64, count: u32) -> Result<(), Stop> {
+fn lives<D: LogDisk, P: Powered<D>>(alloc: Global, seed: u64, count: u32) -> Result<(), Stop> {
     let mut chance = Chance::new(seed);
     let mut owed = Owed::new(alloc);
     let mut files = Vec::new(alloc);
     for _ in 0..count {
-        files = life(alloc, &mut owed, files, &mut chance)?;
+        files = life::<D, P>(alloc, &mut owed, files, &mut chance)?;
     }
     Ok(())
 }
 
-#[test]
-fn a_store_lives_on_through_many_crashes(rt: HostRuntime) {
+/// Two hundred stores live on through many crashes.
+fn all_live<D: LogDisk, P: Powered<D>>(rt: &impl Abort, alloc: Global) {
     for seed in 0..200 {
-        if let Err(stop) = lives(rt.alloc(), seed, 20) {
+        if let Err(stop) = lives::<D, P>(alloc, seed, 20) {
             assert!(rt;
                 false,
                 "seed {seed}: {} {} {}",
@@ -87,4 +90,14 @@ fn a_store_lives_on_through_many_crashes(rt: HostRuntime) {
             );
         }
     }
+}
+
+#[test]
+fn a_store_lives_on_through_many_crashes(rt: HostRuntime) {
+    all_live::<PowerDisk<MemDisk>, Bare>(&rt, rt.alloc());
+}
+
+#[test]
+fn a_store_with_marks_lives_on_through_crashes_that_leave_damage(rt: HostRuntime) {
+    all_live::<MarkedDisk<PowerDisk<MemDisk>>, Marked>(&rt, rt.alloc());
 }

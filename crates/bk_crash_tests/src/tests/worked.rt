@@ -1,7 +1,12 @@
 //! Worked runs: the power goes at each call in turn, several times, with other files left each time.
 
-use super::life::{Chance, Owed, Stop, add_of, compare, live, live_twice, push_step};
+use super::life::{
+    Bare, Chance, Marked, Owed, Powered, Stop, add_of, compare, live, live_twice, push_step,
+};
+use bk_crash::PowerDisk;
+use bk_disk::{LogDisk, MemDisk};
 use bk_drive::{Kind, Step, Work};
+use bk_mark::MarkedDisk;
 use std::alloc::{AllocError, Global};
 use std::process::Abort;
 
@@ -192,32 +197,47 @@ enum End {
 
 /// Takes steps until so many calls on the disk are made, and compares what is left, with other choices each time. Whether the
 /// process ended before the steps did.
-fn is_cut(alloc: Global, steps: &[Step], end: End, calls: u64, time: u64) -> Result<bool, Stop> {
+fn is_cut<D: LogDisk, P: Powered<D>>(
+    alloc: Global,
+    steps: &[Step],
+    end: End,
+    calls: u64,
+    time: u64,
+) -> Result<bool, Stop> {
     let mut chance = Chance::new(calls.wrapping_mul(1000).wrapping_add(time));
     let mut owed = Owed::new(alloc);
     let files = Vec::new(alloc);
     let (left, cut) = match end {
-        End::Power => live(alloc, &mut owed, files, steps, calls, &mut chance)?,
-        End::Kill => live_twice(alloc, &mut owed, steps, calls, &mut chance)?,
+        End::Power => live::<D, P>(alloc, &mut owed, files, steps, calls, &mut chance)?,
+        End::Kill => live_twice::<D, P>(alloc, &mut owed, steps, calls, &mut chance)?,
     };
-    compare(alloc, &mut owed, &left)?;
+    compare::<D, P>(alloc, &mut owed, &left)?;
     Ok(cut)
 }
 
 /// The same so often. Whether the process ended before the steps did the last time.
-fn are_cut(alloc: Global, steps: &[Step], end: End, calls: u64) -> Result<bool, Stop> {
+fn are_cut<D: LogDisk, P: Powered<D>>(
+    alloc: Global,
+    steps: &[Step],
+    end: End,
+    calls: u64,
+) -> Result<bool, Stop> {
     let mut cut = false;
     for time in 0..TIMES {
-        cut = is_cut(alloc, steps, end, calls, time)?;
+        cut = is_cut::<D, P>(alloc, steps, end, calls, time)?;
     }
     Ok(cut)
 }
 
 /// How many crashes of a run were compared: so many at each of its calls on the disk.
-fn crashes(alloc: Global, plans: &[Plan], end: End) -> Result<u64, Stop> {
+fn crashes<D: LogDisk, P: Powered<D>>(
+    alloc: Global,
+    plans: &[Plan],
+    end: End,
+) -> Result<u64, Stop> {
     let steps = steps_of(alloc, plans)?;
     for calls in 1..1000u64 {
-        if !are_cut(alloc, &steps, end, calls)? {
+        if !are_cut::<D, P>(alloc, &steps, end, calls)? {
             return Ok(calls.saturating_mul(TIMES));
         }
     }
@@ -234,10 +254,13 @@ const RUNS: [(&str, &[Plan]); 5] = [
 ];
 
 /// How many crashes of the runs were compared, or which run lost something.
-fn all_crashes(alloc: Global, end: End) -> Result<u64, (&'static str, Stop)> {
+fn all_crashes<D: LogDisk, P: Powered<D>>(
+    alloc: Global,
+    end: End,
+) -> Result<u64, (&'static str, Stop)> {
     let mut count = 0u64;
     for (name, plans) in RUNS.iter() {
-        match crashes(alloc, plans, end) {
+        match crashes::<D, P>(alloc, plans, end) {
             Ok(more) => count = count.saturating_add(more),
             Err(stop) => return Err((*name, stop)),
         }
@@ -246,8 +269,8 @@ fn all_crashes(alloc: Global, end: End) -> Result<u64, (&'static str, Stop)> {
 }
 
 /// Whether many crashes were compared, and nothing was lost.
-fn is_kept(rt: &impl Abort, alloc: Global, end: End) {
-    match all_crashes(alloc, end) {
+fn is_kept<D: LogDisk, P: Powered<D>>(rt: &impl Abort, alloc: Global, end: End) {
+    match all_crashes::<D, P>(alloc, end) {
         Ok(count) => assert!(rt; count > 100 * TIMES, "{count} crashes"),
         Err((name, stop)) => assert!(rt;
             false,
@@ -259,10 +282,15 @@ fn is_kept(rt: &impl Abort, alloc: Global, end: End) {
 
 #[test]
 fn a_worked_run_loses_nothing(rt: HostRuntime) {
-    is_kept(&rt, rt.alloc(), End::Power);
+    is_kept::<PowerDisk<MemDisk>, Bare>(&rt, rt.alloc(), End::Power);
 }
 
 #[test]
 fn what_a_killed_run_left_outlives_a_loss_of_power_once_it_is_opened(rt: HostRuntime) {
-    is_kept(&rt, rt.alloc(), End::Kill);
+    is_kept::<PowerDisk<MemDisk>, Bare>(&rt, rt.alloc(), End::Kill);
+}
+
+#[test]
+fn a_worked_run_with_marks_loses_nothing_to_damage(rt: HostRuntime) {
+    is_kept::<MarkedDisk<PowerDisk<MemDisk>>, Marked>(&rt, rt.alloc(), End::Power);
 }

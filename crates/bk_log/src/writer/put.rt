@@ -12,7 +12,7 @@ use bk_record::{Location, RecordFault, key_of, write_record};
 use std::alloc::Global;
 
 impl LogWriter {
-    ghost use Rattle.bk_log.specs.Writing.{Puts, PutTurn, Writes};
+    ghost use Rattle.bk_log.specs.Writing.{Puts, AppendTurn, Writes};
 
     /// Writes the record of a payload at the log's end and answers where it stands: the location of the payload, right
     /// behind its length field.
@@ -38,7 +38,7 @@ impl LogWriter {
         ensures writer { Puts self.old payload.now result self.new }
         ensures untouched { IsErrOf result LogFault.Failed → disk.new ≡ disk.old }
         ensures turn { IsTrue (D.honest disk.old)
-            → PutTurn (D.files disk.old) self.old payload.now result (D.files disk.new) }
+            → AppendTurn (D.files disk.old) self.old payload.now result (D.files disk.new) }
         ensures writes { IsTrue (D.honest disk.old) → self.new.failed ≡ false → Writes (D.files disk.new) self.new }
     {
         if self.failed {

@@ -8,7 +8,7 @@ use bk_digits::number;
 use bk_dir::Form;
 use bk_load::{Load, Until};
 use clap::error::ErrorKind;
-use clap::{Arg, ArgMatches, Command, Error};
+use clap::{Arg, ArgAction, ArgMatches, Command, Error};
 use std::alloc::{AllocError, Global};
 use std::convert::AsStr;
 
@@ -82,6 +82,8 @@ pub(super) struct LoadCall<'a> {
     pub load: Load,
     /// The folder on whose logs it is made; in memory where there is none.
     pub folder: Option<&'a str>,
+    /// Whether its logs get marks.
+    pub marks: bool,
 }
 
 /// The value of an option is no number of its range.
@@ -109,6 +111,7 @@ pub(super) fn load_call<'a, S: AsStr>(
             form: form_of(found),
             load,
             folder: found.get_str("folder"),
+            marks: found.get_flag("marks"),
         }),
         Err(bad) => Err(bad_value(alloc, &bad)?),
     }
@@ -163,6 +166,12 @@ fn load_command<'a>(alloc: Global) -> Result<Command<'a>, AllocError> {
                 .help(
                     "Writes in this folder of logs, made where it is not there, and not in memory",
                 ),
+        )?
+        .arg(
+            Arg::new(alloc, "marks")
+                .long("marks")
+                .action(ArgAction::SetTrue)
+                .help("Marks how far each log of the folder is to be believed after a crash"),
         )
 }
 

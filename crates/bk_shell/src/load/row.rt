@@ -1,7 +1,7 @@
 //! What a load shows: the lines of its report, or one object, and why it ended early.
 
+use bk_commands::OpeningFault;
 use bk_dir::Form;
-use bk_disk::FolderFault;
 use bk_load::Report;
 use serde::Serialize;
 use std::alloc::Global;
@@ -14,7 +14,7 @@ use thiserror::Error;
 pub(super) enum LoadFault {
     /// The folder is not opened.
     #[error("{0}")]
-    Folder(FolderFault),
+    Folder(OpeningFault),
     /// There is no report.
     #[error("{0}")]
     Load(bk_load::LoadFault),

@@ -9,8 +9,11 @@ use Rattle.bk_disk.specs.Disk.{view_end}
 use Rattle.bk_store.proofs.SameMeaning.{stays_on}
 use Rattle.bk_compact.specs.Compacting.{with_job}
 use Rattle.bk_compact.specs.Going.{CopiesAll, ScansFrom}
-use Rattle.bk_compact.proofs.Stepping.{IsGoing, copied_few, going_starts, going_ahead, going_on, going_stops, going_done, going_ends, going_some, going_none}
-use Rattle.bk_compact.proofs.Stepping.{going_memory, going_unread, going_odd, never_bad, never_odd, one, short_odd}
+use Rattle.bk_compact.proofs.Stepping.{IsGoing, going_starts, going_ahead, going_on, going_stops, going_done, going_ends, going_some, going_none}
+use Rattle.bk_compact.proofs.Examined.{copied_few}
+use Rattle.bk_compact.proofs.Stepping.{going_memory, going_unread, going_odd, never_bad, never_odd}
+use Rattle.bk_compact.proofs.Examined.{one}
+use Rattle.bk_compact.proofs.SteppingEnds.{short_odd}
 use Rattle.bk_compact.proofs.entries.copy_entries.Goals as goal
 use Rattle.bk_compact.proofs.entries.copy_entries.Goals.{then-is_copied, else-is_copied}
 

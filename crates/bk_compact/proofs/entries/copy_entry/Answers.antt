@@ -1,7 +1,7 @@
 use Rattle.std.proofs.Common.{List, ℕ, IsTrue, inl, inr, sym, subst}
 use Rattle.bk_log.specs.Places.{HasEntryAt}
 use Rattle.bk_store.specs.Logs.{View, view_of, open_parts}
-use Rattle.bk_compact.proofs.Copied.{fetched_there, lent_there, never_missing, stops_odd}
+use Rattle.bk_compact.proofs.CopyWriter.{fetched_there, lent_there, never_missing, stops_odd}
 use Rattle.bk_compact.proofs.entries.copy_entry.Goals as goal
 
 pub put_entry-requires-clause-stands : goal.put_entry-requires-clause-stands

@@ -8,7 +8,8 @@ use Rattle.bk_store.proofs.Written.{some_iff}
 use Rattle.bk_compact.specs.Compacting.{Examines, place_of, behind}
 use Rattle.bk_compact.specs.Going.{CopiesEntry, IsCopying}
 use Rattle.bk_compact.proofs.Stored.{kept_held, kept_ids}
-use Rattle.bk_compact.proofs.Copied.{next_near, stops_odd, examined_copied, examined_past}
+use Rattle.bk_compact.proofs.Copied.{examined_copied, examined_past}
+use Rattle.bk_compact.proofs.CopyWriter.{next_near, stops_odd}
 use Rattle.bk_compact.proofs.entries.examine.Goals as goal
 use Rattle.bk_compact.proofs.entries.examine.Goals.{then-named+in_ok-copy_entry, else-named}
 use Rattle.std.proofs.lemmas.Bool.{false_from_ne_true}

@@ -1,7 +1,7 @@
 use Rattle.std.proofs.Common.{is_some, sym, ap, ◌∙◌, arith}
 use Rattle.std.proofs.lemmas.Option.{none-some, same_Some}
 use Rattle.bk_store.proofs.Written.{some_iff}
-use Rattle.bk_compact.proofs.Copied.{copy_writer, place_next, writer_is}
+use Rattle.bk_compact.proofs.CopyWriter.{copy_writer, place_next, writer_is}
 use Rattle.bk_compact.proofs.entries.place_in.Goals as goal
 
 pub unreachable-requires : goal.unreachable-requires

@@ -8,7 +8,7 @@ use Rattle.bk_store.specs.Jobs.{Job, with_move}
 use Rattle.bk_compact.specs.declared.entries.Stopped.{Stopped}
 use Rattle.bk_compact.specs.Compacting.{place_of}
 use Rattle.bk_compact.specs.Going.{StopsAt, told_put}
-use Rattle.bk_compact.proofs.Copied.{may_copy, fetched_entry, fetched_stands, fetched_filed, put_copies, put_stops, stops_odd}
+use Rattle.bk_compact.proofs.CopyWriter.{may_copy, fetched_entry, fetched_stands, fetched_filed, put_copies, put_stops, stops_odd}
 use Rattle.bk_compact.proofs.entries.put_entry.Goals as goal
 use Rattle.std.proofs.lemmas.Bool.{false_from_ne_true}
 

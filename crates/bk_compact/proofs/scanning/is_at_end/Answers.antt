@@ -3,7 +3,7 @@ use Rattle.bk_store.specs.Logs.{View, view_of, last_view}
 use Rattle.bk_compact.specs.declared.scanning.Unread.{Unread}
 use Rattle.bk_compact.specs.Compacting.{SourceFails}
 use Rattle.bk_compact.specs.Going.{ScansFrom, told_unread}
-use Rattle.bk_compact.proofs.Stepping.{at_end, read_fails}
+use Rattle.bk_compact.proofs.SteppingEnds.{at_end, read_fails}
 use Rattle.bk_compact.proofs.scanning.is_at_end.Goals as goal
 
 pub returns-in-Ok-clause-ok : goal.returns-in-Ok-clause-ok

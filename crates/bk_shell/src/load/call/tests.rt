@@ -8,7 +8,7 @@ use std::process::Abort;
 use std::test::Fail;
 
 /// Words behind the program's name, and what they ask for: the threads, the end, the folder.
-const CALLS: [(&[&str], u32, Until, Option<&str>); 5] = [
+const CALLS: [(&[&str], u32, Until, Option<&str>); 6] = [
     (&["load"], 8, Until::Adds(100_000), None),
     (
         &["load", "--threads", "256"],
@@ -24,6 +24,12 @@ const CALLS: [(&[&str], u32, Until, Option<&str>); 5] = [
         Until::Adds(1_000_000_000),
         Some("logs"),
     ),
+    (
+        &["load", "--marks", "--folder", "logs"],
+        8,
+        Until::Adds(100_000),
+        Some("logs"),
+    ),
 ];
 
 /// Whether a call asks for this load.
@@ -37,7 +43,10 @@ fn a_call_of_load(rt: HostRuntime) -> Result<(), Fail> {
         let mut words = vec![in rt.alloc(); "any name"]?;
         words.extend_from_slice(behind)?;
         let is_right = match load_call(rt.alloc(), &words) {
-            Ok(call) => is_asked(&call, *threads, *until, *folder),
+            Ok(call) => {
+                let marks = behind.contains(&"--marks");
+                is_asked(&call, *threads, *until, *folder) && call.marks == marks
+            }
             Err(_) => false,
         };
         assert!(rt;

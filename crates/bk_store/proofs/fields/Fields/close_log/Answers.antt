@@ -9,5 +9,5 @@ close-requires g c =
 pub returns-clause-turn : goal.returns-clause-turn
 returns-clause-turn g c =
     let held = sym c.in-Some.ensures ∙ ap (λ l. Some l) (sym c.held.view_is) in
-    log_closed _ c.args.self.now c.self.view_is c.requires.keeps c.args.log _ held c.requires.retired c.close-2.new.self c.close.new.self
-    (c.close-2.ensures.logs _ held) c.in_ok-close.ensures.closed c.in_ok-close.ensures.unleased
+    log_closed _ c.args.self.now c.self.view_is c.requires.keeps c.args.log _ held c.requires.retired c.end_writing.new.self c.close.new.self
+    (c.end_writing.ensures.logs _ held) c.in_ok-close.ensures.closed c.in_ok-close.ensures.unleased

@@ -1,0 +1,109 @@
+//! The disk of a folder whose logs have marks, or have none.
+
+ghost use Rattle.std.specs.Prelude.{false};
+ghost use Rattle.std.specs.FinMap as map;
+ghost use Rattle.bk_commands.specs.Failures.{failures_of};
+
+use bk_disk::{DirDisk, DirView, DiskFault, LogDisk};
+use bk_mark::MarkedDisk;
+use std::alloc::Global;
+
+/// The disk of a folder. It is honest of nothing, as a `DirDisk`.
+#[derive(Drop)]
+pub enum FolderDisk {
+    /// Its logs are read to their ends.
+    Plain(DirDisk),
+    /// Each log is cut to its mark, where it has one, and each that is written has one.
+    Marked(MarkedDisk<DirDisk>),
+}
+
+impl FolderDisk {
+    /// The disk of a folder that is written; with marks where they are asked for, and where a log has one: so a folder that was
+    /// written with marks once has them from then on. Faults: `Disk`, `Memory`; `NoLog` where a log goes meanwhile.
+    pub(crate) fn open(alloc: Global, disk: DirDisk, marks: bool) -> Result<FolderDisk, DiskFault> {
+        let mut disk = disk;
+        if marks || disk.has_marks(alloc)? {
+            return Ok(FolderDisk::Marked(MarkedDisk::open(disk, alloc)?));
+        }
+        Ok(FolderDisk::Plain(disk))
+    }
+}
+
+impl LogDisk for FolderDisk {
+    type View = DirView;
+
+    ghost files = { λ _. map.empty };
+
+    ghost synced = { λ _. map.empty };
+
+    ghost gone = { λ _. map.empty };
+
+    ghost honest = { λ _. false };
+
+    ghost failures = { λ disk. failures_of disk };
+
+    fn bounds(&self) {}
+
+    fn list(&mut self, alloc: Global) -> Result<Vec<u32>, DiskFault> {
+        match self {
+            FolderDisk::Plain(disk) => disk.list(alloc),
+            FolderDisk::Marked(disk) => disk.list(alloc),
+        }
+    }
+
+    fn length(&mut self, alloc: Global, log: u32) -> Result<u64, DiskFault> {
+        match self {
+            FolderDisk::Plain(disk) => disk.length(alloc, log),
+            FolderDisk::Marked(disk) => disk.length(alloc, log),
+        }
+    }
+
+    fn create(&mut self, alloc: Global, log: u32) -> Result<(), DiskFault> {
+        match self {
+            FolderDisk::Plain(disk) => disk.create(alloc, log),
+            FolderDisk::Marked(disk) => disk.create(alloc, log),
+        }
+    }
+
+    fn append(&mut self, alloc: Global, log: u32, bytes: &[u8]) -> Result<(), DiskFault> {
+        match self {
+            FolderDisk::Plain(disk) => disk.append(alloc, log, bytes),
+            FolderDisk::Marked(disk) => disk.append(alloc, log, bytes),
+        }
+    }
+
+    fn patch(&mut self, alloc: Global, log: u32, bytes: &[u8; 12]) -> Result<(), DiskFault> {
+        match self {
+            FolderDisk::Plain(disk) => disk.patch(alloc, log, bytes),
+            FolderDisk::Marked(disk) => disk.patch(alloc, log, bytes),
+        }
+    }
+
+    fn sync(&mut self, alloc: Global, log: u32) -> Result<(), DiskFault> {
+        match self {
+            FolderDisk::Plain(disk) => disk.sync(alloc, log),
+            FolderDisk::Marked(disk) => disk.sync(alloc, log),
+        }
+    }
+
+    fn read_at(&mut self, alloc: Global, log: u32, at: u64, n: u64) -> Result<Vec<u8>, DiskFault> {
+        match self {
+            FolderDisk::Plain(disk) => disk.read_at(alloc, log, at, n),
+            FolderDisk::Marked(disk) => disk.read_at(alloc, log, at, n),
+        }
+    }
+
+    fn view(&mut self, alloc: Global, log: u32) -> Result<DirView, DiskFault> {
+        match self {
+            FolderDisk::Plain(disk) => disk.view(alloc, log),
+            FolderDisk::Marked(disk) => disk.view(alloc, log),
+        }
+    }
+
+    fn remove(&mut self, alloc: Global, log: u32) -> Result<(), DiskFault> {
+        match self {
+            FolderDisk::Plain(disk) => disk.remove(alloc, log),
+            FolderDisk::Marked(disk) => disk.remove(alloc, log),
+        }
+    }
+}

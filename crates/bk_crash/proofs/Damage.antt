@@ -1,0 +1,148 @@
+-- What stands in front of a mark in a damaged file is a cut of the file, and so for all files.
+use Rattle.std.proofs.Common.{◌≡◌, ◌⊎◌, inl, inr, ℕ, ◌+◌, ◌-◌, ◌≤◌, List, [], ◌++◌, length, take, drop, Option, Some, None, option_map, unwrap_or}
+use Rattle.std.proofs.Common.{refl, sym, ap, ◌∙◌, subst, arith, length-append, length-drop, length-take}
+use Rattle.std.proofs.Math.Decide.{dec_le}
+use Rattle.std.proofs.lemmas.List.{drop-take, take-append-drop, take-append-le, length-take-le, take_all, take-take, nil_from_length, drop-append-le}
+use Rattle.std.proofs.lemmas.Option.{same_Some, none-some}
+use Rattle.std.specs.FinMap as map
+use Rattle.bk_record.specs.Files.{Files, file_of, header_length}
+use Rattle.bk_record.specs.Longer.{IsLonger}
+use Rattle.bk_disk.specs.Marks.{Marks, believed, AreCut}
+use Rattle.bk_mark.specs.Marking.{Written, AreCovered, sure_fronts}
+use Rattle.bk_mark.proofs.Fronts.{IsFront, front_there, longer_fronts}
+use Rattle.bk_crash.specs.Damage.{IsDamaged, MayBeMark, IsLeftMarked, MayDamage}
+use Rattle.bk_store.specs.Crash.{IsCut, IsLeft, MayLeave}
+
+-- ---- one file
+
+-- so many bytes behind some first ones
+drop_part : (n m : ℕ) (a b : List ℕ) → drop 20 a ≡ drop 20 (take n b) → m ≤ n → drop 20 (take m a) ≡ drop 20 (take m b)
+drop_part n m a b same order = elim (dec_le 20 m) [
+  | no few ↦ nil_from_length (drop 20 (take m a)) (omega (arith, few, length-drop 20 (take m a), length-take m a))
+      ∙ sym (nil_from_length (drop 20 (take m b)) (omega (arith, few, length-drop 20 (take m b), length-take m b)))
+  | yes enough ↦
+      let k = m - 20 in
+      let j = n - 20 in
+      let front : (l : List ℕ) → drop 20 (take m l) ≡ take k (drop 20 l) = λ l.
+      let sum : m ≡ 20 + k = omega (arith, enough) in ap (λ i. drop 20 (take i l)) sum ∙ drop-take 20 k l in
+      let all : drop 20 (take n b) ≡ take j (drop 20 b) =
+      let sum : n ≡ 20 + j = omega (arith, enough, order) in ap (λ i. drop 20 (take i b)) sum ∙ drop-take 20 j b in
+      front a ∙ ap (take k) (same ∙ all) ∙ take-take k j (drop 20 b) (omega (arith, order)) ∙ sym (front b)
+]
+
+-- the first eight bytes of the first ones
+take_part : (n m : ℕ) (a b : List ℕ) → take 8 a ≡ take 8 (take n b) → m ≤ n → take 8 (take m a) ≡ take 8 (take m b)
+take_part n m a b same order = elim (dec_le 8 m) [
+  | yes enough ↦ take-take 8 m a enough ∙ same ∙ take-take 8 n b (omega (arith, enough, order)) ∙ sym (take-take 8 m b enough)
+  | no few ↦
+      let less : m ≤ 8 = omega (arith, few) in
+      let short : (l : List ℕ) → take 8 (take m l) ≡ take m l = λ l. take_all 8 (take m l) (omega (arith, less, length-take m l)) in
+      short a ∙ sym (take-take m 8 a less) ∙ ap (take m) same ∙ take-take m 8 (take n b) less ∙ take-take m n b order ∙ sym (short b)
+]
+
+-- the first bytes of a cut are one
+cut_take : (m : ℕ) (file left : List ℕ) → IsCut file left → IsCut file (take m left)
+cut_take m file left cut = elim (dec_le (length left) m) [
+  | yes all ↦ subst (IsCut file) (sym (take_all m left all)) cut
+  | no part ↦
+      let order : m ≤ length left = omega (arith, part) in
+      let size : length (take m left) ≡ m = length-take-le m left order in
+      record {
+        within = omega (arith, size, order, cut.within);
+        front = take_part (length left) m left file cut.front order ∙ ap (λ n. take 8 (take n file)) (sym size);
+        behind = drop_part (length left) m left file cut.behind order ∙ ap (λ n. drop 20 (take n file)) (sym size);
+      }
+]
+
+-- a cut of a file's first bytes is one of the file
+cut_of_front : (n : ℕ) (file left : List ℕ) → IsCut (take n file) left → IsCut file left
+cut_of_front n file left cut =
+    let order : length left ≤ n = omega (arith, cut.within, length-take n file) in
+    let same : take (length left) (take n file) ≡ take (length left) file = take-take (length left) n file order in
+    record {
+      within = omega (arith, cut.within, length-take n file);
+      front = cut.front ∙ ap (take 8) same;
+      behind = cut.behind ∙ ap (drop 20) same;
+    }
+
+-- the first bytes, in two parts
+in_two : (n k : ℕ) (l : List ℕ) → n ≤ length l → take (n + k) l ≡ take n l ++ take k (drop n l)
+in_two n k l order =
+    sym (take-append-drop n (take (n + k) l)) ∙ (λ i. take-take n (n + k) l (omega arith) i ++ drop-take n k l i)
+
+module _ (kept file left : List ℕ) (damaged : IsDamaged kept file left) (mark : ℕ) (covers : mark ≤ header_length + length (drop header_length kept)) where
+  -- a mark behind the header
+  behind_header : header_length ≤ mark → (mark ≡ header_length) ⊎ (header_length + 1 ≤ mark) → IsCut file (take mark left)
+  behind_header headed (inl it) =
+      subst (λ n. IsCut file (take n left)) (sym it) (cut_of_front header_length file (take header_length left) damaged.headed)
+  behind_header headed (inr more) =
+      let k = mark - header_length in
+      let body = drop header_length kept in
+      let sum : mark ≡ header_length + k = omega (arith, headed) in
+      let long-file : mark ≤ length file = omega (arith, more, covers, ap length damaged.begins.is, length-append body damaged.begins.behind, length-drop header_length file) in
+      let long-left : mark ≤ length left = omega (arith, more, covers, ap length damaged.stands.is, length-append body damaged.stands.behind, length-drop header_length left) in
+      let size : length (take mark left) ≡ mark = length-take-le mark left long-left in
+      let head : length (take header_length left) ≡ header_length = length-take-le header_length left (omega (arith, headed, long-left)) in
+      let head-file : length (take header_length file) ≡ header_length = length-take-le header_length file (omega (arith, headed, long-file)) in
+      let whole : take (length (take header_length left)) (take header_length file) ≡ take header_length file =
+      take_all (length (take header_length left)) (take header_length file) (omega (arith, head, head-file)) in
+      let front : take 8 left ≡ take 8 file =
+      sym (take-take 8 header_length left (omega arith)) ∙ damaged.headed.front ∙ ap (take 8) whole ∙ take-take 8 header_length file (omega arith) in
+      let bodies : take k (drop header_length left) ≡ take k (drop header_length file) =
+      ap (take k) damaged.stands.is ∙ take-append-le k body damaged.stands.behind (omega (arith, covers, headed))
+      ∙ sym (ap (take k) damaged.begins.is ∙ take-append-le k body damaged.begins.behind (omega (arith, covers, headed))) in
+      let cut_in : (l : List ℕ) → mark ≤ length l → drop 20 (take mark l) ≡ drop 20 (take header_length l) ++ take k (drop header_length l) = λ l long.
+      ap (λ n. drop 20 (take n l)) sum ∙ ap (drop 20) (in_two header_length k l (omega (arith, headed, long)))
+      ∙ drop-append-le 20 (take header_length l) (take k (drop header_length l)) (omega (arith, length-take-le header_length l (omega (arith, headed, long)))) in
+      record {
+        within = omega (arith, size, long-file);
+        front = take-take 8 mark left (omega (arith, headed)) ∙ front ∙ sym (take-take 8 mark file (omega (arith, headed)))
+            ∙ ap (λ n. take 8 (take n file)) (sym size);
+        behind = cut_in left long-left
+            ∙ (λ i. (damaged.headed.behind ∙ ap (drop 20) whole) i ++ bodies i)
+            ∙ sym (cut_in file long-file) ∙ ap (λ n. drop 20 (take n file)) (sym size);
+      }
+
+  marked_cut : IsCut file (take mark left)
+  marked_cut = elim (dec_le mark header_length) [
+    | yes before ↦ cut_of_front header_length file (take mark left)
+        (subst (IsCut (take header_length file)) (take-take mark header_length left before) (cut_take mark (take header_length file) (take header_length left) damaged.headed))
+    | no behind ↦ behind_header (omega (arith, behind)) (inr (omega (arith, behind)))
+  ]
+
+-- ---- all files
+
+module _ {files gone kept left seen : Files} {marks : Written} {found : Marks} (covered : AreCovered kept marks)
+    (damage : MayDamage files gone kept marks left found) (cut : AreCut left found seen) where
+  seen_is : (log : ℕ) (now : List ℕ) (at : ℕ) → map.get left log ≡ Some now → map.get found log ≡ Some at → map.get seen log ≡ Some (take at now)
+  seen_is log now at there mark =
+      cut.each log ∙ ap (option_map (believed (map.get found log))) there ∙ ap (λ (m : Option ℕ). Some (believed m now)) mark
+
+  covers_mark : (log at : ℕ) → MayBeMark marks log at → at ≤ header_length + length (drop header_length (file_of kept log))
+  covers_mark log at (inl one) =
+      let held = covered.covers log one.0 one.1 in
+      let same : file_of kept log ≡ held.0 = ap (λ (o : Option (List ℕ)). unwrap_or o []) held.1 in
+      omega (arith, one.3, held.2, ap (λ (f : List ℕ). length (drop header_length f)) same)
+  covers_mark log at (inr none) = omega (arith, none.1)
+
+  left_seen : (log : ℕ) (file : List ℕ) → map.get seen log ≡ Some file → (o : Option (List ℕ)) → map.get left log ≡ o → IsLeft files gone log file
+  left_seen log file is None gone_is = absurd (none-some file (sym (cut.each log ∙ ap (option_map (believed (map.get found log))) gone_is) ∙ is))
+  left_seen log file is (Some now) there =
+      let one = damage.each log now there in
+      let same : take one.0 now ≡ file = same_Some _ _ (sym (seen_is log now one.0 there one.1) ∙ is) in
+      elim one.2 [
+        | inl held ↦ inl (held.0, held.1, subst (IsCut held.0) same (marked_cut (file_of kept log) held.0 now held.3 one.0 (covers_mark log one.0 held.2)))
+        | inr back ↦ inr (back.0, back.1, back.2, subst (IsCut back.0) same back.3)
+      ]
+
+  pub marked_leaves : MayLeave files gone (sure_fronts kept marks) seen
+  marked_leaves = record {
+    stands = λ log front is.
+        let old = front_there kept marks log front is in
+        let now = damage.stands log old.file old.mark old.there old.marked in (
+          take now.1 now.0,
+          seen_is log now.0 now.1 now.2 now.3,
+          subst (λ (f : List ℕ). IsLonger f (take now.1 now.0)) (sym old.is) (longer_fronts old.mark.sure now.1 old.file now.0 now.4 now.5),
+        );
+    each = λ log file is. left_seen log file is (map.get left log) refl;
+  }
