@@ -1,10 +1,12 @@
--- How many adds a trail tells of.
+-- Entries that are offered, and how many adds a trail tells of.
 use Rattle.std.specs.Prelude.{ℕ, Bool, true, false, List, Result, Ok, Err}
 use Rattle.std.specs.List.{count_by}
 use Rattle.bk_store.specs.declared.mark.Mark.{Mark}
 use Rattle.bk_store.specs.declared.mark.Mark.TheVariants.{Add, Delete, Fence}
 use Rattle.bk_store.specs.declared.answer.Added.{Added}
 use Rattle.bk_store.specs.declared.answer.Added.TheVariants.{Accepted, Held}
+use Rattle.bk_bookie.specs.declared.offered.Offered.{Offered}
+use Rattle.bk_bookie.specs.declared.offered.Offered.TheVariants.{Prepared, Lent}
 
 -- the mark is of an entry that came in
 abbrev pub is_add : Mark → Bool
@@ -21,3 +23,8 @@ abbrev pub accepted_count : {F : Type 0} → Result Added F → ℕ
 accepted_count (Ok (Accepted receipt)) = 1
 accepted_count (Ok Held) = 0
 accepted_count (Err fault) = 0
+
+-- the payload of an entry that is offered
+abbrev pub payload_of : Offered → List ℕ
+payload_of (Prepared entry) = entry
+payload_of (Lent payload) = payload.now

@@ -9,6 +9,7 @@ ghost use Rattle.bk_bookie.specs.Passes.{SeesOn};
 ghost use Rattle.bk_bookie.specs.Receipts.{GivesReceipt};
 
 use crate::desk::Desk;
+use crate::offered::Offered;
 use crate::pass::{AddLedger, Pass};
 use crate::{CallFault, NoPass, ReadBackFault};
 use bk_disk::LogDisk;
@@ -27,6 +28,7 @@ use std::sync::{Mutex, Wait};
 #[derive(Drop)]
 pub struct Bookie<L: AddLedger, D: LogDisk> {
     pub(crate) desk: Mutex<Desk<L, D>>,
+    pub(crate) alloc: Global,
 }
 
 /// Why a bookie was not opened; and its ledger, which was not begun.
@@ -61,6 +63,7 @@ impl<L: AddLedger, D: LogDisk> Bookie<L, D> {
         match Store::open(alloc, disk, settings, dead) {
             Ok(store) => Ok(Bookie {
                 desk: Mutex::new(Desk::new(store, blank, passes)),
+                alloc,
             }),
             Err(fault) => Err(OpenRefused { fault, blank }),
         }
@@ -73,8 +76,9 @@ impl<L: AddLedger, D: LogDisk> Bookie<L, D> {
         self.desk.lock(rt).pass()
     }
 
-    /// Adds an entry as `Store::add` does. Where it is accepted the pass counts one add more, and the receipt tells the
-    /// place of its mark, its key, and the SHA-256 of its payload.
+    /// Adds an entry as `Store::add` does. The payload is checked and copied, and its SHA-256 is taken, before the lock is. Where
+    /// it is accepted the pass counts one add more, and the receipt tells the place of its mark, its key, and the SHA-256 of its
+    /// payload.
     ///
     /// Faults, tried in this order: `Backwards` where the trail is shorter than what the pass has seen; `Of` with the fault
     /// of `Store::add`.
@@ -88,7 +92,8 @@ impl<L: AddLedger, D: LogDisk> Bookie<L, D> {
         ensures count { pass.new.adds ≡ pass.old.adds + accepted_count result }
         ensures receipt { GivesReceipt pass.old pass.new payload.now result }
     {
-        self.desk.lock(rt).add(AddKind::Ordinary, pass, payload)
+        let offered = Offered::new(self.alloc, payload);
+        self.desk.lock(rt).add(AddKind::Ordinary, pass, offered)
     }
 
     /// Adds an entry as `Store::add_recovery` does, to a fenced ledger too. It answers as `add` does, but never `Fenced`.
@@ -102,7 +107,8 @@ impl<L: AddLedger, D: LogDisk> Bookie<L, D> {
         ensures count { pass.new.adds ≡ pass.old.adds + accepted_count result }
         ensures receipt { GivesReceipt pass.old pass.new payload.now result }
     {
-        self.desk.lock(rt).add(AddKind::Recovery, pass, payload)
+        let offered = Offered::new(self.alloc, payload);
+        self.desk.lock(rt).add(AddKind::Recovery, pass, offered)
     }
 
     /// The entry of a key, as `Store::take` gives it: a cached payload, or a lease, which needs no lock to be read or given

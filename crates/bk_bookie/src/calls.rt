@@ -3,11 +3,12 @@
 ghost use Rattle.std.specs.Prelude.{◌≡◌, ◌+◌, ◌<◌, ◌≤◌, IsTrue, IfSome, IfNone};
 ghost use Rattle.bk_store.specs.Turns.{AddTurn, DeleteTurn, FenceTurn, TakeTurn};
 ghost use Rattle.bk_drive.specs.Machine.{WorkTurn};
-ghost use Rattle.bk_bookie.specs.Adds.{accepted_count};
+ghost use Rattle.bk_bookie.specs.Adds.{accepted_count, payload_of};
 ghost use Rattle.bk_bookie.specs.Calls.{GivesEntry, GivesBack, ReadBackTurn, told_back_of};
 ghost use Rattle.bk_bookie.specs.Passes.{OneTurn, front_of, told_of};
 
 use crate::desk::Desk;
+use crate::offered::Offered;
 use crate::pass::{AddLedger, Pass};
 use crate::receipts::{Found, look_up};
 use crate::{CallFault, ReadBackFault};
@@ -43,13 +44,14 @@ fn told_back<T>(answer: Result<T, TakeFault>) -> Result<T, ReadBackFault>
 fn add_as<D: LogDisk>(
     store: &mut Store<D>,
     kind: AddKind,
-    payload: &[u8],
+    offered: Offered<'_>,
 ) -> Result<Added, AddFault>
-    ensures { AddTurn store.old kind payload.now result store.new }
+    ensures { AddTurn store.old kind (payload_of offered) result store.new }
 {
-    match kind {
-        AddKind::Ordinary => store.add(payload),
-        AddKind::Recovery => store.add_recovery(payload),
+    match (offered, kind) {
+        (Offered::Prepared(entry), _) => store.add_prepared(kind, entry),
+        (Offered::Lent(payload), AddKind::Ordinary) => store.add(payload),
+        (Offered::Lent(payload), AddKind::Recovery) => store.add_recovery(payload),
     }
 }
 
@@ -68,9 +70,9 @@ impl<L: AddLedger, D: LogDisk> Desk<L, D> {
         &mut self,
         kind: AddKind,
         pass: &mut Pass<L>,
-        payload: &[u8],
+        offered: Offered<'_>,
     ) -> Result<Added, CallFault<AddFault>>
-        ensures turn { OneTurn (λ s answer t. AddTurn s kind payload.now answer t) self.old.store pass.old result self.new.store pass.new }
+        ensures turn { OneTurn (λ s answer t. AddTurn s kind (payload_of offered) answer t) self.old.store pass.old result self.new.store pass.new }
         ensures count { pass.new.adds ≡ pass.old.adds + accepted_count result }
         ensures beside { self.new ≡ record self.old { store = self.new.store } }
     {
@@ -80,7 +82,7 @@ impl<L: AddLedger, D: LogDisk> Desk<L, D> {
                 front,
             });
         }
-        let answer = add_as(&mut self.store, kind, payload);
+        let answer = add_as(&mut self.store, kind, offered);
         pass.seen = self.store.front();
         if let Ok(Added::Accepted(_)) = answer {
             self.book.add(&mut pass.share, 1);

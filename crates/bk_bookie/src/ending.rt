@@ -45,6 +45,7 @@ impl<L: AddLedger, D: LogDisk> Bookie<L, D> {
         ensures stand { IfOk result (λ f. AllStand f.store.ledgers.trail receipts.now) }
         ensures passes { IfErr result (λ refused. refused.passes ≡ passes) }
     {
+        let alloc = self.alloc;
         let desk = self.desk.into_inner();
         match desk.refusal(passes.len(), receipts) {
             None => Ok(desk.close(passes)),
@@ -52,6 +53,7 @@ impl<L: AddLedger, D: LogDisk> Bookie<L, D> {
                 fault,
                 bookie: Bookie {
                     desk: Mutex::new(desk),
+                    alloc,
                 },
                 passes,
             }),

@@ -6,6 +6,7 @@ mod calls;
 mod desk;
 mod ending;
 mod fault;
+mod offered;
 mod pass;
 mod receipts;
 mod workers;

@@ -95,6 +95,22 @@ impl Cache {
         }
     }
 
+    /// Adds a payload under its own key as it is, and answers as `add` does.
+    pub(crate) fn put(&mut self, key: Key, payload: Arc<Vec<u8>>) -> Result<bool, AllocError>
+        requires keyed { read_added payload.value.items ≡ Ok key }
+        requires fits { used_of self.old + length payload.value.items < 2 ^ 64 }
+        ensures turn { CacheTurn self.old key payload.value.items result self.new }
+    {
+        match self.pairs.entry(key)? {
+            Entry::Occupied(_) => Ok(false),
+            Entry::Vacant(room) => {
+                self.used += payload.len() as u64;
+                room.insert_entry(payload);
+                Ok(true)
+            }
+        }
+    }
+
     /// Takes the entries of a ledger out, and answers how many there were.
     pub(crate) fn drop_ledger(&mut self, ledger: u64) -> u64
         ensures left { self.new ≡ without_ledger self.old ledger }
@@ -162,8 +178,8 @@ impl Cache {
     }
 }
 
-// A copy of the payload, shared from then on.
-fn share(alloc: Global, payload: &[u8]) -> Result<Arc<Vec<u8>>, AllocError>
+/// A copy of a payload, shared from then on. The only error is want of memory.
+pub fn share(alloc: Global, payload: &[u8]) -> Result<Arc<Vec<u8>>, AllocError>
     ensures { IfOk result (λ shared. shared.value.items ≡ payload.now) }
 {
     Ok(Arc::new(alloc, payload.to_vec(alloc)?)?)

@@ -1,7 +1,7 @@
 //! The two write caches and the recent entries. Adds go to the active cache; a swap makes it the flushing one, and what
 //! is flushed may be remembered. A key is in at most one of the write caches, and a read looks there first.
 
-ghost use Rattle.std.specs.Prelude.{◌≡◌, ◌↔◌, ◌⊎◌, ◌+◌, ◌≤◌, [], Some, None, Ok, length, is_some, option_map, IsSome, IsTrue, IfSome, IfOk};
+ghost use Rattle.std.specs.Prelude.{◌≡◌, ◌↔◌, ◌⊎◌, ◌+◌, ◌≤◌, [], Some, None, Ok, length, is_some, option_map, IsSome, IsTrue, IfSome, IfNone, IfOk};
 ghost use Rattle.std.specs.FinMap as map;
 ghost use Rattle.bk_record.specs.Key.{EntryKey};
 ghost use Rattle.bk_record.specs.Limits.{max_cache_limit};
@@ -126,22 +126,51 @@ impl Caches {
         ensures turn { CacheAddTurn self.old key payload.now result self.new }
         ensures sound { IsSound self.new }
     {
-        if self.is_in_flush(&key) {
-            return Ok(CacheAdd::Held);
-        }
-        let used = self.active.used();
-        let limit = self.limit;
-        if used + payload.len() as u64 > limit {
-            return match self.active.get(&key) {
-                Some(_) => Ok(CacheAdd::Held),
-                None => Err(CacheFault::Full { used, limit }),
-            };
+        if let Some(answer) = self.answered(&key, payload) {
+            return answer;
         }
         match self.active.add(self.alloc, key, payload) {
             Ok(true) => Ok(CacheAdd::Taken),
             Ok(false) => Ok(CacheAdd::Held),
             Err(_) => Err(CacheFault::Memory),
         }
+    }
+
+    /// Takes a payload as `add` does, but as it is, and no copy of it. So it needs memory for its key alone.
+    pub fn put(&mut self, key: Key, payload: Arc<Vec<u8>>) -> Result<CacheAdd, CacheFault>
+        requires { read_added payload.value.items ≡ Ok key }
+        ensures turn { CacheAddTurn self.old key payload.value.items result self.new }
+        ensures sound { IsSound self.new }
+    {
+        if let Some(answer) = self.answered(&key, &payload) {
+            return answer;
+        }
+        match self.active.put(key, payload) {
+            Ok(true) => Ok(CacheAdd::Taken),
+            Ok(false) => Ok(CacheAdd::Held),
+            Err(_) => Err(CacheFault::Memory),
+        }
+    }
+
+    // What an add answers before the active cache is given its payload: that a write cache has the key, or that there is
+    // no room; nothing where the running flush has not the key, and there is room.
+    fn answered(&self, key: &Key, payload: &[u8]) -> Option<Result<CacheAdd, CacheFault>>
+        ensures some { IfSome result (λ answer. CacheAddTurn self.now key.now payload.now answer self.now) }
+        ensures absent { IfNone result (map.get (flush_of self.now) key.now ≡ None) }
+        ensures fits { IfNone result (used_of self.now.active + length payload.now ≤ self.now.limit) }
+    {
+        if self.is_in_flush(key) {
+            return Some(Ok(CacheAdd::Held));
+        }
+        let used = self.active.used();
+        let limit = self.limit;
+        if used + payload.len() as u64 > limit {
+            return Some(match self.active.get(key) {
+                Some(_) => Ok(CacheAdd::Held),
+                None => Err(CacheFault::Full { used, limit }),
+            });
+        }
+        None
     }
 
     // Whether the running flush has the key.

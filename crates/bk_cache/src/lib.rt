@@ -9,6 +9,7 @@ mod flushing;
 mod recent;
 mod swap;
 
+pub use cache::share;
 pub use cache_add::CacheAdd;
 pub use caches::Caches;
 pub use fault::CacheFault;

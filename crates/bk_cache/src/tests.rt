@@ -4,7 +4,7 @@ mod memory;
 mod sizes;
 mod worked;
 
-use crate::{CacheAdd, CacheFault, Caches, Swap};
+use crate::{CacheAdd, CacheFault, Caches, Swap, share};
 use bk_record::{Key, check_add};
 use std::alloc::{AllocError, Global};
 use std::sync::Arc;
@@ -15,6 +15,8 @@ use std::test::Fail;
 enum Call {
     /// An add of a key with this mark and size.
     Add(u64, u64, u8, usize),
+    /// The same of a payload that is shared already.
+    Put(u64, u64, u8, usize),
     Swap,
     Done,
     Drop(u64),
@@ -59,7 +61,28 @@ fn add(caches: &mut Caches, ledger: u64, entry: u64, mark: u8, size: usize) -> A
     let Ok(key) = check_add(payload) else {
         return Answer::Nothing;
     };
-    match caches.add(key, payload) {
+    told(caches.add(key, payload))
+}
+
+fn put(
+    alloc: Global,
+    caches: &mut Caches,
+    ledger: u64,
+    entry: u64,
+    mark: u8,
+    size: usize,
+) -> Answer {
+    let bytes = bytes_of(ledger, entry, mark);
+    let payload = &bytes[..size.min(100)];
+    match (check_add(payload), share(alloc, payload)) {
+        (Ok(key), Ok(shared)) => told(caches.put(key, shared)),
+        (Ok(_), Err(_)) => Answer::Memory,
+        (Err(_), _) => Answer::Nothing,
+    }
+}
+
+fn told(answer: Result<CacheAdd, CacheFault>) -> Answer {
+    match answer {
         Ok(CacheAdd::Taken) => Answer::Taken,
         Ok(CacheAdd::Held) => Answer::Held,
         Err(CacheFault::Full { used, .. }) => Answer::Full(used),
@@ -110,6 +133,7 @@ fn keyed(alloc: Global, caches: &mut Caches, call: Call, key: Key) -> Answer {
 fn make(alloc: Global, caches: &mut Caches, call: Call) -> Answer {
     match call {
         Call::Add(ledger, entry, mark, size) => add(caches, ledger, entry, mark, size),
+        Call::Put(ledger, entry, mark, size) => put(alloc, caches, ledger, entry, mark, size),
         Call::Swap => swap(caches),
         Call::Done => {
             caches.done();

@@ -41,7 +41,7 @@ take_part n m a b same order = elim (dec_le 8 m) [
 ]
 
 -- the first bytes of a cut are one
-cut_take : (m : ℕ) (file left : List ℕ) → IsCut file left → IsCut file (take m left)
+pub cut_take : (m : ℕ) (file left : List ℕ) → IsCut file left → IsCut file (take m left)
 cut_take m file left cut = elim (dec_le (length left) m) [
   | yes all ↦ subst (IsCut file) (sym (take_all m left all)) cut
   | no part ↦
@@ -103,7 +103,7 @@ module _ (kept file left : List ℕ) (damaged : IsDamaged kept file left) (mark 
             ∙ sym (cut_in file long-file) ∙ ap (λ n. drop 20 (take n file)) (sym size);
       }
 
-  marked_cut : IsCut file (take mark left)
+  pub marked_cut : IsCut file (take mark left)
   marked_cut = elim (dec_le mark header_length) [
     | yes before ↦ cut_of_front header_length file (take mark left)
         (subst (IsCut (take header_length file)) (take-take mark header_length left before) (cut_take mark (take header_length file) (take header_length left) damaged.headed))

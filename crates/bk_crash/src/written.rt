@@ -1,7 +1,13 @@
 //! What a disk was asked to write: the bytes of each log, how many of them are on the device for sure, and the files that
 //! were removed. Of it comes what a loss of power may leave.
 
-ghost use Rattle.std.specs.Prelude.{◌≤◌};
+ghost use Rattle.std.specs.Prelude.{◌≡◌, ℕ, ◌≤◌, List, ◌++◌, take, option_map, IfOk, OnOk};
+ghost use Rattle.bk_record.specs.Files.{Files};
+ghost use Rattle.bk_disk.specs.Disk.{patched_file};
+ghost use Rattle.bk_mark.specs.Marking as marking;
+ghost use Rattle.bk_mark.specs.Marking.{AreCovered, sure_fronts};
+ghost use Rattle.bk_store.specs.Crash.{MayLeave};
+ghost use Rattle.bk_crash.specs.Leaving.{files_of, gone_of, AreSynced, AreMarked, ArePutBack, by_id, IsLeftOf, IsBackOf, IsSpoiled, IsInFront};
 
 use bk_record::HEADER_LENGTH;
 use std::alloc::{AllocError, Global};
@@ -22,7 +28,7 @@ pub trait Choices {
 
 /// What was written to a log.
 #[derive(Drop)]
-struct WrittenLog {
+pub struct WrittenLog {
     bytes: Vec<u8>,
     /// How many bytes are on the device for sure; `None` where not even the file is.
     synced: Option<usize>,
@@ -33,7 +39,7 @@ struct WrittenLog {
 
 /// The mark that a log has on the device for sure, and the last that was written: how many bytes are to be believed.
 #[derive(Clone, Copy)]
-struct Mark {
+pub struct Mark {
     sure: usize,
     last: usize,
 }
@@ -182,75 +188,112 @@ impl Written {
     }
 
     /// Files that a loss of power may leave: of each log a beginning, no shorter than what was synced, with any bytes where
-    /// its header was patched since; no file where nothing was synced; and removed files, or beginnings of them.
+    /// its header was patched since; no file where nothing was synced; and removed files, or beginnings of them. The only
+    /// error is want of memory.
     pub fn left<C: Choices>(
         &self,
         alloc: Global,
         choices: &mut C,
-    ) -> Result<Vec<File>, AllocError> {
+    ) -> Result<Vec<File>, AllocError>
+        ensures { (kept : Files) → AreSynced self.now.logs.entries kept
+            → IfOk result (λ left. MayLeave (files_of self.now) (gone_of self.now) kept (by_id left.items)) }
+    {
         let mut left = Vec::new(alloc);
         for (log, written) in self.logs.iter() {
-            if written.synced.is_none() && choices.up_to(3) == 0 {
-                continue;
-            }
-            let mut bytes = beginning(alloc, &written.bytes, written.synced.unwrap_or(0), choices)?;
-            if written.is_patched {
-                spoil(&mut bytes, choices);
-            }
-            left.push((*log, bytes))?;
-        }
-        for (log, bytes) in self.gone.iter() {
-            if !self.logs.contains_key(log) && choices.up_to(1) == 0 {
-                left.push((*log, beginning(alloc, bytes, 0, choices)?))?;
+            if let Some(bytes) = written.left(alloc, choices)? {
+                left.push((*log, bytes))?;
             }
         }
+        self.put_back(alloc, choices, &mut left)?;
         Ok(left)
     }
-}
 
-impl Written {
+    /// Puts files that were removed and are back behind those that are left of the logs.
+    fn put_back<C: Choices>(
+        &self,
+        alloc: Global,
+        choices: &mut C,
+        left: &mut Vec<File>,
+    ) -> Result<(), AllocError>
+        ensures { OnOk result (ArePutBack self.now left.old.items left.new.items) }
+    {
+        for (log, bytes) in self.gone.iter() {
+            if self.logs.contains_key(log) {
+                continue;
+            }
+            if let Some(bytes) = back(alloc, bytes, choices)? {
+                left.push((*log, bytes))?;
+            }
+        }
+        Ok(())
+    }
+
     /// Files that a loss of power may leave on a device that leaves any bytes behind those that were synced, each cut to the
-    /// mark that is found in it.
+    /// mark that is found in it. The only error is want of memory.
     pub fn damaged<C: Choices>(
         &self,
         alloc: Global,
         choices: &mut C,
-    ) -> Result<Vec<File>, AllocError> {
+    ) -> Result<Vec<File>, AllocError>
+        ensures { (kept : Files) (marks : marking.Written) → AreSynced self.now.logs.entries kept → AreMarked self.now.logs.entries marks → AreCovered kept marks
+            → IfOk result (λ left. MayLeave (files_of self.now) (gone_of self.now) (sure_fronts kept marks) (by_id left.items)) }
+    {
         let mut left = Vec::new(alloc);
         for (log, written) in self.logs.iter() {
-            if written.synced.is_none() && choices.up_to(3) == 0 {
-                continue;
-            }
-            left.push((*log, written.damaged(alloc, choices)?))?;
-        }
-        for (log, bytes) in self.gone.iter() {
-            if !self.logs.contains_key(log) && choices.up_to(1) == 0 {
-                left.push((*log, beginning(alloc, bytes, 0, choices)?))?;
+            if let Some(bytes) = written.damaged(alloc, choices)? {
+                left.push((*log, bytes))?;
             }
         }
+        self.put_back(alloc, choices, &mut left)?;
         Ok(left)
     }
 }
 
 impl WrittenLog {
-    /// What a loss of power leaves in front of the mark.
-    fn damaged<C: Choices>(&self, alloc: Global, choices: &mut C) -> Result<Vec<u8>, AllocError> {
+    /// What a loss of power leaves of the log; `None` where its file is not there, of which nothing was synced.
+    fn left<C: Choices>(
+        &self,
+        alloc: Global,
+        choices: &mut C,
+    ) -> Result<Option<Vec<u8>>, AllocError>
+        ensures { IfOk result (λ left. IsLeftOf self.now (option_map (λ bytes. bytes.items) left)) }
+    {
+        let least = match self.synced {
+            Some(synced) => synced,
+            None if choices.up_to(3) == 0 => return Ok(None),
+            None => 0,
+        };
+        let mut bytes = beginning(alloc, &self.bytes, least, choices)?;
+        if self.is_patched {
+            spoil(&mut bytes, choices);
+        }
+        Ok(Some(bytes))
+    }
+
+    /// What a loss of power leaves of the log in front of its mark, where there may be any bytes behind those that were synced;
+    /// `None` where its file is not there.
+    fn damaged<C: Choices>(
+        &self,
+        alloc: Global,
+        choices: &mut C,
+    ) -> Result<Option<Vec<u8>>, AllocError>
+        ensures { IfOk result (λ left. IsInFront self.now (option_map (λ bytes. bytes.items) left)) }
+    {
         let mark = match choices.up_to(1) {
             0 => self.mark.sure,
             _ => self.mark.last,
         };
-        let mut bytes = match self.synced {
-            Some(synced) => first(alloc, &self.bytes, synced)?,
-            None => beginning(alloc, &self.bytes, 0, choices)?,
+        let Some(mut bytes) = self.left(alloc, choices)? else {
+            return Ok(None);
         };
-        if self.synced.is_some() {
-            add_damage(alloc, &mut bytes, &self.bytes, choices)?;
-        }
-        if self.is_patched {
-            spoil(&mut bytes, choices);
+        if let Some(synced) = self.synced {
+            if bytes.len() >= HEADER_LENGTH {
+                bytes.truncate(synced.max(HEADER_LENGTH));
+                add_damage(alloc, &mut bytes, &self.bytes, choices)?;
+            }
         }
         bytes.truncate(mark);
-        Ok(bytes)
+        Ok(Some(bytes))
     }
 }
 
@@ -265,7 +308,9 @@ fn add_damage<C: Choices>(
     bytes: &mut Vec<u8>,
     file: &[u8],
     choices: &mut C,
-) -> Result<(), AllocError> {
+) -> Result<(), AllocError>
+    ensures { OnOk result ((more : List ℕ) × (bytes.new.items ≡ bytes.old.items ++ more)) }
+{
     match choices.up_to(4) {
         0 => Ok(()),
         1 => add_all(bytes, &vec![in alloc; 0u8; choices.up_to(100)]?),
@@ -278,21 +323,18 @@ fn add_damage<C: Choices>(
     }
 }
 
-fn add_all(bytes: &mut Vec<u8>, more: &[u8]) -> Result<(), AllocError> {
+fn add_all(bytes: &mut Vec<u8>, more: &[u8]) -> Result<(), AllocError>
+    ensures { OnOk result (bytes.new.items ≡ bytes.old.items ++ more.now) }
+{
     bytes.extend_from_slice(more)
 }
 
-/// The first bytes of a file, so many, or all where it has fewer.
-fn first(alloc: Global, file: &[u8], count: usize) -> Result<Vec<u8>, AllocError> {
-    Vec::from_slice(alloc, &file[..count.min(file.len())])
-}
-
-/// Writes twelve bytes over those at byte 8, where there are so many.
-fn overwrite(file: &mut [u8], bytes: &[u8; 12]) {
-    for (at, byte) in bytes.iter().enumerate() {
-        if let Some(old) = file.get_mut(at.saturating_add(PATCHED.0)) {
-            *old = *byte;
-        }
+/// Writes twelve bytes over those at byte 8 of a file, where it has so many.
+fn overwrite(file: &mut [u8], bytes: &[u8; 12])
+    ensures { file.new ≡ patched_file file.old bytes.now }
+{
+    if file.len() >= PATCHED.1 {
+        file[PATCHED.0..PATCHED.1].copy_from_slice(bytes);
     }
 }
 
@@ -302,7 +344,9 @@ fn beginning<C: Choices>(
     file: &[u8],
     least: usize,
     choices: &mut C,
-) -> Result<Vec<u8>, AllocError> {
+) -> Result<Vec<u8>, AllocError>
+    ensures { IfOk result (λ bytes. (count : ℕ) × (least ≤ count) × (bytes.items ≡ take count file.now)) }
+{
     let open = file.len().saturating_sub(least);
     let more = match choices.up_to(3) {
         0 => 0,
@@ -311,15 +355,28 @@ fn beginning<C: Choices>(
         _ => choices.up_to(open),
     };
     let end = least.saturating_add(more);
-    let mut bytes = Vec::new(alloc);
-    for byte in file.iter().take(end) {
-        bytes.push(*byte)?;
+    Vec::from_slice(alloc, &file[..end.min(file.len())])
+}
+
+/// A file that was removed, or a beginning of it, where it is back.
+fn back<C: Choices>(
+    alloc: Global,
+    file: &[u8],
+    choices: &mut C,
+) -> Result<Option<Vec<u8>>, AllocError>
+    ensures { IfOk result (λ back. IsBackOf file.now (option_map (λ bytes. bytes.items) back)) }
+{
+    if choices.up_to(1) == 0 {
+        Ok(Some(beginning(alloc, file, 0, choices)?))
+    } else {
+        Ok(None)
     }
-    Ok(bytes)
 }
 
 /// Other bytes where a header is patched, or the same.
-fn spoil<C: Choices>(file: &mut [u8], choices: &mut C) {
+fn spoil<C: Choices>(file: &mut [u8], choices: &mut C)
+    ensures { IsSpoiled file.old file.new }
+{
     match choices.up_to(2) {
         0 => overwrite(file, &[0; 12]),
         1 => overwrite(file, &[0xa5; 12]),

@@ -47,7 +47,8 @@ impl<D: MarkDisk> Model for MarkedDisk<D> {
 
 #[tactic(auto, using(crate::proofs::Fronts::front_rules))]
 impl<D: MarkDisk> MarkedDisk<D> {
-    /// The disk, each of whose logs is cut to its mark, where it has one. Faults: `Disk`, `Memory`.
+    /// The disk, each of whose logs is cut to its mark, where it has one. Faults: `Disk`, `Memory`. A refusal lets the disk go,
+    /// some of whose logs may be cut and others not; the next opening cuts the rest.
     pub fn open(inner: D, alloc: Global) -> Result<Self, DiskFault>
         ensures { IfOk result (λ disk. (disk.honest ≡ D.honest inner)
             × (IsTrue (D.honest inner) → AreCut (D.files inner) (D.marks inner) disk.files)) }

@@ -1,3 +1,4 @@
+pub mod TakenEntry
 pub mod Cases
 pub mod OneEntry
 pub mod LastEntries

@@ -15,6 +15,7 @@ pub mod Leasing
 pub mod JobKept
 pub mod Kept
 pub mod Turns
+pub mod Preparing
 pub mod Doors
 pub mod Copying
 pub mod Placed

@@ -3,14 +3,14 @@
 //! A mark is made together with the change that it tells: room for it comes first, so that nothing is changed that is not
 //! marked.
 
-ghost use Rattle.std.specs.Prelude.{◌≡◌, ◌<◌, length, OnOk, OnErr};
+ghost use Rattle.std.specs.Prelude.{◌≡◌, ◌<◌, ℕ, List, length, OnOk, OnErr};
 ghost use Rattle.std.specs.FinSet as set;
+ghost use Rattle.sha2.specs.Sha256.{sha256};
 
 use crate::ledger_set::LedgerSet;
 use crate::trail::Trail;
 use crate::{AddKind, Mark, Receipt};
 use bk_record::Key;
-use sha2::{Digest, Sha256};
 use std::alloc::{AllocError, Global};
 use std::marker::Model;
 
@@ -95,14 +95,13 @@ impl KnownLedgers {
         self.trail.ready()
     }
 
-    /// An entry came in, for whose mark there is room.
-    pub fn accept(&mut self, key: Key, payload: &[u8]) -> Receipt
+    /// An entry came in, whose payload has this SHA-256, and for whose mark there is room.
+    pub fn accept(&mut self, key: Key, digest: [u8; 32]) -> Receipt
         requires { 0 < self.old.room }
-        ensures receipt { result ≡ receipt_of self.old.known.trail key payload.now }
-        ensures known { self.new.known ≡ with_add self.old.known key payload.now }
+        ensures receipt { (payload : List ℕ) → digest ≡ sha256 payload → result ≡ receipt_of self.old.known.trail key payload }
+        ensures known { (payload : List ℕ) → digest ≡ sha256 payload → self.new.known ≡ with_add self.old.known key payload }
     {
         let number = self.trail.len();
-        let digest = Sha256::digest(payload);
         self.trail.push(Mark::Add { key, digest });
         Receipt {
             number,

@@ -22,6 +22,7 @@ mod moving;
 mod naming;
 mod open;
 mod places;
+mod prepared;
 mod reading;
 mod removing;
 mod replacing;
@@ -47,5 +48,6 @@ pub use laws::{
 pub use leasing::StillLeased;
 pub use log::LogState;
 pub use mark::{Mark, Receipt};
+pub use prepared::Prepared;
 pub use settings::Settings;
 pub use store::Store;

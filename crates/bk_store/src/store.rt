@@ -15,8 +15,8 @@ ghost use Rattle.bk_store.specs.declared.adding.AddKind.TheVariants.{Ordinary, R
 
 use crate::fields::Fields;
 use crate::{
-    AddFault, AddKind, Added, DeleteFault, Fence, FenceFault, LogState, Mark, OpenFault, Settings,
-    SwapAnswer, TakeFault, Taken,
+    AddFault, AddKind, Added, DeleteFault, Fence, FenceFault, LogState, Mark, OpenFault, Prepared,
+    Settings, SwapAnswer, TakeFault, Taken,
 };
 use bk_disk::LogDisk;
 use bk_record::Key;
@@ -96,6 +96,16 @@ impl<D: LogDisk> Store<D> {
         ensures { AddTurn self.old Recovery payload.now result self.new }
     {
         self.fields.add(AddKind::Recovery, payload)
+    }
+
+    /// Adds an entry that was prepared: as `add` does, or `add_recovery`, but what these make of the payload alone was made
+    /// before. So it takes memory for its key and its mark alone.
+    ///
+    /// The faults are those of the add of this kind but for `Bad`.
+    pub fn add_prepared(&mut self, kind: AddKind, entry: Prepared) -> Result<Added, AddFault>
+        ensures { AddTurn self.old kind entry result self.new }
+    {
+        self.fields.add_prepared(kind, entry)
     }
 
     /// Fences a ledger: ordinary adds to it are refused, until it is deleted or the store is opened anew. Any number may be

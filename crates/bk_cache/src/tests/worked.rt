@@ -2,7 +2,7 @@
 
 use super::Answer::{self, At, Count, Full, Held, Mark, Nothing, Running, Taken};
 use super::Call::{
-    self, Add, After, Done, Drop, Find, First, FlushLen, RecentLen, Remember, Swap, Used,
+    self, Add, After, Done, Drop, Find, First, FlushLen, Put, RecentLen, Remember, Swap, Used,
 };
 use super::make;
 use crate::Caches;
@@ -61,6 +61,19 @@ const CALLS: [(Call, Answer); 40] = [
 fn calls_of_caches_of_a_hundred_bytes(rt: HostRuntime) -> Result<(), Fail> {
     let mut caches = Caches::new(rt.alloc(), 100, 2)?;
     for (call, expected) in CALLS {
+        assert_eq!(rt; make(rt.alloc(), &mut caches, call), expected, "{call:?}");
+    }
+    Ok(())
+}
+
+#[test]
+fn shared_payloads_come_in_as_copies_do(rt: HostRuntime) -> Result<(), Fail> {
+    let mut caches = Caches::new(rt.alloc(), 100, 2)?;
+    for (call, expected) in CALLS {
+        let call = match call {
+            Add(ledger, entry, mark, size) => Put(ledger, entry, mark, size),
+            other => other,
+        };
         assert_eq!(rt; make(rt.alloc(), &mut caches, call), expected, "{call:?}");
     }
     Ok(())

@@ -1,0 +1,577 @@
+-- What is left of logs one after another, and of files that were removed.
+use Rattle.std.proofs.Common.{◌≡◌, ◌⊎◌, inl, inr, ℕ, ◌+◌, ◌<◌, ◌≤◌, Bool, true, false, cond, suc, List, [], ◌∷◌, ◌++◌, map, length, take, drop, get_or, Option, Some, None, option_map, IsSome, Vec, Global}
+use Rattle.std.proofs.Common.{refl, sym, ap, ◌∙◌, subst, append_assoc, arith, length-append, length-drop, length-take, leb, le-leb, leb-true}
+use Rattle.std.proofs.Math.Decide.{dec_le}
+use Rattle.std.proofs.Math.Seq.{take-append_seam, get_or-append_seam}
+use Rattle.std.proofs.lemmas.List.{take_all, take-take, length-take-le, take-append-le, length-map, get_or-map, get_or-take, map-append, append-nil}
+use Rattle.std.proofs.lemmas.Option.{same_Some, none-some}
+use Rattle.std.proofs.lemmas.Bool.{false≢true}
+use Rattle.std.proofs.lemmas.Map.Views.{tells_apart}
+use Rattle.std.proofs.lemmas.Map.Keys.{below_from_sorted}
+use Rattle.std.specs.List.Sorted.{IsStrictlySortedBy}
+use Rattle.std.specs.Ordering.{nat_cmp, eq_by_cmp, is_eq}
+use Rattle.std.specs.declared.cmp.Ordering.{Ordering}
+use Rattle.std.specs.declared.cmp.Ordering.TheVariants.{Less, Equal, Greater}
+use Rattle.std.proofs.lemmas.Slice.{drop-append-drop}
+use Rattle.std.specs.Cmp.{nat_cmp_total}
+use Rattle.std.specs.Map.{keys_of, lookup}
+use Rattle.std.specs.BTreeMap.{is_at}
+use Rattle.std.specs.Option.{is_some}
+use Rattle.std.specs.FinMap as finite
+use Rattle.std.specs.FinMap.{find, get-from_entries}
+use Rattle.bk_record.specs.Files.{Files, header_length}
+use Rattle.bk_record.specs.Longer.{IsLonger}
+use Rattle.bk_record.proofs.NumberMaps.{get-entries}
+use Rattle.bk_record.proofs.Longer.{longer_same, longer_append, longer_trans}
+use Rattle.bk_disk.specs.Disk.{patched_file}
+use Rattle.bk_disk.specs.Logs.{listed}
+use Rattle.bk_log.proofs.Gains.{longer_patch}
+use Rattle.bk_mark.specs.Marking as marking
+use Rattle.bk_mark.specs.Marking.{AreCovered, sure_fronts}
+use Rattle.bk_mark.specs.declared.marks.Mark.{Mark}
+use Rattle.bk_mark.proofs.Fronts.{front_there, longer_fronts}
+use Rattle.bk_store.specs.Crash.{IsCut, IsLeft, MayLeave}
+use Rattle.bk_crash.proofs.Damage.{cut_take, marked_cut}
+use Rattle.bk_crash.specs.Damage.{IsDamaged}
+use Rattle.bk_crash.specs.Leaving.{files_of, gone_of, log_at, AreSynced, AreMarked, HasMarkOf, HasSynced, IsLeftOf, IsInFront, IsBefore, IsBackOf, IsBack, IsSpoiled, IsPutBack, ArePutBack, by_id}
+use Rattle.bk_crash.specs.declared.written.Written.{Written}
+use Rattle.bk_crash.specs.declared.written.WrittenLog.{WrittenLog}
+
+-- ---- one file
+
+cut_same : (file : List ℕ) → IsCut file file
+cut_same file =
+    let all : take (length file) file ≡ file = take_all (length file) file (omega arith) in
+    record { within = omega arith; front = ap (take 8) (sym all); behind = ap (drop 20) (sym all) }
+
+pub cut_of_take : (count : ℕ) (file : List ℕ) → IsCut file (take count file)
+cut_of_take count file = cut_take count file file (cut_same file)
+
+-- a cut whose header was patched is one, and has as much behind its header
+module _ (file left bytes : List ℕ) (twelve : length bytes ≡ 12) where
+  patched_long : 20 ≤ length left → IsCut file left → IsCut file (take 8 left ++ bytes ++ drop 20 left)
+  patched_long long cut =
+      let eight : length (take 8 left) ≡ 8 = length-take-le 8 left (omega (arith, long)) in
+      let head = take 8 left ++ bytes in
+      let twenty : length head ≡ 20 = omega (arith, length-append (take 8 left) bytes, eight, twelve) in
+      let size : length (take 8 left ++ bytes ++ drop 20 left) ≡ length left =
+      omega (arith, length-append head (drop 20 left), length-drop 20 left, twenty, long) in
+      let back : (n : ℕ) → n ≡ length left → take n file ≡ take (length left) file = λ n is. ap (λ m. take m file) is in
+      record {
+        within = omega (arith, size, cut.within);
+        front = take-append-le 8 head (drop 20 left) (omega (arith, twenty)) ∙ take-append-le 8 (take 8 left) bytes (omega (arith, eight))
+            ∙ take-take 8 8 left (omega arith) ∙ cut.front
+            ∙ ap (take 8) (sym (back _ size));
+        behind = drop-append-drop 20 left head 20 (omega arith) twenty ∙ cut.behind ∙ ap (drop 20) (sym (back _ size));
+      }
+
+  pub cut_patched : IsCut file left → IsCut file (patched_file left bytes)
+  cut_patched cut = elim (leb 20 (length left)) as (λ b. leb 20 (length left) ≡ b → IsCut file (cond b (take 8 left ++ bytes ++ drop 20 left) left)) [
+    | true ↦ λ long. patched_long (leb-true 20 (length left) long) cut
+    | false ↦ λ _. cut
+  ] refl
+
+  pub longer_patched : (front : List ℕ) → IsLonger front left → IsLonger front (patched_file left bytes)
+  longer_patched front longer = elim (dec_le 20 (length left)) [
+    | yes long ↦ longer_trans front left (patched_file left bytes) longer (longer_patch left bytes twelve long)
+    | no short ↦ subst (λ b. IsLonger front (cond b (take 8 left ++ bytes ++ drop 20 left) left)) (sym (short_is short)) longer
+  ] where
+    short_is : ¬ (20 ≤ length left) → leb 20 (length left) ≡ false
+    short_is short = elim (leb 20 (length left)) as (λ b. leb 20 (length left) ≡ b → b ≡ false) [
+      | true ↦ λ long. absurd (short (leb-true 20 (length left) long))
+      | false ↦ λ _. refl
+    ] refl
+
+-- the first bytes of a log, at least as many as were synced, are left of it
+pub log_left : (log : WrittenLog) (least count : ℕ) → HasSynced log.synced log.bytes.items (take least log.bytes.items) → least ≤ count
+    → IsLeftOf log (Some (take count log.bytes.items))
+log_left log least count has order = (cut_of_take count log.bytes.items, kept log.synced has) where
+  kept : (o : Option ℕ) → HasSynced o log.bytes.items (take least log.bytes.items) → HasSynced o log.bytes.items (take count log.bytes.items)
+  kept None _ = tt
+  kept (Some synced) has = longer_trans (take synced log.bytes.items) (take least log.bytes.items) (take count log.bytes.items) has
+      (longer_fronts least count log.bytes.items log.bytes.items order (longer_same log.bytes.items))
+
+-- so many were synced; or none, where any are enough
+pub has_synced : (o : Option ℕ) (least synced : ℕ) (bytes : List ℕ) → o ≡ Some synced → least ≡ synced → HasSynced o bytes (take least bytes)
+has_synced o least synced bytes is same =
+    subst (λ o. HasSynced o bytes (take least bytes)) (sym is) (subst (λ n. IsLonger (take synced bytes) (take n bytes)) (sym same) (longer_same (take synced bytes)))
+
+pub has_nothing : (o : Option ℕ) (bytes left : List ℕ) → o ≡ None → HasSynced o bytes left
+has_nothing o bytes left none = subst (λ o. HasSynced o bytes left) (sym none) tt
+
+-- other bytes may stand in its header
+pub log_spoiled : (log : WrittenLog) (left now : List ℕ) → IsSpoiled left now → IsLeftOf log (Some left) → IsLeftOf log (Some now)
+log_spoiled log left now (inl same) of = subst (λ l. IsLeftOf log (Some l)) (sym same) of
+log_spoiled log left now (inr other) of =
+    subst (λ l. IsLeftOf log (Some l)) (sym other.2) (cut_patched log.bytes.items left other.0 other.1 of.0, kept log.synced of.1) where
+  kept : (o : Option ℕ) → HasSynced o log.bytes.items left → HasSynced o log.bytes.items (patched_file left other.0)
+  kept None _ = tt
+  kept (Some synced) has = longer_patched log.bytes.items left other.0 other.1 (take synced log.bytes.items) has
+
+-- ---- damage
+
+longer_of_take : (n : ℕ) (file : List ℕ) → IsLonger (take n file) file
+longer_of_take n file = elim (dec_le n (length file)) [
+  | yes within ↦ subst (IsLonger (take n file)) (take_all (length file) file (omega arith)) (longer_fronts n (length file) file file within (longer_same file))
+  | no past ↦ subst (λ f. IsLonger f file) (sym (take_all n file (omega (arith, past)))) (longer_same file)
+]
+
+-- the header of a cut is a cut of the header
+cut_head : (file left : List ℕ) → IsCut file left → IsCut (take header_length file) (take header_length left)
+cut_head file left cut =
+    let part = cut_take header_length file left cut in
+    let size : length (take header_length left) ≤ header_length = omega (arith, length-take header_length left) in
+    let same : take (length (take header_length left)) (take header_length file) ≡ take (length (take header_length left)) file =
+    take-take (length (take header_length left)) header_length file size in
+    record {
+      within = omega (arith, part.within, size, length-take header_length file);
+      front = part.front ∙ ap (take 8) (sym same);
+      behind = part.behind ∙ ap (drop 20) (sym same);
+    }
+
+module _ (bytes left : List ℕ) (synced : ℕ) (cut : IsCut bytes left) (longer : IsLonger (take synced bytes) left) where
+  -- with nothing behind it
+  pub as_it_is : IsDamaged (take synced bytes) bytes left
+  as_it_is = record { begins = longer_of_take synced bytes; stands = longer; headed = cut_head bytes left cut }
+
+  -- with other bytes behind a part that has a header and all that was synced
+  pub damaged_behind : (n : ℕ) (more : List ℕ) → synced ≤ n → header_length ≤ n → header_length ≤ length left
+      → IsDamaged (take synced bytes) bytes (take n left ++ more)
+  damaged_behind n more enough headed long =
+      let front : IsLonger (take synced bytes) (take n left) =
+      subst (λ f. IsLonger f (take n left)) (take-take synced synced bytes (omega arith)) (longer_fronts synced n (take synced bytes) left enough longer) in
+      let size : header_length ≤ length (take n left) = omega (arith, length-take n left, headed, long) in
+      let head : take header_length (take n left ++ more) ≡ take header_length left =
+      take-append-le header_length (take n left) more size ∙ take-take header_length n left headed in
+      record {
+        begins = longer_of_take synced bytes;
+        stands = longer_trans (take synced bytes) (take n left) (take n left ++ more) front (longer_append (take n left) more);
+        headed = subst (IsCut (take header_length bytes)) (sym head) (cut_head bytes left cut);
+      }
+
+-- what is left in front of a mark
+module _ (log : WrittenLog) (mark : ℕ) (which : (mark ≡ log.mark.sure) ⊎ (mark ≡ log.mark.last)) (left now : List ℕ) (of : IsLeftOf log (Some left)) where
+  in_front : (o : Option ℕ) → log.synced ≡ o → IsBefore o log.bytes.items mark now → IsInFront log (Some now)
+  in_front o is before = (mark, which, subst (λ s. IsBefore s log.bytes.items mark now) (sym is) before)
+
+  -- of a log of which nothing was synced
+  pub before_nothing : log.synced ≡ None → now ≡ take mark left → IsInFront log (Some now)
+  before_nothing none front = in_front None none (subst (IsCut log.bytes.items) (sym front) (cut_take mark log.bytes.items left of.0))
+
+  -- of one that was synced, and has no other bytes behind
+  pub before_cut : (synced : ℕ) → log.synced ≡ Some synced → now ≡ take mark left → IsInFront log (Some now)
+  before_cut synced is front = in_front (Some synced) is
+      (left, front, as_it_is log.bytes.items left synced of.0 (subst (λ s. HasSynced s log.bytes.items left) is of.1))
+
+  -- of one that has
+  pub before_damage : (synced n : ℕ) (more : List ℕ) → log.synced ≡ Some synced → synced ≤ n → header_length ≤ n → header_length ≤ length left
+      → now ≡ take mark (take n left ++ more) → IsInFront log (Some now)
+  before_damage synced n more is enough headed long front = in_front (Some synced) is (
+    take n left ++ more,
+    front,
+    damaged_behind log.bytes.items left synced of.0 (subst (λ s. HasSynced s log.bytes.items left) is of.1) n more enough headed long,
+  )
+
+-- ---- finding in a list that grows
+
+abbrev pub or_else : {X : Type 0} → Option X → Option X → Option X
+or_else None other = other
+or_else (Some x) other = Some x
+
+or_none : {X : Type 0} (o : Option X) → or_else o None ≡ o
+or_none None = refl
+or_none (Some x) = refl
+
+find-push : {X : Type 0} (es : List (ℕ × X)) (k : ℕ) (v : X) (q : ℕ)
+    → find nat_cmp q (es ++ (k, v) ∷ []) ≡ or_else (find nat_cmp q es) (cond (eq_by_cmp nat_cmp q k) (Some v) None)
+find-push [] k v q = refl
+find-push (e ∷ es) k v q = elim (eq_by_cmp nat_cmp q e.0) as (λ b. cond b (Some e.1) (find nat_cmp q (es ++ (k, v) ∷ []))
+    ≡ or_else (cond b (Some e.1) (find nat_cmp q es)) (cond (eq_by_cmp nat_cmp q k) (Some v) None)) [
+      | true ↦ refl
+      | false ↦ find-push es k v q
+    ]
+
+-- a list with a pair more, or as it is
+abbrev pub pushed : {X : Type 0} → List (ℕ × X) → ℕ → Option X → List (ℕ × X)
+pushed es k None = es
+pushed es k (Some v) = es ++ (k, v) ∷ []
+
+find-pushed : {X : Type 0} (es : List (ℕ × X)) (k : ℕ) (o : Option X) (q : ℕ)
+    → find nat_cmp q (pushed es k o) ≡ or_else (find nat_cmp q es) (cond (eq_by_cmp nat_cmp q k) o None)
+find-pushed es k None q = elim (eq_by_cmp nat_cmp q k) as (λ b. find nat_cmp q es ≡ or_else (find nat_cmp q es) (cond b None None)) [
+    | true ↦ sym (or_none (find nat_cmp q es))
+    | false ↦ sym (or_none (find nat_cmp q es))
+  ]
+find-pushed es k (Some v) q = find-push es k v q
+
+find-map : {X Y : Type 0} (f : X → Y) (es : List (ℕ × X)) (q : ℕ) → find nat_cmp q (map (λ e. (e.0, f e.1)) es) ≡ option_map f (find nat_cmp q es)
+find-map f [] q = refl
+find-map f (e ∷ es) q = elim (eq_by_cmp nat_cmp q e.0) as (λ b. cond b (Some (f e.1)) (find nat_cmp q (map (λ e. (e.0, f e.1)) es))
+    ≡ option_map f (cond b (Some e.1) (find nat_cmp q es))) [
+      | true ↦ refl
+      | false ↦ find-map f es q
+    ]
+
+-- what a look into a map of the entries tells
+look : {X : Type 0} (es : List (ℕ × X)) (q : ℕ) → find nat_cmp q es ≡ lookup (is_at (nat_cmp q)) es
+look es q = sym (get-from_entries nat_cmp_total es q) ∙ get-entries es q
+
+pub there_is : {X : Type 0} (es : List (ℕ × X)) (q : ℕ) → true ≡ is_some (lookup (is_at (nat_cmp q)) es) → IsSome (find nat_cmp q es)
+there_is es q told = ap is_some (look es q) ∙ sym told
+
+pub there_is_none : {X : Type 0} (es : List (ℕ × X)) (q : ℕ) → false ≡ is_some (lookup (is_at (nat_cmp q)) es) → find nat_cmp q es ≡ None
+there_is_none {X} es q told = none (find nat_cmp q es) (ap is_some (look es q) ∙ sym told) where
+  none : (o : Option X) → is_some o ≡ false → o ≡ None
+  none None _ = refl
+  none (Some x) it = absurd (false≢true (sym it))
+
+-- a file more in a list of files
+listed_more : (files now : List (ℕ × Vec ℕ Global)) (id : ℕ) (file : Vec ℕ Global) → now ≡ files ++ (id, file) ∷ []
+    → listed now ≡ listed files ++ (id, file.items) ∷ []
+listed_more files now id file more = ap listed more ∙ map-append (λ f. (f.0, f.1.items)) files ((id, file) ∷ [])
+
+-- a key of a rising list does not stand before its own place
+apart_numbers : (a b : ℕ) → b < a → eq_by_cmp nat_cmp a b ≡ false
+apart_numbers a b below = go (nat_cmp a b) refl where
+  go : (r : Ordering) → nat_cmp a b ≡ r → is_eq r ≡ false
+  go Less e = refl
+  go Equal e = absurd (omega (arith, below, finite.nat_cmp-IsAntisymmetric a b e))
+  go Greater e = refl
+
+find_none : {X : Type 0} (q : ℕ) (es : List (ℕ × X)) → ((k : ℕ) (d : ℕ × X) → k < length es → (get_or es k d).0 < q) → find nat_cmp q es ≡ None
+find_none q [] below = refl
+find_none q (e ∷ es) below =
+    ap (λ b. cond b (Some e.1) (find nat_cmp q es)) (apart_numbers q e.0 (below 0 e (omega arith))) ∙ find_none q es (λ k d low. below (suc k) d (omega (arith, low)))
+
+find_at : {X : Type 0} (es : List (ℕ × X)) (i : ℕ) (d : ℕ × X) → IsStrictlySortedBy nat_cmp (keys_of es) → i < length es
+    → find nat_cmp (get_or es i d).0 (take i es) ≡ None
+find_at {X} es i d rising low = find_none (get_or es i d).0 (take i es) (λ k d' before.
+    let below : k < i = omega (arith, before, length-take i es) in
+    let there : k < length es = omega (arith, below, low) in
+    let id : ℕ × X → ℕ = λ e. e.0 in
+    let order = below_from_sorted (keys_of es) k i 0 rising below (omega (arith, low, length-map es id)) in
+    let first : get_or (keys_of es) k 0 ≡ (get_or (take i es) k d').0 = get_or-map id es k d' 0 there ∙ ap id (sym (get_or-take i es k d' below)) in
+    let second : get_or (keys_of es) i 0 ≡ (get_or es i d).0 = get_or-map id es i d 0 low in
+    omega (arith, order, first, second))
+
+find_before : {X : Type 0} (front behind : List (ℕ × X)) (e : ℕ × X) → IsStrictlySortedBy nat_cmp (keys_of (front ++ e ∷ behind))
+    → find nat_cmp e.0 front ≡ None
+find_before front behind e rising =
+    let all = front ++ e ∷ behind in
+    let here : get_or all (length front) e ≡ e = get_or-append_seam front e behind e in
+    let part : take (length front) all ≡ front = take-append_seam front (e ∷ behind) in
+    let none = find_at all (length front) e rising (omega (arith, length-append front (e ∷ behind))) in
+    ap (λ d. find nat_cmp d.0 front) (sym here) ∙ ap (find nat_cmp (get_or all (length front) e).0) (sym part) ∙ none
+
+-- ---- logs one after another
+
+-- of each log is left what this says of it
+module _ (IsOf : WrittenLog → Option (List ℕ) → Type 0) where
+  -- what is left at an id, where these logs came so far
+  abbrev pub IsLeftSoFar : Option WrittenLog → Option (List ℕ) → Type 0
+  IsLeftSoFar None left = left ≡ None
+  IsLeftSoFar (Some log) left = IsOf log left
+
+  one_more : (front : Option WrittenLog) (left : Option (List ℕ)) (tied : Bool) (log : WrittenLog) (o : Option (List ℕ)) → (tied ≡ true → front ≡ None)
+      → IsLeftSoFar front left → IsOf log o → IsLeftSoFar (or_else front (cond tied (Some log) None)) (or_else left (cond tied o None))
+  one_more (Some w) left true log o apart is of = absurd (none-some w (sym (apart refl)))
+  one_more (Some w) left false log o apart is of = subst (IsOf w) (sym (or_none left)) is
+  one_more None left true log o apart is of = subst (λ l. IsOf log (or_else l o)) (sym is) of
+  one_more None left false log o apart is of = or_none left ∙ is
+
+  abbrev pub AreLeftSoFar : List (ℕ × WrittenLog) → List (ℕ × List ℕ) → Type 0
+  AreLeftSoFar logs left = (id : ℕ) → IsLeftSoFar (find nat_cmp id logs) (find nat_cmp id left)
+
+  pub none_left : AreLeftSoFar [] []
+  none_left id = refl
+
+  log_more : (front behind : List (ℕ × WrittenLog)) (log : ℕ × WrittenLog) (left : List (ℕ × List ℕ)) (o : Option (List ℕ))
+      → IsStrictlySortedBy nat_cmp (keys_of (front ++ log ∷ behind)) → IsOf log.1 o → AreLeftSoFar front left
+      → AreLeftSoFar (front ++ log ∷ []) (pushed left log.0 o)
+  log_more front behind log left o rising of so_far id =
+      let apart : eq_by_cmp nat_cmp id log.0 ≡ true → find nat_cmp id front ≡ None = λ tied.
+      ap (λ q. find nat_cmp q front) (tells_apart finite.nat_cmp-IsAntisymmetric id log.0 tied) ∙ find_before front behind log rising in
+      subst (λ f. IsLeftSoFar f (find nat_cmp id (pushed left log.0 o))) (sym (find-push front log.0 log.1 id))
+      (subst (IsLeftSoFar (or_else (find nat_cmp id front) (cond (eq_by_cmp nat_cmp id log.0) (Some log.1) None))) (sym (find-pushed left log.0 o id))
+      (one_more (find nat_cmp id front) (find nat_cmp id left) (eq_by_cmp nat_cmp id log.0) log.1 o apart (so_far id) of))
+
+  -- some of the logs came, and the rest are still to come
+  pub record Came (rest all : List (ℕ × WrittenLog)) (left : List (ℕ × Vec ℕ Global)) : Type 0 where
+    pub front : List (ℕ × WrittenLog)
+    pub whole : all ≡ front ++ rest
+    pub so_far : AreLeftSoFar front (listed left)
+
+  pub none_came : (all : List (ℕ × WrittenLog)) → Came all all []
+  none_came all = record { front = []; whole = refl; so_far = none_left }
+
+  came_on : (rest behind all : List (ℕ × WrittenLog)) (log : ℕ × WrittenLog) (left now : List (ℕ × Vec ℕ Global)) (o : Option (List ℕ))
+      → IsStrictlySortedBy nat_cmp (keys_of all) → rest ≡ log ∷ behind → Came rest all left → IsOf log.1 o → listed now ≡ pushed (listed left) log.0 o
+      → Came behind all now
+  came_on rest behind all log left now o rising is came of more =
+      let whole : all ≡ came.front ++ log ∷ behind = came.whole ∙ ap (λ (r : List (ℕ × WrittenLog)). came.front ++ r) is in
+      record {
+        front = came.front ++ log ∷ [];
+        whole = whole ∙ sym (append_assoc came.front (log ∷ []) behind);
+        so_far = subst (AreLeftSoFar (came.front ++ log ∷ [])) (sym more)
+            (log_more came.front behind log (listed left) o (subst (λ l. IsStrictlySortedBy nat_cmp (keys_of l)) whole rising) of came.so_far);
+      }
+
+  -- a file of the log is left
+  pub came_with : (rest behind all : List (ℕ × WrittenLog)) (log : ℕ × WrittenLog) (left now : List (ℕ × Vec ℕ Global)) (file : Vec ℕ Global)
+      → IsStrictlySortedBy nat_cmp (keys_of all) → rest ≡ log ∷ behind → Came rest all left → IsOf log.1 (Some file.items)
+      → now ≡ left ++ (log.0, file) ∷ [] → Came behind all now
+  came_with rest behind all log left now file rising is came of more =
+      came_on rest behind all log left now (Some file.items) rising is came of (listed_more left now log.0 file more)
+
+  -- and none is
+  pub came_without : (rest behind all : List (ℕ × WrittenLog)) (log : ℕ × WrittenLog) (left : List (ℕ × Vec ℕ Global))
+      → IsStrictlySortedBy nat_cmp (keys_of all) → rest ≡ log ∷ behind → Came rest all left → IsOf log.1 None → Came behind all left
+  came_without rest behind all log left rising is came of = came_on rest behind all log left left None rising is came of refl
+
+  -- when no more are to come all came
+  pub all_came : (rest all : List (ℕ × WrittenLog)) (left : List (ℕ × Vec ℕ Global)) → rest ≡ [] → Came rest all left → AreLeftSoFar all (listed left)
+  all_came rest all left none came =
+      let whole : all ≡ came.front = came.whole ∙ ap (λ (r : List (ℕ × WrittenLog)). came.front ++ r) none ∙ append-nil came.front in
+      subst (λ l. AreLeftSoFar l (listed left)) (sym whole) came.so_far
+
+-- ---- removed files one after another
+
+back_more : (log : Option WrittenLog) (removed before left : Option (List ℕ)) (tied : Bool) (file : List ℕ) (o : Option (List ℕ))
+    → (tied ≡ true → log ≡ None) → (tied ≡ true → removed ≡ None) → IsPutBack log removed before left → IsBackOf file o
+    → IsPutBack log (or_else removed (cond tied (Some file) None)) before (or_else left (cond tied o None))
+back_more (Some w) removed before left true file o free apart is of = absurd (none-some w (sym (free refl)))
+back_more (Some w) removed before left false file o free apart is of = or_none left ∙ is
+back_more None removed before left true file o free apart is of = λ none.
+    subst (λ g. IsBack (or_else g (Some file)) (or_else left o)) (sym (apart refl))
+    (subst (λ l. IsBackOf file (or_else l o)) (sym (subst (λ g. IsBack g left) (apart refl) (is none))) of)
+back_more None removed before left false file o free apart is of = λ none.
+    subst (λ g. IsBack g (or_else left None)) (sym (or_none removed)) (subst (IsBack removed) (sym (or_none left)) (is none))
+
+back_past : (log : Option WrittenLog) (removed before left : Option (List ℕ)) (tied : Bool) (file : List ℕ) → (tied ≡ true → IsSome log)
+    → IsPutBack log removed before left → IsPutBack log (or_else removed (cond tied (Some file) None)) before left
+back_past (Some w) removed before left tied file held is = is
+back_past None removed before left true file held is = absurd (false≢true (held refl))
+back_past None removed before left false file held is = λ none. subst (λ g. IsBack g left) (sym (or_none removed)) (is none)
+
+abbrev pub AreBackSoFar : List (ℕ × WrittenLog) → List (ℕ × List ℕ) → List (ℕ × List ℕ) → List (ℕ × List ℕ) → Type 0
+AreBackSoFar logs gone before left = (id : ℕ) → IsPutBack (find nat_cmp id logs) (find nat_cmp id gone) (find nat_cmp id before) (find nat_cmp id left)
+
+pub none_back : (logs : List (ℕ × WrittenLog)) (before : List (ℕ × List ℕ)) → AreBackSoFar logs [] before before
+none_back logs before id = start (find nat_cmp id logs) where
+  start : (log : Option WrittenLog) → IsPutBack log None (find nat_cmp id before) (find nat_cmp id before)
+  start None = λ none. none
+  start (Some w) = refl
+
+-- some of the removed files came, and the rest are still to come
+pub record CameBack (logs : List (ℕ × WrittenLog)) (rest all : List (ℕ × Vec ℕ Global)) (before left : List (ℕ × Vec ℕ Global)) : Type 0 where
+  pub front : List (ℕ × Vec ℕ Global)
+  pub whole : all ≡ front ++ rest
+  pub so_far : AreBackSoFar logs (listed front) (listed before) (listed left)
+
+pub none_came_back : (logs : List (ℕ × WrittenLog)) (all before : List (ℕ × Vec ℕ Global)) → CameBack logs all all before before
+none_came_back logs all before = record { front = []; whole = refl; so_far = none_back logs (listed before) }
+
+module _ (logs : List (ℕ × WrittenLog)) (rest behind all : List (ℕ × Vec ℕ Global)) (file : ℕ × Vec ℕ Global) (before left : List (ℕ × Vec ℕ Global))
+    (rising : IsStrictlySortedBy nat_cmp (keys_of all)) (is : rest ≡ file ∷ behind) (came : CameBack logs rest all before left) where
+  whole_is : all ≡ came.front ++ file ∷ behind
+  whole_is = came.whole ∙ ap (λ (r : List (ℕ × Vec ℕ Global)). came.front ++ r) is
+
+  gone_more : (id : ℕ) → find nat_cmp id (listed (came.front ++ file ∷ []))
+      ≡ or_else (find nat_cmp id (listed came.front)) (cond (eq_by_cmp nat_cmp id file.0) (Some file.1.items) None)
+  gone_more id = ap (find nat_cmp id) (listed_more came.front (came.front ++ file ∷ []) file.0 file.1 refl) ∙ find-push (listed came.front) file.0 file.1.items id
+
+  same_id : (id : ℕ) → eq_by_cmp nat_cmp id file.0 ≡ true → id ≡ file.0
+  same_id id tied = tells_apart finite.nat_cmp-IsAntisymmetric id file.0 tied
+
+  first_here : find nat_cmp file.0 (listed came.front) ≡ None
+  first_here = find-map (λ v. v.items) came.front file.0
+      ∙ ap (option_map (λ v. v.items)) (find_before came.front behind file (subst (λ l. IsStrictlySortedBy nat_cmp (keys_of l)) whole_is rising))
+
+  back_on : (now : List (ℕ × Vec ℕ Global)) (o : Option (List ℕ)) → find nat_cmp file.0 logs ≡ None → IsBackOf file.1.items o
+      → listed now ≡ pushed (listed left) file.0 o → CameBack logs behind all before now
+  back_on now o free of more = record {
+    front = came.front ++ file ∷ [];
+    whole = whole_is ∙ sym (append_assoc came.front (file ∷ []) behind);
+    so_far = λ id.
+        subst (λ g. IsPutBack (find nat_cmp id logs) g (find nat_cmp id (listed before)) (find nat_cmp id (listed now))) (sym (gone_more id))
+        (subst (IsPutBack (find nat_cmp id logs) (or_else (find nat_cmp id (listed came.front)) (cond (eq_by_cmp nat_cmp id file.0) (Some file.1.items) None))
+        (find nat_cmp id (listed before))) (sym (ap (find nat_cmp id) more ∙ find-pushed (listed left) file.0 o id))
+        (back_more (find nat_cmp id logs) (find nat_cmp id (listed came.front)) (find nat_cmp id (listed before)) (find nat_cmp id (listed left))
+        (eq_by_cmp nat_cmp id file.0) file.1.items o
+        (λ tied. ap (λ q. find nat_cmp q logs) (same_id id tied) ∙ free)
+        (λ tied. ap (λ q. find nat_cmp q (listed came.front)) (same_id id tied) ∙ first_here)
+        (came.so_far id) of));
+  }
+
+  -- the file is put back
+  pub back_with : (now : List (ℕ × Vec ℕ Global)) (bytes : Vec ℕ Global) → find nat_cmp file.0 logs ≡ None → IsBackOf file.1.items (Some bytes.items)
+      → now ≡ left ++ (file.0, bytes) ∷ [] → CameBack logs behind all before now
+  back_with now bytes free of more = back_on now (Some bytes.items) free of (listed_more left now file.0 bytes more)
+
+  -- it is not
+  pub back_without : find nat_cmp file.0 logs ≡ None → CameBack logs behind all before left
+  back_without free = back_on left None free tt refl
+
+  -- there is a log of its id
+  pub back_beside : IsSome (find nat_cmp file.0 logs) → CameBack logs behind all before left
+  back_beside held = record {
+    front = came.front ++ file ∷ [];
+    whole = whole_is ∙ sym (append_assoc came.front (file ∷ []) behind);
+    so_far = λ id.
+        subst (λ g. IsPutBack (find nat_cmp id logs) g (find nat_cmp id (listed before)) (find nat_cmp id (listed left))) (sym (gone_more id))
+        (back_past (find nat_cmp id logs) (find nat_cmp id (listed came.front)) (find nat_cmp id (listed before)) (find nat_cmp id (listed left))
+        (eq_by_cmp nat_cmp id file.0) file.1.items
+        (λ tied. subst (λ q. IsSome (find nat_cmp q logs)) (sym (same_id id tied)) held) (came.so_far id));
+  }
+
+pub all_came_back : (logs : List (ℕ × WrittenLog)) (rest all before left : List (ℕ × Vec ℕ Global)) → rest ≡ [] → CameBack logs rest all before left
+    → AreBackSoFar logs (listed all) (listed before) (listed left)
+all_came_back logs rest all before left none came =
+    let whole : all ≡ came.front = came.whole ∙ ap (λ (r : List (ℕ × Vec ℕ Global)). came.front ++ r) none ∙ append-nil came.front in
+    subst (λ l. AreBackSoFar logs (listed l) (listed before) (listed left)) (sym whole) came.so_far
+
+-- ---- all of it
+
+at : {X : Type 0} (es : List (ℕ × X)) (q : ℕ) → finite.get (finite.from_entries {R = nat_cmp} es) q ≡ find nat_cmp q es
+at es q = get-from_entries nat_cmp_total es q
+
+module _ (written : Written) where
+  abbrev pub logs : List (ℕ × WrittenLog)
+  logs = written.logs.entries
+
+  abbrev pub gone : List (ℕ × List ℕ)
+  gone = map (λ e. (e.0, e.1.items)) written.gone.entries
+
+  pub all_back : (before left : List (ℕ × Vec ℕ Global)) → AreBackSoFar logs gone (listed before) (listed left) → ArePutBack written before left
+  all_back before left back id =
+      rw (at logs id) (rw (at gone id) (rw (at (listed before) id) (rw (at (listed left) id) (back id))))
+
+  file_at : (id : ℕ) → finite.get (files_of written) id ≡ option_map (λ log. log.bytes.items) (log_at logs id)
+  file_at id = at (map (λ e. (e.0, e.1.bytes.items)) logs) id ∙ find-map (λ log. log.bytes.items) logs id ∙ ap (option_map (λ log. log.bytes.items)) (sym (at logs id))
+
+  -- what is left at an id at the end, where this is left of each log
+  abbrev pub IsLeftAt : (WrittenLog → Option (List ℕ) → Type 0) → Option WrittenLog → Option (List ℕ) → Option (List ℕ) → Type 0
+  IsLeftAt IsOf (Some log) removed now = IsOf log now
+  IsLeftAt IsOf None removed now = IsBack removed now
+
+  module _ (IsOf : WrittenLog → Option (List ℕ) → Type 0) (before left : List (ℕ × Vec ℕ Global)) (so_far : AreLeftSoFar IsOf logs (listed before))
+      (back : ArePutBack written before left) where
+    ends : (log : Option WrittenLog) (removed old now : Option (List ℕ)) → IsLeftSoFar IsOf log old → IsPutBack log removed old now
+        → IsLeftAt IsOf log removed now
+    ends (Some log) removed old now is put = subst (IsOf log) (sym put) is
+    ends None removed old now is put = put is
+
+    pub left_at : (id : ℕ) → IsLeftAt IsOf (log_at logs id) (finite.get (gone_of written) id) (finite.get (by_id left) id)
+    left_at id = ends (log_at logs id) (finite.get (gone_of written) id) (finite.get (by_id before) id) (finite.get (by_id left) id)
+        (rw (at logs id) (rw (at (listed before) id) (so_far id))) (back id)
+
+    -- each file that is left is one that this relation allows, where it says so of a log's
+    pub each_left : ((id : ℕ) (log : WrittenLog) (file : List ℕ) → log_at logs id ≡ Some log → IsOf log (Some file) → IsCut log.bytes.items file)
+        → (id : ℕ) (file : List ℕ) → finite.get (by_id left) id ≡ Some file → IsLeft (files_of written) (gone_of written) id file
+    each_left cuts id file is =
+        each_of (log_at logs id) (finite.get (gone_of written) id) (finite.get (by_id left) id) refl refl is (left_at id) where
+      each_of : (log : Option WrittenLog) (removed now : Option (List ℕ)) → log_at logs id ≡ log
+          → finite.get (gone_of written) id ≡ removed → now ≡ Some file → IsLeftAt IsOf log removed now → IsLeft (files_of written) (gone_of written) id file
+      each_of (Some log) removed now there was is of = inl (
+        log.bytes.items,
+        file_at id ∙ ap (option_map (λ log. log.bytes.items)) there,
+        cuts id log file there (subst (IsOf log) is of),
+      )
+      each_of None (Some old) now there was is of = inr (
+        old,
+        file_at id ∙ ap (option_map (λ log. log.bytes.items)) there,
+        was,
+        subst (IsBackOf old) is of,
+      )
+      each_of None None now there was is of = absurd (none-some file (sym of ∙ is))
+
+  -- ---- what is left where bytes are kept as they were written
+
+  -- a log of which something was synced stands
+  stands_of : (log : WrittenLog) (synced : ℕ) (now : Option (List ℕ)) → log.synced ≡ Some synced → IsLeftOf log now
+      → (file : List ℕ) × (now ≡ Some file) × IsLonger (take synced log.bytes.items) file
+  stands_of log synced None is none = absurd (none-some synced (sym none ∙ is))
+  stands_of log synced (Some file) is of = (file, refl, subst (λ o. HasSynced o log.bytes.items file) is of.1)
+
+  pub all_left : (before left : List (ℕ × Vec ℕ Global)) → AreLeftSoFar IsLeftOf logs (listed before) → ArePutBack written before left
+      → (kept : Files) → AreSynced logs kept → MayLeave (files_of written) (gone_of written) kept (by_id left)
+  all_left before left so_far back kept synced = record {
+    stands = λ id file is.
+        let one = synced.each id file is in
+        let of = subst (λ o. IsLeftAt IsLeftOf o (finite.get (gone_of written) id) (finite.get (by_id left) id)) one.2 (left_at IsLeftOf before left so_far back id) in
+        let now = stands_of one.0 one.1 (finite.get (by_id left) id) one.3 of in
+        (now.0, now.1, subst (λ f. IsLonger f now.0) (sym one.4) now.2);
+    each = each_left IsLeftOf before left so_far back (λ id log file there of. of.0);
+  }
+
+  -- ---- what is left in front of marks
+
+  module _ (kept : Files) (marks : marking.Written) (synced : AreSynced logs kept) (marked : AreMarked logs marks) (covered : AreCovered kept marks) where
+    -- what is kept of a log, and its mark
+    record Known (id : ℕ) (log : WrittenLog) : Type 0 where
+      pub mark : Mark
+      pub there : finite.get marks id ≡ Some mark
+      pub sure : mark.sure ≡ log.mark.sure
+      pub last : mark.last ≡ log.mark.last
+
+    known : (id : ℕ) (log : WrittenLog) (n : ℕ) → log_at logs id ≡ Some log → log.synced ≡ Some n → Known id log
+    known id log n there is = by_mark (finite.get marks id) refl (marked.each id log there) where
+      by_mark : (o : Option Mark) → finite.get marks id ≡ o → HasMarkOf o log → Known id log
+      by_mark None none of = absurd (none-some n (sym of ∙ is))
+      by_mark (Some mark) here of = record { mark = mark; there = here; sure = of.0; last = of.1 }
+
+    -- no mark of a log says more than what was synced
+    within : (id : ℕ) (log : WrittenLog) (n at : ℕ) → log_at logs id ≡ Some log → log.synced ≡ Some n
+        → (at ≡ log.mark.sure) ⊎ (at ≡ log.mark.last) → at ≤ header_length + length (drop header_length (take n log.bytes.items))
+    within id log n at there is which =
+        let one = known id log n there is in
+        let held = covered.covers id one.mark one.there in
+        let own = synced.each id held.0 held.1 in
+        let same : own.0 ≡ log = same_Some _ _ (sym own.2 ∙ there) in
+        let count : own.1 ≡ n = same_Some _ _ (sym own.3 ∙ ap (λ (l : WrittenLog). l.synced) same ∙ is) in
+        let file : held.0 ≡ take n log.bytes.items = own.4 ∙ (λ i. take (count i) (same i).bytes.items) in
+        let least : at ≤ one.mark.last = elim which [
+          | inl sure ↦ omega (arith, sure, one.sure, covered.order id one.mark one.there)
+          | inr last ↦ omega (arith, last, one.last)
+        ] in
+        omega (arith, least, held.2, ap (λ f. length (drop header_length f)) file)
+
+    cut_in_front : (id : ℕ) (log : WrittenLog) (file : List ℕ) → log_at logs id ≡ Some log → IsInFront log (Some file)
+        → IsCut log.bytes.items file
+    cut_in_front id log file there of = by_synced log.synced refl of.2 where
+      by_synced : (o : Option ℕ) → log.synced ≡ o → IsBefore o log.bytes.items of.0 file → IsCut log.bytes.items file
+      by_synced None none cut = cut
+      by_synced (Some n) is one = subst (IsCut log.bytes.items) (sym one.1)
+          (marked_cut (take n log.bytes.items) log.bytes.items one.0 one.2 of.0 (within id log n of.0 there is of.1))
+
+    stands_in_front : (id : ℕ) (log : WrittenLog) (n : ℕ) (now : Option (List ℕ)) → log_at logs id ≡ Some log
+        → log.synced ≡ Some n → IsInFront log now → (mark : Mark) → finite.get marks id ≡ Some mark
+        → (file : List ℕ) × (now ≡ Some file) × IsLonger (take mark.sure (take n log.bytes.items)) file
+    stands_in_front id log n None there is none mark here = absurd (none-some n (sym none ∙ is))
+    stands_in_front id log n (Some file) there is of mark here =
+        let one = known id log n there is in
+        let same : one.mark ≡ mark = same_Some _ _ (sym one.there ∙ here) in
+        let sure : mark.sure ≡ log.mark.sure = ap (λ (m : Mark). m.sure) (sym same) ∙ one.sure in
+        let order : mark.sure ≤ of.0 = elim of.1 [
+          | inl at ↦ omega (arith, at, sure)
+          | inr at ↦ omega (arith, at, one.last, ap (λ (m : Mark). m.last) same, covered.order id mark here)
+        ] in
+        let before : IsBefore (Some n) log.bytes.items of.0 file = subst (λ o. IsBefore o log.bytes.items of.0 file) is of.2 in (
+          file,
+          refl,
+          subst (IsLonger (take mark.sure (take n log.bytes.items))) (sym before.1)
+              (longer_fronts mark.sure of.0 (take n log.bytes.items) before.0 order before.2.stands),
+        )
+
+    pub all_in_front : (before left : List (ℕ × Vec ℕ Global)) → AreLeftSoFar IsInFront logs (listed before) → ArePutBack written before left
+        → MayLeave (files_of written) (gone_of written) (sure_fronts kept marks) (by_id left)
+    all_in_front before left so_far back = record {
+      stands = λ id front is.
+          let old = front_there kept marks id front is in
+          let own = synced.each id old.file old.there in
+          let of = subst (λ o. IsLeftAt IsInFront o (finite.get (gone_of written) id) (finite.get (by_id left) id)) own.2
+              (left_at IsInFront before left so_far back id) in
+          let now = stands_in_front id own.0 own.1 (finite.get (by_id left) id) own.2 own.3 of old.mark old.marked in
+          (now.0, now.1, subst (λ f. IsLonger f now.0) (sym (old.is ∙ ap (take old.mark.sure) own.4)) now.2);
+      each = each_left IsInFront before left so_far back cut_in_front;
+    }

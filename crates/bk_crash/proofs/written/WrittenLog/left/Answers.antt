@@ -1,0 +1,21 @@
+use Rattle.std.proofs.Common.{Some, sym, ap, subst, take, ◌∙◌}
+use Rattle.bk_crash.specs.Leaving.{IsLeftOf, HasSynced}
+use Rattle.bk_crash.proofs.Leaving.{log_left, log_spoiled, has_synced, has_nothing}
+use Rattle.bk_crash.proofs.written.WrittenLog.left.Goals as goal
+use Rattle.bk_crash.proofs.written.WrittenLog.left.Goals.{in-Some, in-None-2, then-self, else-self}
+
+pub returns : goal.returns
+returns g c =
+    let log = c.args.self.now in
+    let least = c.match-self.least in
+    let has : HasSynced log.synced log.bytes.items (take least log.bytes.items) = elim c.match-self.branch [
+      | in-Some w ↦ has_synced log.synced least w.in-Some.synced log.bytes.items w.in-Some.is w.least-is
+      | in-None-2 w ↦ has_nothing log.synced log.bytes.items (take least log.bytes.items) w.in-None-2.is
+    ] in
+    let first = c.in_ok-bytes.ensures in
+    let begun : IsLeftOf log (Some c.in_ok-bytes.bytes.items) =
+    subst (λ l. IsLeftOf log (Some l)) (sym (first.2 ∙ ap (take first.0) c.deref.ensures.value)) (log_left log least first.0 has first.1) in
+    elim c.if-self.branch [
+      | then-self w ↦ subst (λ v. IsLeftOf log (Some v.items)) (sym w.bytes-is) ?
+      | else-self w ↦ subst (λ v. IsLeftOf log (Some v.items)) (sym w.bytes-is) begun
+    ]
