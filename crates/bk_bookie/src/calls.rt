@@ -46,7 +46,7 @@ fn add_as<D: LogDisk>(
     kind: AddKind,
     offered: Offered<'_>,
 ) -> Result<Added, AddFault>
-    ensures { AddTurn store.old kind (payload_of offered) result store.new }
+    ensures { AddTurn store.old kind (payload_of offered.entry) result store.new }
 {
     match (offered, kind) {
         (Offered::Prepared(entry), _) => store.add_prepared(kind, entry),
@@ -72,7 +72,7 @@ impl<L: AddLedger, D: LogDisk> Desk<L, D> {
         pass: &mut Pass<L>,
         offered: Offered<'_>,
     ) -> Result<Added, CallFault<AddFault>>
-        ensures turn { OneTurn (λ s answer t. AddTurn s kind (payload_of offered) answer t) self.old.store pass.old result self.new.store pass.new }
+        ensures turn { OneTurn (λ s answer t. AddTurn s kind (payload_of offered.entry) answer t) self.old.store pass.old result self.new.store pass.new }
         ensures count { pass.new.adds ≡ pass.old.adds + accepted_count result }
         ensures beside { self.new ≡ record self.old { store = self.new.store } }
     {

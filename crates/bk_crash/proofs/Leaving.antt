@@ -3,7 +3,8 @@ use Rattle.std.proofs.Common.{◌≡◌, ◌⊎◌, inl, inr, ℕ, ◌+◌, ◌<
 use Rattle.std.proofs.Common.{refl, sym, ap, ◌∙◌, subst, append_assoc, arith, length-append, length-drop, length-take, leb, le-leb, leb-true}
 use Rattle.std.proofs.Math.Decide.{dec_le}
 use Rattle.std.proofs.Math.Seq.{take-append_seam, get_or-append_seam}
-use Rattle.std.proofs.lemmas.List.{take_all, take-take, length-take-le, take-append-le, length-map, get_or-map, get_or-take, map-append, append-nil}
+use Rattle.std.specs.Vec.{with_items}
+use Rattle.std.proofs.lemmas.List.{with_items_is, take_all, take-take, length-take-le, take-append-le, length-map, get_or-map, get_or-take, map-append, append-nil}
 use Rattle.std.proofs.lemmas.Option.{same_Some, none-some}
 use Rattle.std.proofs.lemmas.Bool.{false≢true}
 use Rattle.std.proofs.lemmas.Map.Views.{tells_apart}
@@ -104,9 +105,9 @@ pub log_spoiled : (log : WrittenLog) (left now : List ℕ) → IsSpoiled left no
 log_spoiled log left now (inl same) of = subst (λ l. IsLeftOf log (Some l)) (sym same) of
 log_spoiled log left now (inr other) of =
     subst (λ l. IsLeftOf log (Some l)) (sym other.2) (cut_patched log.bytes.items left other.0 other.1 of.0, kept log.synced of.1) where
-  kept : (o : Option ℕ) → HasSynced o log.bytes.items left → HasSynced o log.bytes.items (patched_file left other.0)
-  kept None _ = tt
-  kept (Some synced) has = longer_patched log.bytes.items left other.0 other.1 (take synced log.bytes.items) has
+      kept : (o : Option ℕ) → HasSynced o log.bytes.items left → HasSynced o log.bytes.items (patched_file left other.0)
+      kept None _ = tt
+      kept (Some synced) has = longer_patched log.bytes.items left other.0 other.1 (take synced log.bytes.items) has
 
 -- ---- damage
 
@@ -148,6 +149,25 @@ module _ (bytes left : List ℕ) (synced : ℕ) (cut : IsCut bytes left) (longer
         stands = longer_trans (take synced bytes) (take n left) (take n left ++ more) front (longer_append (take n left) more);
         headed = subst (IsCut (take header_length bytes)) (sym head) (cut_head bytes left cut);
       }
+
+length_patched : (file bytes : List ℕ) → length bytes ≡ 12 → length (patched_file file bytes) ≡ length file
+length_patched file bytes twelve = elim (leb 20 (length file)) as (λ b. leb 20 (length file) ≡ b → length (cond b (take 8 file ++ bytes ++ drop 20 file) file) ≡ length file) [
+  | true ↦ λ long.
+      let least : 20 ≤ length file = leb-true 20 (length file) long in
+      omega (arith, least, length-append (take 8 file ++ bytes) (drop 20 file), length-append (take 8 file) bytes, length-take-le 8 file (omega (arith, least)), length-drop 20 file, twelve)
+  | false ↦ λ _. refl
+] refl
+
+length_spoiled : (file now : List ℕ) → IsSpoiled file now → length now ≡ length file
+length_spoiled file now (inl same) = ap length same
+length_spoiled file now (inr other) = ap length other.2 ∙ length_patched file other.0 other.1
+
+-- a log whose bytes were spoiled where they stand
+pub spoiled_in_place : (log : WrittenLog) (bytes : Vec ℕ Global) (now : List ℕ) → IsSpoiled bytes.items now → IsLeftOf log (Some bytes.items)
+    → IsLeftOf log (Some (with_items bytes now).items)
+spoiled_in_place log bytes now spoiled of =
+    let size = length_spoiled bytes.items now spoiled in
+    subst (λ l. IsLeftOf log (Some l)) (sym (with_items_is bytes now (omega (arith, size, bytes.ok.0)))) (log_spoiled log bytes.items now spoiled of)
 
 -- what is left in front of a mark
 module _ (log : WrittenLog) (mark : ℕ) (which : (mark ≡ log.mark.sure) ⊎ (mark ≡ log.mark.last)) (left now : List ℕ) (of : IsLeftOf log (Some left)) where
@@ -199,9 +219,9 @@ pushed es k (Some v) = es ++ (k, v) ∷ []
 find-pushed : {X : Type 0} (es : List (ℕ × X)) (k : ℕ) (o : Option X) (q : ℕ)
     → find nat_cmp q (pushed es k o) ≡ or_else (find nat_cmp q es) (cond (eq_by_cmp nat_cmp q k) o None)
 find-pushed es k None q = elim (eq_by_cmp nat_cmp q k) as (λ b. find nat_cmp q es ≡ or_else (find nat_cmp q es) (cond b None None)) [
-    | true ↦ sym (or_none (find nat_cmp q es))
-    | false ↦ sym (or_none (find nat_cmp q es))
-  ]
+  | true ↦ sym (or_none (find nat_cmp q es))
+  | false ↦ sym (or_none (find nat_cmp q es))
+]
 find-pushed es k (Some v) q = find-push es k v q
 
 find-map : {X Y : Type 0} (f : X → Y) (es : List (ℕ × X)) (q : ℕ) → find nat_cmp q (map (λ e. (e.0, f e.1)) es) ≡ option_map f (find nat_cmp q es)
@@ -470,20 +490,20 @@ module _ (written : Written) where
         → (id : ℕ) (file : List ℕ) → finite.get (by_id left) id ≡ Some file → IsLeft (files_of written) (gone_of written) id file
     each_left cuts id file is =
         each_of (log_at logs id) (finite.get (gone_of written) id) (finite.get (by_id left) id) refl refl is (left_at id) where
-      each_of : (log : Option WrittenLog) (removed now : Option (List ℕ)) → log_at logs id ≡ log
-          → finite.get (gone_of written) id ≡ removed → now ≡ Some file → IsLeftAt IsOf log removed now → IsLeft (files_of written) (gone_of written) id file
-      each_of (Some log) removed now there was is of = inl (
-        log.bytes.items,
-        file_at id ∙ ap (option_map (λ log. log.bytes.items)) there,
-        cuts id log file there (subst (IsOf log) is of),
-      )
-      each_of None (Some old) now there was is of = inr (
-        old,
-        file_at id ∙ ap (option_map (λ log. log.bytes.items)) there,
-        was,
-        subst (IsBackOf old) is of,
-      )
-      each_of None None now there was is of = absurd (none-some file (sym of ∙ is))
+          each_of : (log : Option WrittenLog) (removed now : Option (List ℕ)) → log_at logs id ≡ log
+              → finite.get (gone_of written) id ≡ removed → now ≡ Some file → IsLeftAt IsOf log removed now → IsLeft (files_of written) (gone_of written) id file
+          each_of (Some log) removed now there was is of = inl (
+            log.bytes.items,
+            file_at id ∙ ap (option_map (λ log. log.bytes.items)) there,
+            cuts id log file there (subst (IsOf log) is of),
+          )
+          each_of None (Some old) now there was is of = inr (
+            old,
+            file_at id ∙ ap (option_map (λ log. log.bytes.items)) there,
+            was,
+            subst (IsBackOf old) is of,
+          )
+          each_of None None now there was is of = absurd (none-some file (sym of ∙ is))
 
   -- ---- what is left where bytes are kept as they were written
 
@@ -570,7 +590,7 @@ module _ (written : Written) where
           let old = front_there kept marks id front is in
           let own = synced.each id old.file old.there in
           let of = subst (λ o. IsLeftAt IsInFront o (finite.get (gone_of written) id) (finite.get (by_id left) id)) own.2
-              (left_at IsInFront before left so_far back id) in
+          (left_at IsInFront before left so_far back id) in
           let now = stands_in_front id own.0 own.1 (finite.get (by_id left) id) own.2 own.3 of old.mark old.marked in
           (now.0, now.1, subst (λ f. IsLonger f now.0) (sym (old.is ∙ ap (take old.mark.sure) own.4)) now.2);
       each = each_left IsInFront before left so_far back cut_in_front;

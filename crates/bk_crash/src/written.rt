@@ -190,11 +190,7 @@ impl Written {
     /// Files that a loss of power may leave: of each log a beginning, no shorter than what was synced, with any bytes where
     /// its header was patched since; no file where nothing was synced; and removed files, or beginnings of them. The only
     /// error is want of memory.
-    pub fn left<C: Choices>(
-        &self,
-        alloc: Global,
-        choices: &mut C,
-    ) -> Result<Vec<File>, AllocError>
+    pub fn left<C: Choices>(&self, alloc: Global, choices: &mut C) -> Result<Vec<File>, AllocError>
         ensures { (kept : Files) → AreSynced self.now.logs.entries kept
             → IfOk result (λ left. MayLeave (files_of self.now) (gone_of self.now) kept (by_id left.items)) }
     {

@@ -1,4 +1,4 @@
-use Rattle.std.proofs.Common.{◌≡◌, ◌⊎◌, ℕ, inl, inr, Some, arith, sym, ap, subst, take, ◌∙◌}
+use Rattle.std.proofs.Common.{◌≡◌, ◌⊎◌, ℕ, inl, inr, Some, option_map, ◌++◌, arith, sym, ap, subst, take, ◌∙◌}
 use Rattle.bk_crash.specs.Leaving.{IsLeftOf, IsInFront, IsBefore}
 use Rattle.bk_crash.proofs.Leaving.{before_damage, before_cut, before_nothing}
 use Rattle.bk_crash.proofs.written.WrittenLog.damaged.Goals as goal
@@ -13,11 +13,13 @@ returns g c =
       | in_default w ↦ inr w.mark-is
     ] in
     let left = c.in-Some.bytes in
-    let of : IsLeftOf log (Some left.items) = ? in
+    let of : IsLeftOf log (Some left.items) = subst (λ o. IsLeftOf log (option_map (λ b. b.items) o)) c.in-Some.is c.in_ok-bytes.ensures in
     elim c.match-self.branch [
       | in-Some-synced+then-len-ge-HEADER_LENGTH+in_ok-add_damage w ↦
           before_damage log mark which left.items c.truncate-2.new.self.items of w.in-Some-synced.synced w.max.result w.in_ok-add_damage.ensures.0 w.in-Some-synced.is
-          ? ? ? ?
+          (omega arith) (omega arith) (omega arith)
+          (c.truncate-2.ensures.items ∙ ap (λ v. take mark v.items) w.bytes-is ∙ ap (take mark) w.in_ok-add_damage.ensures.1
+          ∙ ap (λ l. take mark (l ++ w.in_ok-add_damage.ensures.0)) w.truncate.ensures.items)
       | in-Some-synced+else-len-ge-HEADER_LENGTH w ↦
           before_cut log mark which left.items c.truncate-2.new.self.items of w.in-Some-synced.synced w.in-Some-synced.is
           (c.truncate-2.ensures.items ∙ ap (λ v. take mark v.items) w.bytes-is)

@@ -1,6 +1,6 @@
 use Rattle.std.proofs.Common.{Some, sym, ap, subst, take, ◌∙◌}
-use Rattle.bk_crash.specs.Leaving.{IsLeftOf, HasSynced}
-use Rattle.bk_crash.proofs.Leaving.{log_left, log_spoiled, has_synced, has_nothing}
+use Rattle.bk_crash.specs.Leaving.{IsLeftOf, HasSynced, IsSpoiled}
+use Rattle.bk_crash.proofs.Leaving.{log_left, spoiled_in_place, has_synced, has_nothing}
 use Rattle.bk_crash.proofs.written.WrittenLog.left.Goals as goal
 use Rattle.bk_crash.proofs.written.WrittenLog.left.Goals.{in-Some, in-None-2, then-self, else-self}
 
@@ -16,6 +16,7 @@ returns g c =
     let begun : IsLeftOf log (Some c.in_ok-bytes.bytes.items) =
     subst (λ l. IsLeftOf log (Some l)) (sym (first.2 ∙ ap (take first.0) c.deref.ensures.value)) (log_left log least first.0 has first.1) in
     elim c.if-self.branch [
-      | then-self w ↦ subst (λ v. IsLeftOf log (Some v.items)) (sym w.bytes-is) ?
+      | then-self w ↦ subst (λ v. IsLeftOf log (Some v.items)) (sym w.bytes-is)
+          (spoiled_in_place log c.in_ok-bytes.bytes w.spoil.new.file (subst (λ file. IsSpoiled file w.spoil.new.file) w.deref_mut.ensures.value w.spoil.ensures) begun)
       | else-self w ↦ subst (λ v. IsLeftOf log (Some v.items)) (sym w.bytes-is) begun
     ]
