@@ -520,7 +520,7 @@ module _ (written : Written) where
         let one = synced.each id file is in
         let of = subst (λ o. IsLeftAt IsLeftOf o (finite.get (gone_of written) id) (finite.get (by_id left) id)) one.2 (left_at IsLeftOf before left so_far back id) in
         let now = stands_of one.0 one.1 (finite.get (by_id left) id) one.3 of in
-        (now.0, now.1, subst (λ f. IsLonger f now.0) (sym one.4) now.2);
+        (now.0, now.1, longer_trans file (take one.1 one.0.bytes.items) now.0 one.4 now.2);
     each = each_left IsLeftOf before left so_far back (λ id log file there of. of.0);
   }
 
@@ -549,12 +549,13 @@ module _ (written : Written) where
         let own = synced.each id held.0 held.1 in
         let same : own.0 ≡ log = same_Some _ _ (sym own.2 ∙ there) in
         let count : own.1 ≡ n = same_Some _ _ (sym own.3 ∙ ap (λ (l : WrittenLog). l.synced) same ∙ is) in
-        let file : held.0 ≡ take n log.bytes.items = own.4 ∙ (λ i. take (count i) (same i).bytes.items) in
+        let part : IsLonger held.0 (take n log.bytes.items) =
+        subst (λ k. IsLonger held.0 (take k log.bytes.items)) count (subst (λ l. IsLonger held.0 (take own.1 l.bytes.items)) same own.4) in
         let least : at ≤ one.mark.last = elim which [
           | inl sure ↦ omega (arith, sure, one.sure, covered.order id one.mark one.there)
           | inr last ↦ omega (arith, last, one.last)
         ] in
-        omega (arith, least, held.2, ap (λ f. length (drop header_length f)) file)
+        omega (arith, least, held.2, ap length part.is, length-append (drop header_length held.0) part.behind)
 
     cut_in_front : (id : ℕ) (log : WrittenLog) (file : List ℕ) → log_at logs id ≡ Some log → IsInFront log (Some file)
         → IsCut log.bytes.items file
@@ -592,6 +593,9 @@ module _ (written : Written) where
           let of = subst (λ o. IsLeftAt IsInFront o (finite.get (gone_of written) id) (finite.get (by_id left) id)) own.2
           (left_at IsInFront before left so_far back id) in
           let now = stands_in_front id own.0 own.1 (finite.get (by_id left) id) own.2 own.3 of old.mark old.marked in
-          (now.0, now.1, subst (λ f. IsLonger f now.0) (sym (old.is ∙ ap (take old.mark.sure) own.4)) now.2);
+          let longer : IsLonger front (take old.mark.sure (take own.1 own.0.bytes.items)) =
+          subst (λ f. IsLonger f (take old.mark.sure (take own.1 own.0.bytes.items))) (sym old.is)
+          (longer_fronts old.mark.sure old.mark.sure old.file (take own.1 own.0.bytes.items) (omega arith) own.4) in
+          (now.0, now.1, longer_trans front (take old.mark.sure (take own.1 own.0.bytes.items)) now.0 longer now.2);
       each = each_left IsInFront before left so_far back cut_in_front;
     }

@@ -28,11 +28,11 @@ gone_of written = finite.from_entries (map (λ e. (e.0, e.1.items)) written.gone
 abbrev pub log_at : List (ℕ × WrittenLog) → ℕ → Option WrittenLog
 log_at logs id = finite.get (finite.from_entries {R = nat_cmp} logs) id
 
--- of no log more than was synced of it
+-- of no log more than was synced of it, behind its header
 pub record AreSynced (logs : List (ℕ × WrittenLog)) (kept : Files) : Type 0 where
   pub each : (id : ℕ) (file : List ℕ) → finite.get kept id ≡ Some file
       → (log : WrittenLog) × (synced : ℕ) × (log_at logs id ≡ Some log) × (log.synced ≡ Some synced)
-      × (file ≡ take synced log.bytes.items)
+      × IsLonger file (take synced log.bytes.items)
 
 -- ---- what is left
 
