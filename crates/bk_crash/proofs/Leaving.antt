@@ -34,9 +34,10 @@ use Rattle.bk_mark.proofs.Fronts.{front_there, longer_fronts}
 use Rattle.bk_store.specs.Crash.{IsCut, IsLeft, MayLeave}
 use Rattle.bk_crash.proofs.Damage.{cut_take, marked_cut}
 use Rattle.bk_crash.specs.Damage.{IsDamaged}
-use Rattle.bk_crash.specs.Leaving.{files_of, gone_of, log_at, AreSynced, AreMarked, HasMarkOf, HasSynced, IsLeftOf, IsInFront, IsBefore, IsBackOf, IsBack, IsSpoiled, IsPutBack, ArePutBack, by_id}
+use Rattle.bk_crash.specs.Leaving.{HasSynced, IsLeftOf, IsInFront, IsBefore, IsBackOf, IsBack, IsSpoiled, IsPutBack, by_id}
+use Rattle.bk_crash.specs.AllLogs.{logs_of, files_of, gone_of, AreSynced, AreMarked, HasMarkOf, ArePutBack}
 use Rattle.bk_crash.specs.declared.written.Written.{Written}
-use Rattle.bk_crash.specs.declared.written.WrittenLog.{WrittenLog}
+use Rattle.bk_crash.specs.Noting.{Log}
 
 -- ---- one file
 
@@ -84,13 +85,13 @@ module _ (file left bytes : List ℕ) (twelve : length bytes ≡ 12) where
     ] refl
 
 -- the first bytes of a log, at least as many as were synced, are left of it
-pub log_left : (log : WrittenLog) (least count : ℕ) → HasSynced log.synced log.bytes.items (take least log.bytes.items) → least ≤ count
-    → IsLeftOf log (Some (take count log.bytes.items))
-log_left log least count has order = (cut_of_take count log.bytes.items, kept log.synced has) where
-  kept : (o : Option ℕ) → HasSynced o log.bytes.items (take least log.bytes.items) → HasSynced o log.bytes.items (take count log.bytes.items)
+pub log_left : (log : Log) (least count : ℕ) → HasSynced log.synced log.bytes (take least log.bytes) → least ≤ count
+    → IsLeftOf log (Some (take count log.bytes))
+log_left log least count has order = (cut_of_take count log.bytes, kept log.synced has) where
+  kept : (o : Option ℕ) → HasSynced o log.bytes (take least log.bytes) → HasSynced o log.bytes (take count log.bytes)
   kept None _ = tt
-  kept (Some synced) has = longer_trans (take synced log.bytes.items) (take least log.bytes.items) (take count log.bytes.items) has
-      (longer_fronts least count log.bytes.items log.bytes.items order (longer_same log.bytes.items))
+  kept (Some synced) has = longer_trans (take synced log.bytes) (take least log.bytes) (take count log.bytes) has
+      (longer_fronts least count log.bytes log.bytes order (longer_same log.bytes))
 
 -- so many were synced; or none, where any are enough
 pub has_synced : (o : Option ℕ) (least synced : ℕ) (bytes : List ℕ) → o ≡ Some synced → least ≡ synced → HasSynced o bytes (take least bytes)
@@ -101,13 +102,13 @@ pub has_nothing : (o : Option ℕ) (bytes left : List ℕ) → o ≡ None → Ha
 has_nothing o bytes left none = subst (λ o. HasSynced o bytes left) (sym none) tt
 
 -- other bytes may stand in its header
-pub log_spoiled : (log : WrittenLog) (left now : List ℕ) → IsSpoiled left now → IsLeftOf log (Some left) → IsLeftOf log (Some now)
+pub log_spoiled : (log : Log) (left now : List ℕ) → IsSpoiled left now → IsLeftOf log (Some left) → IsLeftOf log (Some now)
 log_spoiled log left now (inl same) of = subst (λ l. IsLeftOf log (Some l)) (sym same) of
 log_spoiled log left now (inr other) of =
-    subst (λ l. IsLeftOf log (Some l)) (sym other.2) (cut_patched log.bytes.items left other.0 other.1 of.0, kept log.synced of.1) where
-      kept : (o : Option ℕ) → HasSynced o log.bytes.items left → HasSynced o log.bytes.items (patched_file left other.0)
+    subst (λ l. IsLeftOf log (Some l)) (sym other.2) (cut_patched log.bytes left other.0 other.1 of.0, kept log.synced of.1) where
+      kept : (o : Option ℕ) → HasSynced o log.bytes left → HasSynced o log.bytes (patched_file left other.0)
       kept None _ = tt
-      kept (Some synced) has = longer_patched log.bytes.items left other.0 other.1 (take synced log.bytes.items) has
+      kept (Some synced) has = longer_patched log.bytes left other.0 other.1 (take synced log.bytes) has
 
 -- ---- damage
 
@@ -163,25 +164,25 @@ length_spoiled file now (inl same) = ap length same
 length_spoiled file now (inr other) = ap length other.2 ∙ length_patched file other.0 other.1
 
 -- a log whose bytes were spoiled where they stand
-pub spoiled_in_place : (log : WrittenLog) (bytes : Vec ℕ Global) (now : List ℕ) → IsSpoiled bytes.items now → IsLeftOf log (Some bytes.items)
+pub spoiled_in_place : (log : Log) (bytes : Vec ℕ Global) (now : List ℕ) → IsSpoiled bytes.items now → IsLeftOf log (Some bytes.items)
     → IsLeftOf log (Some (with_items bytes now).items)
 spoiled_in_place log bytes now spoiled of =
     let size = length_spoiled bytes.items now spoiled in
     subst (λ l. IsLeftOf log (Some l)) (sym (with_items_is bytes now (omega (arith, size, bytes.ok.0)))) (log_spoiled log bytes.items now spoiled of)
 
 -- what is left in front of a mark
-module _ (log : WrittenLog) (mark : ℕ) (which : (mark ≡ log.mark.sure) ⊎ (mark ≡ log.mark.last)) (left now : List ℕ) (of : IsLeftOf log (Some left)) where
-  in_front : (o : Option ℕ) → log.synced ≡ o → IsBefore o log.bytes.items mark now → IsInFront log (Some now)
-  in_front o is before = (mark, which, subst (λ s. IsBefore s log.bytes.items mark now) (sym is) before)
+module _ (log : Log) (mark : ℕ) (which : (mark ≡ log.sure) ⊎ (mark ≡ log.last)) (left now : List ℕ) (of : IsLeftOf log (Some left)) where
+  in_front : (o : Option ℕ) → log.synced ≡ o → IsBefore o log.bytes mark now → IsInFront log (Some now)
+  in_front o is before = (mark, which, subst (λ s. IsBefore s log.bytes mark now) (sym is) before)
 
   -- of a log of which nothing was synced
   pub before_nothing : log.synced ≡ None → now ≡ take mark left → IsInFront log (Some now)
-  before_nothing none front = in_front None none (subst (IsCut log.bytes.items) (sym front) (cut_take mark log.bytes.items left of.0))
+  before_nothing none front = in_front None none (subst (IsCut log.bytes) (sym front) (cut_take mark log.bytes left of.0))
 
   -- of one that was synced, and has no other bytes behind
   pub before_cut : (synced : ℕ) → log.synced ≡ Some synced → now ≡ take mark left → IsInFront log (Some now)
   before_cut synced is front = in_front (Some synced) is
-      (left, front, as_it_is log.bytes.items left synced of.0 (subst (λ s. HasSynced s log.bytes.items left) is of.1))
+      (left, front, as_it_is log.bytes left synced of.0 (subst (λ s. HasSynced s log.bytes left) is of.1))
 
   -- of one that has
   pub before_damage : (synced n : ℕ) (more : List ℕ) → log.synced ≡ Some synced → synced ≤ n → header_length ≤ n → header_length ≤ length left
@@ -189,7 +190,7 @@ module _ (log : WrittenLog) (mark : ℕ) (which : (mark ≡ log.mark.sure) ⊎ (
   before_damage synced n more is enough headed long front = in_front (Some synced) is (
     take n left ++ more,
     front,
-    damaged_behind log.bytes.items left synced of.0 (subst (λ s. HasSynced s log.bytes.items left) is of.1) n more enough headed long,
+    damaged_behind log.bytes left synced of.0 (subst (λ s. HasSynced s log.bytes left) is of.1) n more enough headed long,
   )
 
 -- ---- finding in a list that grows
@@ -286,26 +287,26 @@ find_before front behind e rising =
 -- ---- logs one after another
 
 -- of each log is left what this says of it
-module _ (IsOf : WrittenLog → Option (List ℕ) → Type 0) where
+module _ (IsOf : Log → Option (List ℕ) → Type 0) where
   -- what is left at an id, where these logs came so far
-  abbrev pub IsLeftSoFar : Option WrittenLog → Option (List ℕ) → Type 0
+  abbrev pub IsLeftSoFar : Option Log → Option (List ℕ) → Type 0
   IsLeftSoFar None left = left ≡ None
   IsLeftSoFar (Some log) left = IsOf log left
 
-  one_more : (front : Option WrittenLog) (left : Option (List ℕ)) (tied : Bool) (log : WrittenLog) (o : Option (List ℕ)) → (tied ≡ true → front ≡ None)
+  one_more : (front : Option Log) (left : Option (List ℕ)) (tied : Bool) (log : Log) (o : Option (List ℕ)) → (tied ≡ true → front ≡ None)
       → IsLeftSoFar front left → IsOf log o → IsLeftSoFar (or_else front (cond tied (Some log) None)) (or_else left (cond tied o None))
   one_more (Some w) left true log o apart is of = absurd (none-some w (sym (apart refl)))
   one_more (Some w) left false log o apart is of = subst (IsOf w) (sym (or_none left)) is
   one_more None left true log o apart is of = subst (λ l. IsOf log (or_else l o)) (sym is) of
   one_more None left false log o apart is of = or_none left ∙ is
 
-  abbrev pub AreLeftSoFar : List (ℕ × WrittenLog) → List (ℕ × List ℕ) → Type 0
+  abbrev pub AreLeftSoFar : List (ℕ × Log) → List (ℕ × List ℕ) → Type 0
   AreLeftSoFar logs left = (id : ℕ) → IsLeftSoFar (find nat_cmp id logs) (find nat_cmp id left)
 
   pub none_left : AreLeftSoFar [] []
   none_left id = refl
 
-  log_more : (front behind : List (ℕ × WrittenLog)) (log : ℕ × WrittenLog) (left : List (ℕ × List ℕ)) (o : Option (List ℕ))
+  log_more : (front behind : List (ℕ × Log)) (log : ℕ × Log) (left : List (ℕ × List ℕ)) (o : Option (List ℕ))
       → IsStrictlySortedBy nat_cmp (keys_of (front ++ log ∷ behind)) → IsOf log.1 o → AreLeftSoFar front left
       → AreLeftSoFar (front ++ log ∷ []) (pushed left log.0 o)
   log_more front behind log left o rising of so_far id =
@@ -316,19 +317,19 @@ module _ (IsOf : WrittenLog → Option (List ℕ) → Type 0) where
       (one_more (find nat_cmp id front) (find nat_cmp id left) (eq_by_cmp nat_cmp id log.0) log.1 o apart (so_far id) of))
 
   -- some of the logs came, and the rest are still to come
-  pub record Came (rest all : List (ℕ × WrittenLog)) (left : List (ℕ × Vec ℕ Global)) : Type 0 where
-    pub front : List (ℕ × WrittenLog)
+  pub record Came (rest all : List (ℕ × Log)) (left : List (ℕ × Vec ℕ Global)) : Type 0 where
+    pub front : List (ℕ × Log)
     pub whole : all ≡ front ++ rest
     pub so_far : AreLeftSoFar front (listed left)
 
-  pub none_came : (all : List (ℕ × WrittenLog)) → Came all all []
+  pub none_came : (all : List (ℕ × Log)) → Came all all []
   none_came all = record { front = []; whole = refl; so_far = none_left }
 
-  came_on : (rest behind all : List (ℕ × WrittenLog)) (log : ℕ × WrittenLog) (left now : List (ℕ × Vec ℕ Global)) (o : Option (List ℕ))
+  came_on : (rest behind all : List (ℕ × Log)) (log : ℕ × Log) (left now : List (ℕ × Vec ℕ Global)) (o : Option (List ℕ))
       → IsStrictlySortedBy nat_cmp (keys_of all) → rest ≡ log ∷ behind → Came rest all left → IsOf log.1 o → listed now ≡ pushed (listed left) log.0 o
       → Came behind all now
   came_on rest behind all log left now o rising is came of more =
-      let whole : all ≡ came.front ++ log ∷ behind = came.whole ∙ ap (λ (r : List (ℕ × WrittenLog)). came.front ++ r) is in
+      let whole : all ≡ came.front ++ log ∷ behind = came.whole ∙ ap (λ (r : List (ℕ × Log)). came.front ++ r) is in
       record {
         front = came.front ++ log ∷ [];
         whole = whole ∙ sym (append_assoc came.front (log ∷ []) behind);
@@ -337,26 +338,26 @@ module _ (IsOf : WrittenLog → Option (List ℕ) → Type 0) where
       }
 
   -- a file of the log is left
-  pub came_with : (rest behind all : List (ℕ × WrittenLog)) (log : ℕ × WrittenLog) (left now : List (ℕ × Vec ℕ Global)) (file : Vec ℕ Global)
+  pub came_with : (rest behind all : List (ℕ × Log)) (log : ℕ × Log) (left now : List (ℕ × Vec ℕ Global)) (file : Vec ℕ Global)
       → IsStrictlySortedBy nat_cmp (keys_of all) → rest ≡ log ∷ behind → Came rest all left → IsOf log.1 (Some file.items)
       → now ≡ left ++ (log.0, file) ∷ [] → Came behind all now
   came_with rest behind all log left now file rising is came of more =
       came_on rest behind all log left now (Some file.items) rising is came of (listed_more left now log.0 file more)
 
   -- and none is
-  pub came_without : (rest behind all : List (ℕ × WrittenLog)) (log : ℕ × WrittenLog) (left : List (ℕ × Vec ℕ Global))
+  pub came_without : (rest behind all : List (ℕ × Log)) (log : ℕ × Log) (left : List (ℕ × Vec ℕ Global))
       → IsStrictlySortedBy nat_cmp (keys_of all) → rest ≡ log ∷ behind → Came rest all left → IsOf log.1 None → Came behind all left
   came_without rest behind all log left rising is came of = came_on rest behind all log left left None rising is came of refl
 
   -- when no more are to come all came
-  pub all_came : (rest all : List (ℕ × WrittenLog)) (left : List (ℕ × Vec ℕ Global)) → rest ≡ [] → Came rest all left → AreLeftSoFar all (listed left)
+  pub all_came : (rest all : List (ℕ × Log)) (left : List (ℕ × Vec ℕ Global)) → rest ≡ [] → Came rest all left → AreLeftSoFar all (listed left)
   all_came rest all left none came =
-      let whole : all ≡ came.front = came.whole ∙ ap (λ (r : List (ℕ × WrittenLog)). came.front ++ r) none ∙ append-nil came.front in
+      let whole : all ≡ came.front = came.whole ∙ ap (λ (r : List (ℕ × Log)). came.front ++ r) none ∙ append-nil came.front in
       subst (λ l. AreLeftSoFar l (listed left)) (sym whole) came.so_far
 
 -- ---- removed files one after another
 
-back_more : (log : Option WrittenLog) (removed before left : Option (List ℕ)) (tied : Bool) (file : List ℕ) (o : Option (List ℕ))
+back_more : (log : Option Log) (removed before left : Option (List ℕ)) (tied : Bool) (file : List ℕ) (o : Option (List ℕ))
     → (tied ≡ true → log ≡ None) → (tied ≡ true → removed ≡ None) → IsPutBack log removed before left → IsBackOf file o
     → IsPutBack log (or_else removed (cond tied (Some file) None)) before (or_else left (cond tied o None))
 back_more (Some w) removed before left true file o free apart is of = absurd (none-some w (sym (free refl)))
@@ -367,31 +368,31 @@ back_more None removed before left true file o free apart is of = λ none.
 back_more None removed before left false file o free apart is of = λ none.
     subst (λ g. IsBack g (or_else left None)) (sym (or_none removed)) (subst (IsBack removed) (sym (or_none left)) (is none))
 
-back_past : (log : Option WrittenLog) (removed before left : Option (List ℕ)) (tied : Bool) (file : List ℕ) → (tied ≡ true → IsSome log)
+back_past : (log : Option Log) (removed before left : Option (List ℕ)) (tied : Bool) (file : List ℕ) → (tied ≡ true → IsSome log)
     → IsPutBack log removed before left → IsPutBack log (or_else removed (cond tied (Some file) None)) before left
 back_past (Some w) removed before left tied file held is = is
 back_past None removed before left true file held is = absurd (false≢true (held refl))
 back_past None removed before left false file held is = λ none. subst (λ g. IsBack g left) (sym (or_none removed)) (is none)
 
-abbrev pub AreBackSoFar : List (ℕ × WrittenLog) → List (ℕ × List ℕ) → List (ℕ × List ℕ) → List (ℕ × List ℕ) → Type 0
+abbrev pub AreBackSoFar : List (ℕ × Log) → List (ℕ × List ℕ) → List (ℕ × List ℕ) → List (ℕ × List ℕ) → Type 0
 AreBackSoFar logs gone before left = (id : ℕ) → IsPutBack (find nat_cmp id logs) (find nat_cmp id gone) (find nat_cmp id before) (find nat_cmp id left)
 
-pub none_back : (logs : List (ℕ × WrittenLog)) (before : List (ℕ × List ℕ)) → AreBackSoFar logs [] before before
+pub none_back : (logs : List (ℕ × Log)) (before : List (ℕ × List ℕ)) → AreBackSoFar logs [] before before
 none_back logs before id = start (find nat_cmp id logs) where
-  start : (log : Option WrittenLog) → IsPutBack log None (find nat_cmp id before) (find nat_cmp id before)
+  start : (log : Option Log) → IsPutBack log None (find nat_cmp id before) (find nat_cmp id before)
   start None = λ none. none
   start (Some w) = refl
 
 -- some of the removed files came, and the rest are still to come
-pub record CameBack (logs : List (ℕ × WrittenLog)) (rest all : List (ℕ × Vec ℕ Global)) (before left : List (ℕ × Vec ℕ Global)) : Type 0 where
+pub record CameBack (logs : List (ℕ × Log)) (rest all : List (ℕ × Vec ℕ Global)) (before left : List (ℕ × Vec ℕ Global)) : Type 0 where
   pub front : List (ℕ × Vec ℕ Global)
   pub whole : all ≡ front ++ rest
   pub so_far : AreBackSoFar logs (listed front) (listed before) (listed left)
 
-pub none_came_back : (logs : List (ℕ × WrittenLog)) (all before : List (ℕ × Vec ℕ Global)) → CameBack logs all all before before
+pub none_came_back : (logs : List (ℕ × Log)) (all before : List (ℕ × Vec ℕ Global)) → CameBack logs all all before before
 none_came_back logs all before = record { front = []; whole = refl; so_far = none_back logs (listed before) }
 
-module _ (logs : List (ℕ × WrittenLog)) (rest behind all : List (ℕ × Vec ℕ Global)) (file : ℕ × Vec ℕ Global) (before left : List (ℕ × Vec ℕ Global))
+module _ (logs : List (ℕ × Log)) (rest behind all : List (ℕ × Vec ℕ Global)) (file : ℕ × Vec ℕ Global) (before left : List (ℕ × Vec ℕ Global))
     (rising : IsStrictlySortedBy nat_cmp (keys_of all)) (is : rest ≡ file ∷ behind) (came : CameBack logs rest all before left) where
   whole_is : all ≡ came.front ++ file ∷ behind
   whole_is = came.whole ∙ ap (λ (r : List (ℕ × Vec ℕ Global)). came.front ++ r) is
@@ -444,7 +445,7 @@ module _ (logs : List (ℕ × WrittenLog)) (rest behind all : List (ℕ × Vec �
         (λ tied. subst (λ q. IsSome (find nat_cmp q logs)) (sym (same_id id tied)) held) (came.so_far id));
   }
 
-pub all_came_back : (logs : List (ℕ × WrittenLog)) (rest all before left : List (ℕ × Vec ℕ Global)) → rest ≡ [] → CameBack logs rest all before left
+pub all_came_back : (logs : List (ℕ × Log)) (rest all before left : List (ℕ × Vec ℕ Global)) → rest ≡ [] → CameBack logs rest all before left
     → AreBackSoFar logs (listed all) (listed before) (listed left)
 all_came_back logs rest all before left none came =
     let whole : all ≡ came.front = came.whole ∙ ap (λ (r : List (ℕ × Vec ℕ Global)). came.front ++ r) none ∙ append-nil came.front in
@@ -455,8 +456,13 @@ all_came_back logs rest all before left none came =
 at : {X : Type 0} (es : List (ℕ × X)) (q : ℕ) → finite.get (finite.from_entries {R = nat_cmp} es) q ≡ find nat_cmp q es
 at es q = get-from_entries nat_cmp_total es q
 
+-- the value at a key, where each value is mapped
+pub get-mapped : {X Y : Type 0} (f : X → Y) (es : List (ℕ × X)) (q : ℕ)
+    → finite.get (finite.from_entries {R = nat_cmp} (map (λ e. (e.0, f e.1)) es)) q ≡ option_map f (finite.get (finite.from_entries {R = nat_cmp} es) q)
+get-mapped f es q = at (map (λ e. (e.0, f e.1)) es) q ∙ find-map f es q ∙ ap (option_map f) (sym (at es q))
+
 module _ (written : Written) where
-  abbrev pub logs : List (ℕ × WrittenLog)
+  abbrev pub logs : List (ℕ × Log)
   logs = written.logs.entries
 
   abbrev pub gone : List (ℕ × List ℕ)
@@ -466,40 +472,40 @@ module _ (written : Written) where
   all_back before left back id =
       rw (at logs id) (rw (at gone id) (rw (at (listed before) id) (rw (at (listed left) id) (back id))))
 
-  file_at : (id : ℕ) → finite.get (files_of written) id ≡ option_map (λ log. log.bytes.items) (log_at logs id)
-  file_at id = at (map (λ e. (e.0, e.1.bytes.items)) logs) id ∙ find-map (λ log. log.bytes.items) logs id ∙ ap (option_map (λ log. log.bytes.items)) (sym (at logs id))
+  file_at : (id : ℕ) → finite.get (files_of written) id ≡ option_map (λ log. log.bytes) (finite.get (logs_of written) id)
+  file_at id = get-mapped (λ log. log.bytes) logs id
 
   -- what is left at an id at the end, where this is left of each log
-  abbrev pub IsLeftAt : (WrittenLog → Option (List ℕ) → Type 0) → Option WrittenLog → Option (List ℕ) → Option (List ℕ) → Type 0
+  abbrev pub IsLeftAt : (Log → Option (List ℕ) → Type 0) → Option Log → Option (List ℕ) → Option (List ℕ) → Type 0
   IsLeftAt IsOf (Some log) removed now = IsOf log now
   IsLeftAt IsOf None removed now = IsBack removed now
 
-  module _ (IsOf : WrittenLog → Option (List ℕ) → Type 0) (before left : List (ℕ × Vec ℕ Global)) (so_far : AreLeftSoFar IsOf logs (listed before))
+  module _ (IsOf : Log → Option (List ℕ) → Type 0) (before left : List (ℕ × Vec ℕ Global)) (so_far : AreLeftSoFar IsOf logs (listed before))
       (back : ArePutBack written before left) where
-    ends : (log : Option WrittenLog) (removed old now : Option (List ℕ)) → IsLeftSoFar IsOf log old → IsPutBack log removed old now
+    ends : (log : Option Log) (removed old now : Option (List ℕ)) → IsLeftSoFar IsOf log old → IsPutBack log removed old now
         → IsLeftAt IsOf log removed now
     ends (Some log) removed old now is put = subst (IsOf log) (sym put) is
     ends None removed old now is put = put is
 
-    pub left_at : (id : ℕ) → IsLeftAt IsOf (log_at logs id) (finite.get (gone_of written) id) (finite.get (by_id left) id)
-    left_at id = ends (log_at logs id) (finite.get (gone_of written) id) (finite.get (by_id before) id) (finite.get (by_id left) id)
+    pub left_at : (id : ℕ) → IsLeftAt IsOf (finite.get (logs_of written) id) (finite.get (gone_of written) id) (finite.get (by_id left) id)
+    left_at id = ends (finite.get (logs_of written) id) (finite.get (gone_of written) id) (finite.get (by_id before) id) (finite.get (by_id left) id)
         (rw (at logs id) (rw (at (listed before) id) (so_far id))) (back id)
 
     -- each file that is left is one that this relation allows, where it says so of a log's
-    pub each_left : ((id : ℕ) (log : WrittenLog) (file : List ℕ) → log_at logs id ≡ Some log → IsOf log (Some file) → IsCut log.bytes.items file)
+    pub each_left : ((id : ℕ) (log : Log) (file : List ℕ) → finite.get (logs_of written) id ≡ Some log → IsOf log (Some file) → IsCut log.bytes file)
         → (id : ℕ) (file : List ℕ) → finite.get (by_id left) id ≡ Some file → IsLeft (files_of written) (gone_of written) id file
     each_left cuts id file is =
-        each_of (log_at logs id) (finite.get (gone_of written) id) (finite.get (by_id left) id) refl refl is (left_at id) where
-          each_of : (log : Option WrittenLog) (removed now : Option (List ℕ)) → log_at logs id ≡ log
+        each_of (finite.get (logs_of written) id) (finite.get (gone_of written) id) (finite.get (by_id left) id) refl refl is (left_at id) where
+          each_of : (log : Option Log) (removed now : Option (List ℕ)) → finite.get (logs_of written) id ≡ log
               → finite.get (gone_of written) id ≡ removed → now ≡ Some file → IsLeftAt IsOf log removed now → IsLeft (files_of written) (gone_of written) id file
           each_of (Some log) removed now there was is of = inl (
-            log.bytes.items,
-            file_at id ∙ ap (option_map (λ log. log.bytes.items)) there,
+            log.bytes,
+            file_at id ∙ ap (option_map (λ log. log.bytes)) there,
             cuts id log file there (subst (IsOf log) is of),
           )
           each_of None (Some old) now there was is of = inr (
             old,
-            file_at id ∙ ap (option_map (λ log. log.bytes.items)) there,
+            file_at id ∙ ap (option_map (λ log. log.bytes)) there,
             was,
             subst (IsBackOf old) is of,
           )
@@ -508,80 +514,80 @@ module _ (written : Written) where
   -- ---- what is left where bytes are kept as they were written
 
   -- a log of which something was synced stands
-  stands_of : (log : WrittenLog) (synced : ℕ) (now : Option (List ℕ)) → log.synced ≡ Some synced → IsLeftOf log now
-      → (file : List ℕ) × (now ≡ Some file) × IsLonger (take synced log.bytes.items) file
+  stands_of : (log : Log) (synced : ℕ) (now : Option (List ℕ)) → log.synced ≡ Some synced → IsLeftOf log now
+      → (file : List ℕ) × (now ≡ Some file) × IsLonger (take synced log.bytes) file
   stands_of log synced None is none = absurd (none-some synced (sym none ∙ is))
-  stands_of log synced (Some file) is of = (file, refl, subst (λ o. HasSynced o log.bytes.items file) is of.1)
+  stands_of log synced (Some file) is of = (file, refl, subst (λ o. HasSynced o log.bytes file) is of.1)
 
   pub all_left : (before left : List (ℕ × Vec ℕ Global)) → AreLeftSoFar IsLeftOf logs (listed before) → ArePutBack written before left
-      → (kept : Files) → AreSynced logs kept → MayLeave (files_of written) (gone_of written) kept (by_id left)
+      → (kept : Files) → AreSynced written kept → MayLeave (files_of written) (gone_of written) kept (by_id left)
   all_left before left so_far back kept synced = record {
     stands = λ id file is.
         let one = synced.each id file is in
         let of = subst (λ o. IsLeftAt IsLeftOf o (finite.get (gone_of written) id) (finite.get (by_id left) id)) one.2 (left_at IsLeftOf before left so_far back id) in
         let now = stands_of one.0 one.1 (finite.get (by_id left) id) one.3 of in
-        (now.0, now.1, longer_trans file (take one.1 one.0.bytes.items) now.0 one.4 now.2);
+        (now.0, now.1, longer_trans file (take one.1 one.0.bytes) now.0 one.4 now.2);
     each = each_left IsLeftOf before left so_far back (λ id log file there of. of.0);
   }
 
   -- ---- what is left in front of marks
 
-  module _ (kept : Files) (marks : marking.Written) (synced : AreSynced logs kept) (marked : AreMarked logs marks) (covered : AreCovered kept marks) where
+  module _ (kept : Files) (marks : marking.Written) (synced : AreSynced written kept) (marked : AreMarked written marks) (covered : AreCovered kept marks) where
     -- what is kept of a log, and its mark
-    record Known (id : ℕ) (log : WrittenLog) : Type 0 where
+    record Known (id : ℕ) (log : Log) : Type 0 where
       pub mark : Mark
       pub there : finite.get marks id ≡ Some mark
-      pub sure : mark.sure ≡ log.mark.sure
-      pub last : mark.last ≡ log.mark.last
+      pub sure : mark.sure ≡ log.sure
+      pub last : mark.last ≡ log.last
 
-    known : (id : ℕ) (log : WrittenLog) (n : ℕ) → log_at logs id ≡ Some log → log.synced ≡ Some n → Known id log
+    known : (id : ℕ) (log : Log) (n : ℕ) → finite.get (logs_of written) id ≡ Some log → log.synced ≡ Some n → Known id log
     known id log n there is = by_mark (finite.get marks id) refl (marked.each id log there) where
       by_mark : (o : Option Mark) → finite.get marks id ≡ o → HasMarkOf o log → Known id log
       by_mark None none of = absurd (none-some n (sym of ∙ is))
       by_mark (Some mark) here of = record { mark = mark; there = here; sure = of.0; last = of.1 }
 
     -- no mark of a log says more than what was synced
-    within : (id : ℕ) (log : WrittenLog) (n at : ℕ) → log_at logs id ≡ Some log → log.synced ≡ Some n
-        → (at ≡ log.mark.sure) ⊎ (at ≡ log.mark.last) → at ≤ header_length + length (drop header_length (take n log.bytes.items))
+    within : (id : ℕ) (log : Log) (n at : ℕ) → finite.get (logs_of written) id ≡ Some log → log.synced ≡ Some n
+        → (at ≡ log.sure) ⊎ (at ≡ log.last) → at ≤ header_length + length (drop header_length (take n log.bytes))
     within id log n at there is which =
         let one = known id log n there is in
         let held = covered.covers id one.mark one.there in
         let own = synced.each id held.0 held.1 in
         let same : own.0 ≡ log = same_Some _ _ (sym own.2 ∙ there) in
-        let count : own.1 ≡ n = same_Some _ _ (sym own.3 ∙ ap (λ (l : WrittenLog). l.synced) same ∙ is) in
-        let part : IsLonger held.0 (take n log.bytes.items) =
-        subst (λ k. IsLonger held.0 (take k log.bytes.items)) count (subst (λ l. IsLonger held.0 (take own.1 l.bytes.items)) same own.4) in
+        let count : own.1 ≡ n = same_Some _ _ (sym own.3 ∙ ap (λ (l : Log). l.synced) same ∙ is) in
+        let part : IsLonger held.0 (take n log.bytes) =
+        subst (λ k. IsLonger held.0 (take k log.bytes)) count (subst (λ l. IsLonger held.0 (take own.1 l.bytes)) same own.4) in
         let least : at ≤ one.mark.last = elim which [
           | inl sure ↦ omega (arith, sure, one.sure, covered.order id one.mark one.there)
           | inr last ↦ omega (arith, last, one.last)
         ] in
         omega (arith, least, held.2, ap length part.is, length-append (drop header_length held.0) part.behind)
 
-    cut_in_front : (id : ℕ) (log : WrittenLog) (file : List ℕ) → log_at logs id ≡ Some log → IsInFront log (Some file)
-        → IsCut log.bytes.items file
+    cut_in_front : (id : ℕ) (log : Log) (file : List ℕ) → finite.get (logs_of written) id ≡ Some log → IsInFront log (Some file)
+        → IsCut log.bytes file
     cut_in_front id log file there of = by_synced log.synced refl of.2 where
-      by_synced : (o : Option ℕ) → log.synced ≡ o → IsBefore o log.bytes.items of.0 file → IsCut log.bytes.items file
+      by_synced : (o : Option ℕ) → log.synced ≡ o → IsBefore o log.bytes of.0 file → IsCut log.bytes file
       by_synced None none cut = cut
-      by_synced (Some n) is one = subst (IsCut log.bytes.items) (sym one.1)
-          (marked_cut (take n log.bytes.items) log.bytes.items one.0 one.2 of.0 (within id log n of.0 there is of.1))
+      by_synced (Some n) is one = subst (IsCut log.bytes) (sym one.1)
+          (marked_cut (take n log.bytes) log.bytes one.0 one.2 of.0 (within id log n of.0 there is of.1))
 
-    stands_in_front : (id : ℕ) (log : WrittenLog) (n : ℕ) (now : Option (List ℕ)) → log_at logs id ≡ Some log
+    stands_in_front : (id : ℕ) (log : Log) (n : ℕ) (now : Option (List ℕ)) → finite.get (logs_of written) id ≡ Some log
         → log.synced ≡ Some n → IsInFront log now → (mark : Mark) → finite.get marks id ≡ Some mark
-        → (file : List ℕ) × (now ≡ Some file) × IsLonger (take mark.sure (take n log.bytes.items)) file
+        → (file : List ℕ) × (now ≡ Some file) × IsLonger (take mark.sure (take n log.bytes)) file
     stands_in_front id log n None there is none mark here = absurd (none-some n (sym none ∙ is))
     stands_in_front id log n (Some file) there is of mark here =
         let one = known id log n there is in
         let same : one.mark ≡ mark = same_Some _ _ (sym one.there ∙ here) in
-        let sure : mark.sure ≡ log.mark.sure = ap (λ (m : Mark). m.sure) (sym same) ∙ one.sure in
+        let sure : mark.sure ≡ log.sure = ap (λ (m : Mark). m.sure) (sym same) ∙ one.sure in
         let order : mark.sure ≤ of.0 = elim of.1 [
           | inl at ↦ omega (arith, at, sure)
           | inr at ↦ omega (arith, at, one.last, ap (λ (m : Mark). m.last) same, covered.order id mark here)
         ] in
-        let before : IsBefore (Some n) log.bytes.items of.0 file = subst (λ o. IsBefore o log.bytes.items of.0 file) is of.2 in (
+        let before : IsBefore (Some n) log.bytes of.0 file = subst (λ o. IsBefore o log.bytes of.0 file) is of.2 in (
           file,
           refl,
-          subst (IsLonger (take mark.sure (take n log.bytes.items))) (sym before.1)
-              (longer_fronts mark.sure of.0 (take n log.bytes.items) before.0 order before.2.stands),
+          subst (IsLonger (take mark.sure (take n log.bytes))) (sym before.1)
+              (longer_fronts mark.sure of.0 (take n log.bytes) before.0 order before.2.stands),
         )
 
     pub all_in_front : (before left : List (ℕ × Vec ℕ Global)) → AreLeftSoFar IsInFront logs (listed before) → ArePutBack written before left
@@ -593,9 +599,9 @@ module _ (written : Written) where
           let of = subst (λ o. IsLeftAt IsInFront o (finite.get (gone_of written) id) (finite.get (by_id left) id)) own.2
           (left_at IsInFront before left so_far back id) in
           let now = stands_in_front id own.0 own.1 (finite.get (by_id left) id) own.2 own.3 of old.mark old.marked in
-          let longer : IsLonger front (take old.mark.sure (take own.1 own.0.bytes.items)) =
-          subst (λ f. IsLonger f (take old.mark.sure (take own.1 own.0.bytes.items))) (sym old.is)
-          (longer_fronts old.mark.sure old.mark.sure old.file (take own.1 own.0.bytes.items) (omega arith) own.4) in
-          (now.0, now.1, longer_trans front (take old.mark.sure (take own.1 own.0.bytes.items)) now.0 longer now.2);
+          let longer : IsLonger front (take old.mark.sure (take own.1 own.0.bytes)) =
+          subst (λ f. IsLonger f (take old.mark.sure (take own.1 own.0.bytes))) (sym old.is)
+          (longer_fronts old.mark.sure old.mark.sure old.file (take own.1 own.0.bytes) (omega arith) own.4) in
+          (now.0, now.1, longer_trans front (take old.mark.sure (take own.1 own.0.bytes)) now.0 longer now.2);
       each = each_left IsInFront before left so_far back cut_in_front;
     }

@@ -4,6 +4,7 @@
 mod laws;
 mod power_disk;
 mod written;
+mod written_log;
 
 pub use laws::{a_crash_loses_nothing, a_cut_opens, a_mark_makes_a_cut};
 pub use power_disk::PowerDisk;

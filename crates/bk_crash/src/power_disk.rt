@@ -1,7 +1,14 @@
 //! A disk over another one whose power goes: so many calls are passed on, and each one after fails and changes nothing.
 
-ghost use Rattle.std.specs.Prelude.{◌≡◌, ◌+◌};
+ghost use Rattle.std.specs.Prelude.{◌≡◌, ◌↔◌, ◌+◌, ◌<◌, ◌≤◌, ◌^◌, false, length, take, IsTrue, OnOk};
 ghost use Rattle.std.specs.Bool.{OnTrue, OnFalse};
+ghost use Rattle.std.specs.FinMap as map;
+ghost use Rattle.bk_disk.specs.Disk.{HasCause, Lists, Creates, Appends, Patches, Syncs, Removes};
+ghost use Rattle.bk_record.specs.Files.{file_of};
+ghost use Rattle.bk_disk.specs.Marks.{Covers, HasMark};
+ghost use Rattle.bk_disk.specs.Durable.{KeepsMore, ListSettles, SyncKeeps, RemoveKeeps};
+ghost use Rattle.bk_crash.specs.Noting.{IsNoted, IsNotedInPart, IsMarkNoted, noted, made_log, longer_log, patched_log, synced_log, marked_log, with_removed};
+ghost use Rattle.bk_crash.specs.AllLogs.{logs_of, gone_of};
 
 use crate::Written;
 use bk_disk::{DiskFault, LogDisk, MarkDisk};
@@ -50,6 +57,7 @@ impl<D: LogDisk> PowerDisk<D> {
     /// `kept` bytes are written, or all.
     pub fn new(inner: D, written: Written, calls: u64, kept: usize) -> Self
         ensures files { D.files result.inner ≡ D.files inner }
+        ensures written { result.written ≡ written }
     {
         PowerDisk {
             inner,
@@ -63,12 +71,16 @@ impl<D: LogDisk> PowerDisk<D> {
     }
 
     /// Whether the power is gone: a call was refused.
-    pub fn is_dead(&self) -> bool {
+    pub fn is_dead(&self) -> bool
+        ensures { IsTrue result ↔ (0 < self.now.power.refused) }
+    {
         self.power.refused > 0
     }
 
     /// What was written to the logs.
-    pub fn written(&self) -> &Written {
+    pub fn written(&self) -> &Written
+        ensures { result.now ≡ self.now.written }
+    {
         &self.written
     }
 }
@@ -91,7 +103,16 @@ impl<D: LogDisk> LogDisk for PowerDisk<D> {
         self.inner.bounds()
     }
 
-    fn list(&mut self, alloc: Global) -> Result<Vec<u32>, DiskFault> {
+    fn list(&mut self, alloc: Global) -> Result<Vec<u32>, DiskFault>
+        ensures honest { D.honest self.new.inner ≡ D.honest self.old.inner }
+        ensures kept { IsTrue (D.honest self.old.inner)
+            → KeepsMore (D.synced self.old.inner) (D.gone self.old.inner) (D.synced self.new.inner) (D.gone self.new.inner) }
+        ensures back { IsTrue (D.honest self.old.inner) → ListSettles result (D.gone self.new.inner) }
+        ensures cause { HasCause (D.failures self.old.inner + self.old.power.refused) (D.failures self.new.inner + self.new.power.refused) result }
+        ensures turn { IsTrue (D.honest self.old.inner) → Lists (λ v. v.items) (D.files self.old.inner) result (D.files self.new.inner) }
+        ensures noted { logs_of self.new.written ≡ logs_of self.old.written }
+        ensures gone { IsNoted result (gone_of self.old.written) (gone_of self.new.written) map.empty }
+    {
         if self.power.fails() {
             return Err(DiskFault::Disk);
         }
@@ -109,7 +130,16 @@ impl<D: LogDisk> LogDisk for PowerDisk<D> {
         self.inner.length(alloc, log)
     }
 
-    fn create(&mut self, alloc: Global, log: u32) -> Result<(), DiskFault> {
+    fn create(&mut self, alloc: Global, log: u32) -> Result<(), DiskFault>
+        requires { log < 2 ^ 31 }
+        ensures honest { D.honest self.new.inner ≡ D.honest self.old.inner }
+        ensures kept { IsTrue (D.honest self.old.inner)
+            → KeepsMore (D.synced self.old.inner) (D.gone self.old.inner) (D.synced self.new.inner) (D.gone self.new.inner) }
+        ensures cause { HasCause (D.failures self.old.inner + self.old.power.refused) (D.failures self.new.inner + self.new.power.refused) result }
+        ensures turn { IsTrue (D.honest self.old.inner) → Creates (D.files self.old.inner) log result (D.files self.new.inner) }
+        ensures noted { self.new.written.is_lost ≡ false → IsNoted result (logs_of self.old.written) (logs_of self.new.written) (map.insert (logs_of self.old.written) log made_log) }
+        ensures gone { gone_of self.new.written ≡ gone_of self.old.written }
+    {
         if self.power.fails() {
             return Err(DiskFault::Disk);
         }
@@ -120,7 +150,16 @@ impl<D: LogDisk> LogDisk for PowerDisk<D> {
         made
     }
 
-    fn append(&mut self, alloc: Global, log: u32, bytes: &[u8]) -> Result<(), DiskFault> {
+    fn append(&mut self, alloc: Global, log: u32, bytes: &[u8]) -> Result<(), DiskFault>
+        ensures honest { D.honest self.new.inner ≡ D.honest self.old.inner }
+        ensures kept { IsTrue (D.honest self.old.inner)
+            → KeepsMore (D.synced self.old.inner) (D.gone self.old.inner) (D.synced self.new.inner) (D.gone self.new.inner) }
+        ensures cause { HasCause (D.failures self.old.inner + self.old.power.refused) (D.failures self.new.inner + self.new.power.refused) result }
+        ensures turn { IsTrue (D.honest self.old.inner) → Appends (D.files self.old.inner) log bytes.now result (D.files self.new.inner) }
+        ensures noted { self.new.written.is_lost ≡ false → IsNotedInPart result (logs_of self.old.written) (logs_of self.new.written) (λ n. noted (longer_log (take n bytes.now)) (logs_of self.old.written) log)
+            (noted (longer_log bytes.now) (logs_of self.old.written) log) }
+        ensures gone { gone_of self.new.written ≡ gone_of self.old.written }
+    {
         let was_dead = self.power.refused > 0;
         if self.power.fails() {
             if !was_dead {
@@ -136,7 +175,15 @@ impl<D: LogDisk> LogDisk for PowerDisk<D> {
         appended
     }
 
-    fn patch(&mut self, alloc: Global, log: u32, bytes: &[u8; 12]) -> Result<(), DiskFault> {
+    fn patch(&mut self, alloc: Global, log: u32, bytes: &[u8; 12]) -> Result<(), DiskFault>
+        ensures honest { D.honest self.new.inner ≡ D.honest self.old.inner }
+        ensures kept { IsTrue (D.honest self.old.inner)
+            → KeepsMore (D.synced self.old.inner) (D.gone self.old.inner) (D.synced self.new.inner) (D.gone self.new.inner) }
+        ensures cause { HasCause (D.failures self.old.inner + self.old.power.refused) (D.failures self.new.inner + self.new.power.refused) result }
+        ensures turn { IsTrue (D.honest self.old.inner) → Patches (D.files self.old.inner) log bytes.now result (D.files self.new.inner) }
+        ensures noted { IsNoted result (logs_of self.old.written) (logs_of self.new.written) (noted (patched_log bytes.now) (logs_of self.old.written) log) }
+        ensures gone { gone_of self.new.written ≡ gone_of self.old.written }
+    {
         if self.power.fails() {
             return Err(DiskFault::Disk);
         }
@@ -147,7 +194,16 @@ impl<D: LogDisk> LogDisk for PowerDisk<D> {
         patched
     }
 
-    fn sync(&mut self, alloc: Global, log: u32) -> Result<(), DiskFault> {
+    fn sync(&mut self, alloc: Global, log: u32) -> Result<(), DiskFault>
+        ensures honest { D.honest self.new.inner ≡ D.honest self.old.inner }
+        ensures kept { IsTrue (D.honest self.old.inner)
+            → KeepsMore (D.synced self.old.inner) (D.gone self.old.inner) (D.synced self.new.inner) (D.gone self.new.inner) }
+        ensures syncs { IsTrue (D.honest self.old.inner) → SyncKeeps (D.files self.old.inner) log result (D.synced self.new.inner) }
+        ensures cause { HasCause (D.failures self.old.inner + self.old.power.refused) (D.failures self.new.inner + self.new.power.refused) result }
+        ensures turn { IsTrue (D.honest self.old.inner) → Syncs (D.files self.old.inner) log result (D.files self.new.inner) }
+        ensures noted { IsNoted result (logs_of self.old.written) (logs_of self.new.written) (noted synced_log (logs_of self.old.written) log) }
+        ensures gone { gone_of self.new.written ≡ gone_of self.old.written }
+    {
         if self.power.fails() {
             return Err(DiskFault::Disk);
         }
@@ -172,7 +228,16 @@ impl<D: LogDisk> LogDisk for PowerDisk<D> {
         self.inner.view(alloc, log)
     }
 
-    fn remove(&mut self, alloc: Global, log: u32) -> Result<(), DiskFault> {
+    fn remove(&mut self, alloc: Global, log: u32) -> Result<(), DiskFault>
+        ensures honest { D.honest self.new.inner ≡ D.honest self.old.inner }
+        ensures kept { IsTrue (D.honest self.old.inner) → RemoveKeeps (D.files self.old.inner) log result (D.synced self.old.inner)
+            (D.gone self.old.inner) (D.synced self.new.inner) (D.gone self.new.inner) }
+        ensures cause { HasCause (D.failures self.old.inner + self.old.power.refused) (D.failures self.new.inner + self.new.power.refused) result }
+        ensures turn { IsTrue (D.honest self.old.inner) → Removes (D.files self.old.inner) log result (D.files self.new.inner) }
+        ensures noted { IsNoted result (logs_of self.old.written) (logs_of self.new.written) (map.remove (logs_of self.old.written) log) }
+        ensures gone { self.new.written.is_lost ≡ false
+            → IsNoted result (gone_of self.old.written) (gone_of self.new.written) (with_removed (gone_of self.old.written) log (map.get (logs_of self.old.written) log)) }
+    {
         if self.power.fails() {
             return Err(DiskFault::Disk);
         }
@@ -194,7 +259,18 @@ impl<D: MarkDisk> MarkDisk for PowerDisk<D> {
         self.inner.begin_marks(alloc)
     }
 
-    fn keep_mark(&mut self, alloc: Global, log: u32, mark: u64) -> Result<(), DiskFault> {
+    fn keep_mark(&mut self, alloc: Global, log: u32, mark: u64) -> Result<(), DiskFault>
+        requires within { IsTrue (D.honest self.old.inner) → mark ≤ length (file_of (D.files self.old.inner) log) }
+        requires kept { IsTrue (D.honest self.old.inner) → Covers (D.synced self.old.inner) log mark }
+        ensures honest { D.honest self.new.inner ≡ D.honest self.old.inner }
+        ensures kept { IsTrue (D.honest self.old.inner)
+            → KeepsMore (D.synced self.old.inner) (D.gone self.old.inner) (D.synced self.new.inner) (D.gone self.new.inner) }
+        ensures cause { HasCause (D.failures self.old.inner + self.old.power.refused) (D.failures self.new.inner + self.new.power.refused) result }
+        ensures turn { IsTrue (D.honest self.old.inner) → Syncs (D.files self.old.inner) log result (D.files self.new.inner) }
+        ensures marked { IsTrue (D.honest self.old.inner) → OnOk result (HasMark (D.marks self.new.inner) log mark) }
+        ensures noted { IsMarkNoted result (logs_of self.old.written) (logs_of self.new.written) (noted (marked_log mark) (logs_of self.old.written) log) log }
+        ensures gone { gone_of self.new.written ≡ gone_of self.old.written }
+    {
         let was_dead = self.power.refused > 0;
         if self.power.fails() {
             if !was_dead {

@@ -1,20 +1,19 @@
 //! What a disk was asked to write: the bytes of each log, how many of them are on the device for sure, and the files that
 //! were removed. Of it comes what a loss of power may leave.
 
-ghost use Rattle.std.specs.Prelude.{◌≡◌, ℕ, ◌≤◌, List, ◌++◌, take, option_map, IfOk, OnOk};
+ghost use Rattle.std.specs.Prelude.{◌≡◌, ℕ, ◌≤◌, false, option_map, IfOk, OnOk};
+ghost use Rattle.std.specs.FinMap as map;
 ghost use Rattle.bk_record.specs.Files.{Files};
-ghost use Rattle.bk_disk.specs.Disk.{patched_file};
 ghost use Rattle.bk_mark.specs.Marking as marking;
 ghost use Rattle.bk_mark.specs.Marking.{AreCovered, sure_fronts};
 ghost use Rattle.bk_store.specs.Crash.{MayLeave};
-ghost use Rattle.bk_crash.specs.Leaving.{files_of, gone_of, AreSynced, AreMarked, ArePutBack, by_id, IsLeftOf, IsBackOf, IsSpoiled, IsInFront};
+ghost use Rattle.bk_crash.specs.Noting.{noted, found_log, made_log, longer_log, patched_log, synced_log, marked_log, with_removed};
+ghost use Rattle.bk_crash.specs.Leaving.{by_id, IsBackOf};
+ghost use Rattle.bk_crash.specs.AllLogs.{logs_of, files_of, gone_of, AreSynced, AreMarked, ArePutBack};
 
-use bk_record::HEADER_LENGTH;
+use crate::written_log::{WrittenLog, beginning};
 use std::alloc::{AllocError, Global};
 use std::collections::BTreeMap;
-
-/// Where the twelve bytes of a header that a patch writes begin, and where they end.
-const PATCHED: (usize, usize) = (8, 20);
 
 /// A log's id, and the bytes of its file.
 pub type File = (u32, Vec<u8>);
@@ -24,32 +23,6 @@ pub trait Choices {
     /// A number from 0 to this one.
     fn up_to(&mut self, most: usize) -> usize
         ensures { result ≤ most };
-}
-
-/// What was written to a log.
-#[derive(Drop)]
-pub struct WrittenLog {
-    bytes: Vec<u8>,
-    /// How many bytes are on the device for sure; `None` where not even the file is.
-    synced: Option<usize>,
-    /// Whether the header was patched since.
-    is_patched: bool,
-    mark: Mark,
-}
-
-/// The mark that a log has on the device for sure, and the last that was written: how many bytes are to be believed.
-#[derive(Clone, Copy)]
-pub struct Mark {
-    sure: usize,
-    last: usize,
-}
-
-/// The mark of a log that is made, and of one that was found without one: it has its header, or all that it has.
-fn unmarked(length: usize) -> Mark {
-    Mark {
-        sure: length,
-        last: length,
-    }
 }
 
 /// What was written to the logs of a disk.
@@ -64,7 +37,11 @@ pub struct Written {
 
 impl Written {
     /// Nothing.
-    pub fn new(alloc: Global) -> Written {
+    pub fn new(alloc: Global) -> Written
+        ensures logs { logs_of result ≡ map.empty }
+        ensures gone { gone_of result ≡ map.empty }
+        ensures lost { result.is_lost ≡ false }
+    {
         Written {
             logs: BTreeMap::new(alloc),
             gone: BTreeMap::new(alloc),
@@ -76,15 +53,7 @@ impl Written {
     pub fn copy(&self, alloc: Global) -> Result<Written, AllocError> {
         let mut copy = Written::new(alloc);
         for (log, written) in self.logs.iter() {
-            copy.put(
-                *log,
-                WrittenLog {
-                    bytes: written.bytes.clone()?,
-                    synced: written.synced,
-                    is_patched: written.is_patched,
-                    mark: written.mark,
-                },
-            );
+            copy.put(*log, written.copy()?);
         }
         for (log, bytes) in self.gone.iter() {
             if copy.gone.insert(*log, bytes.clone()?).is_err() {
@@ -101,88 +70,99 @@ impl Written {
     pub fn files(&self, alloc: Global) -> Result<Vec<File>, AllocError> {
         let mut files = Vec::new(alloc);
         for (log, written) in self.logs.iter() {
-            files.push((*log, written.bytes.clone()?))?;
+            files.push((*log, written.bytes().clone()?))?;
         }
         Ok(files)
     }
 
     /// Whether there was no memory for something that was written.
-    pub fn is_lost(&self) -> bool {
+    pub fn is_lost(&self) -> bool
+        ensures { result ≡ self.now.is_lost }
+    {
         self.is_lost
     }
 
     /// A log that is on the device with all its bytes.
-    pub fn find(&mut self, log: u32, bytes: Vec<u8>) {
-        let length = bytes.len();
-        self.put(
-            log,
-            WrittenLog {
-                bytes,
-                synced: Some(length),
-                is_patched: false,
-                mark: unmarked(length),
-            },
-        );
+    pub fn find(&mut self, log: u32, bytes: Vec<u8>)
+        ensures logs { self.new.is_lost ≡ false → logs_of self.new ≡ map.insert (logs_of self.old) log (found_log bytes.items) }
+        ensures gone { gone_of self.new ≡ gone_of self.old }
+    {
+        self.put(log, WrittenLog::found(bytes));
     }
 
     /// The logs were listed: no file that was removed before is back from then on.
-    pub(crate) fn list(&mut self, alloc: Global) {
+    pub(crate) fn list(&mut self, alloc: Global)
+        ensures logs { logs_of self.new ≡ logs_of self.old }
+        ensures gone { gone_of self.new ≡ map.empty }
+    {
         self.gone = BTreeMap::new(alloc);
     }
 
-    pub(crate) fn create(&mut self, alloc: Global, log: u32) {
-        let bytes = Vec::new(alloc);
-        self.put(
-            log,
-            WrittenLog {
-                bytes,
-                synced: None,
-                is_patched: false,
-                mark: unmarked(HEADER_LENGTH),
-            },
-        );
+    pub(crate) fn create(&mut self, alloc: Global, log: u32)
+        ensures logs { self.new.is_lost ≡ false → logs_of self.new ≡ map.insert (logs_of self.old) log made_log }
+        ensures gone { gone_of self.new ≡ gone_of self.old }
+    {
+        self.put(log, WrittenLog::made(alloc));
     }
 
-    fn put(&mut self, log: u32, written: WrittenLog) {
-        if self.logs.insert(log, written).is_err() {
-            self.is_lost = true;
+    fn put(&mut self, log: u32, written: WrittenLog)
+        ensures logs { self.new.is_lost ≡ false → logs_of self.new ≡ map.insert (logs_of self.old) log written }
+        ensures gone { gone_of self.new ≡ gone_of self.old }
+    {
+        match self.logs.insert(log, written) {
+            Ok(_) => {}
+            Err(_) => self.is_lost = true,
         }
     }
 
-    pub(crate) fn append(&mut self, log: u32, more: &[u8]) {
+    pub(crate) fn append(&mut self, log: u32, more: &[u8])
+        ensures logs { self.new.is_lost ≡ false → logs_of self.new ≡ noted (longer_log more.now) (logs_of self.old) log }
+        ensures gone { gone_of self.new ≡ gone_of self.old }
+    {
         if let Some(written) = self.logs.get_mut(&log) {
-            if written.bytes.extend_from_slice(more).is_err() {
-                self.is_lost = true;
+            match written.append(more) {
+                Ok(()) => {}
+                Err(_) => self.is_lost = true,
             }
         }
     }
 
-    pub(crate) fn patch(&mut self, log: u32, bytes: &[u8; 12]) {
+    pub(crate) fn patch(&mut self, log: u32, bytes: &[u8; 12])
+        ensures logs { logs_of self.new ≡ noted (patched_log bytes.now) (logs_of self.old) log }
+        ensures gone { gone_of self.new ≡ gone_of self.old }
+    {
         if let Some(written) = self.logs.get_mut(&log) {
-            written.is_patched = true;
-            overwrite(&mut written.bytes, bytes);
+            written.patch(bytes);
         }
     }
 
-    pub(crate) fn sync(&mut self, log: u32) {
+    pub(crate) fn sync(&mut self, log: u32)
+        ensures logs { logs_of self.new ≡ noted synced_log (logs_of self.old) log }
+        ensures gone { gone_of self.new ≡ gone_of self.old }
+    {
         if let Some(written) = self.logs.get_mut(&log) {
-            written.synced = Some(written.bytes.len());
-            written.is_patched = false;
-            written.mark.sure = written.mark.last;
+            written.sync();
         }
     }
 
     /// A mark was written. It may be on the device or not, until the log is synced.
-    pub(crate) fn mark(&mut self, log: u32, mark: u64) {
+    pub(crate) fn mark(&mut self, log: u32, mark: u64)
+        ensures logs { logs_of self.new ≡ noted (marked_log mark) (logs_of self.old) log }
+        ensures gone { gone_of self.new ≡ gone_of self.old }
+    {
         if let Some(written) = self.logs.get_mut(&log) {
-            written.mark.last = mark as usize;
+            written.mark(mark);
         }
     }
 
-    pub(crate) fn remove(&mut self, log: u32) {
+    pub(crate) fn remove(&mut self, log: u32)
+        ensures logs { logs_of self.new ≡ map.remove (logs_of self.old) log }
+        ensures gone { self.new.is_lost ≡ false → gone_of self.new ≡ with_removed (gone_of self.old) log (map.get (logs_of self.old) log) }
+    {
         if let Some(written) = self.logs.remove(&log) {
-            if self.gone.insert(log, written.bytes).is_err() {
-                self.is_lost = true;
+            match self.gone.insert(log, written.into_bytes()) {
+                Ok(_) => {}
+                Err(_) => self.is_lost = true,
             }
         }
     }
@@ -191,7 +171,7 @@ impl Written {
     /// its header was patched since; no file where nothing was synced; and removed files, or beginnings of them. The only
     /// error is want of memory.
     pub fn left<C: Choices>(&self, alloc: Global, choices: &mut C) -> Result<Vec<File>, AllocError>
-        ensures { (kept : Files) → AreSynced self.now.logs.entries kept
+        ensures { (kept : Files) → AreSynced self.now kept
             → IfOk result (λ left. MayLeave (files_of self.now) (gone_of self.now) kept (by_id left.items)) }
     {
         let mut left = Vec::new(alloc);
@@ -231,7 +211,7 @@ impl Written {
         alloc: Global,
         choices: &mut C,
     ) -> Result<Vec<File>, AllocError>
-        ensures { (kept : Files) (marks : marking.Written) → AreSynced self.now.logs.entries kept → AreMarked self.now.logs.entries marks → AreCovered kept marks
+        ensures { (kept : Files) (marks : marking.Written) → AreSynced self.now kept → AreMarked self.now marks → AreCovered kept marks
             → IfOk result (λ left. MayLeave (files_of self.now) (gone_of self.now) (sure_fronts kept marks) (by_id left.items)) }
     {
         let mut left = Vec::new(alloc);
@@ -243,115 +223,6 @@ impl Written {
         self.put_back(alloc, choices, &mut left)?;
         Ok(left)
     }
-}
-
-impl WrittenLog {
-    /// What a loss of power leaves of the log; `None` where its file is not there, of which nothing was synced.
-    fn left<C: Choices>(
-        &self,
-        alloc: Global,
-        choices: &mut C,
-    ) -> Result<Option<Vec<u8>>, AllocError>
-        ensures { IfOk result (λ left. IsLeftOf self.now (option_map (λ bytes. bytes.items) left)) }
-    {
-        let least = match self.synced {
-            Some(synced) => synced,
-            None if choices.up_to(3) == 0 => return Ok(None),
-            None => 0,
-        };
-        let mut bytes = beginning(alloc, &self.bytes, least, choices)?;
-        if self.is_patched {
-            spoil(&mut bytes, choices);
-        }
-        Ok(Some(bytes))
-    }
-
-    /// What a loss of power leaves of the log in front of its mark, where there may be any bytes behind those that were synced;
-    /// `None` where its file is not there.
-    fn damaged<C: Choices>(
-        &self,
-        alloc: Global,
-        choices: &mut C,
-    ) -> Result<Option<Vec<u8>>, AllocError>
-        ensures { IfOk result (λ left. IsInFront self.now (option_map (λ bytes. bytes.items) left)) }
-    {
-        let mark = match choices.up_to(1) {
-            0 => self.mark.sure,
-            _ => self.mark.last,
-        };
-        let Some(mut bytes) = self.left(alloc, choices)? else {
-            return Ok(None);
-        };
-        if let Some(synced) = self.synced {
-            if bytes.len() >= HEADER_LENGTH {
-                bytes.truncate(synced.max(HEADER_LENGTH));
-                add_damage(alloc, &mut bytes, &self.bytes, choices)?;
-            }
-        }
-        bytes.truncate(mark);
-        Ok(Some(bytes))
-    }
-}
-
-/// A record that nobody wrote.
-const RECORD: [u8; 28] =
-    *b"\x00\x00\x00\x18\x00\x00\x00\x00\x00\x00\x00\x4d\x00\x00\x00\x00\x00\x00\x00\x01mmmmmmmm";
-
-/// What a device may leave behind the bytes that were synced: nothing, zeros, old bytes, what was written there, or a record
-/// that nobody wrote.
-fn add_damage<C: Choices>(
-    alloc: Global,
-    bytes: &mut Vec<u8>,
-    file: &[u8],
-    choices: &mut C,
-) -> Result<(), AllocError>
-    ensures { OnOk result ((more : List ℕ) × (bytes.new.items ≡ bytes.old.items ++ more)) }
-{
-    match choices.up_to(4) {
-        0 => Ok(()),
-        1 => add_all(bytes, &vec![in alloc; 0u8; choices.up_to(100)]?),
-        2 => add_all(bytes, &vec![in alloc; 0xa5u8; choices.up_to(100)]?),
-        3 => {
-            let from = bytes.len().min(file.len());
-            add_all(bytes, &file[from..])
-        }
-        _ => add_all(bytes, &RECORD),
-    }
-}
-
-fn add_all(bytes: &mut Vec<u8>, more: &[u8]) -> Result<(), AllocError>
-    ensures { OnOk result (bytes.new.items ≡ bytes.old.items ++ more.now) }
-{
-    bytes.extend_from_slice(more)
-}
-
-/// Writes twelve bytes over those at byte 8 of a file, where it has so many.
-fn overwrite(file: &mut [u8], bytes: &[u8; 12])
-    ensures { file.new ≡ patched_file file.old bytes.now }
-{
-    if file.len() >= PATCHED.1 {
-        file[PATCHED.0..PATCHED.1].copy_from_slice(bytes);
-    }
-}
-
-/// The first bytes of a file, at least so many: no more, all, a few more, or any number.
-fn beginning<C: Choices>(
-    alloc: Global,
-    file: &[u8],
-    least: usize,
-    choices: &mut C,
-) -> Result<Vec<u8>, AllocError>
-    ensures { IfOk result (λ bytes. (count : ℕ) × (least ≤ count) × (bytes.items ≡ take count file.now)) }
-{
-    let open = file.len().saturating_sub(least);
-    let more = match choices.up_to(3) {
-        0 => 0,
-        1 => open,
-        2 => choices.up_to(30),
-        _ => choices.up_to(open),
-    };
-    let end = least.saturating_add(more);
-    Vec::from_slice(alloc, &file[..end.min(file.len())])
 }
 
 /// A file that was removed, or a beginning of it, where it is back.
@@ -366,16 +237,5 @@ fn back<C: Choices>(
         Ok(Some(beginning(alloc, file, 0, choices)?))
     } else {
         Ok(None)
-    }
-}
-
-/// Other bytes where a header is patched, or the same.
-fn spoil<C: Choices>(file: &mut [u8], choices: &mut C)
-    ensures { IsSpoiled file.old file.new }
-{
-    match choices.up_to(2) {
-        0 => overwrite(file, &[0; 12]),
-        1 => overwrite(file, &[0xa5; 12]),
-        _ => {}
     }
 }

@@ -1,5 +1,5 @@
 use Rattle.std.proofs.Common.{inr, refl}
-use Rattle.bk_crash.proofs.written.spoil.Goals as goal
+use Rattle.bk_crash.proofs.written_log.spoil.Goals as goal
 
 pub returns-in-0 : goal.returns-in-0
 returns-in-0 g c = inr (_, refl, c.overwrite.ensures)
