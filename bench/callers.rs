@@ -1,7 +1,7 @@
 //! The work of the program bk_callers in plain Rust: maps behind one `Mutex`, and nothing proved.
 //!
 //! `calls C N`: so many threads, each of which adds N entries of 100 bytes to a ledger of its own; when all have, each takes
-//! its own. The digest of a payload is made under the lock, as the store makes it.
+//! its own. A payload is copied, and its digest made, before the lock is taken, as a bookie does it.
 //! `reads C N`: so many threads, each of which reads entries of a log N times by what it was given before; then N times by
 //! what it asks the lock for each time.
 
@@ -35,6 +35,23 @@ impl Held {
     }
 }
 
+/// An entry that is ready to be added: all is done that needs no lock.
+struct Prepared {
+    key: Key,
+    payload: Arc<[u8]>,
+    digest: [u8; 32],
+}
+
+impl Prepared {
+    fn new(payload: &[u8]) -> Option<Prepared> {
+        Some(Prepared {
+            key: key_of(payload)?,
+            payload: payload.into(),
+            digest: sha256(payload),
+        })
+    }
+}
+
 #[derive(Default)]
 struct Store {
     active: BTreeMap<Key, Arc<[u8]>>,
@@ -47,10 +64,8 @@ struct Store {
 }
 
 impl Store {
-    fn add(&mut self, payload: &[u8]) -> bool {
-        let Some(key) = key_of(payload) else {
-            return false;
-        };
+    fn add(&mut self, entry: Prepared) -> bool {
+        let key = entry.key;
         if self.dead.contains(&key.0)
             || self.fenced.contains(&key.0)
             || self.index.contains_key(&key)
@@ -61,8 +76,8 @@ impl Store {
         let std::collections::btree_map::Entry::Vacant(free) = self.active.entry(key) else {
             return false;
         };
-        free.insert(payload.into());
-        self.trail.push((key, sha256(payload)));
+        free.insert(entry.payload);
+        self.trail.push((key, entry.digest));
         true
     }
 
@@ -133,7 +148,9 @@ fn calls(callers: u64, count: u64) {
     let store = Mutex::new(Store::default());
     let ledgers: Vec<u64> = (1000..1000 + callers).collect();
     at_once("adds", ledgers.clone(), |ledger| {
-        let add = |entry| store.lock().unwrap().add(&payload(ledger, entry));
+        let add = |entry| {
+            Prepared::new(&payload(ledger, entry)).is_some_and(|it| store.lock().unwrap().add(it))
+        };
         (0..count).map(|entry| u64::from(add(entry))).sum()
     });
     at_once("takes", ledgers, |ledger| {
@@ -148,7 +165,7 @@ fn reads(callers: u64, count: u64) {
     let mut store = Store::default();
     let keys: Vec<Key> = (0..ENTRIES).map(|entry| (2000, entry)).collect();
     for key in &keys {
-        store.add(&payload(key.0, key.1));
+        store.add(Prepared::new(&payload(key.0, key.1)).unwrap());
     }
     store.flush();
     let leases = |_| keys.iter().map(|key| store.leased(key).unwrap()).collect();
