@@ -37,6 +37,8 @@ impl Power {
     fn fails(&mut self) -> bool
         ensures yes { OnTrue result (self.new.refused ≡ self.old.refused + 1) }
         ensures no { OnFalse result (self.new.refused ≡ self.old.refused) }
+        ensures spent { OnTrue result (self.old.left ≡ 0) }
+        ensures less { OnFalse result (0 < self.old.left → self.old.left ≡ self.new.left + 1) }
     {
         if self.left > 0 {
             self.left -= 1;
@@ -58,6 +60,7 @@ impl<D: LogDisk> PowerDisk<D> {
     pub fn new(inner: D, written: Written, calls: u64, kept: usize) -> Self
         ensures files { D.files result.inner ≡ D.files inner }
         ensures written { result.written ≡ written }
+        ensures power { (result.power.left ≡ calls) × (result.power.refused ≡ 0) × (result.kept ≡ kept) }
     {
         PowerDisk {
             inner,

@@ -38,7 +38,7 @@ impl Model for WrittenLog {
 
     ghost coded = { log_code };
 
-    ghost view = { λ log. record { bytes = log.bytes.items; synced = log.synced; sure = log.mark.sure; last = log.mark.last } };
+    ghost view = { λ log. record { bytes = log.bytes.items; synced = log.synced; patched = log.is_patched; sure = log.mark.sure; last = log.mark.last } };
 }
 
 /// The mark of a log that is made, and of one that was found without one: it has its header, or all that it has.
