@@ -1,4 +1,4 @@
-//! The work of the program bk_callers in plain Rust: maps behind one `Mutex`, and nothing proved.
+//! The work of the program bk_bench_threads in plain Rust: maps behind one `Mutex`, and nothing proved.
 //!
 //! `calls C N`: so many threads, each of which adds N entries of 100 bytes to a ledger of its own; when all have, each takes
 //! its own. A payload is copied, and its digest made, before the lock is taken, as a bookie does it.

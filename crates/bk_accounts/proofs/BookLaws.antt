@@ -1,17 +1,17 @@
--- The totals and the names of all logs after each call, told of the book alone.
+-- Totals and names of all logs after each call, as functions of the book.
 use Rattle.std.proofs.Common.{◌≡◌, ℕ, ◌+◌, ◌-◌, Bool, true, false, cond, ◌==◌, Some, None, Option, refl, ap, ◌∙◌, if◌then◌else◌}
 use Rattle.std.specs.Option.{option_map}
 use Rattle.std.specs.Cmp.{nat_cmp_total, unsigned_tied}
 use Rattle.std.specs.FinMap.{get, get-insert, get-remove}
 use Rattle.bk_accounts.specs.Account.{Account, fresh, with_room, with_size, with_dead_size, with_name, without_name}
-use Rattle.bk_accounts.specs.Book.{Book, total_in, named_in, changed, after_open, after_ready, after_count, after_count_dead, after_name, after_unname}
+use Rattle.bk_accounts.specs.Book.{Book, total_in, named_in, book_with, after_open, after_ready, after_count, after_count_dead, after_name, after_unname}
 use Rattle.bk_accounts.specs.Book.{after_drop}
 use Rattle.bk_accounts.proofs.Books.{get-changed}
 
--- a number of an account, after a change that makes another of it
+-- a number of an account that the change turns into another
 number-changed : (number : Account → ℕ) (change : Account → Account) (to : ℕ → ℕ) → ((account : Account) → number (change account) ≡ to (number account))
     → (book : Book) (log q : ℕ)
-    → option_map number (get (changed book log change) q) ≡ option_map (λ n. if q == log then to n else n) (option_map number (get book q))
+    → option_map number (get (book_with book log change) q) ≡ option_map (λ n. if q == log then to n else n) (option_map number (get book q))
 number-changed number change to is book log q = ap (option_map number) (get-changed book log q change) ∙ inside (get book q) (q == log)
   where
     inside : (o : Option Account) (b : Bool) → option_map number (option_map (λ account. if b then change account else account) o)
@@ -20,9 +20,9 @@ number-changed number change to is book log q = ap (option_map number) (get-chan
     inside (Some account) true = ap (λ n. Some n) (is account)
     inside (Some account) false = refl
 
--- a number that a change leaves
+-- a number of an account that the change does not affect
 number-kept : (number : Account → ℕ) (change : Account → Account) → ((account : Account) → number (change account) ≡ number account)
-    → (book : Book) (log q : ℕ) → option_map number (get (changed book log change) q) ≡ option_map number (get book q)
+    → (book : Book) (log q : ℕ) → option_map number (get (book_with book log change) q) ≡ option_map number (get book q)
 number-kept number change is book log q = number-changed number change (λ n. n) is book log q ∙ same (q == log) (option_map number (get book q))
   where
     same : (b : Bool) (o : Option ℕ) → option_map (λ n. if b then n else n) o ≡ o
@@ -61,7 +61,7 @@ named_in-after_ready book log ledger q = number-kept (λ a. a.named) (with_room 
 pub named_in-after_count : (book : Book) (log ledger size q : ℕ) → named_in (after_count book log ledger size) q ≡ named_in book q
 named_in-after_count book log ledger size q = number-kept (λ a. a.named) (with_size ledger size) (λ _. refl) book log q
 
--- a number of a log that was opened, or dropped
+-- a number of a log after it is opened or dropped
 number-opened : (number : Account → ℕ) (book : Book) (log q : ℕ)
     → option_map number (get (after_open book log) q) ≡ (if q == log then Some (number fresh) else option_map number (get book q))
 number-opened number book log q =

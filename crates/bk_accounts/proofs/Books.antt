@@ -1,4 +1,4 @@
--- The entries of the map of open logs, and the book that they are seen as, after each change.
+-- The map of open logs and the book that it represents, after each change.
 use Rattle.std.proofs.Common.{◌≡◌, ◌≢◌, ◌↔◌, ℕ, true, false, cond, ◌==◌, ◌||◌, eq-eqb, eqb-true, List, map, Some, None, Ok, Err, Option, if◌then◌else◌}
 use Rattle.std.specs.Result.{is_err}
 use Rattle.std.proofs.Common.{IsSome, IsNone, IsErrAnd, OnOk, OnErr, IfSome, nat_cmp, Bor, MutBor, BTreeMap, Result, IfOk, IfErr, refl, sym, ap, ◌∙◌, subst}
@@ -9,48 +9,48 @@ use Rattle.std.specs.FinMap.{get, insert, from_entries, entries, get-insert}
 use Rattle.std.specs.Cmp.{nat_cmp_total, unsigned_tied}
 use Rattle.std.proofs.Math.Bool.{or-true}
 use Rattle.bk_accounts.specs.Account.{Account, has_room, with_room, without_size}
-use Rattle.bk_accounts.specs.Book.{Book, HasAccount, IsReady, changed, after_ready, after_forget}
+use Rattle.bk_accounts.specs.Book.{Book, HasAccount, IsReady, book_with, after_ready, after_forget}
 use Rattle.bk_accounts.specs.declared.fault.AccountFault.{AccountFault}
 use Rattle.bk_accounts.specs.declared.fault.AccountFault.TheVariants.{Memory, NoLog}
 use Rattle.bk_accounts.proofs.Maps.{get-entries, get-found, get-mapped, get-lookup, same_by_get, written, insert_same}
 use Rattle.bk_accounts.proofs.Rooms.{room-with_room}
 
--- what the entries lend is the account of the log
+-- the borrowed account is that of the log
 pub account_lent : (es : List (ℕ × Account)) (book : Book) (log : ℕ) (r : Option (MutBor Account)) (account : MutBor Account)
     → from_entries es ≡ book → option_copied_mut r ≡ lookup (is_at (nat_cmp log)) es → r ≡ Some account → get book log ≡ Some account.now
 account_lent es book log r account view_is value lends =
     ap (λ b. get b log) (sym view_is) ∙ get-found es log _ value ∙ ap option_copied_mut lends
 
--- nothing is lent where the log is not open
+-- no account is borrowed if the log is not open
 pub none_lent : (es : List (ℕ × Account)) (book : Book) (log : ℕ) (r : Option (MutBor Account))
     → from_entries es ≡ book → option_copied_mut r ≡ lookup (is_at (nat_cmp log)) es → r ≡ None → get book log ≡ None
 none_lent es book log r view_is value lends =
     ap (λ b. get b log) (sym view_is) ∙ get-found es log _ value ∙ ap option_copied_mut lends
 
--- an account that is changed in place is changed in the book
+-- changing an account in place changes it in the book
 pub changed_through : (m n : BTreeMap ℕ Account) (book : Book) (log : ℕ) (account new : Account) (change : Account → Account)
     → from_entries m.entries ≡ book → get book log ≡ Some account → WritesThrough nat_cmp (nat_cmp log) m new n → new ≡ change account
-    → from_entries n.entries ≡ changed book log change
+    → from_entries n.entries ≡ book_with book log change
 changed_through m n book log account new change view_is found writes new_is =
     written m n log new writes (ap is_some (ap (λ b. get b log) view_is ∙ found))
     ∙ ap (λ b. insert b log new) view_is ∙ ap (insert book log) new_is
     ∙ sym (ap (λ o. option_map_or (λ a. insert book log (change a)) o book) found)
 
--- no change where the log is not open
-pub unchanged : (book : Book) (log : ℕ) (change : Account → Account) → get book log ≡ None → book ≡ changed book log change
+-- if the log is not open, the book is unchanged
+pub unchanged : (book : Book) (log : ℕ) (change : Account → Account) → get book log ≡ None → book ≡ book_with book log change
 unchanged book log change none = sym (ap (λ o. option_map_or (λ a. insert book log (change a)) o book) none)
 
--- what holds of an open log's number holds of its account's
+-- a property of an open log's number is one of its account's number
 pub of_account : (book : Book) (log : ℕ) (account : Account) (f : Account → ℕ) (P : ℕ → Type 0)
     → get book log ≡ Some account → IfSome (option_map f (get book log)) P → P (f account)
 of_account book log account f P found holds = subst (λ o. IfSome (option_map f o) P) found holds
 
--- a look-up is answered by the account, or by that the log is not open
+-- result of a look-up: the account, or `NoLog`
 pub record Answers (book : Book) (log : ℕ) (result : Result (Bor Account) AccountFault) : Type 0 where
   pub «open» : IfOk result (λ account. get book log ≡ Some account.now)
   pub closed : IfErr result (λ fault. (fault ≡ NoLog) × (get book log ≡ None))
 
--- a look-up told as a result: the account, or that the log is not open
+-- a look-up as a result: the account, or `NoLog`
 pub answered : (book : Book) (log : ℕ) (r : Option (Bor Account)) (result : Result (Bor Account) AccountFault)
     → get book log ≡ option_copied r → result ≡ ok_or r NoLog → Answers book log result
 answered book log None result found is = subst (Answers book log) (sym is) (record { «open» = tt; closed = (refl, found) })
@@ -68,7 +68,7 @@ ready_open book log ledger ready =
 pub ready_account : (book : Book) (log ledger : ℕ) (account : Account) → get book log ≡ Some account → IsReady book log ledger → has_room account ledger ≡ true
 ready_account book log ledger account found ready = sym (ap (λ o. option_map_or (λ a. has_room a ledger) o false) found) ∙ ready
 
--- an account that stays as it was in place stays in the book
+-- an account that is unchanged in place is unchanged in the book
 pub kept_through : (m n : BTreeMap ℕ Account) (book : Book) (log : ℕ) (account new : Account)
     → from_entries m.entries ≡ book → get book log ≡ Some account → WritesThrough nat_cmp (nat_cmp log) m new n → new ≡ account
     → from_entries n.entries ≡ book
@@ -76,21 +76,21 @@ kept_through m n book log account new view_is found writes new_is =
     changed_through m n book log account new (λ a. a) view_is found writes new_is
     ∙ ap (λ o. option_map_or (λ a. insert book log a) o book) found ∙ insert_same book log account found
 
--- want of memory is the one fault that an allocation gives
+-- an allocation fails only with `Memory`
 pub memory_is : (r : Result (Unit {0}) AccountFault) → IsErrAnd r (λ fault. fault ≡ Memory) → r ≡ Err Memory
 memory_is (Ok x) h = absurd h
 memory_is (Err fault) h = ap Err h
 
--- `NoLog` at a log that is not open
+-- `NoLog` if the log is not open
 pub no_log_closed : (book : Book) (log : ℕ) (r : Result (Unit {0}) AccountFault) → r ≡ Err NoLog → get book log ≡ None → (r ≡ Err NoLog) ↔ IsNone (get book log)
 no_log_closed book log r is none = (λ _. ap is_some none, λ _. is)
 
--- what holds in any case holds of a fault
+-- a fact that always holds, holds on an error
 pub on_err : {T E : Type 0} (r : Result T E) (P : Type 0) → P → OnErr r P
 on_err (Ok x) P holds = tt
 on_err (Err e) P holds = holds
 
--- what holds of a success and what holds of a fault, where the answer was tested
+-- a success condition, after the result was tested
 pub in_success : {T E : Type 0} (r : Result T E) (P : Type 0) → false ≡ is_err r → OnOk r P → P
 in_success (Ok x) P is holds = holds
 in_success (Err e) P is holds = cc
@@ -99,7 +99,7 @@ pub in_fault : {T E : Type 0} (r : Result T E) (P : Type 0) → true ≡ is_err 
 in_fault (Ok x) P is holds = cc
 in_fault (Err e) P is holds = holds
 
--- no other answer at such a log, and no `NoLog` at an open one
+-- for an open log the result is not `NoLog`
 pub no_log_open : (book : Book) (log : ℕ) (account : Account) (r : Result (Unit {0}) AccountFault) → r ≢ Err NoLog → get book log ≡ Some account
     → (r ≡ Err NoLog) ↔ IsNone (get book log)
 no_log_open book log account r other found = (λ is. absurd (other is), λ none. let there = ap is_some found in cc)
@@ -108,7 +108,7 @@ no_log_open book log account r other found = (λ is. absurd (other is), λ none.
 pub get-after_forget : (book : Book) (ledger log : ℕ) → get (after_forget book ledger) log ≡ option_map (without_size ledger) (get book log)
 get-after_forget book ledger log = get-mapped (without_size ledger) (entries book) log ∙ ap (option_map (without_size ledger)) (sym (get-lookup book log))
 
--- every account in place without the ledger
+-- every account in place, without the ledger
 pub forgotten : (es fs : List (ℕ × Account)) (book : Book) (ledger : ℕ) → from_entries es ≡ book → fs ≡ map (λ e. (e.0, without_size ledger e.1)) es
     → from_entries fs ≡ after_forget book ledger
 forgotten es fs book ledger view_is mapped =
@@ -117,14 +117,14 @@ forgotten es fs book ledger view_is mapped =
     get-mapped (without_size ledger) es log ∙ ap (option_map (without_size ledger)) (sym (get-entries es log) ∙ ap (λ b. get b log) view_is)
     ∙ sym (get-after_forget book ledger log))
 
--- nothing changed in place
+-- nothing is changed in place
 pub map_same : (o : Option Account) → option_map (λ account. account) o ≡ o
 map_same None = refl
 map_same (Some account) = refl
 
--- the account of a log, after that of one log is changed
+-- look-up of a log after the account of one log is changed
 pub get-changed : (book : Book) (other log : ℕ) (change : Account → Account)
-    → get (changed book other change) log ≡ option_map (λ account. if log == other then change account else account) (get book log)
+    → get (book_with book other change) log ≡ option_map (λ account. if log == other then change account else account) (get book log)
 get-changed book other log change =
     elim (get book other)
     as (λ o. get book other ≡ o → get (option_map_or (λ account. insert book other (change account)) o book) log
@@ -144,7 +144,7 @@ get-changed book other log change =
           ] refl
     ] refl
 
--- room that was made is there
+-- new room is there
 pub ready_made : (book : Book) (log ledger : ℕ) (account : Account) → get book log ≡ Some account → IsReady (after_ready book log ledger) log ledger
 ready_made book log ledger account found =
     ap (λ o. option_map_or (λ a. has_room a ledger) o false)

@@ -1,4 +1,4 @@
--- What a caller keeps that knows the entries of each log: the sums of the accounts through each call.
+-- For callers that know the entries of each log: each call preserves `AreSums`.
 use Rattle.std.proofs.Common.{◌≡◌, ℕ, ◌+◌, ◌-◌, Bool, true, false, cond, ◌||◌, ◌==◌, List, [], ◌∷◌, ◌++◌, Some, None, Option, if◌then◌else◌}
 use Rattle.std.proofs.Common.{IsNone, nat_cmp, refl, sym, ap, subst, ◌∙◌, arith, eqb-true, eq-eqb}
 use Rattle.std.specs.Option.{option_map}
@@ -7,14 +7,14 @@ use Rattle.std.specs.FinSet.{FinSet, contains, insert, contains-insert}
 use Rattle.std.specs.FinMap as finmap
 use Rattle.std.specs.FinMap.{get, remove, get-empty, get-insert, get-remove}
 use Rattle.bk_accounts.specs.Account.{Account, fresh, with_room, with_size, with_dead_size, with_name, without_name, without_size}
-use Rattle.bk_accounts.specs.Book.{Book, IsNotOpen, changed, after_open, after_ready, after_count}
+use Rattle.bk_accounts.specs.Book.{Book, IsNotOpen, book_with, after_open, after_ready, after_count}
 use Rattle.bk_accounts.specs.Book.{after_count_dead, after_name, after_unname, after_drop}
 use Rattle.bk_accounts.specs.Sums.{Measure, AreSums, all_bytes}
 use Rattle.bk_accounts.proofs.Books.{map_same, get-changed}
 use Rattle.bk_accounts.proofs.EntrySums.{Matches, HasSums, sums_of_match, match_of_sums, match_fresh, match_room, match_count, match_dead, match_named}
 use Rattle.bk_accounts.proofs.EntrySums.{match_forget}
 
--- a set of dead ledgers with one more, as `sums_left` wants it
+-- a set of deleted ledgers with one more, in the form that `sums_left` uses
 pub contains-insert_dead : (dead : FinSet nat_cmp) (ledger l : ℕ) → contains (insert dead ledger) l ≡ (contains dead l || ledger == l)
 contains-insert_dead dead ledger l =
     contains-insert nat_cmp_total dead ledger l
@@ -57,12 +57,12 @@ module _ {E : Type 0} (measure : Measure E) where
   sums_new is_dead names = all is_dead (λ _. None) names finmap.empty (λ log. subst (Matches measure is_dead None (names log)) (sym (get-empty nat_cmp log)) tt)
 
   module _ {is_dead : ℕ → Bool} {entries : ℕ → Option (List E)} {names : ℕ → ℕ} {book : Book} (sums : AreSums measure is_dead entries names book) where
-    -- one log's account changes, and no other log
+    -- the account of one log changes, and of no other
     changed_log : (log : ℕ) (change : Account → Account) (later : ℕ → Option (List E)) (renamed : ℕ → ℕ)
         → ((q : ℕ) → q ≡ log → Matches measure is_dead (later q) (renamed q) (option_map change (get book q)))
         → ((q : ℕ) → (q == log) ≡ false → (later q ≡ entries q) × (renamed q ≡ names q))
-        → AreSums measure is_dead later renamed (changed book log change)
-    changed_log log change later renamed inside others = all is_dead later renamed (changed book log change) (λ q.
+        → AreSums measure is_dead later renamed (book_with book log change)
+    changed_log log change later renamed inside others = all is_dead later renamed (book_with book log change) (λ q.
         subst (Matches measure is_dead (later q) (renamed q)) (sym (get-changed book log q change))
         (elim (q == log) as (λ b. (q == log) ≡ b
         → Matches measure is_dead (later q) (renamed q) (option_map (λ account. if b then change account else account) (get book q))) [
@@ -74,12 +74,12 @@ module _ {E : Type 0} (measure : Measure E) where
               (subst (Matches measure is_dead (entries q) (names q)) (sym (map_same (get book q))) (each sums q)))
         ] refl))
 
-    -- the entries of one log grow, and no other's
+    -- the list of entries of one log grows, and of no other
     grown : (log : ℕ) (old : List E) (e : E) (change : Account → Account) (later : ℕ → Option (List E)) → entries log ≡ Some old
         → ((q : ℕ) → later q ≡ (if q == log then Some (old ++ e ∷ []) else entries q))
         → ((names : ℕ) (entry : Option Account) → Matches measure is_dead (Some old) names entry
         → Matches measure is_dead (Some (old ++ e ∷ [])) names (option_map change entry))
-        → AreSums measure is_dead later names (changed book log change)
+        → AreSums measure is_dead later names (book_with book log change)
     grown log old e change later was is keeps = changed_log log change later names
         (λ q same.
         let now : later q ≡ Some (old ++ e ∷ []) = is q ∙ ap (λ b. if b then Some (old ++ e ∷ []) else entries q) (here q log same) in
@@ -87,7 +87,7 @@ module _ {E : Type 0} (measure : Measure E) where
         (keeps (names q) (get book q) (subst (λ o. Matches measure is_dead o (names q) (get book q)) (ap entries same ∙ was) (each sums q))))
         (λ q apart. (is q ∙ ap (λ b. if b then Some (old ++ e ∷ []) else entries q) apart, refl))
 
-    -- `open` of a log that no key names: a list without an entry
+    -- `open` of a log that no index entry points into: an empty list of entries
     pub sums_open : (log : ℕ) (later : ℕ → Option (List E)) → names log ≡ 0
         → ((q : ℕ) → later q ≡ (if q == log then Some [] else entries q)) → AreSums measure is_dead later names (after_open book log)
     sums_open log later none is = all is_dead later names (after_open book log) (λ q.
@@ -116,20 +116,21 @@ module _ {E : Type 0} (measure : Measure E) where
     sums_ready log ledger = changed_log log (with_room ledger) entries names
         (λ q _. match_room measure is_dead (entries q) (names q) ledger (get book q) (each sums q)) (λ q _. (refl, refl))
 
-    -- `count` of an entry of a live ledger, behind those that the log has
+    -- `count` of an entry of a live ledger, after the log's other entries
     pub sums_count : (log : ℕ) (old : List E) (e : E) (later : ℕ → Option (List E)) → entries log ≡ Some old → is_dead (measure.ledger e) ≡ false
         → ((q : ℕ) → later q ≡ (if q == log then Some (old ++ e ∷ []) else entries q))
         → AreSums measure is_dead later names (after_count book log (measure.ledger e) (measure.size e))
     sums_count log old e later was live is =
         grown log old e (with_size (measure.ledger e) (measure.size e)) later was is (λ n. match_count measure is_dead old n e live)
 
-    -- `count_dead` of an entry of a dead one
+    -- `count_dead` of an entry of a deleted ledger
     pub sums_count_dead : (log : ℕ) (old : List E) (e : E) (later : ℕ → Option (List E)) → entries log ≡ Some old → is_dead (measure.ledger e) ≡ true
         → ((q : ℕ) → later q ≡ (if q == log then Some (old ++ e ∷ []) else entries q))
         → AreSums measure is_dead later names (after_count_dead book log (measure.size e))
     sums_count_dead log old e later was dead is = grown log old e (with_dead_size (measure.size e)) later was is (λ n. match_dead measure is_dead old n e dead)
 
-    -- `unname` of keys of a ledger, then its `forget`, told of each account: the ledger is dead too, and so many keys name each log
+    -- `unname` for each key of a ledger, then its `forget`: the ledger is deleted, and each log has
+    -- the names that are left
     pub sums_left : (dead_now : ℕ → Bool) (ledger : ℕ) (renamed : ℕ → ℕ) (left : Book) → ((l : ℕ) → dead_now l ≡ (is_dead l || ledger == l))
         → ((log : ℕ) → get left log ≡ option_map (λ (account : Account). record account { named = renamed log; live = remove account.live ledger }) (get book
         log))
@@ -144,7 +145,7 @@ module _ {E : Type 0} (measure : Measure E) where
         both n None = refl
         both n (Some account) = refl
 
-    -- `name`: one key more names the log
+    -- `name`: one more name
     pub sums_name : (log : ℕ) (renamed : ℕ → ℕ) → ((q : ℕ) → renamed q ≡ (if q == log then names q + 1 else names q))
         → AreSums measure is_dead entries renamed (after_name book log)
     sums_name log renamed is = changed_log log with_name entries renamed
@@ -152,7 +153,7 @@ module _ {E : Type 0} (measure : Measure E) where
         (is q ∙ ap (λ b. if b then names q + 1 else names q) (here q log same)) (get book q) (each sums q))
         (λ q apart. (refl, is q ∙ ap (λ b. if b then names q + 1 else names q) apart))
 
-    -- `unname`: one key less
+    -- `unname`: one name fewer
     pub sums_unname : (log : ℕ) (renamed : ℕ → ℕ) → ((q : ℕ) → names q ≡ (if q == log then renamed q + 1 else renamed q))
         → AreSums measure is_dead entries renamed (after_unname book log)
     sums_unname log renamed is = changed_log log without_name entries renamed

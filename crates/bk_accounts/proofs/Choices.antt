@@ -1,4 +1,4 @@
--- The choice among the logs seen so far, and among one more.
+-- The choice among the logs visited so far, and with one more.
 use Rattle.std.proofs.Common.{◌≡◌, ◌⊎◌, inl, inr, ℕ, zero, suc, ◌+◌, ◌*◌, ◌<◌, ◌≤◌, List, [], ◌∷◌, ◌++◌, length, get_or, take, Some, None, Option, true, false}
 use Rattle.std.proofs.Common.{◌||◌, ◌&&◌, ◌==◌, nat_lt, if◌then◌else◌, refl, sym, ap, subst, ◌∙◌, ⊎_elim, le_refl, le_of_eq, le_of_lt, arith}
 use Rattle.std.proofs.lemmas.Bool.{cases_lt}
@@ -11,7 +11,8 @@ use Rattle.bk_accounts.specs.declared.usage.Usage.{Usage}
 use Rattle.bk_accounts.specs.Choice.{IsBelow, IsChoice, NoneBelow, HasOneChoice}
 use Rattle.bk_accounts.proofs.Ratios.{total_pos, ratio_trans, ratio_lt_trans, ratio_same}
 
--- the lowest usage kept is that of the choice among the logs seen, none where no log is below the threshold
+-- the lowest usage so far is that of the choice among the logs seen, or none if no such log is
+-- below the threshold
 abbrev pub IsLowest : (ℕ → ℕ) → (ℕ → ℕ) → ℕ → List ℕ → Option Usage → Type 0
 IsLowest total remaining threshold seen None = NoneBelow total remaining threshold seen
 IsLowest total remaining threshold seen (Some usage) =
@@ -21,14 +22,14 @@ pub only : (log other : ℕ) → Contains (log ∷ []) other → log ≡ other
 only log other (zero, within, is) = is
 only log other (suc k, within, is) = absurd (omega arith)
 
--- of the logs seen and one more, each is one of those seen or is the one
+-- a log among those seen and one more is one of those seen, or the new one
 seen_more : (seen : List ℕ) (log other : ℕ) → Contains (seen ++ log ∷ []) other → Contains seen other ⊎ (log ≡ other)
 seen_more seen log other contains = ⊎_elim inl (λ last. inr (only log other last)) (Contains-append_cases seen (log ∷ []) other contains)
 
 last_seen : (seen : List ℕ) (log : ℕ) → Contains (seen ++ log ∷ []) log
 last_seen seen log = Contains-append_right seen (log ∷ []) log (0, omega arith, refl)
 
--- a log that is not below the threshold changes nothing
+-- a log that is not below the threshold does not change the choice
 pub spared : (total remaining : ℕ → ℕ) (threshold : ℕ) (seen : List ℕ) (log : ℕ) (lowest : Option Usage)
     → IsLowest total remaining threshold seen lowest → threshold * total log ≤ remaining log * 1000
     → IsLowest total remaining threshold (seen ++ log ∷ []) lowest
@@ -66,7 +67,7 @@ taken_first total remaining threshold seen log none below = record {
     no_old : (other : ℕ) → Contains seen other → IsBelow threshold (total other) (remaining other) → ⊥
     no_old other old also = omega (arith, none other old)
 
--- a log that is before the choice is the choice then
+-- a log that is before the choice becomes the choice
 pub taken : (total remaining : ℕ → ℕ) (threshold : ℕ) (seen : List ℕ) (log chosen : ℕ)
     → IsChoice total remaining threshold seen chosen → IsBelow threshold (total log) (remaining log)
     → (remaining log * total chosen < remaining chosen * total log) ⊎ ((remaining log * total chosen ≡ remaining chosen * total log) × (log < chosen))
@@ -105,7 +106,7 @@ taken total remaining threshold seen log chosen choice below before = record {
               (ratio_same (remaining log) (total log) (remaining chosen) (total chosen) (remaining other) (total other) (pos log below) same tie),
         )
 
--- the choice stays where the log is not before it
+-- a log that is not before the choice does not change it
 pub kept : (total remaining : ℕ → ℕ) (threshold : ℕ) (seen : List ℕ) (log chosen : ℕ)
     → IsChoice total remaining threshold seen chosen
     → ((remaining log * total chosen < remaining chosen * total log) ⊎ ((remaining log * total chosen ≡ remaining chosen * total log) × (log < chosen)) → ⊥)
@@ -127,7 +128,7 @@ kept total remaining threshold seen log chosen choice not_before = record {
         subst (λ l. remaining l * total chosen ≡ remaining chosen * total l) (sym same) (sym tie) in
         ⊎_elim (λ less. absurd (not_before (inr (tie', less)))) (λ le. subst (λ l. chosen ≤ l) same le) (cases_lt log chosen)
 
--- what the test of two usages says, by two products and two ids
+-- comparison of two usages, in terms of two products and two ids
 before_is : (a b l k : ℕ) → (nat_lt a b || (a == b && nat_lt l k)) ≡ true → (a < b) ⊎ ((a ≡ b) × (l < k))
 before_is a b l k h = ⊎_elim (λ less. inl less) (λ at_least. inr (grind (arith, nat_tests, h, at_least), grind (arith, nat_tests, h, at_least))) (cases_lt a b)
 
@@ -159,7 +160,7 @@ lowest_more total remaining threshold seen usage (Some other) total_is remaining
       )
     ] refl
 
--- the turn of a loop over all the logs, at one below the threshold
+-- one iteration of the loop, at a log below the threshold
 pub turn_below : (total remaining : ℕ → ℕ) (threshold : ℕ) (all : List ℕ) (i : ℕ) (usage first : Usage) (lowest new : Option Usage) → i < length all
     → usage.log ≡ get_or all i 0 → usage.total ≡ total (get_or all i 0) → usage.remaining ≡ remaining (get_or all i 0)
     → IsBelow threshold usage.total usage.remaining
@@ -170,7 +171,7 @@ turn_below total remaining threshold all i usage first lowest new within log_is 
     rw (seen, new_is, first_is)
     (lowest_more total remaining threshold (take i all) usage lowest (total_is ∙ ap total (sym log_is)) (remaining_is ∙ ap remaining (sym log_is)) below so_far)
 
--- the turn at any other log
+-- one iteration at any other log
 pub turn_above : (total remaining : ℕ → ℕ) (threshold : ℕ) (all : List ℕ) (i : ℕ) (usage : Usage) (lowest new : Option Usage) → i < length all
     → usage.total ≡ total (get_or all i 0) → usage.remaining ≡ remaining (get_or all i 0) → (IsBelow threshold usage.total usage.remaining → false ≡ true)
     → IsLowest total remaining threshold (take i all) lowest → new ≡ lowest
@@ -181,7 +182,7 @@ turn_above total remaining threshold all i usage lowest new within total_is rema
     rw (take_more all i 0 within, new_is)
     (spared total remaining threshold (take i all) (get_or all i 0) lowest so_far (rw (← total_is, ← remaining_is) at_least))
 
--- two choices among the same logs are one
+-- two choices among the same logs are equal
 pub one_choice : HasOneChoice
 one_choice total remaining threshold allowed one other first second =
     let at_most : remaining one * total other ≤ remaining other * total one = first.least other second.allowed_log second.below in

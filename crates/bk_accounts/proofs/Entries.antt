@@ -8,7 +8,7 @@ use Rattle.bk_accounts.specs.Book.{Book}
 use Rattle.bk_accounts.specs.History.{AccountCall, opens, readies, counts, counts_dead, names, unnames, forgets, drops, after, is_open_of, is_drop_of}
 use Rattle.bk_accounts.proofs.Books.{map_same, get-changed, get-after_forget}
 
--- what a call makes of the account of an open log that it neither opens nor drops
+-- effect of a call on the account of an open log that it neither opens nor drops
 abbrev pub effect : ℕ → AccountCall → Account → Account
 effect log (opens other) account = account
 effect log (drops other) account = account

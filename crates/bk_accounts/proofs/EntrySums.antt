@@ -1,4 +1,4 @@
--- One log's account and the log's entries: as rows they are tallied, and tallied they have the sums.
+-- One log's account and its entries: the entries as rows, and their sums.
 use Rattle.std.proofs.Common.{◌≡◌, ℕ, ◌+◌, Bool, true, false, ◌||◌, ◌==◌, List, [], ◌∷◌, ◌++◌, map, Some, None, Option, refl, sym, ap, subst, ◌∙◌}
 use Rattle.std.specs.Bool.{⊤}
 use Rattle.std.specs.List.{sum_by}
@@ -22,14 +22,15 @@ module _ {E : Type 0} (measure : Measure E) where
   abbrev pub row_of : (ℕ → Bool) → E → Row
   row_of is_dead e = record { ledger = measure.ledger e; size = measure.size e; forgotten = is_dead (measure.ledger e) }
 
-  -- A log with entries has an account with their sums and this many names, and one without a list of them has none.
+  -- A log with entries has an account with their sums and this number of names. A log without a
+  -- list of entries has no account.
   abbrev pub Matches : (ℕ → Bool) → Option (List E) → ℕ → Option Account → Type 0
   Matches is_dead None names None = ⊤
   Matches is_dead (Some entries) names (Some account) = Tallies (map (row_of is_dead) entries) account × (account.named ≡ names)
   Matches is_dead None names (Some account) = ⊥
   Matches is_dead (Some entries) names None = ⊥
 
-  -- the sums of one log, as they are told of all
+  -- sums of one log, in the form used for all logs
   pub record HasSums (is_dead : ℕ → Bool) (entries : Option (List E)) (names : ℕ) (entry : Option Account) : Type 0 where
     pub total : option_map (λ account. account.total) entry ≡ option_map (all_bytes measure) entries
     pub remaining : option_map remaining_size entry ≡ option_map (live_bytes measure is_dead) entries

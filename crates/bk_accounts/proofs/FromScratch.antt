@@ -1,4 +1,4 @@
--- After every run of calls each open log's account tells what counting from scratch gives.
+-- After every list of calls, each open log's account has the sums over the calls.
 use Rattle.std.proofs.Common.{◌≡◌, ℕ, ◌+◌, ◌<◌, Bool, true, false, not, ◌&&◌, ◌||◌, ◌==◌, List, [], ◌∷◌, ◌++◌, map, Some, None, Option, nat_cmp, if◌then◌else◌}
 use Rattle.std.proofs.Common.{refl, sym, ap, ◌∙◌, subst, subst₂, append-nil, eqb-true, arith}
 use Rattle.std.specs.Bool.{⊤}
@@ -18,20 +18,20 @@ use Rattle.bk_accounts.proofs.Tallies.{tallies_fresh, tallies_room, tallies_coun
 use Rattle.bk_accounts.proofs.Histories.{since-opened, since-dropped, since_more, row_after, rows_more, readied_more}
 use Rattle.bk_accounts.proofs.Entries.{effect, entry_after, entry_opened, entry_dropped}
 
--- the account of an open log tells what the calls since its last `open` give
+-- the account of an open log has the sums over the calls since its last `open`
 pub record Tells (log : ℕ) (later : List AccountCall) (account : Account) : Type 0 where
   pub tallies : Tallies (rows_of log later) account
   pub naming : account.named + count_by (is_unname_of log) later ≡ count_by (is_name_of log) later
   pub rooms : (ledger : ℕ) → has_room account ledger ≡ is_readied log ledger later
 
--- a log that is open by the calls is open in the book, and its account tells of the calls
+-- A log that is open according to the calls is open in the book, with these sums.
 abbrev pub Matches : ℕ → Option (List AccountCall) → Option Account → Type 0
 Matches log None None = ⊤
 Matches log (Some later) (Some account) = Tells log later account
 Matches log None (Some account) = ⊥
 Matches log (Some later) None = ⊥
 
--- what the caller owes, told of the account
+-- requirement of a call, in terms of the account
 abbrev pub IsDueOf : ℕ → AccountCall → Account → Type 0
 IsDueOf log (counts other ledger size) account = (log == other) ≡ true → has_room account ledger ≡ true
 IsDueOf log (unnames other) account = (log == other) ≡ true → 0 < account.named
@@ -40,7 +40,7 @@ IsDueOf log _ account = ⊤
 tells_fresh : (log : ℕ) → Tells log [] fresh
 tells_fresh log = record { tallies = tallies_fresh; naming = refl; rooms = λ ledger. ap is_some (get-empty nat_cmp ledger) }
 
--- the three parts, after one call more
+-- the three parts, after one more call
 tells_after : (log : ℕ) (later : List AccountCall) (account : Account) (call : AccountCall)
     → Tallies (map (row_after call) (rows_of log later) ++ rows_of log (call ∷ [])) account
     → account.named + (count_by (is_unname_of log) later + (if is_unname_of log call then 1 else 0))
@@ -65,11 +65,11 @@ kept_room : (r f s : Bool) → f ≡ false → s ≡ false → r ≡ ((r && not 
 kept_room true f s h k = ap (λ b. not b || s) (sym h)
 kept_room false f s h k = sym k
 
--- an account with the same sums tallies as well
+-- the number of names does not affect the sums
 same_sums : {rows : List Row} {account : Account} {n : ℕ} → Tallies rows account → Tallies rows (record account { named = n })
 same_sums tallies = record { total = tallies.total; remaining = tallies.remaining; by_ledger = tallies.by_ledger }
 
--- a call that has nothing to do with the log
+-- a call that does not concern the log
 tells_same : (log : ℕ) (later : List AccountCall) (account : Account) (call : AccountCall) → Tells log later account
     → ((ledger : ℕ) → is_forget_of ledger call ≡ false) → rows_of log (call ∷ []) ≡ [] → is_name_of log call ≡ false → is_unname_of log call ≡ false
     → ((ledger : ℕ) → is_readied log ledger (call ∷ []) ≡ false) → Tells log (later ++ call ∷ []) account
@@ -80,7 +80,7 @@ tells_same log later account call tells kept no_row no_name no_unname no_room =
     (λ ledger. tells.rooms ledger
     ∙ kept_room (is_readied log ledger later) (is_forget_of ledger call) (is_readied log ledger (call ∷ [])) (kept ledger) (no_room ledger))
 
--- one call more
+-- one more call
 pub tells_more : (log : ℕ) (later : List AccountCall) (account : Account) (call : AccountCall) → Tells log later account → IsDueOf log call account
     → Tells log (later ++ call ∷ []) (effect log call account)
 tells_more log later account (opens other) tells due = tells_same log later account (opens other) tells (λ _. refl) refl refl refl (λ _. refl)
@@ -169,7 +169,7 @@ match_more log call book due (Some later) (Some account) found match = tells_mor
 match_more log call book due None (Some account) found match = match
 match_more log call book due (Some later) None found match = match
 
--- the book matches the calls
+-- the book corresponds to the calls
 pub matches : {calls : List AccountCall} {book : Book} → History calls book → (log : ℕ) → Matches log (since_open log calls) (get book log)
 matches start log = subst (Matches log None) (sym (get-empty nat_cmp log)) tt
 matches (more {calls = calls} {book = book} call run due) log =
@@ -183,7 +183,7 @@ matches (more {calls = calls} {book = book} call run due) log =
           ] refl
     ] refl
 
--- what is told of a log that matches
+-- what follows for a log that corresponds to the calls
 record Told (log : ℕ) (since : Option (List AccountCall)) (entry : Option Account) : Type 0 where
   total : option_map (λ account. account.total) entry ≡ option_map (λ later. total_of (rows_of log later)) since
   remaining : option_map remaining_size entry ≡ option_map (λ later. remaining_of (rows_of log later)) since
@@ -201,7 +201,7 @@ told log (Some later) (Some account) match = record {
 told log None (Some account) match = absurd match
 told log (Some later) None match = absurd match
 
--- so the book tells of the calls
+-- the book has the sums over the calls
 pub from_scratch : (calls : List AccountCall) (book : Book) → History calls book → TellsOf calls book
 from_scratch calls book run =
     let each : (log : ℕ) → Told log (since_open log calls) (get book log) = λ log. told log (since_open log calls) (get book log) (matches run log) in

@@ -1,4 +1,4 @@
--- What counting from scratch gives after one call more.
+-- Sums over the calls after one more call.
 use Rattle.std.proofs.Common.{◌≡◌, ℕ, Bool, true, false, not, ◌&&◌, ◌||◌, ◌==◌, List, [], ◌∷◌, ◌++◌, map, Some, None, Option, refl, ap, ◌∙◌, if◌then◌else◌}
 use Rattle.std.specs.List.{list_any}
 use Rattle.std.specs.Option.{option_map, option_or}
@@ -7,7 +7,7 @@ use Rattle.bk_accounts.specs.Rows.{Row}
 use Rattle.bk_accounts.specs.History.{AccountCall, opens, readies, counts, counts_dead, names, unnames, forgets, drops, is_open_of, is_drop_of, is_forget_of}
 use Rattle.bk_accounts.specs.History.{since_open, rows_of, is_readied}
 
--- whether any of the calls passes, with one call more
+-- whether any call passes a test, with one more call
 any_more : (test : AccountCall → Bool) (calls : List AccountCall) (call : AccountCall) → list_any test (calls ++ call ∷ []) ≡ (list_any test calls || test call)
 any_more test [] call = last (test call)
   where
@@ -20,14 +20,14 @@ any_more test (first ∷ calls) call = ap (λ b. test first || b) (any_more test
     regroup true b c = refl
     regroup false b c = refl
 
--- a call opens the log: nothing since
+-- after a call that opens the log: no call since
 pub since-opened : (log : ℕ) (calls : List AccountCall) (call : AccountCall) → is_open_of log call ≡ true → since_open log (calls ++ call ∷ []) ≡ Some []
 since-opened log [] call opening = ap (λ b. if b && true then Some [] else None) opening
 since-opened log (first ∷ calls) call opening =
     ap (λ o. option_or o (if is_open_of log first && not (list_any (is_drop_of log) (calls ++ call ∷ [])) then Some (calls ++ call ∷ []) else None))
     (since-opened log calls call opening)
 
--- a call drops the log: it is not open
+-- after a call that drops the log: it is not open
 pub since-dropped : (log : ℕ) (calls : List AccountCall) (call : AccountCall) → is_open_of log call ≡ false → is_drop_of log call ≡ true
     → since_open log (calls ++ call ∷ []) ≡ None
 since-dropped log [] call other dropping = ap (λ b. if b && true then Some [] else None) other
@@ -42,7 +42,7 @@ since-dropped log (first ∷ calls) call other dropping =
     never true later = refl
     never false later = refl
 
--- any other call is one call more since the log was opened, where it is open
+-- after any other call: one more call since the log was opened, if it is open
 pub since_more : (log : ℕ) (calls : List AccountCall) (call : AccountCall) → is_open_of log call ≡ false → is_drop_of log call ≡ false
     → since_open log (calls ++ call ∷ []) ≡ option_map (λ later. later ++ call ∷ []) (since_open log calls)
 since_more log [] call other kept = ap (λ b. if b && true then Some [] else None) other
@@ -61,18 +61,18 @@ since_more log (first ∷ calls) call other kept =
     moved None true = refl
     moved None false = refl
 
--- a row, after one call more
+-- a row after one more call
 abbrev pub row_after : AccountCall → Row → Row
 row_after call row = record row { forgotten = row.forgotten || is_forget_of row.ledger call }
 
--- a row in front or none, before and behind one call more
+-- an optional first row, with one more call
 row_moved : (call : AccountCall) (b : Bool) (row : Row) (rows last : List Row)
     → (if b then row_after call row ∷ (map (row_after call) rows ++ last) else map (row_after call) rows ++ last)
     ≡ map (row_after call) (if b then row ∷ rows else rows) ++ last
 row_moved call true row rows last = refl
 row_moved call false row rows last = refl
 
--- the rows, after one call more: the rows so far, and what the call counts
+-- the rows after one more call: the earlier rows, and that of the call
 pub rows_more : (log : ℕ) (calls : List AccountCall) (call : AccountCall)
     → rows_of log (calls ++ call ∷ []) ≡ map (row_after call) (rows_of log calls) ++ rows_of log (call ∷ [])
 rows_more log [] call = refl
@@ -98,7 +98,8 @@ rows_more log (counts other ledger size ∷ calls) call =
     ∙ row_moved call (log == other) (record { ledger = ledger; size = size; forgotten = list_any (is_forget_of ledger) calls }) (rows_of log calls)
     (rows_of log (call ∷ []))
 
--- the room of a ledger, after one call more: the room so far unless the call forgets the ledger, or the room that the call makes
+-- Room of a ledger after one more call: the earlier room unless the call forgets the ledger, or the
+-- room that the call makes.
 pub readied_more : (log ledger : ℕ) (calls : List AccountCall) (call : AccountCall)
     → is_readied log ledger (calls ++ call ∷ []) ≡ ((is_readied log ledger calls && not (is_forget_of ledger call)) || is_readied log ledger (call ∷ []))
 readied_more log ledger [] call = refl

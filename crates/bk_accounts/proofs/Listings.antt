@@ -1,4 +1,4 @@
--- The list of all rooms, after each change of the accounts and of the list.
+-- The list of all rooms after each change of the accounts and of the list.
 use Rattle.std.proofs.Common.{◌≡◌, ℕ, ◌+◌, ◌<◌, ◌≤◌, Bool, true, false, cond, not, ◌==◌, ◌&&◌, ◌||◌, eqb-true, eq-eqb, if◌then◌else◌, List, [], Some, None}
 use Rattle.std.proofs.Common.{Option, IfSome, is_some, nat_cmp, refl, sym, ap, subst, ◌∙◌, arith, BTreeMap, slice_get}
 use mathlib.Core.Bool.{false≢true}
@@ -17,8 +17,8 @@ use Rattle.std.specs.FinMap.{get, from_entries, get-insert, get-remove, get-empt
 use Rattle.std.proofs.lemmas.Bool.{false_from_ne_true}
 use Rattle.std.proofs.lemmas.Cmp.{ranked}
 use Rattle.bk_accounts.specs.Account.{Account, has_room, fresh, with_room, without_size}
-use Rattle.bk_accounts.specs.Book.{Book, IsNotOpen, is_ready, changed, after_open, after_ready, after_forget, after_drop}
-use Rattle.bk_accounts.specs.Listed.{room_cmp, AreListed}
+use Rattle.bk_accounts.specs.Book.{Book, IsNotOpen, is_ready, book_with, after_open, after_ready, after_forget, after_drop}
+use Rattle.bk_accounts.specs.Listed.{room_cmp, AreListedRooms}
 use Rattle.bk_accounts.proofs.LogAccounts.{account_of}
 use Rattle.bk_accounts.proofs.Maps.{get-entries, same_by_get, none_is}
 use Rattle.bk_accounts.proofs.Rooms.{room-with_room, room-without_size}
@@ -33,19 +33,19 @@ both_eq Greater s = refl
 pub swapped : (a b : ℕ) → (a == b) ≡ (b == a)
 swapped a b = sym (unsigned_tied a b) ∙ (eq_by_cmp_equiv nat_cmp_total).symm a b ∙ unsigned_tied b a
 
--- two rooms tie where both ids do
+-- two rooms are equal if both ids are
 same_room : (ledger log l g : ℕ) → is_eq (room_cmp (ledger, log) (l, g)) ≡ (ledger == l && g == log)
 same_room ledger log l g =
     both_eq (nat_cmp ledger l) (nat_cmp log g) ∙ ap (λ b. b && is_eq (nat_cmp log g)) (unsigned_tied ledger l)
     ∙ ap (λ b. ledger == l && b) (unsigned_tied log g ∙ swapped log g)
 
--- what is listed after one room came or went
+-- the list after one room was added or removed
 listed_after : (rooms new : BTreeSet (ℕ × ℕ)) (ledger log : ℕ) (b : Bool) → Updates room_cmp rooms new (ledger, log) b
     → (l g : ℕ) → contains room_cmp new (l, g) ≡ cond (ledger == l && g == log) b (contains room_cmp rooms (l, g))
 listed_after rooms new ledger log b updates l g =
     updates.0 (l, g) ∙ ap (λ here. cond here b (contains room_cmp rooms (l, g))) (same_room ledger log l g)
 
--- no room of another log came or went
+-- rooms of other logs are unaffected
 elsewhere : (a v x : Bool) → cond (a && false) v x ≡ x
 elsewhere true v x = refl
 elsewhere false v x = refl
@@ -62,9 +62,9 @@ went true false = refl
 went false true = refl
 went false false = refl
 
--- the rooms in a log after one log's account is changed
+-- rooms of a log after one log's account is changed
 ready-changed : (book : Book) (log g l : ℕ) (change : Account → Account)
-    → is_ready (changed book log change) g l ≡ option_map_or (λ a. has_room (if g == log then change a else a) l) (get book g) false
+    → is_ready (book_with book log change) g l ≡ option_map_or (λ a. has_room (if g == log then change a else a) l) (get book g) false
 ready-changed book log g l change = ap (λ o. option_map_or (λ a. has_room a l) o false) (get-changed book log g change) ∙ mapped (get book g)
   where
     mapped : (o : Option Account) → option_map_or (λ a. has_room a l) (option_map (λ a. if g == log then change a else a) o) false
@@ -72,14 +72,14 @@ ready-changed book log g l change = ap (λ o. option_map_or (λ a. has_room a l)
     mapped None = refl
     mapped (Some a) = refl
 
--- nothing is listed, and no log is open
-pub listed_none : (m : BTreeMap ℕ Account) (rooms : BTreeSet (ℕ × ℕ)) → m.entries ≡ [] → rooms.keys ≡ [] → AreListed (from_entries m.entries) rooms
+-- no rooms are listed if no log is open
+pub listed_none : (m : BTreeMap ℕ Account) (rooms : BTreeSet (ℕ × ℕ)) → m.entries ≡ [] → rooms.keys ≡ [] → AreListedRooms (from_entries m.entries) rooms
 listed_none m rooms no_logs no_rooms log ledger =
     ap (list_any (is_at (room_cmp (ledger, log)))) no_rooms
     ∙ sym (ap (λ o. option_map_or (λ a. has_room a ledger) o false) (get-entries m.entries log ∙ ap (lookup (is_at (nat_cmp log))) no_logs))
 
--- a log that was not open has no room
-pub listed_opened : (book : Book) (rooms : BTreeSet (ℕ × ℕ)) (log : ℕ) → AreListed book rooms → IsNotOpen book log → AreListed (after_open book log) rooms
+-- a newly opened log has no room
+pub listed_opened : (book : Book) (rooms : BTreeSet (ℕ × ℕ)) (log : ℕ) → AreListedRooms book rooms → IsNotOpen book log → AreListedRooms (after_open book log) rooms
 listed_opened book rooms log listed closed g l =
     listed g l
     ∙ elim (g == log) as (λ b. (g == log) ≡ b → is_ready book g l ≡ option_map_or (λ a. has_room a l) (cond b (Some fresh) (get book g)) false) [
@@ -93,15 +93,15 @@ listed_opened book rooms log listed closed g l =
 
 -- an account that is changed in place and keeps its rooms
 pub listed_through : (m n : BTreeMap ℕ Account) (rooms : BTreeSet (ℕ × ℕ)) (log : ℕ) (account new : Account) (change : Account → Account)
-    → AreListed (from_entries m.entries) rooms → get (from_entries {R = nat_cmp} m.entries) log ≡ Some account → WritesThrough nat_cmp (nat_cmp log) m new n
-    → new ≡ change account → ((l : ℕ) → has_room (change account) l ≡ has_room account l) → AreListed (from_entries n.entries) rooms
+    → AreListedRooms (from_entries m.entries) rooms → get (from_entries {R = nat_cmp} m.entries) log ≡ Some account → WritesThrough nat_cmp (nat_cmp log) m new n
+    → new ≡ change account → ((l : ℕ) → has_room (change account) l ≡ has_room account l) → AreListedRooms (from_entries n.entries) rooms
 listed_through m n rooms log account new change listed found writes new_is same =
-    subst (λ b. AreListed b rooms) (sym (changed_through m n book log account new change refl found writes new_is)) after
+    subst (λ b. AreListedRooms b rooms) (sym (changed_through m n book log account new change refl found writes new_is)) after
   where
     book : Book
     book = from_entries m.entries
 
-    after : AreListed (changed book log change) rooms
+    after : AreListedRooms (book_with book log change) rooms
     after g l = listed g l
         ∙ elim (g == log)
         as (λ b. (g == log) ≡ b → is_ready book g l ≡ option_map_or (λ a. has_room (if b then change a else a) l) (get book g) false) [
@@ -113,12 +113,12 @@ listed_through m n rooms log account new change listed found writes new_is same 
         ∙ sym (ready-changed book log g l change)
 
 -- the same rooms
-pub listed_same : (book : Book) (rooms new : BTreeSet (ℕ × ℕ)) → AreListed book rooms → new.keys ≡ rooms.keys → AreListed book new
+pub listed_same : (book : Book) (rooms new : BTreeSet (ℕ × ℕ)) → AreListedRooms book rooms → new.keys ≡ rooms.keys → AreListedRooms book new
 listed_same book rooms new listed same log ledger = ap (list_any (is_at (room_cmp (ledger, log)))) same ∙ listed log ledger
 
--- a room more
-pub listed_room : (book : Book) (rooms new : BTreeSet (ℕ × ℕ)) (log ledger : ℕ) (account : Account) → AreListed book rooms → get book log ≡ Some account
-    → Updates room_cmp rooms new (ledger, log) true → AreListed (after_ready book log ledger) new
+-- one more room
+pub listed_room : (book : Book) (rooms new : BTreeSet (ℕ × ℕ)) (log ledger : ℕ) (account : Account) → AreListedRooms book rooms → get book log ≡ Some account
+    → Updates room_cmp rooms new (ledger, log) true → AreListedRooms (after_ready book log ledger) new
 listed_room book rooms new log ledger account listed found updates g l =
     listed_after rooms new ledger log true updates l g ∙ ap (cond (ledger == l && g == log) true) (listed g l)
     ∙ elim (g == log)
@@ -133,9 +133,9 @@ listed_room book rooms new log ledger account listed found updates g l =
     ] refl
     ∙ sym (ready-changed book log g l (with_room ledger))
 
--- a room less
-pub listed_forget : (book : Book) (rooms new : BTreeSet (ℕ × ℕ)) (log ledger : ℕ) → AreListed book rooms
-    → Updates room_cmp rooms new (ledger, log) false → AreListed (changed book log (without_size ledger)) new
+-- one room fewer
+pub listed_forget : (book : Book) (rooms new : BTreeSet (ℕ × ℕ)) (log ledger : ℕ) → AreListedRooms book rooms
+    → Updates room_cmp rooms new (ledger, log) false → AreListedRooms (book_with book log (without_size ledger)) new
 listed_forget book rooms new log ledger listed updates g l =
     listed_after rooms new ledger log false updates l g ∙ ap (cond (ledger == l && g == log) false) (listed g l)
     ∙ elim (g == log)
@@ -149,9 +149,9 @@ listed_forget book rooms new log ledger listed updates g l =
     gone None = went (ledger == l) false
     gone (Some a) = went (ledger == l) (has_room a l) ∙ sym (room-without_size a ledger l)
 
--- a room that comes and goes again
-pub listed_again : (book : Book) (rooms more new : BTreeSet (ℕ × ℕ)) (log ledger : ℕ) → AreListed book rooms → is_ready book log ledger ≡ false
-    → Updates room_cmp rooms more (ledger, log) true → Updates room_cmp more new (ledger, log) false → AreListed book new
+-- a room that is added and removed again
+pub listed_again : (book : Book) (rooms more new : BTreeSet (ℕ × ℕ)) (log ledger : ℕ) → AreListedRooms book rooms → is_ready book log ledger ≡ false
+    → Updates room_cmp rooms more (ledger, log) true → Updates room_cmp more new (ledger, log) false → AreListedRooms book new
 listed_again book rooms more new log ledger listed absent comes goes g l =
     listed_after more new ledger log false goes l g ∙ ap (cond (ledger == l && g == log) false) (listed_after rooms more ledger log true comes l g)
     ∙ elim (ledger == l)
@@ -164,7 +164,7 @@ listed_again book rooms more new log ledger listed absent comes goes g l =
       | false ↦ λ _. listed g l
     ] refl
 
--- the account of a log is out of the book, and its rooms are still listed
+-- The account of a log is removed from the book, and its rooms are still listed.
 abbrev pub AreLeft : Book → ℕ → Account → BTreeSet (ℕ × ℕ) → Type 0
 AreLeft rest log account rooms = (g l : ℕ) → contains room_cmp rooms (l, g) ≡ (if g == log then has_room account l else is_ready rest g l)
 
@@ -174,7 +174,7 @@ ready-dropped book log g l =
     ∙ elim (g == log) as (λ b. option_map_or (λ a. has_room a l) (cond b None (get book g)) false ≡ (if b then false else is_ready book g l))
     [ true ↦ refl | false ↦ refl ]
 
-pub left_first : (book : Book) (log : ℕ) (account : Account) (rooms : BTreeSet (ℕ × ℕ)) → AreListed book rooms → get book log ≡ Some account
+pub left_first : (book : Book) (log : ℕ) (account : Account) (rooms : BTreeSet (ℕ × ℕ)) → AreListedRooms book rooms → get book log ≡ Some account
     → AreLeft (after_drop book log) log account rooms
 left_first book log account rooms listed found g l =
     listed g l
@@ -197,7 +197,7 @@ left_less rest log ledger account rooms new left updates g l =
     ]
 
 pub left_none : (book : Book) (log : ℕ) (account : Account) (rooms : BTreeSet (ℕ × ℕ)) → AreLeft (after_drop book log) log account rooms
-    → ((l : ℕ) → has_room account l ≡ false) → AreListed (after_drop book log) rooms
+    → ((l : ℕ) → has_room account l ≡ false) → AreListedRooms (after_drop book log) rooms
 left_none book log account rooms left none g l =
     left g l
     ∙ ap (λ r. if g == log then has_room account l else r) (ready-dropped book log g l)
@@ -206,18 +206,18 @@ left_none book log account rooms left none g l =
     [ true ↦ none l | false ↦ refl ]
     ∙ sym (ready-dropped book log g l)
 
--- a room that is left is listed
+-- such a room is listed
 pub left_there : (rest : Book) (log ledger : ℕ) (account : Account) (rooms : BTreeSet (ℕ × ℕ)) → AreLeft rest log account rooms
     → has_room account ledger ≡ true → contains room_cmp rooms (ledger, log) ≡ true
 left_there rest log ledger account rooms left there =
     left log ledger ∙ ap (λ b. if b then has_room account ledger else is_ready rest log ledger) (eq-eqb log log refl) ∙ there
 
--- an account that has no room for the ledger has nothing of it
+-- an account without room for a ledger has no bytes of it
 nothing_of : (account : Account) (ledger : ℕ) → get account.live ledger ≡ None → without_size ledger account ≡ account
 nothing_of account ledger none =
     ap (account_of account.total account.named) (same_by_get _ _ (λ q. kept_absent account.live ledger q none))
 
--- where no log has room for the ledger, there is nothing to forget
+-- if no log has room for the ledger, `forget` changes nothing
 pub unready-forget : (book : Book) (ledger : ℕ) → ((log : ℕ) → is_ready book log ledger ≡ false) → after_forget book ledger ≡ book
 unready-forget book ledger none = same_by_get _ _ (λ log. get-after_forget book ledger log ∙ same (get book log) (none log))
   where
@@ -225,10 +225,10 @@ unready-forget book ledger none = same_by_get _ _ (λ log. get-after_forget book
     same None is = refl
     same (Some a) is = ap Some (nothing_of a ledger (none_is _ is))
 
--- forgotten in one log, then in all
-pub forget-one : (book : Book) (log ledger : ℕ) → after_forget (changed book log (without_size ledger)) ledger ≡ after_forget book ledger
+-- forgetting a ledger in one log, then in all
+pub forget-one : (book : Book) (log ledger : ℕ) → after_forget (book_with book log (without_size ledger)) ledger ≡ after_forget book ledger
 forget-one book log ledger = same_by_get _ _ (λ g.
-    get-after_forget (changed book log (without_size ledger)) ledger g
+    get-after_forget (book_with book log (without_size ledger)) ledger g
     ∙ ap (option_map (without_size ledger)) (get-changed book log g (without_size ledger)) ∙ twice (get book g) (g == log)
     ∙ sym (get-after_forget book ledger g))
   where
@@ -238,21 +238,21 @@ forget-one book log ledger = same_by_get _ _ (λ g.
     twice (Some a) true = ap Some (nothing_of (without_size ledger a) ledger (get-removed a.live ledger))
     twice (Some a) false = refl
 
--- a room of the ledger goes, and the ledger is forgotten in that log
-pub forgotten_one : (book new initial : Book) (rooms less : BTreeSet (ℕ × ℕ)) (log ledger : ℕ) → AreListed book rooms
-    → after_forget book ledger ≡ after_forget initial ledger → Updates room_cmp rooms less (ledger, log) false → new ≡ changed book log (without_size ledger)
-    → AreListed new less × (after_forget new ledger ≡ after_forget initial ledger)
+-- a room of the ledger is removed, and the ledger is forgotten in that log
+pub forgotten_one : (book new initial : Book) (rooms less : BTreeSet (ℕ × ℕ)) (log ledger : ℕ) → AreListedRooms book rooms
+    → after_forget book ledger ≡ after_forget initial ledger → Updates room_cmp rooms less (ledger, log) false → new ≡ book_with book log (without_size ledger)
+    → AreListedRooms new less × (after_forget new ledger ≡ after_forget initial ledger)
 forgotten_one book new initial rooms less log ledger listed same updates is = (
-  subst (λ b. AreListed b less) (sym is) (listed_forget book rooms less log ledger listed updates),
+  subst (λ b. AreListedRooms b less) (sym is) (listed_forget book rooms less log ledger listed updates),
   ap (λ b. after_forget b ledger) is ∙ forget-one book log ledger ∙ same,
 )
 
--- a room that is taken out of the list leaves fewer
+-- removing a listed room lowers their number
 pub one_less : (taken : Bool) (now before : ℕ) → now + (if taken then 1 else 0) ≡ before → taken ≡ true → now < before
 one_less true now before len is = omega (arith, len)
 one_less false now before len is = absurd (false≢true is)
 
--- no room of a ledger is in front of its least
+-- no room of a ledger is before its least one
 pub from_least : (ledger log : ℕ) → is_gt (room_cmp (ledger, 0) (ledger, log)) ≡ false
 from_least ledger log =
     ap (λ r. is_gt (ordering_then r (nat_cmp 0 log))) (tied_itself nat_cmp_total ledger)
@@ -271,7 +271,7 @@ ledger-le a b in_order =
       | Greater ↦ λ _ past. absurd (false≢true (sym past))
     ] refl in_order
 
--- where the first room from the ledger's least on is of another ledger, none is of this one
+-- if the first room from the ledger's least on is of another ledger, this ledger has none
 pub other_first : (rooms : BTreeSet (ℕ × ℕ)) (found : List (ℕ × ℕ)) (first : ℕ × ℕ) (ledger : ℕ)
     → IsKeyRangeOf room_cmp (Included (ledger, 0)) Unbounded rooms found → slice_get found 0 ≡ Some first → (first.0 ≡ ledger → ⊥)
     → (log : ℕ) → contains room_cmp rooms (ledger, log) ≡ false

@@ -1,4 +1,4 @@
--- The rooms for ledgers' sums in an account, after each change.
+-- The rooms of an account after each change.
 use Rattle.std.proofs.Common.{◌≡◌, ℕ, Bool, true, false, cond, not, ◌&&◌, ◌||◌, ◌==◌, Some, None, Option, nat_cmp, refl, sym, ap, ◌∙◌, eqb-true}
 use Rattle.std.specs.Option.{is_some}
 use Rattle.std.specs.Cmp.{nat_cmp_total, eq_by_cmp_equiv, unsigned_tied}
@@ -6,7 +6,7 @@ use Rattle.std.specs.FinMap.{FinMap, get, insert, get-insert, get-remove}
 use Rattle.std.proofs.Math.Bool.{or-false}
 use Rattle.bk_accounts.specs.Account.{Account, has_room, with_room, with_size, without_size}
 
--- an inserted key is there
+-- an inserted key is in the map
 room-insert : (m : FinMap nat_cmp ℕ) (k v q : ℕ) → is_some (get (insert m k v) q) ≡ (is_some (get m q) || q == k)
 room-insert m k v q = ap is_some (get-insert nat_cmp_total m k v q) ∙ ap (λ b. is_some (cond b (Some v) (get m q))) (unsigned_tied q k)
     ∙ bits (get m q) (q == k)
@@ -17,7 +17,7 @@ room-insert m k v q = ap is_some (get-insert nat_cmp_total m k v q) ∙ ap (λ b
     bits None true = refl
     bits None false = refl
 
--- a key that is there is there again
+-- inserting an existing key adds no key
 there_again : (m : FinMap nat_cmp ℕ) (k q : ℕ) → is_some (get m k) ≡ true → (is_some (get m q) || q == k) ≡ is_some (get m q)
 there_again m k q there =
     elim (q == k) as (λ b. (q == k) ≡ b → (is_some (get m q) || b) ≡ is_some (get m q)) [

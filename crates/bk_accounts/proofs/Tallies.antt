@@ -1,4 +1,4 @@
--- An account keeps the sums of its rows: with room, with a row more, with a ledger forgotten.
+-- An account has the sums of its rows: after making room, adding a row, and forgetting a ledger.
 use Rattle.std.proofs.Common.{◌≡◌, ℕ, ◌+◌, Bool, true, false, cond, not, ◌&&◌, ◌||◌, ◌==◌, List, [], ◌∷◌, ◌++◌, map, Some, None, nat_cmp, if◌then◌else◌}
 use Rattle.std.proofs.Common.{unwrap_or, refl, sym, ap, ◌∙◌, eqb-true, arith}
 use Rattle.std.specs.Option.{is_some}
@@ -10,7 +10,7 @@ use Rattle.bk_accounts.specs.Account.{Account, fresh, ledger_size, with_room, wi
 use Rattle.bk_accounts.specs.Rows.{Row, Tallies, total_of, remaining_of, remaining_of_ledger, forget_row}
 use Rattle.bk_accounts.proofs.ValueSums.{sum-empty, sum-insert, sum-remove}
 
--- a size that was inserted is that of its ledger
+-- size of a ledger after an insertion
 pub size-insert : (m : FinMap nat_cmp ℕ) (k v q : ℕ) → unwrap_or (get (insert m k v) q) 0 ≡ (if q == k then v else unwrap_or (get m q) 0)
 size-insert m k v q =
     ap (λ o. unwrap_or o 0) (get-insert nat_cmp_total m k v q)
@@ -30,7 +30,7 @@ size-remove m k q =
     either true = refl
     either false = refl
 
--- nothing counted
+-- no rows
 pub tallies_fresh : Tallies [] fresh
 tallies_fresh = record {
   total = refl;
@@ -38,7 +38,7 @@ tallies_fresh = record {
   by_ledger = λ ledger. ap (λ o. unwrap_or o 0) (get-empty nat_cmp ledger);
 }
 
--- room changes no sum
+-- making room changes no sum
 pub tallies_room : (rows : List Row) (account : Account) (ledger : ℕ) → Tallies rows account → Tallies rows (with_room ledger account)
 tallies_room rows account ledger tallies =
     elim (get account.live ledger)
@@ -61,7 +61,7 @@ tallies_room rows account ledger tallies =
           | false ↦ λ _. refl
         ] refl
 
--- a size counted is a row more
+-- counting a size adds a row
 pub tallies_count : (rows : List Row) (account : Account) (ledger size : ℕ) → Tallies rows account
     → Tallies (rows ++ (record { ledger = ledger; size = size; forgotten = false }) ∷ []) (with_size ledger size account)
 tallies_count rows account ledger size tallies =
@@ -86,7 +86,7 @@ tallies_count rows account ledger size tallies =
           | false ↦ λ _. omega (arith, tallies.by_ledger other)
         ] refl
 
--- a size of a dead ledger counted is a row more of which nothing remains
+-- counting a size of a deleted ledger adds a row of which nothing remains
 pub tallies_dead : (rows : List Row) (account : Account) (ledger size : ℕ) → Tallies rows account
     → Tallies (rows ++ (record { ledger = ledger; size = size; forgotten = true }) ∷ []) (with_dead_size size account)
 tallies_dead rows account ledger size tallies =
@@ -103,11 +103,11 @@ tallies_dead rows account ledger size tallies =
     zero true n = omega arith
     zero false n = omega arith
 
--- what a row adds to what remains
+-- remaining bytes of a row
 abbrev kept_size : Row → ℕ
 kept_size row = if row.forgotten then 0 else row.size
 
--- what a row adds to what remains of a ledger
+-- remaining bytes of a row, for one ledger
 abbrev kept_size_of : ℕ → Row → ℕ
 kept_size_of ledger row = if ledger == row.ledger && not row.forgotten then row.size else 0
 
@@ -117,7 +117,7 @@ total-forget ledger (row ∷ rows) =
     sum_by-cons (λ r. r.size) (forget_row ledger row) (map (forget_row ledger) rows) ∙ ap (λ n. row.size + n) (total-forget ledger rows)
     ∙ sym (sum_by-cons (λ r. r.size) row rows)
 
--- of each row what remains and what the ledger loses is what remained
+-- the remaining bytes of a row after `forget`, plus those of the ledger, are those before
 row-forget : (ledger : ℕ) (row : Row) → kept_size (forget_row ledger row) + kept_size_of ledger row ≡ kept_size row
 row-forget ledger row = bits (ledger == row.ledger) row.forgotten row.size
   where
@@ -162,7 +162,7 @@ remaining_of-forget other ledger (row ∷ rows) =
     both true m n = refl
     both false m n = refl
 
--- a ledger forgotten is forgotten in each row
+-- forgetting a ledger forgets it in each row
 pub tallies_forget : (rows : List Row) (account : Account) (ledger : ℕ) → Tallies rows account
     → Tallies (map (forget_row ledger) rows) (without_size ledger account)
 tallies_forget rows account ledger tallies = record {

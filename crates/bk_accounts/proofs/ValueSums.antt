@@ -1,4 +1,4 @@
--- The sum over the values of a finite map whose keys are numbers, after a change at one key.
+-- Sum over the values of a finite map by number, after a change at one key.
 use Rattle.std.proofs.Common.{◌≡◌, ℕ, ◌+◌, ◌≤◌, Bool, true, false, cond, T, List, [], ◌∷◌, ◌&&◌, map, length, Some, None, nat_cmp, is_eq, is_lt, Ordering, Less}
 use Rattle.std.proofs.Common.{Equal, Greater, unwrap_or, refl, sym, ap, subst, ◌∙◌, arith}
 use Rattle.std.specs.List.{sum}
@@ -43,7 +43,7 @@ find_below k [] below = refl
 find_below k (e ∷ es) below =
     ap (λ r. cond (is_eq r) (Some e.1) (find nat_cmp k es)) (less _ (first _ _ below)) ∙ find_below k es (second _ _ below)
 
--- a value put into sorted entries takes the place of the one that was there
+-- inserting a value replaces the old value of the key in the sum
 sum-put : (k v : ℕ) (es : List (ℕ × ℕ)) → T (is_sorted nat_cmp es)
     → sum (values_in (put nat_cmp k v es)) + unwrap_or (find nat_cmp k es) 0 ≡ sum (values_in es) + v
 sum-put k v [] sorted = omega arith
@@ -68,7 +68,7 @@ sum-insert m k v =
     ∙ ap (λ o. sum (values_in (put nat_cmp k v (entries m))) + unwrap_or o 0) (get-entries m k)
     ∙ sum-put k v (entries m) (entries_sorted m)
 
--- a key that is not there is removed for nothing
+-- removing a key that the map does not have changes nothing
 pub kept_absent : (m : FinMap nat_cmp ℕ) (k q : ℕ) → get m k ≡ None → get (remove m k) q ≡ get m q
 kept_absent m k q none = get-remove nat_cmp_total m k q
     ∙ elim (eq_by_cmp nat_cmp q k) as (λ b. eq_by_cmp nat_cmp q k ≡ b → cond b None (get m q) ≡ get m q) [
@@ -105,7 +105,7 @@ nothing : (es : List (ℕ × ℕ)) → length es ≡ 0 → sum (values_in es) �
 nothing [] none = refl
 nothing (e ∷ es) none = absurd (omega arith)
 
--- nothing adds up to 0
+-- the empty map has the sum 0
 pub sum-empty : sum (values (empty {X = ℕ} {R = nat_cmp})) ≡ 0
 sum-empty = nothing (entries empty) (sym (len-entries empty) ∙ len-empty nat_cmp ℕ)
 

@@ -1,10 +1,11 @@
--- Counting from scratch on a written list of calls, by computation.
+-- Sums from scratch on a given list of calls, by computation.
 use Rattle.std.proofs.Common.{◌≡◌, true, false, List, [], ◌∷◌, Some, None, refl}
 use Rattle.std.specs.Option.{option_map, option_map_or}
 use Rattle.bk_accounts.specs.Rows.{total_of, remaining_of}
 use Rattle.bk_accounts.specs.History.{AccountCall, opens, readies, counts, names, unnames, forgets, drops, since_open, rows_of, named_of, is_readied}
 
--- a ledger that is counted, forgotten and counted again, beside one that stays, in a log that was opened before
+-- a ledger that is counted, forgotten and counted again, with another ledger that is kept, in a log
+-- that was opened earlier
 abbrev history : List AccountCall
 history =
     opens 0 ∷ readies 0 8 ∷ counts 0 8 1000 ∷ drops 0 ∷ opens 0 ∷ opens 1 ∷ names 1 ∷ readies 0 8 ∷ counts 0 8 25 ∷ readies 0 9 ∷ counts 0 9 7

@@ -1,4 +1,5 @@
--- The account of one open entry log: what its entries add up to, by ledger, and how many keys name the log.
+-- The account of one open log: sums of its entries, by ledger, and the number of index entries that
+-- point into it (its names).
 use Rattle.std.specs.Prelude.{ℕ, ◌+◌, ◌-◌, Bool, cond}
 use Rattle.std.proofs.Common.{refl}
 use Rattle.std.specs.Coded.{Coded, code_by, coded×, coded_ℕ}
@@ -7,23 +8,24 @@ use Rattle.std.specs.List.{sum}
 use Rattle.std.specs.Option.{unwrap_or}
 use Rattle.std.specs.Ordering.{nat_cmp}
 
--- a log's total in bytes, the number of keys that name it, and what was counted for each ledger that has room
+-- total in bytes, number of index entries that point into the log, and bytes of each ledger that
+-- has room
 pub record Account : Type 0 where
   pub total : ℕ
   pub named : ℕ
   pub live : finmap.FinMap nat_cmp ℕ
 
--- an account is stored as the tuple of its fields
+-- encoding as the tuple of the fields
 abbrev pub account_code : Coded Account
 account_code =
     code_by (ℕ × (ℕ × finmap.FinMap nat_cmp ℕ)) (coded× coded_ℕ (coded× coded_ℕ (finmap.code coded_ℕ coded_ℕ)))
     (λ a. (a.total, (a.named, a.live))) (λ p. record { total = p.0; named = p.1.0; live = p.1.1 }) (λ _. refl)
 
--- what remains of the log: the sum over its live ledgers
+-- bytes that remain: the sum over its ledgers with room
 abbrev pub remaining_size : Account → ℕ
 remaining_size account = sum (finmap.values account.live)
 
--- what was counted for a live ledger, 0 for any other
+-- bytes of a ledger with room, 0 for any other
 abbrev pub ledger_size : Account → ℕ → ℕ
 ledger_size account ledger = unwrap_or (finmap.get account.live ledger) 0
 
@@ -31,35 +33,35 @@ ledger_size account ledger = unwrap_or (finmap.get account.live ledger) 0
 abbrev pub has_room : Account → ℕ → Bool
 has_room account ledger = finmap.contains_key account.live ledger
 
--- a log that was just opened
+-- account of a newly opened log
 abbrev pub fresh : Account
 fresh = record { total = 0; named = 0; live = finmap.empty }
 
--- with room for the ledger's sum, which is 0 where there was none
+-- with room for the ledger's sum; the sum is 0 if the room is new
 abbrev pub with_room : ℕ → Account → Account
 with_room ledger account = record account {
   live = cond (has_room account ledger) account.live (finmap.insert account.live ledger 0);
 }
 
--- with a size counted for the ledger
+-- with an entry of the ledger
 abbrev pub with_size : ℕ → ℕ → Account → Account
 with_size ledger size account = record account {
   total = account.total + size;
   live = finmap.insert account.live ledger (ledger_size account ledger + size);
 }
 
--- with a size counted for a ledger that is dead: in the total alone
+-- with an entry of a deleted ledger: in the total only
 abbrev pub with_dead_size : ℕ → Account → Account
 with_dead_size size account = record account { total = account.total + size }
 
--- named by one key more
+-- with one more name
 abbrev pub with_name : Account → Account
 with_name account = record account { named = account.named + 1 }
 
--- named by one key less
+-- with one name fewer
 abbrev pub without_name : Account → Account
 without_name account = record account { named = account.named - 1 }
 
--- with nothing left of the ledger; what it counted stays in the total
+-- without the ledger and its room; the total is unchanged
 abbrev pub without_size : ℕ → Account → Account
 without_size ledger account = record account { live = finmap.remove account.live ledger }

@@ -1,5 +1,5 @@
-//! The accounts of all open logs. Each call finds the log's account and changes it alone, but for
-//! `forget`, which goes through those in which the ledger has room.
+//! The accounts of all open logs. Each call changes the account of one log; `forget` changes those
+//! in which the ledger has room.
 ghost use Rattle.std.specs.Prelude.{◌≡◌, ℕ, ◌+◌, ◌^◌, ◌<◌, ◌↔◌, true, false, All, IfSome, IfNone, MatchOption};
 ghost use Rattle.std.specs.Prelude.{IsOk, IfOk, IfErr, OnOk, OnErr, IsOkUnless, IsErrOf};
 ghost use Rattle.std.specs.FinMap as finmap;
@@ -16,22 +16,22 @@ use std::collections::{BTreeMap, BTreeSet};
 use std::marker::Model;
 use std::ops::Bound;
 
-/// For each open log: the bytes of its entries by ledger, what of them is left to ledgers that were
-/// not forgotten, and how many keys name the log.
+/// Sums of each open log: bytes of its entries, bytes of those whose ledger was not forgotten
+/// later, and number of index entries that point into it.
 ///
-/// A contract sees the finite map from each open log to its account: `specs/Book.antt`.
+/// Contracts see a finite map from each open log to its account (`specs/Book.antt`).
 #[derive(Debug, Drop)]
 pub struct Accounts {
     alloc: Global,
     logs: BTreeMap<u32, LogAccount>,
-    // The ledgers that have room, each with the logs in which it has it.
+    // Each ledger that has room, with the logs in which it has it.
     rooms: BTreeSet<(u64, u32)>,
 }
 
 impl Model for Accounts {
     ghost use Rattle.std.specs.FinMap as finmap;
     ghost use Rattle.bk_accounts.specs.Book.{Book, book_code};
-    ghost use Rattle.bk_accounts.specs.Listed.{AreListed};
+    ghost use Rattle.bk_accounts.specs.Listed.{AreListedRooms};
 
     ghost Value = { Book };
 
@@ -39,14 +39,14 @@ impl Model for Accounts {
 
     ghost view = { λ a. finmap.from_entries a.logs.entries };
 
-    ghost invariant = { λ a. AreListed (finmap.from_entries a.logs.entries) a.rooms };
+    ghost invariant = { λ a. AreListedRooms (finmap.from_entries a.logs.entries) a.rooms };
 }
 
 impl Accounts {
     ghost use Rattle.bk_accounts.specs.Book.{HasAccount, IsNotOpen, IsReady, total_in, remaining_in, named_in, total_at, remaining_at, after_open};
     ghost use Rattle.bk_accounts.specs.Book.{after_ready, after_count, after_count_dead, after_name, after_unname, after_forget, after_drop};
 
-    /// No log is open. It takes no memory; the allocator is for the calls that do.
+    /// Returns accounts without an open log. Does not allocate; later calls use `alloc`.
     pub fn new(alloc: Global) -> Accounts
         ensures { result ≡ finmap.empty }
     {
@@ -57,9 +57,11 @@ impl Accounts {
         }
     }
 
-    /// Opens the account of a log that is not open: nothing counted, named by no key.
+    /// Opens the account of a log that is not open: no bytes, no names.
     ///
-    /// `Memory` alone refuses it, and leaves the accounts as they were.
+    /// # Errors
+    ///
+    /// - `Memory`; the accounts are unchanged.
     pub fn open(&mut self, log: u32) -> Result<(), AccountFault>
         requires { IsNotOpen self.old log }
         ensures ok { OnOk result (self.new ≡ after_open self.old log) }
@@ -70,11 +72,14 @@ impl Accounts {
         Ok(())
     }
 
-    /// Makes room for the sum of a ledger in a log, so that `count` can't fail. Room that is there
-    /// stays as it is and takes no memory.
+    /// Makes room for the sum of a ledger in a log, as `count` requires. Existing room is reused.
     ///
-    /// `NoLog` exactly where the log is not open, `Memory` only where the room is new. Both leave the
-    /// accounts as they were.
+    /// # Errors
+    ///
+    /// In this order; the accounts are unchanged:
+    ///
+    /// - `NoLog` exactly if the log is not open.
+    /// - `Memory`, only if the room is new.
     pub fn ready(&mut self, log: u32, ledger: u64) -> Result<(), AccountFault>
         ensures ok { OnOk result (self.new ≡ after_ready self.old log ledger) }
         ensures no_log { IsErrOf result AccountFault.NoLog ↔ IsNotOpen self.old log }
@@ -96,11 +101,11 @@ impl Accounts {
         Ok(())
     }
 
-    /// Counts an entry of a ledger in a log: `size` is all of its record, the length field with it. It
-    /// takes no memory and can't fail.
+    /// Counts an entry of a ledger in a log. `size` is its whole record in bytes, with the length
+    /// field. Does not allocate.
     ///
-    /// The caller has made room with `ready`, which a later `open` of the log or `forget` of the ledger
-    /// takes away again, and a log's total stays within 2^32 - 1.
+    /// Requires room from `ready`, which a later `open` of the log or `forget` of the ledger
+    /// removes, and a total of the log below 2^32.
     pub fn count(&mut self, log: u32, ledger: u64, size: u32)
         requires ready { IsReady self.old log ledger }
         requires fits { IfSome (total_in self.old log) (λ total. total + size < 2 ^ 32) }
@@ -109,10 +114,10 @@ impl Accounts {
         self.logs.get_mut(&log).unwrap().count(ledger, size);
     }
 
-    /// Counts an entry whose ledger is dead, as one that an opened file still has: in the total alone. A log that
-    /// is not open stays so. It takes no memory.
+    /// Counts an entry of a deleted ledger, as an opened file can have: in the total only. Does
+    /// nothing if the log is not open. Does not allocate.
     ///
-    /// A log's total stays within 2^32 - 1.
+    /// Requires a total of the log below 2^32.
     pub fn count_dead(&mut self, log: u32, size: u32)
         requires { IfSome (total_in self.old log) (λ total. total + size < 2 ^ 32) }
         ensures { self.new ≡ after_count_dead self.old log size }
@@ -122,10 +127,10 @@ impl Accounts {
         }
     }
 
-    /// Counts one more key that the index sends to the log. A log that is not open stays so. It takes
-    /// no memory.
+    /// Counts one more index entry that points into the log. Does nothing if the log is not open.
+    /// Does not allocate.
     ///
-    /// A log is named at most 2^64 - 1 times, and so by all keys of any map that memory holds.
+    /// Requires fewer than 2^64 - 1 names; a map in memory has fewer keys.
     pub fn name(&mut self, log: u32)
         requires { IfSome (named_in self.old log) (λ named. named + 1 < 2 ^ 64) }
         ensures { self.new ≡ after_name self.old log }
@@ -135,10 +140,10 @@ impl Accounts {
         }
     }
 
-    /// Counts one key less that the index sends to the log. A log that is not open stays so. It takes
-    /// no memory.
+    /// Counts one index entry fewer that points into the log. Does nothing if the log is not open.
+    /// Does not allocate.
     ///
-    /// An open log still has a name to lose.
+    /// Requires that an open log has a name.
     pub fn unname(&mut self, log: u32)
         requires { IfSome (named_in self.old log) (λ named. 0 < named) }
         ensures { self.new ≡ after_unname self.old log }
@@ -148,8 +153,8 @@ impl Accounts {
         }
     }
 
-    /// Takes a ledger out of what remains of every log; the totals stay. What is counted for it later
-    /// remains again. It takes no memory.
+    /// Removes a ledger and its room from the remaining bytes of every log; the totals are
+    /// unchanged. Entries counted for the ledger later count as remaining. Does not allocate.
     pub fn forget(&mut self, ledger: u64)
         ensures { self.new ≡ after_forget self.old ledger }
     {
@@ -161,33 +166,47 @@ impl Accounts {
         }
     }
 
-    /// The bytes of all entries counted in a log, or `NoLog` where it is not open.
+    /// Returns the bytes of all entries counted in a log.
+    ///
+    /// # Errors
+    ///
+    /// - `NoLog` exactly if the log is not open.
     pub fn total(&self, log: u32) -> Result<u32, AccountFault>
         ensures { result ≡ ok_or (total_in self.now log) AccountFault.NoLog }
     {
         Ok(self.account(log)?.total())
     }
 
-    /// The bytes of those entries whose ledger was not forgotten since, or `NoLog`.
+    /// Returns the bytes of the entries of a log whose ledger was not forgotten later.
+    ///
+    /// # Errors
+    ///
+    /// - `NoLog` exactly if the log is not open.
     pub fn remaining(&self, log: u32) -> Result<u32, AccountFault>
         ensures { result ≡ ok_or (remaining_in self.now log) AccountFault.NoLog }
     {
         Ok(self.account(log)?.remaining())
     }
 
-    /// The number of keys that name a log, or `NoLog`.
+    /// Returns the number of index entries that point into a log.
+    ///
+    /// # Errors
+    ///
+    /// - `NoLog` exactly if the log is not open.
     pub fn named(&self, log: u32) -> Result<u64, AccountFault>
         ensures { result ≡ ok_or (named_in self.now log) AccountFault.NoLog }
     {
         Ok(self.account(log)?.named())
     }
 
-    /// The log to compact. A log qualifies if it is among `allowed` and fewer than `threshold`
-    /// thousandths of its bytes remain; the one that is used least wins, and of several that are used
-    /// alike the lowest id. `None` where no log qualifies. It takes no memory.
+    /// Returns the log to compact, or `None` if no log qualifies. Does not allocate.
     ///
-    /// Every allowed log is open. That a log is compacted when its usage falls below a threshold is
-    /// BookKeeper's rule; thousandths, exact products and the order of ties are this project's.
+    /// A log qualifies if it is among `allowed` and fewer than `threshold` thousandths of its bytes
+    /// remain. The log with the least part remaining wins; of equals, the one with the lowest id.
+    /// Requires that every allowed log is open.
+    ///
+    /// The rule that a log is compacted if its usage is below a threshold is BookKeeper's.
+    /// Thousandths, exact products and the order of ties are project rules.
     pub fn lowest_below(&self, threshold: u32, allowed: &[u32]) -> Option<u32>
         requires { All (λ log. HasAccount self.now log) allowed.now }
         ensures { MatchOption result
@@ -204,7 +223,7 @@ impl Accounts {
         Some(lowest?.log)
     }
 
-    /// Drops the account of a log, which is then not open. It takes no memory.
+    /// Closes the account of a log. Does nothing if the log is not open. Does not allocate.
     pub fn drop_log(&mut self, log: u32)
         ensures { self.new ≡ after_drop self.old log }
     {
@@ -238,8 +257,7 @@ impl Accounts {
     }
 }
 
-// The first log in which the ledger has room. The rooms of a ledger stand together, so that no other
-// is looked at but the one behind them.
+// The first log in which the ledger has room. The rooms of a ledger are adjacent.
 fn first_room(rooms: &BTreeSet<(u64, u32)>, ledger: u64) -> Option<u32>
     ensures some { IfSome result (λ log. contains room_cmp rooms.now (ledger, log) ≡ true) }
     ensures none { IfNone result ((log : ℕ) → contains room_cmp rooms.now (ledger, log) ≡ false) }

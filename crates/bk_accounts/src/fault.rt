@@ -1,14 +1,14 @@
-//! Why a call of the accounts is refused.
+//! Errors of the accounts.
 ghost use Rattle.std.specs.Prelude.{◌≡◌};
 ghost use Rattle.bk_accounts.specs.declared.fault.AccountFault.TheVariants.{Memory};
 
 use std::alloc::{AllocError, AllocFailed};
 use thiserror::Error;
 
-/// A refused call leaves the accounts as they were.
+/// Why a call fails. The accounts are then unchanged.
 #[derive(Clone, Copy, Debug, PartialEq, Eq, Error)]
 pub enum AccountFault {
-    /// No memory for an account, or for the room of a sum.
+    /// Out of memory, for an account or for the room of a sum.
     #[error("memory")]
     Memory,
     /// The log is not open.

@@ -1,8 +1,8 @@
-//! One open log's sums. What remains is kept as a number, and is always the sum of the live ledgers'
-//! parts, so that it is read in one step and a forgotten ledger takes its part out of it.
+//! The account of one open log. The remaining bytes are a running number, always the sum of the
+//! ledgers' parts.
 //!
-//! What was counted lately for one ledger stands beside its part, so that a record of the same ledger
-//! as the one before costs no look-up.
+//! The bytes counted last for one ledger are separate from its part, so that the next record of the
+//! same ledger needs no look-up.
 ghost use Rattle.std.specs.Prelude.{◌≡◌, ℕ, ◌+◌, ◌^◌, ◌<◌, true, false, IsTrue, IfSome, IfNone, OnOk, OnErr};
 ghost use Rattle.std.specs.FinMap as finmap;
 ghost use Rattle.bk_accounts.specs.Parts.{HasPart, with_last};
@@ -16,7 +16,7 @@ pub(crate) struct LogAccount {
     total: u32,
     remaining: u32,
     named: u64,
-    // The ledger that was counted last, and what is not yet in its part.
+    // The ledger counted last, and its bytes that are not yet in its part.
     last: Option<(u64, u32)>,
     parts: BTreeMap<u64, u32>,
 }
@@ -38,7 +38,7 @@ impl Model for LogAccount {
 impl LogAccount {
     ghost use Rattle.bk_accounts.specs.Account.{fresh, has_room, remaining_size, with_room, with_size, with_dead_size, with_name, without_name, without_size};
 
-    /// A log with nothing counted. It takes no memory.
+    /// Returns an empty account. Does not allocate.
     pub(crate) fn new(alloc: Global) -> LogAccount
         ensures { result ≡ fresh }
     {
@@ -51,28 +51,28 @@ impl LogAccount {
         }
     }
 
-    /// The bytes counted.
+    /// Returns the bytes counted.
     pub(crate) fn total(&self) -> u32
         ensures { result ≡ self.now.total }
     {
         self.total
     }
 
-    /// The bytes counted for ledgers that were not forgotten since.
+    /// Returns the bytes of ledgers that were not forgotten later.
     pub(crate) fn remaining(&self) -> u32
         ensures { result ≡ remaining_size self.now }
     {
         self.remaining
     }
 
-    /// The number of keys that name the log.
+    /// Returns the number of index entries that point into the log.
     pub(crate) fn named(&self) -> u64
         ensures { result ≡ self.now.named }
     {
         self.named
     }
 
-    /// Whether there is room for a ledger's sum.
+    /// Returns whether there is room for a ledger's sum.
     pub(crate) fn has_room(&self, ledger: u64) -> bool
         ensures { result ≡ has_room self.now ledger }
     {
@@ -82,7 +82,8 @@ impl LogAccount {
         }
     }
 
-    /// Makes room for the sum of a ledger that has none. The only error is want of memory.
+    /// Makes room for the sum of a ledger that has none. If an allocation fails, the account is
+    /// unchanged.
     pub(crate) fn add_room(&mut self, ledger: u64) -> Result<(), AllocError>
         requires { has_room self.old ledger ≡ false }
         ensures ok { OnOk result (self.new ≡ with_room ledger self.old) }
@@ -94,7 +95,7 @@ impl LogAccount {
         Ok(())
     }
 
-    /// Counts bytes for a ledger that has room.
+    /// Counts bytes of a ledger that has room.
     pub(crate) fn count(&mut self, ledger: u64, size: u32)
         requires ready { IsTrue (has_room self.old ledger) }
         requires fits { self.old.total + size < 2 ^ 32 }
@@ -111,7 +112,7 @@ impl LogAccount {
         self.remaining += size;
     }
 
-    /// Counts bytes of a dead ledger, of which nothing remains.
+    /// Counts bytes of a deleted ledger: in the total only.
     pub(crate) fn count_dead(&mut self, size: u32)
         requires { self.old.total + size < 2 ^ 32 }
         ensures { self.new ≡ with_dead_size size self.old }
@@ -119,7 +120,7 @@ impl LogAccount {
         self.total += size;
     }
 
-    /// Counts a key that names the log.
+    /// Counts one more index entry.
     pub(crate) fn name(&mut self)
         requires { self.old.named + 1 < 2 ^ 64 }
         ensures { self.new ≡ with_name self.old }
@@ -127,7 +128,7 @@ impl LogAccount {
         self.named += 1;
     }
 
-    /// Takes the count of one key back.
+    /// Counts one index entry fewer.
     pub(crate) fn unname(&mut self)
         requires { 0 < self.old.named }
         ensures { self.new ≡ without_name self.old }
@@ -135,7 +136,7 @@ impl LogAccount {
         self.named -= 1;
     }
 
-    /// Takes a ledger out of what remains.
+    /// Removes a ledger and its room; the total is unchanged.
     pub(crate) fn forget(&mut self, ledger: u64)
         ensures { self.new ≡ without_size ledger self.old }
     {
@@ -146,7 +147,7 @@ impl LogAccount {
         }
     }
 
-    /// Takes one of the ledgers that have room out of what remains, as `forget` does.
+    /// Removes one of the ledgers that have room, as `forget` does, and returns it.
     pub(crate) fn pop(&mut self) -> Option<u64>
         ensures some { IfSome result (λ ledger. (has_room self.old ledger ≡ true) × (self.new ≡ without_size ledger self.old)) }
         ensures none { IfNone result ((ledger : ℕ) → has_room self.old ledger ≡ false) }
@@ -159,7 +160,7 @@ impl LogAccount {
     }
 }
 
-/// Adds what was counted last to its ledger's part.
+/// Adds the bytes counted last to their ledger's part.
 fn put_back(parts: &mut BTreeMap<u64, u32>, last: Option<(u64, u32)>)
     requires { IfSome last (HasPart (finmap.from_entries parts.old.entries)) }
     ensures { finmap.from_entries parts.new.entries ≡ with_last (finmap.from_entries parts.old.entries) last }

@@ -1,8 +1,8 @@
-//! How much of a log is still used, compared without a division.
+//! Usage of a log, compared without a division.
 ghost use Rattle.std.specs.Prelude.{◌≡◌, ◌↔◌, IsTrue};
 ghost use Rattle.bk_accounts.specs.Choice.{IsBelow};
 
-/// What a log has in all and what of it remains, in bytes.
+/// Total and remaining bytes of a log.
 #[derive(Clone, Copy)]
 pub(crate) struct Usage {
     pub(crate) log: u32,
@@ -13,14 +13,15 @@ pub(crate) struct Usage {
 impl Usage {
     ghost use Rattle.bk_accounts.specs.Usage.{is_before, first_of};
 
-    /// Whether less than `threshold` thousandths remain.
+    /// Returns whether less than `threshold` thousandths remain.
     pub(crate) fn is_below(self, threshold: u32) -> bool
         ensures { IsTrue result ↔ IsBelow threshold self.total self.remaining }
     {
         u64::from(self.remaining) * 1000 < u64::from(threshold) * u64::from(self.total)
     }
 
-    /// Whether a smaller part remains than of the other log, or the same part and this id is lower.
+    /// Returns whether a smaller part remains than of the other log, or the same part and this id
+    /// is lower.
     pub(crate) fn is_before(self, other: Usage) -> bool
         ensures { result ≡ is_before self other }
     {
@@ -29,7 +30,7 @@ impl Usage {
         here < there || (here == there && self.log < other.log)
     }
 
-    /// The one that is before the other.
+    /// Returns the one that is before the other, by `is_before`.
     pub(crate) fn first_of(self, other: Option<Usage>) -> Usage
         ensures { result ≡ first_of self other }
     {

@@ -1,36 +1,36 @@
-//! The entries that the stages work on.
+//! The entries that the stages use.
 
 ghost use Rattle.std.specs.Prelude.{◌≡◌, ◌+◌, ◌≤◌, ◌/◌, ◌%◌, IfOk, length};
 
 use bk_record::Key;
 use std::alloc::{AllocError, Global};
 
-/// How many ledgers there are.
+/// Number of ledgers.
 pub(crate) const LEDGERS: u64 = 100;
 
-/// The bytes of data behind the ids of a payload, so that a payload has 100.
+/// The data after the ids of a payload, which then has 100 bytes.
 const DATA: [u8; 84] = [0; 84];
 
-/// The order in which entries come.
-#[derive(Clone, Copy, Debug, PartialEq, Eq)]
+/// The order of the entries.
+#[derive(Clone, Copy)]
 pub(crate) enum Order {
-    /// One of each ledger in turn; the entries of a ledger rise.
+    /// One entry of each ledger after another; the entry ids of a ledger rise.
     Turn,
     /// All entries of the first ledger, then those of the next.
     Rising,
 }
 
-/// How many entries there are, and their order.
-#[derive(Clone, Copy, Debug, PartialEq, Eq)]
+/// The number of entries, and their order.
+#[derive(Clone, Copy)]
 pub(crate) struct Amount {
     pub count: u64,
     pub order: Order,
 }
 
 impl Amount {
-    /// Ledger and entry of the entry of this number, counted from 0.
+    /// Returns ledger and entry id of the entry with this number, counted from 0.
     pub(crate) fn ids(self, number: u64) -> (u64, u64)
-        ensures turn { self.order ≡ Order.Turn → result ≡ (number % 100, number / 100) }
+        ensures transition { self.order ≡ Order.Turn → result ≡ (number % 100, number / 100) }
         ensures rising { self.order ≡ Order.Rising → 100 ≤ self.count
             → result ≡ (number / (self.count / 100), number % (self.count / 100)) }
     {
@@ -43,7 +43,7 @@ impl Amount {
         }
     }
 
-    /// The keys, in their order, of the ids that are some. `Memory`.
+    /// Returns the keys in order. Fails only if out of memory.
     pub(crate) fn keys(self, alloc: Global) -> Result<Vec<Key>, AllocError> {
         let mut keys = Vec::new(alloc);
         for number in 0..self.count {
@@ -55,7 +55,7 @@ impl Amount {
         Ok(keys)
     }
 
-    /// The payloads, in the order of their keys.
+    /// Returns the payloads in the order of their keys.
     pub(crate) fn payloads(self, alloc: Global) -> Result<Vec<Vec<u8>>, AllocError> {
         let mut payloads = Vec::new(alloc);
         for number in 0..self.count {
@@ -65,14 +65,14 @@ impl Amount {
     }
 }
 
-/// A payload of 100 bytes: the ids of ledger and entry, then zeros.
+/// Returns a payload of 100 bytes: ledger and entry id, then zeros.
 pub(crate) fn payload(alloc: Global, ids: (u64, u64)) -> Result<Vec<u8>, AllocError>
     ensures { IfOk result (λ payload. length payload.items ≡ 100) }
 {
     payload_of(alloc, ids, &DATA)
 }
 
-/// A payload of the ids of ledger and entry, then these bytes.
+/// Returns a payload: ledger and entry id, then these bytes.
 pub(crate) fn payload_of(alloc: Global, ids: (u64, u64), data: &[u8]) -> Result<Vec<u8>, AllocError>
     ensures { IfOk result (λ payload. length payload.items ≡ 16 + length data.now) }
 {
@@ -81,7 +81,7 @@ pub(crate) fn payload_of(alloc: Global, ids: (u64, u64), data: &[u8]) -> Result<
     Ok(payload)
 }
 
-/// A payload of the two ids alone, of 16 bytes.
+/// Returns a payload of only the two ids, 16 bytes.
 pub(crate) fn short_payload(alloc: Global, ids: (u64, u64)) -> Result<Vec<u8>, AllocError>
     ensures { IfOk result (λ payload. length payload.items ≡ 16) }
 {

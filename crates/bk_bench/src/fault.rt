@@ -1,22 +1,22 @@
-//! Why the program ends before its work is done.
+//! Errors of the program.
 
 use std::alloc::AllocError;
 use std::io;
 use thiserror::Error;
 
-/// Why the program ends before its work is done. Its text is what is told of it.
-#[derive(Clone, Copy, Debug, PartialEq, Eq, Error)]
+/// Why the program ends early.
+#[derive(Clone, Copy, Debug, Error)]
 pub(crate) enum BenchFault {
-    /// The words of the command line ask for nothing.
+    /// The words of the command line are not valid.
     #[error("entries N ORDER, trail N.., memory WHAT N ORDER, or folder WHAT ..")]
     Words,
-    /// No memory was to be had.
+    /// Out of memory.
     #[error("memory")]
     Memory,
-    /// The words could not be read, or a line not be written.
+    /// The words could not be read, or a line could not be written.
     #[error("words or output")]
     Host,
-    /// A call of the store was refused, or answered something else than the stage of this name is there for.
+    /// A call failed, or its answer differs from the one that the stage with this name measures.
     #[error("{0}: another answer")]
     Answer(&'static str),
 }

@@ -1,48 +1,48 @@
-//! The stages over a folder of the system, each with the time that it took.
+//! Stages over a directory, each with its time.
 //!
-//! Beside what it did its work for, a line tells nanoseconds: so no two runs print the same. The work between two stages,
-//! as making payloads, is in no line.
+//! A line has the time in nanoseconds, so no two runs print the same. Work between two stages, such
+//! as making payloads, is not timed.
 
 use crate::BenchFault;
 use crate::entries::{Amount, LEDGERS, Order, payload_of};
 use crate::stages::{SETTINGS, add, compact, digest, fetch, publish, write};
 use bk_disk::{DirDisk, LogDisk};
-use bk_mark::MarkedDisk;
 use bk_store::{Settings, Store};
+use bk_watermark::WatermarkedDisk;
 use std::alloc::{AllocError, Global};
 use std::time::Instant;
 
-/// The bytes of a payload's ids.
+/// Size of the ids of a payload.
 const IDS: u64 = 16;
 
-/// What is done over a folder.
-#[derive(Clone, Copy, Debug, PartialEq, Eq)]
+/// A stage over a directory.
+#[derive(Clone, Copy)]
 pub(crate) enum FolderWork {
-    /// Entries are added, flushed, and read by leases.
+    /// Adds, flushes and reads entries by leases.
     Fill(Filling),
-    /// The same, and each log is marked.
+    /// The same with durability watermarks.
     Mark(Filling),
-    /// A store is opened on the logs that are there.
+    /// Opens a store on the logs of the directory.
     Open,
-    /// The log of which the least lives is compacted, while every tenth ledger is dead.
+    /// Compacts the log with the lowest live share, with every tenth ledger deleted.
     Compact,
 }
 
-/// Entries that are flushed to a folder, one of each ledger in turn.
-#[derive(Clone, Copy, Debug, PartialEq, Eq)]
+/// Entries to flush to a directory, one of each ledger after another.
+#[derive(Clone, Copy)]
 pub(crate) struct Filling {
-    /// The bytes of a payload, the 16 of its ids among them.
+    /// Size of a payload, its 16 bytes of ids included.
     pub length: u64,
-    /// How many entries a flush has.
+    /// Number of entries per flush.
     pub batch: u64,
-    /// How many flushes there are.
+    /// Number of flushes.
     pub publishes: u64,
-    /// How many bytes a log has at most.
+    /// Largest size of a log.
     pub limit: u32,
 }
 
 impl Filling {
-    /// All entries.
+    /// Returns all entries.
     fn amount(self) -> Amount {
         Amount {
             count: self.batch.saturating_mul(self.publishes),
@@ -51,8 +51,8 @@ impl Filling {
     }
 }
 
-/// What the stages of a filling came to, and how long they took, in nanoseconds.
-#[derive(Clone, Copy, Debug)]
+/// Results and times of the stages of a filling, in nanoseconds.
+#[derive(Clone, Copy)]
 struct Times {
     sum: u64,
     digest: u64,
@@ -61,11 +61,11 @@ struct Times {
     publish: u64,
 }
 
-/// Does the work over the folder at a path, and tells what it took.
+/// Runs a stage over the directory at a path and prints its time.
 pub(crate) fn run(rt: &HostRuntime, path: &str, work: FolderWork) -> Result<(), BenchFault> {
     match work {
         FolderWork::Fill(filling) => fill(rt, disk_at(rt, path)?, filling),
-        FolderWork::Mark(filling) => match MarkedDisk::open(disk_at(rt, path)?, rt.alloc()) {
+        FolderWork::Mark(filling) => match WatermarkedDisk::open(disk_at(rt, path)?, rt.alloc()) {
             Ok(disk) => fill(rt, disk, filling),
             Err(_) => Err(BenchFault::Answer("marks")),
         },
@@ -74,7 +74,7 @@ pub(crate) fn run(rt: &HostRuntime, path: &str, work: FolderWork) -> Result<(), 
     }
 }
 
-/// The disk of the folder.
+/// Returns the disk of the directory.
 fn disk_at(rt: &HostRuntime, path: &str) -> Result<DirDisk, BenchFault> {
     match DirDisk::open(rt, path) {
         Ok(disk) => Ok(disk),
@@ -82,7 +82,7 @@ fn disk_at(rt: &HostRuntime, path: &str) -> Result<DirDisk, BenchFault> {
     }
 }
 
-/// A store over the disk of a folder, while these ledgers are dead.
+/// Opens a store on the disk of a directory, with these ledgers deleted.
 fn opened<D: LogDisk>(
     rt: &HostRuntime,
     disk: D,
@@ -95,14 +95,14 @@ fn opened<D: LogDisk>(
     }
 }
 
-/// Nanoseconds since a moment.
+/// Returns the nanoseconds since a moment.
 fn since(rt: &HostRuntime, begun: Instant) -> Result<u64, BenchFault> {
     let spent = begun.elapsed(rt)?;
     let seconds = spent.as_secs().saturating_mul(1_000_000_000);
     Ok(seconds.saturating_add(u64::from(spent.subsec_nanos())))
 }
 
-/// Tells what a stage answered, and how long it took.
+/// Prints the result of a stage and its time.
 fn tell_time(rt: &HostRuntime, stage: &str, count: u64, time: u64) -> Result<(), BenchFault> {
     println!(rt; "{stage} {count} {time}")?;
     Ok(())
@@ -117,7 +117,7 @@ fn fill<D: LogDisk>(rt: &HostRuntime, disk: D, filling: Filling) -> Result<(), B
     fill_store(rt, &mut store, filling)
 }
 
-/// Adds and flushes all entries, and reads them.
+/// Adds, flushes and reads all entries.
 fn fill_store<D: LogDisk>(
     rt: &HostRuntime,
     store: &mut Store<D>,
@@ -142,7 +142,7 @@ fn fill_store<D: LogDisk>(
     read(rt, store, amount)
 }
 
-/// The payloads of the flush of this number, counted from 0.
+/// Returns the payloads of the flush with this number, counted from 0.
 fn payloads_of(alloc: Global, filling: Filling, flush: u64) -> Result<Vec<Vec<u8>>, AllocError> {
     let data = vec![in alloc; 0u8; filling.length.saturating_sub(IDS) as usize]?;
     let amount = filling.amount();
@@ -155,7 +155,7 @@ fn payloads_of(alloc: Global, filling: Filling, flush: u64) -> Result<Vec<Vec<u8
     Ok(payloads)
 }
 
-/// Makes the digests of these payloads, as an add does; then adds and flushes them.
+/// Computes the digests of these payloads, as an add does; then adds and flushes them.
 fn flush<D: LogDisk>(
     rt: &HostRuntime,
     store: &mut Store<D>,
@@ -206,7 +206,7 @@ fn compact_one(rt: &HostRuntime, path: &str) -> Result<(), BenchFault> {
     compact_store(rt, &mut store)
 }
 
-/// Every tenth ledger.
+/// Returns every tenth ledger.
 fn tenths(alloc: Global) -> Result<Vec<u64>, AllocError> {
     let mut ledgers = Vec::new(alloc);
     for tenth in 0..LEDGERS / 10 {
@@ -215,7 +215,7 @@ fn tenths(alloc: Global) -> Result<Vec<u64>, AllocError> {
     Ok(ledgers)
 }
 
-/// Compacts the log of which the least lives.
+/// Compacts the log with the lowest live share.
 fn compact_store(rt: &HostRuntime, store: &mut Store<DirDisk>) -> Result<(), BenchFault> {
     let begun = Instant::now(rt)?;
     let moved = compact(store)?;

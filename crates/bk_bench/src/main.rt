@@ -1,5 +1,5 @@
-//! A program that does one kind of the store's work after another, in memory or over a folder, so that each can be measured
-//! alone.
+//! Benchmark of the store: performs one kind of work after another, in memory or over a directory,
+//! so that each can be measured alone.
 #![tactic(auto)]
 
 mod entries;
@@ -25,7 +25,7 @@ fn main(rt: HostRuntime) -> ExitCode {
     }
 }
 
-/// Does what the command line asks for.
+/// Runs the part that the command line selects.
 fn work(rt: &HostRuntime) -> Result<(), BenchFault> {
     match read_words(rt)? {
         Work::Entries(amount) => run::run(rt, amount),

@@ -1,4 +1,5 @@
-//! Entries that are held in memory in one form, so that the most memory that the program had tells what the form takes.
+//! Entries held in memory in one form, so that the peak memory of the program shows what the form
+//! uses.
 
 use crate::BenchFault;
 use crate::entries::{Amount, payload, short_payload};
@@ -8,25 +9,25 @@ use bk_head::new_header;
 use bk_store::{Added, Store};
 use std::alloc::Global;
 
-/// How many entries a ledger has before it is deleted, where marks alone are to stay.
+/// Number of entries of a ledger before it is deleted, if only marks are to be held.
 const BATCH: u64 = 1000;
 
-/// In which form entries are held.
-#[derive(Clone, Copy, Debug, PartialEq, Eq)]
+/// The form in which entries are held.
+#[derive(Clone, Copy)]
 pub(crate) enum Holding {
     /// Not at all.
     Nothing,
     /// As records of a log, of 20 bytes each.
     Log,
-    /// The same, with a store that was opened on it.
+    /// As records of a log, with a store opened on it.
     Store,
     /// In the write cache, with their marks.
     Cached,
-    /// As marks of a trail alone.
+    /// Only as marks of a trail.
     Marks,
 }
 
-/// Holds so many entries in that form, and tells how many it holds.
+/// Holds N entries in a form and prints how many it holds.
 pub(crate) fn run(rt: &HostRuntime, holding: Holding, amount: Amount) -> Result<(), BenchFault> {
     let alloc = rt.alloc();
     let held = match holding {
@@ -40,7 +41,7 @@ pub(crate) fn run(rt: &HostRuntime, holding: Holding, amount: Amount) -> Result<
     Ok(())
 }
 
-/// A log of the entries. Answers its length.
+/// Creates a log of the entries and returns its length.
 fn log_length(alloc: Global, amount: Amount) -> Result<u64, BenchFault> {
     let mut disk = log_of(alloc, amount)?;
     match disk.length(alloc, 0) {
@@ -49,7 +50,7 @@ fn log_length(alloc: Global, amount: Amount) -> Result<u64, BenchFault> {
     }
 }
 
-/// A store on a log of the entries. Answers how many keys its index has.
+/// Opens a store on a log of the entries and returns the number of keys in its index.
 fn opened(alloc: Global, amount: Amount) -> Result<u64, BenchFault> {
     let store = open(alloc, log_of(alloc, amount)?)?;
     Ok(store.index().len() as u64)
@@ -59,7 +60,7 @@ fn open(alloc: Global, disk: MemDisk) -> Result<Store<MemDisk>, BenchFault> {
     Store::open(alloc, disk, SETTINGS, &[]).map_err(|_| BenchFault::Answer("open"))
 }
 
-/// A disk with one log of these entries, each of its ids alone.
+/// Returns a disk with one log of these entries, without data.
 fn log_of(alloc: Global, amount: Amount) -> Result<MemDisk, BenchFault> {
     let mut disk = MemDisk::new(alloc);
     disk.create(alloc, 0).map_err(|_| BenchFault::Memory)?;
@@ -75,7 +76,7 @@ fn log_of(alloc: Global, amount: Amount) -> Result<MemDisk, BenchFault> {
     Ok(disk)
 }
 
-/// Adds the entries to a store, which keeps them in its cache. Answers how many marks it has.
+/// Adds the entries to a store, which keeps them in its cache. Returns its number of marks.
 fn cached(alloc: Global, amount: Amount) -> Result<u64, BenchFault> {
     let mut store = open(alloc, MemDisk::new(alloc))?;
     add_all(&mut store, alloc, amount)
@@ -89,7 +90,8 @@ fn add_all(store: &mut Store<MemDisk>, alloc: Global, amount: Amount) -> Result<
     Ok(store.front())
 }
 
-/// Adds so many entries, and deletes their ledgers, so that little but the marks stays. Answers how many there are.
+/// Adds N entries and deletes their ledgers, so that memory has little more than the marks. Returns
+/// the number of marks.
 fn marks(alloc: Global, count: u64) -> Result<u64, BenchFault> {
     let mut store = open(alloc, MemDisk::new(alloc))?;
     mark(&mut store, alloc, count)

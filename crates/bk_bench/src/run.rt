@@ -1,4 +1,4 @@
-//! All stages, one after another, each with a line that tells for how many entries it did its work.
+//! Runs all stages in order, each with a line that has the number of entries.
 
 use crate::BenchFault;
 use crate::entries::Amount;
@@ -11,7 +11,7 @@ use bk_record::Key;
 use bk_store::Store;
 use std::alloc::{AllocError, Global};
 
-/// Takes all stages over so many entries.
+/// Runs all stages with N entries.
 pub(crate) fn run(rt: &HostRuntime, amount: Amount) -> Result<(), BenchFault> {
     let alloc = rt.alloc();
     let keys = amount.keys(alloc)?;
@@ -21,7 +21,7 @@ pub(crate) fn run(rt: &HostRuntime, amount: Amount) -> Result<(), BenchFault> {
     shrink(rt, &mut store)
 }
 
-/// A store that has the entries in a log.
+/// Returns a store that has the entries in a log.
 fn filled(
     rt: &HostRuntime,
     alloc: Global,
@@ -37,7 +37,7 @@ fn filled(
     }
 }
 
-/// Adds and flushes the entries, and reads them before and after.
+/// Adds and flushes the entries, and reads them before and after the flush.
 fn fill(
     rt: &HostRuntime,
     alloc: Global,
@@ -62,8 +62,8 @@ fn fill(
     Ok(())
 }
 
-/// The C library puts in order what was given back when somebody asks for much at once. This has it do so, before what is
-/// counted next.
+/// Allocates and frees large blocks. The C library then consolidates its free memory, and the next
+/// stage is not charged for it.
 fn tidy(alloc: Global) -> Result<(), AllocError> {
     for _ in 0..32 {
         drop(vec![in alloc; 0u8; 65_536]?);
@@ -71,7 +71,7 @@ fn tidy(alloc: Global) -> Result<(), AllocError> {
     Ok(())
 }
 
-/// Opens the store anew.
+/// Opens the store again.
 fn opened(
     rt: &HostRuntime,
     alloc: Global,
@@ -84,7 +84,7 @@ fn opened(
     }
 }
 
-/// Deletes ledgers, and compacts the log of the others.
+/// Deletes ledgers and compacts the log of the others.
 fn shrink(rt: &HostRuntime, store: &mut Store<MemDisk>) -> Result<(), BenchFault> {
     let deleted = delete(store)?;
     tell(rt, "delete", deleted)?;
@@ -94,7 +94,7 @@ fn shrink(rt: &HostRuntime, store: &mut Store<MemDisk>) -> Result<(), BenchFault
     Ok(())
 }
 
-/// The log that flushes write, if there is one, is sealed, so that it may be compacted.
+/// Seals the current log, if there is one, so that it can be compacted.
 fn seal(store: &mut Store<MemDisk>) -> Result<(), BenchFault> {
     match roll(store) {
         Ok(RollAnswer::Sealed(_) | RollAnswer::NothingOpen) => Ok(()),

@@ -1,7 +1,9 @@
-//! The stages: each is a function that is never inlined, so that what it costs is counted under its name.
+//! The stages. Each is a function that is never inlined, so that its cost is counted under its
+//! name.
 //!
-//! Each does one kind of work for all entries, and answers how many it did it for, or `Answer` where a call answered
-//! otherwise than it is there for. Then `tell` is called, so that what lies between is not counted.
+//! Each performs one kind of work for all entries and returns their number. It fails with `Answer`
+//! if an answer differs from the expected one. Then `tell` is called, so that work between two
+//! stages is not counted.
 
 use crate::BenchFault;
 use crate::entries::LEDGERS;
@@ -18,8 +20,8 @@ use sha2::{Digest, Sha256};
 use std::alloc::Global;
 use std::io;
 
-/// The settings of the stores that are measured: one log and one cache have all entries, and each log that is not whole
-/// is compacted.
+/// Settings of the measured stores: one log and one cache hold all entries, and each log that is
+/// not entirely live is compacted.
 pub(crate) const SETTINGS: Settings = Settings {
     log_limit: 1_073_741_824,
     cache_limit: 1_073_741_824,
@@ -30,13 +32,13 @@ pub(crate) const SETTINGS: Settings = Settings {
     major: 1000,
 };
 
-/// Tells what a stage answered: it has ended.
+/// Prints the result of a stage, which has ended.
 #[inline(never)]
 pub(crate) fn tell(rt: &HostRuntime, stage: &str, count: u64) -> io::Result<()> {
     println!(rt; "{stage} {count}")
 }
 
-/// The digest of each payload. Answers the sum of their first bytes.
+/// Computes the digest of each payload. Returns the sum of their first bytes.
 #[inline(never)]
 pub(crate) fn digest(payloads: &[Vec<u8>]) -> u64 {
     let mut sum = 0u64;
@@ -47,7 +49,7 @@ pub(crate) fn digest(payloads: &[Vec<u8>]) -> u64 {
     sum
 }
 
-/// An add of each payload.
+/// Adds each payload.
 #[inline(never)]
 pub(crate) fn add<D: LogDisk>(
     store: &mut Store<D>,
@@ -63,7 +65,7 @@ pub(crate) fn add<D: LogDisk>(
     Ok(count)
 }
 
-/// A take of each key, from the write cache.
+/// Takes each key from the write cache.
 #[inline(never)]
 pub(crate) fn cached(store: &mut Store<MemDisk>, keys: &[Key]) -> Result<u64, BenchFault> {
     let mut count = 0u64;
@@ -76,7 +78,7 @@ pub(crate) fn cached(store: &mut Store<MemDisk>, keys: &[Key]) -> Result<u64, Be
     Ok(count)
 }
 
-/// A swap, and then each entry is written to the log.
+/// Swaps, then writes each entry to the log.
 #[inline(never)]
 pub(crate) fn write<D: LogDisk>(store: &mut Store<D>) -> Result<u64, BenchFault> {
     let SwapAnswer::Swapped(entries) = swap(store) else {
@@ -90,7 +92,7 @@ pub(crate) fn write<D: LogDisk>(store: &mut Store<D>) -> Result<u64, BenchFault>
     Ok(entries)
 }
 
-/// The flush is published: the index gets all keys.
+/// Publishes the flush: adds all keys to the index.
 #[inline(never)]
 pub(crate) fn publish<D: LogDisk>(store: &mut Store<D>) -> Result<u64, BenchFault> {
     match publish_flush(store) {
@@ -99,7 +101,7 @@ pub(crate) fn publish<D: LogDisk>(store: &mut Store<D>) -> Result<u64, BenchFaul
     }
 }
 
-/// A take of each key by a lease, the entry's bytes, and the end of the lease.
+/// Takes each key by a lease, reads the entry and releases the lease.
 #[inline(never)]
 pub(crate) fn fetch<D: LogDisk>(
     store: &mut Store<D>,
@@ -121,7 +123,7 @@ pub(crate) fn fetch<D: LogDisk>(
     Ok(count)
 }
 
-/// A scan of the first log, which has all entries, as far as the most.
+/// Scans the first log, which has all entries, up to `most`.
 #[inline(never)]
 pub(crate) fn scan(store: &Store<MemDisk>, alloc: Global, most: u64) -> Result<u64, BenchFault> {
     match store.log_view(0) {
@@ -130,7 +132,7 @@ pub(crate) fn scan(store: &Store<MemDisk>, alloc: Global, most: u64) -> Result<u
     }
 }
 
-/// How many entries a view shows, as far as the most.
+/// Returns the number of entries that a view shows, up to `most`.
 fn scan_log<V: LogView>(view: &V, alloc: Global, most: u64) -> Result<u64, BenchFault> {
     let end = view.end();
     if end < HEADER_LENGTH as u64 {
@@ -147,7 +149,7 @@ fn scan_log<V: LogView>(view: &V, alloc: Global, most: u64) -> Result<u64, Bench
     Ok(most)
 }
 
-/// The disk is taken from the store, and a store is opened on it.
+/// Takes the disk from the store and opens a store on it.
 #[inline(never)]
 pub(crate) fn reopen(
     store: Store<MemDisk>,
@@ -163,7 +165,7 @@ pub(crate) fn reopen(
     Ok((opened, keys))
 }
 
-/// A deletion of every tenth ledger. Answers how many keys they had.
+/// Deletes every tenth ledger. Returns the number of their keys.
 #[inline(never)]
 pub(crate) fn delete(store: &mut Store<MemDisk>) -> Result<u64, BenchFault> {
     let mut count = 0u64;
@@ -176,7 +178,7 @@ pub(crate) fn delete(store: &mut Store<MemDisk>) -> Result<u64, BenchFault> {
     Ok(count)
 }
 
-/// A whole compaction of the one log. Answers how many keys were sent to their copies.
+/// Compacts the one log. Returns the number of keys switched to their copies.
 #[inline(never)]
 pub(crate) fn compact<D: LogDisk>(store: &mut Store<D>) -> Result<u64, BenchFault> {
     copy_log(store)?;
@@ -187,7 +189,7 @@ pub(crate) fn compact<D: LogDisk>(store: &mut Store<D>) -> Result<u64, BenchFaul
     }
 }
 
-/// Chooses the log, and copies its entries.
+/// Chooses the log and copies its entries.
 fn copy_log<D: LogDisk>(store: &mut Store<D>) -> Result<(), BenchFault> {
     match begin(store, Kind::Major) {
         Ok(BeginAnswer::Chosen(_)) => {}
@@ -199,7 +201,7 @@ fn copy_log<D: LogDisk>(store: &mut Store<D>) -> Result<(), BenchFault> {
     }
 }
 
-/// Ends the copying, and sends the keys to the copy. Answers how many.
+/// Ends the copying and switches the keys to the copies. Returns their number.
 fn move_keys<D: LogDisk>(store: &mut Store<D>) -> Result<u64, BenchFault> {
     match end_copy(store) {
         Ok(EndAnswer::Ended(_)) => {}
@@ -211,7 +213,7 @@ fn move_keys<D: LogDisk>(store: &mut Store<D>) -> Result<u64, BenchFault> {
     }
 }
 
-/// One add.
+/// Performs one add.
 #[inline(never)]
 pub(crate) fn one_add(store: &mut Store<MemDisk>, payload: &[u8]) -> Result<(), BenchFault> {
     match store.add(payload) {

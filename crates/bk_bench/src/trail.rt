@@ -1,4 +1,4 @@
-//! Single adds beside a trail of a given length.
+//! Single adds at a given length of the trail.
 
 use crate::BenchFault;
 use crate::entries::payload;
@@ -6,11 +6,11 @@ use crate::stages::{SETTINGS, one_add, tell};
 use bk_disk::MemDisk;
 use bk_store::Store;
 
-/// How many adds there are about each length: two that make the trail so long, and two behind.
+/// Number of adds at each length: two that reach it and two after it.
 const ADDS: u64 = 4;
 
-/// Takes single adds while the trail comes to each of these lengths, which rise. All other marks are fences, which have no
-/// digest, so that a long trail is made soon.
+/// Performs single adds each time the trail reaches one of these lengths, which rise. All other
+/// marks are fences: they have no digest, so they are cheap to append.
 pub(crate) fn run(rt: &HostRuntime, lengths: &[u64]) -> Result<(), BenchFault> {
     let alloc = rt.alloc();
     let Ok(mut store) = Store::open(alloc, MemDisk::new(alloc), SETTINGS, &[]) else {
@@ -29,7 +29,7 @@ fn add_at(rt: &HostRuntime, store: &mut Store<MemDisk>, lengths: &[u64]) -> Resu
     Ok(())
 }
 
-/// One add, of an entry that is named by its mark.
+/// Adds one entry, whose id is the number of its mark.
 fn add_next(rt: &HostRuntime, store: &mut Store<MemDisk>) -> Result<(), BenchFault> {
     let number = store.front();
     let payload = payload(rt.alloc(), (1, number))?;
@@ -38,7 +38,7 @@ fn add_next(rt: &HostRuntime, store: &mut Store<MemDisk>) -> Result<(), BenchFau
     Ok(())
 }
 
-/// Fences ledgers, each a mark, until there are so many marks.
+/// Fences ledgers, one mark each, until the trail has this length.
 fn fence_until(store: &mut Store<MemDisk>, length: u64) -> Result<(), BenchFault> {
     for number in store.front()..length {
         if store.fence(u64::MAX - number).is_err() {

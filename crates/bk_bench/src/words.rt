@@ -7,20 +7,20 @@ use crate::memory::Holding;
 use std::alloc::{AllocError, Global};
 use std::env;
 
-/// What the command line asks for.
+/// What the command line selects.
 #[derive(Drop)]
 pub(crate) enum Work {
-    /// All stages over so many entries.
+    /// All stages with N entries.
     Entries(Amount),
-    /// Adds beside trails of these lengths.
+    /// Adds at these lengths of the trail.
     Trail(Vec<u64>),
-    /// So many entries, to be held in memory in one form.
+    /// N entries held in memory in one form.
     Memory(Holding, Amount),
-    /// Work over the folder at a path.
+    /// A stage over the directory at a path.
     Folder(String, FolderWork),
 }
 
-/// Reads the words: `entries N ORDER`, `trail N..`, `memory WHAT N ORDER`, `folder WHAT ..`. `Words`, `Host`, `Memory`.
+/// Reads the words: `entries N ORDER`, `trail N..`, `memory WHAT N ORDER`, `folder WHAT ..`.
 pub(crate) fn read_words(rt: &HostRuntime) -> Result<Work, BenchFault> {
     let words: Vec<String> = env::args(rt)?.collect(rt.alloc())?;
     let texts = texts_of(rt.alloc(), &words)?;
@@ -35,7 +35,7 @@ pub(crate) fn read_words(rt: &HostRuntime) -> Result<Work, BenchFault> {
     }
 }
 
-/// The words behind the program's name.
+/// Returns the words after the name of the program.
 fn texts_of(alloc: Global, words: &[String]) -> Result<Vec<&str>, AllocError> {
     let mut texts = Vec::new(alloc);
     for word in words.iter().skip(1) {
@@ -53,8 +53,8 @@ fn numbers(alloc: Global, words: &[&str]) -> Result<Vec<u64>, BenchFault> {
     Ok(numbers)
 }
 
-/// Reads what is to be done over a folder: `fill DIR LENGTH BATCH PUBLISHES LIMIT`, `mark` with the same words, `open DIR`,
-/// `compact DIR`.
+/// Reads a stage over a directory: `fill DIR LENGTH BATCH PUBLISHES LIMIT`, `mark` with the same
+/// words, `open DIR`, `compact DIR`.
 fn folder_work(alloc: Global, words: &[&str]) -> Result<Work, BenchFault> {
     let (path, work) = match words {
         ["fill", path, numbers @ ..] => (path, FolderWork::Fill(filling(numbers)?)),
@@ -101,12 +101,12 @@ fn holding_named(name: &str) -> Result<Holding, BenchFault> {
     }
 }
 
-/// The number that a word is, below 2^32.
+/// Parses a number below 2^32.
 fn number(word: &str) -> Result<u64, BenchFault> {
     small_number(word).map(u64::from)
 }
 
-/// The same, as a number of 32 bits.
+/// Parses a number below 2^32 to 32 bits.
 fn small_number(word: &str) -> Result<u32, BenchFault> {
     word.parse::<u32>().map_err(|_| BenchFault::Words)
 }

@@ -1,9 +1,10 @@
--- What the calls of a store leave of what a desk keeps: how honest the disk is, how many adds the trail has, what is cached.
+-- What a call of the store keeps of `GuardedInvariant`: honesty, number of adds in the trail, keys
+-- of the cached entries.
 use Rattle.std.proofs.Common.{◌≡◌, ℕ, ◌+◌, ◌≤◌, List, [], ◌∷◌, ◌++◌, length, Bool, IsTrue, Result, Ok, Err, refl, sym, ◌∙◌, subst, cond, arith}
 use Rattle.std.proofs.lemmas.List.Sums.{count_by-le-length, sum_by-append}
 use Rattle.bk_record.specs.Key.{EntryKey}
 use Rattle.bk_store.specs.State.{State}
-use Rattle.bk_store.specs.Turns.{AddTurn, DeleteTurn, FenceTurn, TakeTurn}
+use Rattle.bk_store.specs.Transitions.{AddTransition, DeleteTransition, FenceTransition, TakeTransition}
 use Rattle.bk_store.specs.declared.adding.AddKind.{AddKind}
 use Rattle.bk_store.specs.declared.answer.Added.{Added}
 use Rattle.bk_store.specs.declared.answer.Added.TheVariants.{Accepted, Held}
@@ -22,7 +23,7 @@ use Rattle.bk_store.specs.declared.answer.FenceFault.TheVariants as fence_faults
 use Rattle.bk_store.specs.declared.mark.Mark.{Mark}
 use Rattle.bk_store.specs.declared.mark.Mark.TheVariants as marks
 use Rattle.bk_bookie.specs.Adds.{add_count, accepted_count, is_add}
-use Rattle.bk_bookie.specs.Desk.{DeskState, AreKeyed, IsDesk}
+use Rattle.bk_bookie.specs.Guarded.{GuardedState, AreKeyed, GuardedInvariant}
 use Rattle.bk_bookie.proofs.Keyed.{keyed_added, keyed_without}
 
 pub add_count-le : (trail : List Mark) → add_count trail ≤ length trail
@@ -31,8 +32,8 @@ add_count-le trail = count_by-le-length is_add trail
 add_count-push : (trail : List Mark) (mark : Mark) → add_count (trail ++ mark ∷ []) ≡ add_count trail + add_count (mark ∷ [])
 add_count-push trail mark = sum_by-append (λ (m : Mark). cond (is_add m) 1 0) trail (mark ∷ [])
 
--- the disk is as honest as before, so many more adds are in the trail, and beside an honest disk what is cached stands under
--- its key
+-- Honesty is unchanged, the trail has `accepted` adds more, and on an honest disk each cached
+-- payload is stored under its key.
 pub record Leaves (s t : State) (accepted : ℕ) : Type 0 where
   pub honest : t.honest ≡ s.honest
   pub adds : add_count t.ledgers.trail ≡ add_count s.ledgers.trail + accepted
@@ -44,7 +45,7 @@ leaves_as s u t accepted leaves is = subst (λ (x : State). Leaves s x accepted)
 pub leaves_same : (s t : State) → t ≡ s → Leaves s t 0
 leaves_same s t is = leaves_as s s t 0 (record { honest = refl; adds = omega arith; keyed = λ _ keyed. keyed }) is
 
-pub add_leaves : (s t : State) (kind : AddKind) (payload : List ℕ) (r : Result Added AddFault) → AddTurn s kind payload r t
+pub add_leaves : (s t : State) (kind : AddKind) (payload : List ℕ) (r : Result Added AddFault) → AddTransition s kind payload r t
     → Leaves s t (accepted_count r)
 add_leaves s t kind payload (Err (add_faults.Bad fault)) turn = leaves_same s t turn.1
 add_leaves s t kind payload (Err add_faults.Deleted) turn = leaves_same s t turn.3
@@ -59,7 +60,7 @@ add_leaves s t kind payload (Ok (Accepted receipt)) turn =
       keyed = λ _ keyed. keyed_added s.caches payload turn.0.key turn.0.reads keyed;
     }) turn.3
 
-pub delete_leaves : (s t : State) (ledger : ℕ) (r : Result ℕ DeleteFault) → DeleteTurn s ledger r t → Leaves s t 0
+pub delete_leaves : (s t : State) (ledger : ℕ) (r : Result ℕ DeleteFault) → DeleteTransition s ledger r t → Leaves s t 0
 delete_leaves s t ledger (Err delete_faults.AlreadyDeleted) turn = leaves_same s t turn.1
 delete_leaves s t ledger (Err delete_faults.Memory) turn = leaves_same s t turn.1
 delete_leaves s t ledger (Ok n) turn =
@@ -69,15 +70,15 @@ delete_leaves s t ledger (Ok n) turn =
       keyed = λ _ keyed. keyed_without s.caches ledger keyed;
     }) turn.2
 
--- a desk on whose store a call was made is one still, where its book counts so many adds more
-pub desk_on : (d : DeskState) (t : State) (honest : Bool) (parts total rest amount now accepted : ℕ) → IsDesk d honest parts total rest amount
-    → Leaves d.store t accepted → now ≡ total + accepted → IsDesk (record d { store = t }) honest parts now rest amount
-desk_on d t honest parts total rest amount now accepted desk leaves is = record {
-  honest_is = leaves.honest ∙ desk.honest_is;
-  keyed = λ truth. leaves.keyed (subst IsTrue (sym desk.honest_is) truth) (desk.keyed truth);
-  adds = omega (arith, is, leaves.adds, desk.adds);
-  idle = desk.idle;
-  within = desk.within;
-  all = desk.all;
-  left = desk.left;
+-- The invariant holds after a call on the store, if the book counts the same number of new adds.
+pub desk_on : (d : GuardedState) (t : State) (honest : Bool) (parts total rest amount now accepted : ℕ) → GuardedInvariant d honest parts total rest amount
+    → Leaves d.store t accepted → now ≡ total + accepted → GuardedInvariant (record d { store = t }) honest parts now rest amount
+desk_on d t honest parts total rest amount now accepted guarded leaves is = record {
+  honest_is = leaves.honest ∙ guarded.honest_is;
+  keyed = λ truth. leaves.keyed (subst IsTrue (sym guarded.honest_is) truth) (guarded.keyed truth);
+  adds = omega (arith, is, leaves.adds, guarded.adds);
+  idle = guarded.idle;
+  within = guarded.within;
+  all = guarded.all;
+  left = guarded.left;
 }

@@ -1,4 +1,4 @@
--- What a take gives, and what a read-back gives, beside an honest disk.
+-- Results of a take and of a read-back on an honest disk.
 use Rattle.std.proofs.Common.{◌≡◌, ℕ, List, Option, Some, None, IsTrue, IsSome, Bool, true, false, Result, Ok, Err, refl, sym, ◌∙◌, subst, if◌then◌else◌}
 use Rattle.std.specs.Option.{option_or}
 use Rattle.std.specs.FinMap as finite
@@ -11,63 +11,63 @@ use Rattle.bk_record.specs.Scan.{Payloads, Ledgers, scan_of}
 use Rattle.bk_record.proofs.ReadKeys.{addable}
 use Rattle.sha2.specs.Sha256.{sha256}
 use Rattle.bk_cache.specs.Caches as caches
-use Rattle.bk_store.specs.Carried.{Cached, Carries}
-use Rattle.bk_store.specs.Ledgers.{FollowsTrail}
-use Rattle.bk_store.specs.Plain.{IsKept, Plain, PlainTake, MatchesPlain}
+use Rattle.bk_store.specs.Representation.{Cached, Represents}
+use Rattle.bk_store.specs.Ledgers.{LedgersMatchTrail}
+use Rattle.bk_store.specs.Abstract.{SatisfiesInvariant, AbstractState, AbstractTake, StoreRefines}
 use Rattle.bk_store.specs.State.{State}
-use Rattle.bk_store.specs.Trail.{HasDigest, Replays}
-use Rattle.bk_store.specs.Turns.{TakeTurn}
+use Rattle.bk_store.specs.Trail.{HasDigest, MapMatchesTrail}
+use Rattle.bk_store.specs.Transitions.{TakeTransition}
 use Rattle.bk_store.specs.declared.answer.Taken.{Taken}
 use Rattle.bk_store.specs.declared.answer.Taken.TheVariants as takes
 use Rattle.bk_store.specs.declared.answer.TakeFault.{TakeFault}
 use Rattle.bk_store.specs.declared.mark.Receipt.{Receipt}
-use Rattle.bk_bookie.specs.Desk.{AreKeyed}
-use Rattle.bk_bookie.specs.Calls.{GivesEntry, GivesBack, told_back_of}
-use Rattle.bk_bookie.specs.Passes.{told_of}
+use Rattle.bk_bookie.specs.Guarded.{AreKeyed}
+use Rattle.bk_bookie.specs.Calls.{GivesEntry, GivesBack, read_back_result_of}
+use Rattle.bk_bookie.specs.Passes.{call_result_of}
 use Rattle.bk_bookie.specs.Receipts.{Stands}
 
--- what a store carries is what it means
+-- The map that a store represents is its logical contents.
 abbrev pub MeaningLaw : Type 0
 MeaningLaw = (files : Files) (index : Places) (cached : Cached) (dead : Ledgers) (map : Payloads)
-    → Carries (file_of files) index cached dead map → (key : EntryKey)
+    → Represents (file_of files) index cached dead map → (key : EntryKey)
     → finite.get map key ≡ (if set.contains dead key.ledger then None else option_or (cached key) (finite.get (scan_of files) key))
 
--- a take of a store answers as the plain map does
+-- A take of a store answers as the abstract map does.
 abbrev pub TakeLaw : {V : Type 0} → (V → List ℕ) → (V → Bool) → (V → Bool) → Type 0
-TakeLaw {V = V} bytes honest sound = (s t : State) (p : Plain) (key : EntryKey) (answer : Result (Taken V) TakeFault) → IsKept s → IsTrue s.honest
-    → MatchesPlain s p → TakeTurn bytes honest sound s key answer t → PlainTake bytes honest p key answer × MatchesPlain t p
+TakeLaw {V = V} bytes honest sound = (s t : State) (p : AbstractState) (key : EntryKey) (answer : Result (Taken V) TakeFault) → SatisfiesInvariant s → IsTrue s.honest
+    → StoreRefines s p → TakeTransition bytes honest sound s key answer t → AbstractTake bytes honest p key answer × StoreRefines t p
 
--- the map that a store carries, which has what its trail tells
+-- The map that a store represents. It has the entries that the trail reports.
 pub record HasMap (s : State) : Type 0 where
   pub map : Payloads
-  pub carries : Carries (file_of s.files) s.index (caches.held s.caches) s.ledgers.dead map
-  pub replays : Replays map s.ledgers.trail
-  pub follows : FollowsTrail s.ledgers
+  pub carries : Represents (file_of s.files) s.index (caches.write_cached_payload s.caches) s.ledgers.dead map
+  pub replays : MapMatchesTrail map s.ledgers.trail
+  pub follows : LedgersMatchTrail s.ledgers
 
-pub map_of : (s : State) → IsKept s → IsTrue s.honest → HasMap s
+pub map_of : (s : State) → SatisfiesInvariant s → IsTrue s.honest → HasMap s
 map_of s kept truth =
-    let promise = kept.keeps.promises (subst (λ (x : State). IsTrue x.honest) (sym kept.seen) truth) in
+    let reveal_invariant = kept.keeps.promises (subst (λ (x : State). IsTrue x.honest) (sym kept.seen) truth) in
     subst (λ (x : State). HasMap x) kept.seen
-    (record { map = promise.map.carried; carries = promise.map.carries; replays = promise.map.replays; follows = kept.keeps.fits.ledgers })
+    (record { map = reveal_invariant.map.carried; carries = reveal_invariant.map.carries; replays = reveal_invariant.map.replays; follows = kept.keeps.fits.ledgers })
 
--- a payload that a write cache has is of its key
-held_key : (c : caches.CacheState) → AreKeyed c → (key : EntryKey) (payload : List ℕ) → caches.held c key ≡ Some payload → key_of payload ≡ Some key
+-- A payload in a write cache has the key that it is stored under.
+held_key : (c : caches.CacheState) → AreKeyed c → (key : EntryKey) (payload : List ℕ) → caches.write_cached_payload c key ≡ Some payload → key_of payload ≡ Some key
 held_key c keyed key payload is = (addable payload key (held_reads (finite.get c.active key) refl)).keyed where
   held_reads : (a : Option (List ℕ)) → finite.get c.active key ≡ a → read_added payload ≡ Ok key
   held_reads (Some x) at = keyed.active key payload (let e : option_or (Some x) (finite.get (caches.flush_of c) key) ≡ Some payload = rw at at is in at ∙ e)
   held_reads None at = keyed.flush key payload (rw at at is)
 
-module _ (s : State) (kept : IsKept s) (truth : IsTrue s.honest) (keyed : AreKeyed s.caches) where
+module _ (s : State) (kept : SatisfiesInvariant s) (truth : IsTrue s.honest) (keyed : AreKeyed s.caches) where
   abbrev pub has : HasMap s
   has = map_of s kept truth
 
-  abbrev pub plain : Plain
+  abbrev pub plain : AbstractState
   plain = record { map = has.map; ledgers = s.ledgers; active = s.caches.active; flush = s.caches.flush }
 
-  -- a payload of the map is of its key
+  -- A payload of the map has the key that it is stored under.
   mapped_key : (key : EntryKey) (payload : List ℕ) → finite.get has.map key ≡ Some payload → key_of payload ≡ Some key
-  mapped_key key payload is = by_cache (caches.held s.caches key) refl where
-    by_cache : (h : Option (List ℕ)) → caches.held s.caches key ≡ h → key_of payload ≡ Some key
+  mapped_key key payload is = by_cache (caches.write_cached_payload s.caches key) refl where
+    by_cache : (h : Option (List ℕ)) → caches.write_cached_payload s.caches key ≡ h → key_of payload ≡ Some key
     by_cache (Some cached) at =
         let same : cached ≡ payload = (let e : Some cached ≡ Some payload = sym (has.carries.cached_is key cached at) ∙ is in cc) in
         subst (λ (x : List ℕ). key_of x ≡ Some key) same (held_key s.caches keyed key cached at)
@@ -79,20 +79,20 @@ module _ (s : State) (kept : IsKept s) (truth : IsTrue s.honest) (keyed : AreKey
           let same : indexed.payload ≡ payload = (let e : Some indexed.payload ≡ Some payload = sym indexed.mapped ∙ is in cc) in
           subst (λ (x : List ℕ). key_of x ≡ Some key) same indexed.stands.keyed
 
-  pub matches : MeaningLaw → MatchesPlain s plain
+  pub matches : MeaningLaw → StoreRefines s plain
   matches meaning = record {
-    meaning = λ key. meaning s.files s.index (caches.held s.caches) s.ledgers.dead has.map has.carries key;
+    meaning = λ key. meaning s.files s.index (caches.write_cached_payload s.caches) s.ledgers.dead has.map has.carries key;
     ledgers = refl;
     active = refl;
     flush = refl;
   }
 
   module _ (meaning : MeaningLaw) {V : Type 0} (bytes : V → List ℕ) (honest sound : V → Bool) (law : TakeLaw bytes honest sound) where
-    taken : (t : State) (key : EntryKey) (r : Result (Taken V) TakeFault) → TakeTurn bytes honest sound s key r t → PlainTake bytes honest plain key r
+    taken : (t : State) (key : EntryKey) (r : Result (Taken V) TakeFault) → TakeTransition bytes honest sound s key r t → AbstractTake bytes honest plain key r
     taken t key r turn = (law s t plain key r kept truth (matches meaning) turn).0
 
-    pub take_gives : (t : State) (key : EntryKey) (r : Result (Taken V) TakeFault) → TakeTurn bytes honest sound s key r t
-        → GivesEntry bytes honest key (told_of r)
+    pub take_gives : (t : State) (key : EntryKey) (r : Result (Taken V) TakeFault) → TakeTransition bytes honest sound s key r t
+        → GivesEntry bytes honest key (call_result_of r)
     take_gives t key (Ok takes.Deleted) turn = tt
     take_gives t key (Ok (takes.Cached payload)) turn = mapped_key key payload.value.items (taken t key (Ok (takes.Cached payload)) turn).1
     take_gives t key (Ok takes.NotHeld) turn = tt
@@ -101,12 +101,12 @@ module _ (s : State) (kept : IsKept s) (truth : IsTrue s.honest) (keyed : AreKey
     take_gives t key (Err fault) turn = tt
 
     module _ (receipt : Receipt) (stands : Stands s.ledgers.trail receipt) where
-      -- the map has the receipt's digest, where the ledger of its key lives
+      -- The map has the digest of the receipt if the ledger of its key is live.
       has_digest : set.contains s.ledgers.dead receipt.key.ledger ≡ false → HasDigest has.map receipt.key receipt.digest
       has_digest alive = has.replays.has receipt.number receipt.key receipt.digest stands
           (λ out. let wrong : true ≡ false = sym (has.follows.gone receipt.key.ledger out) ∙ alive in cc)
 
-      -- a payload that the map has for the receipt's key is the receipt's
+      -- A payload that the map has for the key of a receipt has the receipt's digest.
       digest_is : (payload : List ℕ) → set.contains s.ledgers.dead receipt.key.ledger ≡ false → finite.get has.map receipt.key ≡ Some payload
           → receipt.digest ≡ sha256 payload
       digest_is payload alive is =
@@ -114,8 +114,8 @@ module _ (s : State) (kept : IsKept s) (truth : IsTrue s.honest) (keyed : AreKey
           let same : found.0 ≡ payload = (let e : Some found.0 ≡ Some payload = sym found.1 ∙ is in cc) in
           subst (λ (x : List ℕ). receipt.digest ≡ sha256 x) same found.2
 
-      pub read_back_gives : (t : State) (r : Result (Taken V) TakeFault) → TakeTurn bytes honest sound s receipt.key r t
-          → GivesBack bytes honest receipt (told_back_of r)
+      pub read_back_gives : (t : State) (r : Result (Taken V) TakeFault) → TakeTransition bytes honest sound s receipt.key r t
+          → GivesBack bytes honest receipt (read_back_result_of r)
       read_back_gives t (Ok takes.Deleted) turn = tt
       read_back_gives t (Ok (takes.Cached payload)) turn =
           let told = taken t receipt.key (Ok (takes.Cached payload)) turn in

@@ -1,4 +1,4 @@
--- What is cached stands under its key, whatever comes in and goes out.
+-- Cached payloads are stored under their keys (`AreKeyed`), through every transition.
 use Rattle.std.proofs.Common.{◌≡◌, inl, inr, ℕ, List, Option, Some, None, Ok, true, false, eqb, cond, sym, ap, ◌∙◌, subst, option_map}
 use Rattle.std.specs.FinMap as finite
 use Rattle.std.specs.FinMap.{get-empty}
@@ -11,7 +11,7 @@ use Rattle.bk_cache.specs.Caches as caches
 use Rattle.bk_record.proofs.KeyedLaws.{get-without_ledger}
 use Rattle.bk_record.proofs.Keys.{key_cmp_total, key_cmp_antisymmetric}
 use Rattle.bk_record.proofs.Maps.{get-insert_cases}
-use Rattle.bk_bookie.specs.Desk.{AreKeyed}
+use Rattle.bk_bookie.specs.Guarded.{AreKeyed}
 
 pub all_keyed_empty : caches.AllKeyed finite.empty
 all_keyed_empty key payload is = let wrong : ◌≡◌ {A = Option (List ℕ)} None (Some payload) = sym (get-empty key_cmp key) ∙ is in cc
@@ -24,11 +24,11 @@ all_keyed_without m ledger keyed key payload is =
       | false ↦ λ there. there
     ] left)
 
--- caches without an entry
+-- Empty caches.
 pub keyed_new : (limit most : ℕ) → AreKeyed (caches.new_caches limit most)
 keyed_new limit most = record { active = all_keyed_empty; flush = all_keyed_empty }
 
--- an accepted payload gives its key
+-- An accepted payload gives its key.
 added_is : (payload : List ℕ) (key : EntryKey) → read_added payload ≡ Ok key → caches.added_key payload ≡ key
 added_is payload key reads = ap (λ r. result_unwrap_or r (record { ledger = 0; entry = 0 })) reads
 

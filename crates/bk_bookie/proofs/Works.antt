@@ -1,44 +1,44 @@
--- What a step of the store leaves of what a desk keeps.
+-- What a step of the store alone keeps of `GuardedInvariant`.
 use Rattle.std.proofs.Common.{◌≡◌, IsTrue, Result, Ok, Err, sym, ap, subst, arith}
 use Rattle.bk_cache.specs.Caches as caches
-use Rattle.bk_store.specs.Plain.{IsKept, Plain, MatchesPlain, after_swap}
+use Rattle.bk_store.specs.Abstract.{SatisfiesInvariant, AbstractState, StoreRefines, abstract_after_swap}
 use Rattle.bk_store.specs.State.{State}
-use Rattle.bk_store.specs.declared.answer.SwapAnswer.{SwapAnswer}
-use Rattle.bk_store.specs.declared.answer.SwapAnswer.TheVariants.{Running, Nothing, Swapped}
-use Rattle.bk_drive.specs.Plain.{after_publish, after_work}
+use Rattle.bk_cache.specs.declared.swap.Swap.{Swap}
+use Rattle.bk_cache.specs.declared.swap.Swap.TheVariants.{Running, Nothing, Swapped}
+use Rattle.bk_drive.specs.Abstract.{abstract_after_publish, abstract_after_work}
 use Rattle.bk_drive.specs.declared.step.Answer.{Answer}
 use Rattle.bk_drive.specs.declared.step.Answer.TheVariants as answers
 use Rattle.bk_flush.specs.declared.answer.PublishAnswer.{PublishAnswer}
 use Rattle.bk_flush.specs.declared.answer.PublishAnswer.TheVariants as publishes
-use Rattle.bk_step.specs.declared.fault.StepFault.{StepFault}
+use Rattle.bk_store.specs.declared.step_fault.StepFault.{StepFault}
 use Rattle.bk_bookie.specs.Adds.{add_count}
-use Rattle.bk_bookie.specs.Desk.{AreKeyed}
+use Rattle.bk_bookie.specs.Guarded.{AreKeyed}
 use Rattle.bk_bookie.proofs.Counts.{Leaves}
 use Rattle.bk_bookie.proofs.Gives.{MeaningLaw, plain, matches}
 use Rattle.bk_bookie.proofs.Keyed.{all_keyed_empty}
 
--- the caches with the pairs that a plain state has
-abbrev cached_as : caches.CacheState → Plain → caches.CacheState
+-- The caches with the entries of an abstract state.
+abbrev cached_as : caches.CacheState → AbstractState → caches.CacheState
 cached_as c p = record c { active = p.active; flush = p.flush }
 
-swap_keyed : (c : caches.CacheState) (r : SwapAnswer) (p : Plain) → AreKeyed (cached_as c p) → AreKeyed (cached_as c (after_swap r p))
+swap_keyed : (c : caches.CacheState) (r : Swap) (p : AbstractState) → AreKeyed (cached_as c p) → AreKeyed (cached_as c (abstract_after_swap r p))
 swap_keyed c Running p keyed = keyed
 swap_keyed c Nothing p keyed = keyed
 swap_keyed c (Swapped n) p keyed = record { active = all_keyed_empty; flush = keyed.active }
 
-publish_keyed : (c : caches.CacheState) (r : Result PublishAnswer StepFault) (p : Plain) → AreKeyed (cached_as c p) → AreKeyed (cached_as c (after_publish r p))
+publish_keyed : (c : caches.CacheState) (r : Result PublishAnswer StepFault) (p : AbstractState) → AreKeyed (cached_as c p) → AreKeyed (cached_as c (abstract_after_publish r p))
 publish_keyed c (Ok (publishes.Published n)) p keyed = record { active = keyed.active; flush = all_keyed_empty }
 publish_keyed c (Ok publishes.NoFlush) p keyed = keyed
 publish_keyed c (Ok publishes.NotAllWritten) p keyed = keyed
 publish_keyed c (Err fault) p keyed = keyed
 
-work_keyed : (c : caches.CacheState) (a : Answer) (p : Plain) → AreKeyed (cached_as c p) → AreKeyed (cached_as c (after_work a p))
+work_keyed : (c : caches.CacheState) (a : Answer) (p : AbstractState) → AreKeyed (cached_as c p) → AreKeyed (cached_as c (abstract_after_work a p))
 work_keyed c (answers.Swap r) p keyed = swap_keyed c r p keyed
 work_keyed c (answers.Publish r) p keyed = publish_keyed c r p keyed
 work_keyed c _ p keyed = keyed
 
-pub work_leaves : (s t : State) (a : Answer) → IsKept s → MeaningLaw → t.honest ≡ s.honest → t.ledgers ≡ s.ledgers
-    → (IsTrue s.honest → (p : Plain) → MatchesPlain s p → MatchesPlain t (after_work a p)) → Leaves s t 0
+pub work_leaves : (s t : State) (a : Answer) → SatisfiesInvariant s → MeaningLaw → t.honest ≡ s.honest → t.ledgers ≡ s.ledgers
+    → (IsTrue s.honest → (p : AbstractState) → StoreRefines s p → StoreRefines t (abstract_after_work a p)) → Leaves s t 0
 work_leaves s t a kept meaning honest ledgers agrees = record {
   honest = honest;
   adds = (let same = ap (λ l. add_count l.trail) ledgers in omega (arith, same));

@@ -1,5 +1,5 @@
 pub mod Adds
 pub mod Passes
 pub mod Receipts
-pub mod Desk
+pub mod Guarded
 pub mod Calls

@@ -1,15 +1,15 @@
-//! A bookie: a store that many threads share, behind one lock.
+//! A bookie: one store that many threads share, behind one mutex.
 
 ghost use Rattle.std.specs.Prelude.{◌≡◌, ◌↔◌, ◌+◌, ◌≤◌, IfOk, IfErr, IsTrue};
 ghost use Rattle.bk_store.specs.Limits.{IsAllowed};
 ghost use Rattle.bk_store.specs.Opening.{OpenFails};
 ghost use Rattle.bk_bookie.specs.Adds.{accepted_count};
-ghost use Rattle.bk_bookie.specs.Calls.{GivesEntry, GivesBack, SeesReceipt};
-ghost use Rattle.bk_bookie.specs.Passes.{SeesOn};
+ghost use Rattle.bk_bookie.specs.Calls.{GivesEntry, GivesBack, ReadBackObserves};
+ghost use Rattle.bk_bookie.specs.Passes.{SeenIsMonotone};
 ghost use Rattle.bk_bookie.specs.Receipts.{GivesReceipt};
 
-use crate::desk::Desk;
-use crate::offered::Offered;
+use crate::add_request::AddRequest;
+use crate::guarded::Guarded;
 use crate::pass::{AddLedger, Pass};
 use crate::{CallFault, NoPass, ReadBackFault};
 use bk_disk::LogDisk;
@@ -23,15 +23,17 @@ use std::alloc::Global;
 use std::sync::ledger::Blank;
 use std::sync::{Mutex, Wait};
 
-/// A store behind one lock. Each call by a pass, and each step, is one hold of the lock; a lease that a take gives is read
-/// and given back with no lock.
+/// Thread-safe bookie over one `Store`.
+///
+/// Each call by a pass, and each step, is one critical section. A lease that `take` returns is read
+/// and released without the lock.
 #[derive(Drop)]
 pub struct Bookie<L: AddLedger, D: LogDisk> {
-    pub(crate) desk: Mutex<Desk<L, D>>,
+    pub(crate) guarded: Mutex<Guarded<L, D>>,
     pub(crate) alloc: Global,
 }
 
-/// Why a bookie was not opened; and its ledger, which was not begun.
+/// Why a bookie was not opened, and its blank ledger, which is unused.
 #[derive(Drop)]
 pub struct OpenRefused {
     pub fault: OpenFault,
@@ -39,10 +41,14 @@ pub struct OpenRefused {
 }
 
 impl<L: AddLedger, D: LogDisk> Bookie<L, D> {
-    /// Opens a bookie on the logs of a disk, from which so many passes may be had. `dead` are the ledgers that were deleted
-    /// before. `blank` is a ledger of std which has a part for each pass and one more.
+    /// Opens a bookie on the logs of a disk.
     ///
-    /// Faults: those of `Store::open`, in its order, with the blank ledger as it was. A refusal lets the disk go.
+    /// `passes` passes can be created. `blank` is a ledger of std with one part per pass and one
+    /// more. `dead` lists the ledgers deleted earlier.
+    ///
+    /// # Errors
+    ///
+    /// Those of `Store::open`, in its order. The blank ledger is returned; the disk is dropped.
     pub fn open(
         alloc: Global,
         blank: Blank,
@@ -62,125 +68,149 @@ impl<L: AddLedger, D: LogDisk> Bookie<L, D> {
     {
         match Store::open(alloc, disk, settings, dead) {
             Ok(store) => Ok(Bookie {
-                desk: Mutex::new(Desk::new(store, blank, passes)),
+                guarded: Mutex::new(Guarded::new(store, blank, passes)),
                 alloc,
             }),
             Err(fault) => Err(OpenRefused { fault, blank }),
         }
     }
 
-    /// A pass, which counts no add and has seen no mark. `NoPass` where as many as the bookie was opened for were made.
+    /// Creates a pass.
+    ///
+    /// # Errors
+    ///
+    /// - `NoPass` if all passes of this bookie have been created.
     pub fn pass(&self, rt: &impl Wait) -> Result<Pass<L>, NoPass>
         ensures { IfOk result (λ p. p ≡ record { adds = 0; seen = 0 }) }
     {
-        self.desk.lock(rt).pass()
+        self.guarded.lock(rt).pass()
     }
 
-    /// Adds an entry as `Store::add` does. The payload is checked and copied, and its SHA-256 is taken, before the lock is. Where
-    /// it is accepted the pass counts one add more, and the receipt tells the place of its mark, its key, and the SHA-256 of its
-    /// payload.
+    /// Adds an entry as `Store::add` does.
     ///
-    /// Faults, tried in this order: `Backwards` where the trail is shorter than what the pass has seen; `Of` with the fault
-    /// of `Store::add`.
+    /// Checks and copies the payload and computes its SHA-256 before it takes the lock. If the
+    /// entry is accepted, the pass counts one add more. The receipt has the number of the entry's
+    /// mark in the trail, its key, and the SHA-256 of its payload.
+    ///
+    /// # Errors
+    ///
+    /// In this order; the store is unchanged:
+    ///
+    /// - `Backwards`: the trail is shorter than the pass has observed.
+    /// - `Of`: a fault of `Store::add`.
     pub fn add(
         &self,
         rt: &impl Wait,
         pass: &mut Pass<L>,
         payload: &[u8],
     ) -> Result<Added, CallFault<AddFault>>
-        ensures seen { SeesOn pass.old result pass.new }
+        ensures seen { SeenIsMonotone pass.old result pass.new }
         ensures count { pass.new.adds ≡ pass.old.adds + accepted_count result }
         ensures receipt { GivesReceipt pass.old pass.new payload.now result }
     {
-        let offered = Offered::new(self.alloc, payload);
-        self.desk.lock(rt).add(AddKind::Ordinary, pass, offered)
+        let offered = AddRequest::new(self.alloc, payload);
+        self.guarded.lock(rt).add(AddKind::Ordinary, pass, offered)
     }
 
-    /// Adds an entry as `Store::add_recovery` does, to a fenced ledger too. It answers as `add` does, but never `Fenced`.
+    /// Adds an entry as `Store::add_recovery` does: a fence does not refuse it.
+    ///
+    /// # Errors
+    ///
+    /// As `add`, but never `Fenced`.
     pub fn add_recovery(
         &self,
         rt: &impl Wait,
         pass: &mut Pass<L>,
         payload: &[u8],
     ) -> Result<Added, CallFault<AddFault>>
-        ensures seen { SeesOn pass.old result pass.new }
+        ensures seen { SeenIsMonotone pass.old result pass.new }
         ensures count { pass.new.adds ≡ pass.old.adds + accepted_count result }
         ensures receipt { GivesReceipt pass.old pass.new payload.now result }
     {
-        let offered = Offered::new(self.alloc, payload);
-        self.desk.lock(rt).add(AddKind::Recovery, pass, offered)
+        let offered = AddRequest::new(self.alloc, payload);
+        self.guarded.lock(rt).add(AddKind::Recovery, pass, offered)
     }
 
-    /// The entry of a key, as `Store::take` gives it: a cached payload, or a lease, which needs no lock to be read or given
-    /// back.
+    /// Returns the entry of a key as `Store::take` does: a cached payload or a lease.
     ///
-    /// Faults, tried in this order: `Backwards` where the trail is shorter than what the pass has seen; `Of` with the fault
-    /// of `Store::take`.
+    /// # Errors
+    ///
+    /// - `Backwards`: the trail is shorter than the pass has observed.
+    /// - `Of`: a fault of `Store::take`.
     pub fn take(
         &self,
         rt: &impl Wait,
         pass: &mut Pass<L>,
         key: Key,
     ) -> Result<Taken<D::View>, CallFault<TakeFault>>
-        ensures seen { SeesOn pass.old result pass.new }
+        ensures seen { SeenIsMonotone pass.old result pass.new }
         ensures count { pass.new.adds ≡ pass.old.adds }
         ensures gives { IsTrue L.honest → GivesEntry D.View.bytes D.View.honest key result }
     {
-        self.desk.lock(rt).take(pass, key)
+        self.guarded.lock(rt).take(pass, key)
     }
 
-    /// The entry of a receipt, once the trail was found to have the receipt's mark at its number.
+    /// Returns the entry of a receipt, if the trail has the receipt's mark at its number.
     ///
-    /// Faults, tried in this order: `Backwards` where the trail is shorter than what the pass has seen; `Missing` with the
-    /// trail's length where it ends before the receipt's number; `Differs` with the mark that stands there, where it is not
-    /// the receipt's; `Of` with the fault of `Store::take`.
+    /// # Errors
+    ///
+    /// In this order; nothing changes except what the pass has observed:
+    ///
+    /// - `Backwards`: the trail is shorter than the pass has observed.
+    /// - `Missing`: the trail ends before the receipt's number. Has the length of the trail.
+    /// - `Differs`: the trail has another mark there. Has that mark.
+    /// - `Of`: a fault of `Store::take`.
     pub fn read_back(
         &self,
         rt: &impl Wait,
         pass: &mut Pass<L>,
         receipt: &Receipt,
     ) -> Result<Taken<D::View>, ReadBackFault>
-        ensures seen { SeesReceipt pass.old receipt.now result pass.new }
+        ensures seen { ReadBackObserves pass.old receipt.now result pass.new }
         ensures count { pass.new.adds ≡ pass.old.adds }
         ensures gives { IsTrue L.honest → GivesBack D.View.bytes D.View.honest receipt.now result }
     {
-        self.desk.lock(rt).read_back(pass, receipt)
+        self.guarded.lock(rt).read_back(pass, receipt)
     }
 
     /// Deletes a ledger as `Store::delete` does.
     ///
-    /// Faults, tried in this order: `Backwards` where the trail is shorter than what the pass has seen; `Of` with the fault
-    /// of `Store::delete`.
+    /// # Errors
+    ///
+    /// - `Backwards`: the trail is shorter than the pass has observed.
+    /// - `Of`: a fault of `Store::delete`.
     pub fn delete(
         &self,
         rt: &impl Wait,
         pass: &mut Pass<L>,
         ledger: u64,
     ) -> Result<u64, CallFault<DeleteFault>>
-        ensures seen { SeesOn pass.old result pass.new }
+        ensures seen { SeenIsMonotone pass.old result pass.new }
         ensures count { pass.new.adds ≡ pass.old.adds }
     {
-        self.desk.lock(rt).delete(pass, ledger)
+        self.guarded.lock(rt).delete(pass, ledger)
     }
 
     /// Fences a ledger as `Store::fence` does.
     ///
-    /// Faults, tried in this order: `Backwards` where the trail is shorter than what the pass has seen; `Of` with the fault
-    /// of `Store::fence`.
+    /// # Errors
+    ///
+    /// - `Backwards`: the trail is shorter than the pass has observed.
+    /// - `Of`: a fault of `Store::fence`.
     pub fn fence(
         &self,
         rt: &impl Wait,
         pass: &mut Pass<L>,
         ledger: u64,
     ) -> Result<Fence, CallFault<FenceFault>>
-        ensures seen { SeesOn pass.old result pass.new }
+        ensures seen { SeenIsMonotone pass.old result pass.new }
         ensures count { pass.new.adds ≡ pass.old.adds }
     {
-        self.desk.lock(rt).fence(pass, ledger)
+        self.guarded.lock(rt).fence(pass, ledger)
     }
 
-    /// One step of the store alone, as `bk_drive::apply` takes it.
+    /// Performs one step of the store alone, as `bk_drive::apply` does.
     pub fn step(&self, rt: &impl Wait, work: Work) -> Answer {
-        self.desk.lock(rt).step(work)
+        self.guarded.lock(rt).step(work)
     }
 }

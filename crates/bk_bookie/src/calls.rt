@@ -1,14 +1,14 @@
-//! The calls of a pass, and a step of the store, each one hold of the lock: what it does to the store, and to the pass.
+//! The calls of a pass and a step, each as one critical section on the shared state.
 
 ghost use Rattle.std.specs.Prelude.{◌≡◌, ◌+◌, ◌<◌, ◌≤◌, IsTrue, IfSome, IfNone};
-ghost use Rattle.bk_store.specs.Turns.{AddTurn, DeleteTurn, FenceTurn, TakeTurn};
-ghost use Rattle.bk_drive.specs.Machine.{WorkTurn};
+ghost use Rattle.bk_store.specs.Transitions.{AddTransition, DeleteTransition, FenceTransition, TakeTransition};
+ghost use Rattle.bk_drive.specs.Machine.{WorkTransition};
 ghost use Rattle.bk_bookie.specs.Adds.{accepted_count, payload_of};
-ghost use Rattle.bk_bookie.specs.Calls.{GivesEntry, GivesBack, ReadBackTurn, told_back_of};
-ghost use Rattle.bk_bookie.specs.Passes.{OneTurn, front_of, told_of};
+ghost use Rattle.bk_bookie.specs.Calls.{GivesEntry, GivesBack, ReadBackTransition, read_back_result_of};
+ghost use Rattle.bk_bookie.specs.Passes.{PassTransition, front_of, call_result_of};
 
-use crate::desk::Desk;
-use crate::offered::Offered;
+use crate::add_request::AddRequest;
+use crate::guarded::Guarded;
 use crate::pass::{AddLedger, Pass};
 use crate::receipts::{Found, look_up};
 use crate::{CallFault, ReadBackFault};
@@ -17,12 +17,12 @@ use bk_drive::{Answer, Work, apply};
 use bk_record::Key;
 use bk_store::{
     AddFault, AddKind, Added, DeleteFault, Fence, FenceFault, Receipt, Store, TakeFault, Taken,
-    carried_is_meaning, take_is_plain,
+    represented_map_is_contents, take_refines_abstract,
 };
 
-/// The answer of a store, as a pass is told it.
+/// Converts a result of the store to one of a pass.
 fn told<T, F>(answer: Result<T, F>) -> Result<T, CallFault<F>>
-    ensures { result ≡ told_of answer }
+    ensures { result ≡ call_result_of answer }
 {
     match answer {
         Ok(value) => Ok(value),
@@ -30,9 +30,9 @@ fn told<T, F>(answer: Result<T, F>) -> Result<T, CallFault<F>>
     }
 }
 
-/// The answer of a take, as it is told where a receipt is read back.
+/// Converts a result of a take to one of a read-back.
 fn told_back<T>(answer: Result<T, TakeFault>) -> Result<T, ReadBackFault>
-    ensures { result ≡ told_back_of answer }
+    ensures { result ≡ read_back_result_of answer }
 {
     match answer {
         Ok(value) => Ok(value),
@@ -40,23 +40,23 @@ fn told_back<T>(answer: Result<T, TakeFault>) -> Result<T, ReadBackFault>
     }
 }
 
-/// An add of this kind.
+/// Adds an offered entry, as an add of this kind.
 fn add_as<D: LogDisk>(
     store: &mut Store<D>,
     kind: AddKind,
-    offered: Offered<'_>,
+    offered: AddRequest<'_>,
 ) -> Result<Added, AddFault>
-    ensures { AddTurn store.old kind (payload_of offered.entry) result store.new }
+    ensures { AddTransition store.old kind (payload_of offered.entry) result store.new }
 {
     match (offered, kind) {
-        (Offered::Prepared(entry), _) => store.add_prepared(kind, entry),
-        (Offered::Lent(payload), AddKind::Ordinary) => store.add(payload),
-        (Offered::Lent(payload), AddKind::Recovery) => store.add_recovery(payload),
+        (AddRequest::Prepared(entry), _) => store.add_prepared(kind, entry),
+        (AddRequest::Lent(payload), AddKind::Ordinary) => store.add(payload),
+        (AddRequest::Lent(payload), AddKind::Recovery) => store.add_recovery(payload),
     }
 }
 
-impl<L: AddLedger, D: LogDisk> Desk<L, D> {
-    /// How long the trail is, where that is shorter than what a pass has seen.
+impl<L: AddLedger, D: LogDisk> Guarded<L, D> {
+    /// Returns the length of the trail if it is shorter than the pass has observed.
     fn behind(&self, pass: &Pass<L>) -> Option<u64>
         ensures some { IfSome result (λ front. (front ≡ front_of self.now.store) × (front < pass.now.seen)) }
         ensures none { IfNone result (pass.now.seen ≤ front_of self.now.store) }
@@ -65,16 +65,16 @@ impl<L: AddLedger, D: LogDisk> Desk<L, D> {
         if front < pass.seen { Some(front) } else { None }
     }
 
-    /// An add of this kind by a pass, which counts it where it is accepted.
+    /// Adds an entry for a pass, which counts it if it is accepted.
     pub fn add(
         &mut self,
         kind: AddKind,
         pass: &mut Pass<L>,
-        offered: Offered<'_>,
+        offered: AddRequest<'_>,
     ) -> Result<Added, CallFault<AddFault>>
-        ensures turn { OneTurn (λ s answer t. AddTurn s kind (payload_of offered.entry) answer t) self.old.store pass.old result self.new.store pass.new }
+        ensures transition { PassTransition (λ s answer t. AddTransition s kind (payload_of offered.entry) answer t) self.old.store pass.old result self.new.store pass.new }
         ensures count { pass.new.adds ≡ pass.old.adds + accepted_count result }
-        ensures beside { self.new ≡ record self.old { store = self.new.store } }
+        ensures internals { self.new ≡ record self.old { store = self.new.store } }
     {
         if let Some(front) = self.behind(pass) {
             return Err(CallFault::Backwards {
@@ -92,11 +92,11 @@ impl<L: AddLedger, D: LogDisk> Desk<L, D> {
         told(answer)
     }
 
-    /// A deletion by a pass.
+    /// Deletes a ledger for a pass.
     pub fn delete(&mut self, pass: &mut Pass<L>, ledger: u64) -> Result<u64, CallFault<DeleteFault>>
-        ensures turn { OneTurn (λ s answer t. DeleteTurn s ledger answer t) self.old.store pass.old result self.new.store pass.new }
+        ensures transition { PassTransition (λ s answer t. DeleteTransition s ledger answer t) self.old.store pass.old result self.new.store pass.new }
         ensures count { pass.new.adds ≡ pass.old.adds }
-        ensures beside { self.new ≡ record self.old { store = self.new.store } }
+        ensures internals { self.new ≡ record self.old { store = self.new.store } }
     {
         if let Some(front) = self.behind(pass) {
             return Err(CallFault::Backwards {
@@ -109,11 +109,11 @@ impl<L: AddLedger, D: LogDisk> Desk<L, D> {
         told(answer)
     }
 
-    /// A fence by a pass.
+    /// Fences a ledger for a pass.
     pub fn fence(&mut self, pass: &mut Pass<L>, ledger: u64) -> Result<Fence, CallFault<FenceFault>>
-        ensures turn { OneTurn (λ s answer t. FenceTurn s ledger answer t) self.old.store pass.old result self.new.store pass.new }
+        ensures transition { PassTransition (λ s answer t. FenceTransition s ledger answer t) self.old.store pass.old result self.new.store pass.new }
         ensures count { pass.new.adds ≡ pass.old.adds }
-        ensures beside { self.new ≡ record self.old { store = self.new.store } }
+        ensures internals { self.new ≡ record self.old { store = self.new.store } }
     {
         if let Some(front) = self.behind(pass) {
             return Err(CallFault::Backwards {
@@ -126,17 +126,17 @@ impl<L: AddLedger, D: LogDisk> Desk<L, D> {
         told(answer)
     }
 
-    /// A take by a pass.
+    /// Takes a key for a pass.
     pub fn take(
         &mut self,
         pass: &mut Pass<L>,
         key: Key,
     ) -> Result<Taken<D::View>, CallFault<TakeFault>>
-        ensures turn { OneTurn (λ s answer t. TakeTurn D.View.bytes D.View.honest D.View.sound s key answer t)
+        ensures transition { PassTransition (λ s answer t. TakeTransition D.View.bytes D.View.honest D.View.sound s key answer t)
             self.old.store pass.old result self.new.store pass.new }
         ensures gives { IsTrue L.honest → GivesEntry D.View.bytes D.View.honest key result }
         ensures count { pass.new.adds ≡ pass.old.adds }
-        ensures beside { self.new ≡ record self.old { store = self.new.store } }
+        ensures internals { self.new ≡ record self.old { store = self.new.store } }
     {
         if let Some(front) = self.behind(pass) {
             return Err(CallFault::Backwards {
@@ -144,26 +144,26 @@ impl<L: AddLedger, D: LogDisk> Desk<L, D> {
                 front,
             });
         }
-        // What any store keeps, and what a take of it gives.
-        self.store.promise();
-        take_is_plain::<D::View>();
-        carried_is_meaning();
+        // Lemma: the store invariant, and what a take returns.
+        self.store.reveal_invariant();
+        take_refines_abstract::<D::View>();
+        represented_map_is_contents();
         let answer = self.store.take(key);
         pass.seen = self.store.front();
         told(answer)
     }
 
-    /// A take of a receipt's key by a pass, where the receipt stands in the trail.
+    /// Takes the key of a receipt for a pass, if the trail has the receipt's mark.
     pub fn read_back(
         &mut self,
         pass: &mut Pass<L>,
         receipt: &Receipt,
     ) -> Result<Taken<D::View>, ReadBackFault>
-        ensures turn { ReadBackTurn (λ s answer t. TakeTurn D.View.bytes D.View.honest D.View.sound s receipt.now.key answer t)
+        ensures transition { ReadBackTransition (λ s answer t. TakeTransition D.View.bytes D.View.honest D.View.sound s receipt.now.key answer t)
             receipt.now self.old.store pass.old result self.new.store pass.new }
         ensures gives { IsTrue L.honest → GivesBack D.View.bytes D.View.honest receipt.now result }
         ensures count { pass.new.adds ≡ pass.old.adds }
-        ensures beside { self.new ≡ record self.old { store = self.new.store } }
+        ensures internals { self.new ≡ record self.old { store = self.new.store } }
     {
         if let Some(front) = self.behind(pass) {
             return Err(ReadBackFault::Backwards {
@@ -178,20 +178,20 @@ impl<L: AddLedger, D: LogDisk> Desk<L, D> {
             Found::Differs(mark) => return Err(ReadBackFault::Differs(mark)),
             Found::Stands => {}
         }
-        self.store.promise();
-        take_is_plain::<D::View>();
-        carried_is_meaning();
+        self.store.reveal_invariant();
+        take_refines_abstract::<D::View>();
+        represented_map_is_contents();
         told_back(self.store.take(receipt.key))
     }
 
-    /// A step of the store.
+    /// Performs one step of the store alone.
     pub fn step(&mut self, work: Work) -> Answer
-        ensures turn { WorkTurn self.old.store work result self.new.store }
-        ensures beside { self.new ≡ record self.old { store = self.new.store } }
+        ensures transition { WorkTransition self.old.store work result self.new.store }
+        ensures internals { self.new ≡ record self.old { store = self.new.store } }
     {
-        // What any store keeps, and so what it means.
-        self.store.promise();
-        carried_is_meaning();
+        // Lemma: the store invariant and the logical contents.
+        self.store.reveal_invariant();
+        represented_map_is_contents();
         apply(&mut self.store, work)
     }
 }

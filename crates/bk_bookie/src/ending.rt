@@ -12,14 +12,14 @@ use bk_disk::LogDisk;
 use bk_store::{Receipt, Store};
 use std::sync::Mutex;
 
-/// What a bookie leaves: its store, and how many adds all its passes count.
+/// What a bookie leaves: its store, and the number of adds that all its passes count.
 #[derive(Drop)]
 pub struct Finished<D: LogDisk> {
     pub store: Store<D>,
     pub adds: u64,
 }
 
-/// Why a bookie was not ended; and the bookie, and the passes that were handed in, as they were.
+/// Why a bookie was not ended, and the bookie and the passes, which are unchanged.
 #[derive(Drop)]
 pub struct FinishRefused<L: AddLedger, D: LogDisk> {
     pub fault: FinishFault,
@@ -28,13 +28,18 @@ pub struct FinishRefused<L: AddLedger, D: LogDisk> {
 }
 
 impl<L: AddLedger, D: LogDisk> Bookie<L, D> {
-    /// Ends the bookie with all the passes that it made, and looks up these receipts in its trail. Its store is given back,
-    /// with the sum of what the passes count, which is the number of adds that the trail has.
+    /// Ends the bookie, given all its passes, and looks up receipts in its trail.
     ///
-    /// Faults, tried in this order: `PassesOut` with the number of passes that were made and are not handed in; then for the
-    /// first receipt that does not stand in the trail, in their order, `Missing` where the trail ends before the receipt's
-    /// number, `Differs` where another mark stands there. A refusal hands the bookie and the passes back as they were.
-    /// It takes no memory.
+    /// Returns the store and the sum of the counts of the passes, which is the number of adds in
+    /// the trail. Does not allocate.
+    ///
+    /// # Errors
+    ///
+    /// In this order; the bookie and the passes are returned unchanged:
+    ///
+    /// - `PassesOut`: N passes were created and not handed in.
+    /// - for the first receipt, in the order of the list, whose mark is not in the trail: `Missing`
+    ///   if the trail ends before its number, `Differs` if the trail has another mark there.
     pub fn finish(
         self,
         passes: Vec<Pass<L>>,
@@ -46,13 +51,13 @@ impl<L: AddLedger, D: LogDisk> Bookie<L, D> {
         ensures passes { IfErr result (λ refused. refused.passes ≡ passes) }
     {
         let alloc = self.alloc;
-        let desk = self.desk.into_inner();
-        match desk.refusal(passes.len(), receipts) {
-            None => Ok(desk.close(passes)),
+        let guarded = self.guarded.into_inner();
+        match guarded.refusal(passes.len(), receipts) {
+            None => Ok(guarded.close(passes)),
             Some(fault) => Err(FinishRefused {
                 fault,
                 bookie: Bookie {
-                    desk: Mutex::new(desk),
+                    guarded: Mutex::new(guarded),
                     alloc,
                 },
                 passes,

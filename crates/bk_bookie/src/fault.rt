@@ -1,37 +1,37 @@
-//! Why calls are refused.
+//! Errors of a bookie.
 
 use bk_store::{Mark, TakeFault};
 use std::fmt::Debug;
 use thiserror::Error;
 
-/// Why a call by a pass was refused. Nothing was changed.
+/// Why a call by a pass was refused. The store is unchanged.
 #[derive(Clone, Copy, Debug, PartialEq, Eq)]
 pub enum CallFault<F> {
-    /// The trail has `front` marks, and the pass was told of `seen`, which are more. No store of one's own answers so: its
-    /// trail only grows.
+    /// The trail has `front` marks, and the pass has observed `seen`, which is more. Does not occur
+    /// for a pass of this bookie, since its trail only grows.
     Backwards { seen: u64, front: u64 },
-    /// What the store says.
+    /// A fault of the store.
     Of(F),
 }
 
-/// Why a receipt was not read back. Nothing was changed.
+/// Why a receipt was not read back. The store is unchanged.
 #[derive(Clone, Copy, Debug, PartialEq, Eq, Error)]
 pub enum ReadBackFault {
-    /// The trail has `front` marks, and the pass was told of `seen`, which are more.
+    /// The trail has `front` marks, and the pass has observed `seen`, which is more.
     #[error("backwards {seen} {front}")]
     Backwards { seen: u64, front: u64 },
-    /// The trail has this many marks, and so none of the receipt's number.
+    /// The trail has this many marks, so it ends before the receipt's number.
     #[error("missing {0}")]
     Missing(u64),
-    /// This mark stands at the receipt's number, which is not the receipt's.
+    /// The trail has this mark at the receipt's number, and it is not the receipt's.
     #[error("differs")]
     Differs(Mark),
-    /// What the store says of the receipt's key.
+    /// A fault of the take.
     #[error("{0}")]
     Of(TakeFault),
 }
 
-/// As many passes as may be were made.
+/// All passes of the bookie have been created.
 #[derive(Clone, Copy, Debug, PartialEq, Eq, Error)]
 #[error("no pass")]
 pub struct NoPass;
@@ -39,13 +39,13 @@ pub struct NoPass;
 /// Why a bookie was not ended.
 #[derive(Clone, Copy, Debug, PartialEq, Eq, Error)]
 pub enum FinishFault {
-    /// So many passes that were made were not handed in. One that was dropped stays out.
+    /// N passes that were created were not handed in. A pass that was dropped is one of them.
     #[error("passes out {0}")]
     PassesOut(u32),
-    /// The trail ends before this number, which a receipt has.
+    /// The trail ends before this number, which is that of a receipt.
     #[error("missing {0}")]
     Missing(u64),
-    /// At this number, which a receipt has, another mark stands than the receipt's.
+    /// The trail has another mark at this number, which is that of a receipt.
     #[error("differs {0}")]
     Differs(u64),
 }
@@ -53,10 +53,10 @@ pub enum FinishFault {
 /// Why not all workers ran.
 #[derive(Clone, Copy, Debug, PartialEq, Eq, Error)]
 pub enum WorkersFault {
-    /// A thread could not be started. Those that were started ran until the channel was closed.
+    /// A thread could not be started. Those started before it ran until the channel was closed.
     #[error("no thread")]
     NoThread,
-    /// No memory was to be had, before any thread was started.
+    /// Out of memory, before any thread was started.
     #[error("memory")]
     Memory,
 }

@@ -1,12 +1,13 @@
-//! The running bookie: one store behind one lock, passes for its callers, receipts for what they add, and workers.
+//! A thread-safe bookie: one store behind one mutex, passes for its callers, receipts for accepted
+//! entries, and workers.
 #![tactic(auto)]
 
+mod add_request;
 mod bookie;
 mod calls;
-mod desk;
 mod ending;
 mod fault;
-mod offered;
+mod guarded;
 mod pass;
 mod receipts;
 mod workers;

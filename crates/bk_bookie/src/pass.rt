@@ -1,20 +1,21 @@
-//! Passes: what a caller of a bookie carries.
+//! Passes: the client sessions of a bookie.
 //!
-//! A bookie's accepted adds are counted in a ledger of std, cut into a part for each pass and one more. Who holds a pass holds
-//! its part, and the amount of the part is the number of adds that were accepted from that pass: so the count of a pass can
-//! neither be made up nor lost. The ledger's type names the bookie, and a pass of another one does not fit.
+//! The accepted adds are counted in a ledger of std, which has one part per pass and one more. A
+//! pass holds its part, and the amount of the part is the pass's count. So a count cannot be forged
+//! or lost. The type of the ledger identifies the bookie, so a pass of another bookie does not
+//! type-check.
 
 ghost use Rattle.std.specs.Prelude.{◌≡◌};
 
 use std::marker::{Brand, Model};
 use std::sync::ledger::{Ledger, Share};
 
-/// The ledger of one bookie's accepted adds. A bookie lives inside a function over such a ledger, which is called with
-/// std's `Brand`; so two bookies have two ledgers.
+/// The ledger of one bookie's accepted adds. A bookie is used inside a function that is generic
+/// over the ledger and called with std's `Brand`, so two bookies have two ledgers.
 pub trait AddLedger: Ledger {
     ghost use Rattle.std.specs.Prelude.{Bool};
 
-    /// Whether the bookie's disk is honest.
+    /// Whether the disk of the bookie is honest.
     ghost honest: { Bool };
 }
 
@@ -24,7 +25,8 @@ impl AddLedger for Brand {
     ghost honest = { false };
 }
 
-/// What a caller carries: its part of the count of accepted adds, and the longest trail that it was told of.
+/// A client session: its part of the count of accepted adds, and the length of the longest trail
+/// that it has observed.
 #[derive(Drop)]
 pub struct Pass<L: AddLedger> {
     pub(crate) share: Share<L>,
@@ -44,14 +46,14 @@ impl<L: AddLedger> Model for Pass<L> {
 }
 
 impl<L: AddLedger> Pass<L> {
-    /// How many of its adds were accepted.
+    /// Returns the number of its accepted adds.
     pub fn adds(&self) -> u64
         ensures { result ≡ self.now.adds }
     {
         self.adds
     }
 
-    /// The longest trail that it was told of: how many marks it has.
+    /// Returns the length of the longest trail that it has observed.
     pub fn seen(&self) -> u64
         ensures { result ≡ self.now.seen }
     {

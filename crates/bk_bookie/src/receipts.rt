@@ -1,4 +1,4 @@
-//! What a trail says of receipts.
+//! Look-up of receipts in a trail.
 
 ghost use Rattle.std.specs.Prelude.{◌≡◌, ◌↔◌, IsTrue, IfSome, IfNone};
 ghost use Rattle.bk_bookie.specs.Receipts.{AllStand, FirstRefused, LooksUp, mark_of};
@@ -6,18 +6,18 @@ ghost use Rattle.bk_bookie.specs.Receipts.{AllStand, FirstRefused, LooksUp, mark
 use crate::FinishFault;
 use bk_store::{Mark, Receipt};
 
-/// What stands in a trail at a receipt's number.
+/// What a trail has at the number of a receipt.
 #[derive(Clone, Copy, Debug, PartialEq, Eq)]
 pub(crate) enum Found {
-    /// The receipt's mark.
+    /// The mark of the receipt.
     Stands,
-    /// Nothing: the trail ends before.
+    /// Nothing: the trail ends before it.
     Missing,
     /// This mark, which is not the receipt's.
     Differs(Mark),
 }
 
-/// Looks a receipt up in a trail.
+/// Looks up a receipt in a trail.
 pub(crate) fn look_up(trail: &[Mark], receipt: &Receipt) -> Found
     ensures { LooksUp trail.now receipt.now result }
 {
@@ -31,7 +31,7 @@ pub(crate) fn look_up(trail: &[Mark], receipt: &Receipt) -> Found
     }
 }
 
-/// Whether a mark is the one that a receipt tells of.
+/// Returns whether a mark is that of a receipt.
 fn is_mark_of(mark: &Mark, receipt: &Receipt) -> bool
     ensures { IsTrue result ↔ (mark.now ≡ mark_of receipt.now) }
 {
@@ -41,7 +41,7 @@ fn is_mark_of(mark: &Mark, receipt: &Receipt) -> bool
     }
 }
 
-/// The fault of the first receipt that does not stand in the trail; `None` where all stand.
+/// Returns the fault of the first receipt whose mark is not in the trail, or `None`.
 pub(crate) fn first_refused(trail: &[Mark], receipts: &[Receipt]) -> Option<FinishFault>
     ensures none { IfNone result (AllStand trail.now receipts.now) }
     ensures some { IfSome result (λ fault. FirstRefused trail.now receipts.now fault) }

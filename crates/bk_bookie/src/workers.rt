@@ -1,4 +1,4 @@
-//! Workers: threads that take works from a channel, and do them on a bookie.
+//! Workers: threads that receive steps from a channel and perform them on a bookie.
 
 ghost use Rattle.std.specs.Prelude.{◌≡◌, ◌+◌, ◌^◌, ◌-◌, min};
 ghost use Rattle.std.specs.Thread.{IsSync, IsSend};
@@ -14,15 +14,15 @@ use std::sync::Wait;
 use std::thread;
 use std::thread::Threads;
 
-/// What a worker goes through on its way to a work, and back. It holds no lock there.
+/// Test hook that a worker calls before and after a step. It holds no lock there.
 pub trait Gate: Sync {
-    /// The worker of this number comes to a work that it received.
+    /// The worker with this number has received a step.
     fn enter(&self, worker: u32);
-    /// It has done it.
+    /// The worker has performed it.
     fn leave(&self, worker: u32);
 }
 
-/// How many works were done, and how many of these were answered by a fault.
+/// Number of steps performed, and number of these whose answer is an error.
 #[derive(Clone, Copy, Debug, PartialEq, Eq)]
 pub struct WorkReport {
     pub answered: u64,
@@ -30,7 +30,7 @@ pub struct WorkReport {
 }
 
 impl WorkReport {
-    /// Of no work.
+    /// Returns the report of no step.
     fn new() -> WorkReport
         ensures { result ≡ record { answered = 0; faults = 0 } }
     {
@@ -40,7 +40,7 @@ impl WorkReport {
         }
     }
 
-    /// Counts one work more, by its answer. A count ends at 2^64 - 1.
+    /// Counts one step by its answer. A count saturates at 2^64 - 1.
     fn count(&mut self, answer: &Answer)
         ensures answered { self.new.answered ≡ min (self.old.answered + 1) (2 ^ 64 - 1) }
     {
@@ -50,7 +50,7 @@ impl WorkReport {
         }
     }
 
-    /// Adds what another worker did. A count ends at 2^64 - 1.
+    /// Adds the report of another worker. A count saturates at 2^64 - 1.
     fn add(&mut self, other: WorkReport)
         ensures answered { self.new.answered ≡ min (self.old.answered + other.answered) (2 ^ 64 - 1) }
         ensures faults { self.new.faults ≡ min (self.old.faults + other.faults) (2 ^ 64 - 1) }
@@ -61,11 +61,15 @@ impl WorkReport {
 }
 
 impl<L: AddLedger + Send + Sync, D: LogDisk> Bookie<L, D> {
-    /// Works with so many threads, numbered from 0: each receives a work, goes through the gate, does the work under the
-    /// lock, and leaves the gate, until the channel is closed and empty. The report is of all works that were done.
+    /// Runs `count` worker threads, numbered from 0, until the channel is closed and empty.
     ///
-    /// Faults: `Memory` before any thread is started; `NoThread` where one can't be started, those before it being waited
-    /// for.
+    /// Each worker receives a step, enters the gate, performs the step under the lock, and leaves
+    /// the gate. Returns the report of all steps.
+    ///
+    /// # Errors
+    ///
+    /// - `Memory`: out of memory, before any thread is started.
+    /// - `NoThread`: a thread could not be started. Those before it are waited for.
     pub fn workers<R: Threads + Wait + Sync, G: Gate>(
         &self,
         rt: &R,
@@ -99,7 +103,7 @@ impl<L: AddLedger + Send + Sync, D: LogDisk> Bookie<L, D> {
     }
 }
 
-/// Whether a step was answered by a fault.
+/// Returns whether the answer of a step is an error.
 fn is_fault(answer: &Answer) -> bool {
     match answer {
         Answer::Add(Err(_))
@@ -119,7 +123,7 @@ fn is_fault(answer: &Answer) -> bool {
     }
 }
 
-/// One worker, until the channel is closed and empty.
+/// Runs one worker until the channel is closed and empty.
 fn work_as<R: Wait, L: AddLedger, D: LogDisk, G: Gate>(
     rt: &R,
     bookie: &Bookie<L, D>,

@@ -1,4 +1,4 @@
-//! The tests of `bk_bookie`, in a crate of their own: a crate with tests is proved twice.
+//! Tests of `bk_bookie`.
 #![tactic(auto)]
 
 #[cfg(test)]

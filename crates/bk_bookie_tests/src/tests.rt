@@ -1,10 +1,10 @@
-//! Runs of bookies that clauses don't tell of: what is answered at all, and what threads do at once.
+//! Tests of what no clause states: that calls answer at all, and what concurrent threads do.
 //!
-//! A bookie lives in a function over its ledger. A test calls it with std's `Brand` and a blank ledger, and the proof of the
-//! call says what `Brand` stands for there.
+//! A bookie is used in a function over its ledger. A test calls it with std's `Brand` and a blank
+//! ledger, and the proof of the call says what `Brand` stands for.
 //!
-//! A test is proved before it is run, and its proof is the dearer the more it knows. So each call of a bookie is made in a
-//! function of `calls`, which promises nothing.
+//! Each call of a bookie is made in a function of `calls` without a contract, which keeps the
+//! proofs of the tests small.
 
 ghost use Rattle.std.specs.Prelude.{◌≡◌, ◌+◌, true};
 
@@ -25,7 +25,7 @@ mod refused;
 mod strangers;
 mod working;
 
-/// The limits of these runs.
+/// Settings of these tests.
 const SETTINGS: Settings = Settings {
     log_limit: 1_048_576,
     cache_limit: 16_777_216,
@@ -36,7 +36,7 @@ const SETTINGS: Settings = Settings {
     major: 800,
 };
 
-/// The payload of an entry, with one byte of data.
+/// Returns the payload of an entry with one byte of data.
 fn payload(ledger: u8, entry: u16, data: u8) -> [u8; 17] {
     let [high, low] = entry.to_be_bytes();
     let mut payload = [0; 17];
@@ -47,12 +47,12 @@ fn payload(ledger: u8, entry: u16, data: u8) -> [u8; 17] {
     payload
 }
 
-/// The key of an entry.
+/// Returns the key of an entry.
 fn key<R: Abort>(rt: &R, ledger: u8, entry: u16) -> Key {
     Key::new(u64::from(ledger), u64::from(entry)).expect(rt, "a key")
 }
 
-/// The mark of a receipt.
+/// Returns the mark of a receipt.
 fn mark_of(receipt: &Receipt) -> Mark {
     Mark::Add {
         key: receipt.key,
@@ -60,7 +60,7 @@ fn mark_of(receipt: &Receipt) -> Mark {
     }
 }
 
-/// A receipt of number 100.
+/// Returns the receipt with number 100.
 fn beyond(receipt: &Receipt) -> Receipt {
     Receipt {
         number: 100,
@@ -69,7 +69,7 @@ fn beyond(receipt: &Receipt) -> Receipt {
     }
 }
 
-/// The receipt with another digest.
+/// Returns the receipt with another digest.
 fn with_other_digest(receipt: &Receipt) -> Receipt {
     Receipt {
         number: receipt.number,
@@ -78,7 +78,7 @@ fn with_other_digest(receipt: &Receipt) -> Receipt {
     }
 }
 
-/// A bookie of so many passes over an empty disk in memory.
+/// Opens a bookie with N passes over an empty disk in memory.
 fn open<L: AddLedger, R: Abort>(
     rt: &R,
     alloc: Global,

@@ -1,4 +1,4 @@
--- The pairs of a write cache, with shared payloads, before and after a change; f reads a payload's bytes.
+-- The pairs of a write cache before and after a change; `f` returns the bytes of a payload.
 use Rattle.std.proofs.Common.{◌≡◌, ℕ, ◌+◌, List, length, None, IsSome, is_some, option_map, Ok, sym, ap, subst, ◌∙◌}
 use Rattle.std.specs.Ordering.{eq_by_cmp}
 use Rattle.std.specs.BTreeMap.{insert_entry}
@@ -10,7 +10,7 @@ use Rattle.bk_record.specs.Record.{read_added}
 use Rattle.bk_record.specs.Scan.{Payloads}
 use Rattle.bk_record.proofs.Keys.{key_cmp_total}
 use Rattle.bk_record.proofs.SortedMaps.{get-sorted, insert-sorted}
-use Rattle.bk_cache.specs.Kept.{KeepsPairs}
+use Rattle.bk_cache.specs.Invariant.{KeepsPairs}
 use Rattle.bk_cache.specs.Caches.{used_of}
 use Rattle.bk_cache.proofs.Options.{is_some-option_map}
 use Rattle.bk_cache.proofs.Seen.{seen, put-seen, get-seen, insert_entry-put}
@@ -21,7 +21,7 @@ module _ {X : Type 0} (f : X → List ℕ) (es : List (EntryKey × X)) (used : �
   pub used_seen : used_of m ≡ used
   used_seen = ap used_of (sym view) ∙ used_of-kept _ _ kept
 
-  -- a payload comes under its own key, which is new
+  -- a payload is added under its own key, which is new
   module _ (key : EntryKey) (payload : X) (new : List (EntryKey × X)) (is : new ≡ insert_entry key_cmp es key payload) where
     seen_put : seen f new ≡ put key_cmp key (f payload) (seen f es)
     seen_put = ap (seen f) (is ∙ insert_entry-put key_cmp es key payload) ∙ put-seen f key_cmp es key payload
@@ -44,6 +44,6 @@ module _ {X : Type 0} (f : X → List ℕ) (es : List (EntryKey × X)) (used : �
   pub held_view : (key : EntryKey) → IsSome (lookup (eq_by_cmp key_cmp key) es) → IsSome (entries.get m key)
   held_view key has = ap is_some (found_view key) ∙ is_some-option_map f (lookup (eq_by_cmp key_cmp key) es) ∙ has
 
-  -- the pairs stay
+  -- the pairs are unchanged
   pub view_same : (new : List (EntryKey × X)) → new ≡ es → from_sorted (seen f new) ≡ m
   view_same new is = ap (λ pairs. from_sorted (seen f pairs)) is ∙ view

@@ -1,4 +1,4 @@
--- The first entry of a write cache behind a key.
+-- The first entry of a write cache after a key.
 use Rattle.std.proofs.Common.{◌≡◌, ℕ, Bool, List, Option, Some, None, Ok, slice_get, option_map, sym, ap, ◌∙◌}
 use Rattle.std.specs.declared.ops.Bound.TheVariants.{Excluded, Unbounded}
 use Rattle.std.specs.Ordering.{is_lt}
@@ -14,7 +14,7 @@ use Rattle.bk_record.specs.Scan.{Payloads}
 use Rattle.bk_record.proofs.Keys.{key_cmp_total}
 use Rattle.bk_record.proofs.SortedPairs.{find_at}
 use Rattle.bk_record.proofs.SortedMaps.{entries-sorted}
-use Rattle.bk_cache.specs.Kept.{KeepsPairs}
+use Rattle.bk_cache.specs.Invariant.{KeepsPairs}
 use Rattle.bk_cache.specs.Recents.{Entry}
 use Rattle.bk_cache.specs.Caches.{first_after}
 use Rattle.bk_cache.proofs.Seen.{seen, filter-seen}
@@ -29,11 +29,11 @@ module _ {X : Type 0} (f : X → List ℕ) (es : List (EntryKey × X)) (used : �
   entries-seen : entries.entries m ≡ seen f es
   entries-seen = ap entries.entries (sym view) ∙ entries-sorted key_cmp _ kept.sorted
 
-  -- of all
+  -- first entry of all
   pub first_of_all : option_map (λ e. (e.0, f e.1)) (slice_get es 0) ≡ first_after None m
   first_of_all = sym (slice_get-map (λ e. (e.0, f e.1)) es 0) ∙ ap (λ pairs. slice_get pairs 0) (sym entries-seen)
 
-  -- behind a key: what a map's range gives first
+  -- first entry after a key: the first of the map's range
   pub first_behind : (key : EntryKey) → option_map (λ e. (e.0, f e.1)) (slice_get (entries_between key_cmp (Excluded key) Unbounded es) 0)
       ≡ first_after (Some key) m
   first_behind key =

@@ -1,4 +1,4 @@
--- Pairs that a write cache keeps, and the map that they make.
+-- The pairs of a write cache and their map.
 use Rattle.std.proofs.Common.{◌≡◌, ℕ, ◌+◌, Bool, true, false, cond, List, length, Option, Some, None, option_map, unwrap_or, Ok, refl, sym, ap, subst, ◌∙◌}
 use Rattle.std.proofs.Common.{arith}
 use Rattle.std.specs.Ordering.{eq_by_cmp}
@@ -15,7 +15,7 @@ use Rattle.bk_record.proofs.SortedPairs.{Some-same, keys_rise, find-lookup, is_s
 use Rattle.bk_record.proofs.SortedMaps.{entries-sorted, get-sorted, is_sorted-filter}
 use Rattle.bk_cache.specs.Recents.{Entry}
 use Rattle.bk_cache.proofs.Seen.{insert_entry-put}
-use Rattle.bk_cache.specs.Kept.{KeepsPairs}
+use Rattle.bk_cache.specs.Invariant.{KeepsPairs}
 use Rattle.bk_cache.specs.Caches.{used_of, AllKeyed}
 
 module _ (pairs : List Entry) (used : ℕ) (kept : KeepsPairs pairs used) where
@@ -25,7 +25,7 @@ module _ (pairs : List Entry) (used : ℕ) (kept : KeepsPairs pairs used) where
   pub keyed_kept : AllKeyed (from_sorted pairs)
   keyed_kept key payload is = kept.keyed key payload (sym (get-sorted key_cmp pairs kept.sorted key) ∙ is)
 
-  -- one more pair under the key that its payload gives
+  -- adding a pair under the key of its payload
   pub kept_put : (key : EntryKey) (payload : List ℕ) → read_added payload ≡ Ok key → find key_cmp key pairs ≡ None
       → KeepsPairs (put key_cmp key payload pairs) (used + length payload)
   kept_put key payload keyed absent = record {
@@ -47,7 +47,7 @@ module _ (pairs : List Entry) (used : ℕ) (kept : KeepsPairs pairs used) where
             | false ↦ λ _ is. kept.keyed q p is
           ] refl
 
-  -- the pairs that a test of the keys leaves
+  -- keeping the pairs whose keys pass a test
   pub kept_filter : (p : EntryKey → Bool) → KeepsPairs (filter (λ e. p e.0) pairs) (sum_by length (values_of (filter (λ e. p e.0) pairs)))
   kept_filter p = record {
     sorted = is_sorted-filter key_cmp pairs kept.sorted p;

@@ -1,4 +1,4 @@
--- Each payload stands under the key that it gives, through each change of a cache.
+-- Each payload is stored under its own key, after each change of a cache.
 use Rattle.std.proofs.Common.{◌≡◌, ℕ, true, false, cond, eqb, List, Option, Some, None, option_map, unwrap_or, Ok, refl, sym, ap, subst, ◌∙◌}
 use Rattle.std.specs.Ordering.{eq_by_cmp}
 use Rattle.std.specs.Cmp.{Equal-is}
@@ -30,7 +30,7 @@ keyed_without m ledger keyed q p is =
       | false ↦ λ found. keyed q p found
     ] (sym (get-without_ledger m ledger q) ∙ is)
 
--- the same of a flush, if one runs
+-- the same for the running flush
 pub keyed_flush_without : (flush : Option Payloads) (ledger : ℕ) → AllKeyed (unwrap_or flush empty)
     → AllKeyed (unwrap_or (option_map (λ m. without_ledger m ledger) flush) empty)
 keyed_flush_without None ledger keyed = keyed

@@ -1,4 +1,4 @@
--- How many keys of a ledger the write caches can have: each payload has 16 bytes at least.
+-- Greatest number of keys of a ledger in the write caches: each payload has at least 16 bytes.
 use Rattle.std.proofs.Common.{◌≡◌, ℕ, ◌+◌, ◌*◌, ◌≤◌, true, false, cond, eqb, List, [], ◌∷◌, length, Ok, Err, if◌then◌else◌, nat_lt, inl, inr, refl, arith}
 use Rattle.std.specs.List.{sum_by, count_by}
 use Rattle.std.specs.Option.{ok_or}
@@ -16,13 +16,13 @@ use Rattle.bk_record.proofs.Keys.{key_cmp_total, key_cmp_antisymmetric}
 use Rattle.bk_record.proofs.Entries.{In-get}
 use Rattle.bk_cache.specs.Recents.{Entry}
 use Rattle.bk_cache.specs.Caches.{CacheState, used_of, flush_of, AllKeyed}
-use Rattle.bk_cache.specs.Kept.{IsSound}
+use Rattle.bk_cache.specs.Invariant.{IsSound}
 use Rattle.bk_cache.proofs.Seen.{sum_by-map}
 
 no_key : (n : ℕ) (fault : RecordFault) (key : EntryKey) → unless_too_long n (Err fault) ≡ Ok key → ⊥
 no_key n fault key is = cc
 
--- a payload that an add accepts has both ids
+-- a payload that an add accepts has at least 16 bytes
 pub added_length-le : (payload : List ℕ) (key : EntryKey) → read_added payload ≡ Ok key → 16 ≤ length payload
 unfolding read_added read_key
 added_length-le payload key is =
@@ -52,7 +52,7 @@ ledger_count-used m ledger keyed =
     (λ key payload there. added_length-le payload key (keyed key payload (In-get key_cmp_total key_cmp_antisymmetric m key payload there))) in
     omega (arith, each, sum_by-map length (λ (e : Entry). e.1) (entries m))
 
--- both caches together
+-- bound for both caches together
 pub ledger_counts-le : (s : CacheState) (ledger : ℕ) → IsSound s → ledger_count s.active ledger + ledger_count (flush_of s) ledger ≤ 134217728
 ledger_counts-le s ledger sound =
     let active = ledger_count-used s.active ledger sound.keyed in

@@ -1,4 +1,4 @@
--- The keys of one ledger among the pairs of a write cache: they stand together, from the least key of the ledger on.
+-- The keys of one ledger in a write cache are adjacent, from the least key of the ledger on.
 use Rattle.std.proofs.Common.{◌≡◌, ℕ, ◌<◌, ◌≤◌, ◌^◌, Bool, true, false, cond, eqb, eqb-true, eq-eqb, ◌&&◌, ◌⊎◌, inl, inr, nat_lt, if◌then◌else◌, List, [], ◌∷◌}
 use Rattle.std.proofs.Common.{length, drop, Option, Some, None, IsSome, is_some, option_map, slice_get, IsTrue, Ok, Err, Result, refl, sym, ap, subst, ◌∙◌}
 use Rattle.std.proofs.Common.{arith}
@@ -26,10 +26,10 @@ use Rattle.bk_record.proofs.Keys.{key_cmp_total, key_cmp_antisymmetric}
 use Rattle.bk_record.proofs.KeyedLaws.{get-without_ledger}
 use Rattle.bk_record.proofs.SortedPairs.{Some-same, find_at, filter-behind}
 use Rattle.bk_record.proofs.SortedMaps.{is_sorted-filter, get-sorted}
-use Rattle.bk_cache.specs.Kept.{KeepsPairs}
+use Rattle.bk_cache.specs.Invariant.{KeepsPairs}
 use Rattle.bk_cache.proofs.Seen.{seen, filter-seen}
 
--- a map that has no key of the ledger stays as it is
+-- a map without a key of the ledger is unchanged
 pub without_ledger-none : (m : Payloads) (ledger : ℕ) → ((q : EntryKey) (payload : List ℕ) → get m q ≡ Some payload → q.ledger ≡ ledger → ⊥)
     → without_ledger m ledger ≡ m
 without_ledger-none m ledger none = same_map key_cmp_total key_cmp_antisymmetric _ _ (λ q. get-without_ledger m ledger q
@@ -42,7 +42,7 @@ without_ledger-none m ledger none = same_map key_cmp_total key_cmp_antisymmetric
     lacks q None is same = refl
     lacks q (Some payload) is same = absurd (none q payload is same)
 
--- a key of the ledger goes, and without the ledger the map is the same
+-- removing a key of the ledger first makes no difference
 pub without_ledger-remove : (m : Payloads) (key : EntryKey) (ledger : ℕ) → key.ledger ≡ ledger → without_ledger (remove m key) ledger ≡ without_ledger m ledger
 without_ledger-remove m key ledger own = same_map key_cmp_total key_cmp_antisymmetric _ _ (λ q. get-without_ledger (remove m key) ledger q
     ∙ ap (cond (eqb q.ledger ledger) None) (get-remove key_cmp_total m key q)
@@ -57,7 +57,7 @@ without_ledger-remove m key ledger own = same_map key_cmp_total key_cmp_antisymm
     ] refl
     ∙ sym (get-without_ledger m ledger q))
 
--- the ledger of a key that a payload gives is below 2 ^ 63
+-- the ledger of a payload's key is below 2 ^ 63
 bounded : (payload : List ℕ) (q : EntryKey) → key_of payload ≡ Some q → q.ledger < 2 ^ 63
 unfolding key_of
 bounded payload q is =
@@ -93,15 +93,15 @@ added_ledger-lt payload q is =
       | false ↦ λ found. bounded payload q (keyed_is (key_of payload) q Negative found)
     ] (read_is _ (read_key payload) q is)
 
--- whether a key is at or behind the least key of the ledger
+-- whether a key is at or after the least key of the ledger
 abbrev pub is_from : ℕ → EntryKey → Bool
 is_from ledger q = range_contains key_cmp (Included (record { ledger = ledger; entry = 0 })) Unbounded q
 
--- the pairs from the ledger's least key on
+-- the pairs from the least key of the ledger on
 abbrev pub from_ledger : {X : Type 0} → ℕ → List (EntryKey × X) → List (EntryKey × X)
 from_ledger ledger pairs = filter (λ e. is_from ledger e.0) pairs
 
--- a key in front of another has no greater ledger
+-- a smaller key has no greater ledger
 ledger-le : (h q : EntryKey) → is_lt (key_cmp h q) ≡ true → h.ledger ≤ q.ledger
 ledger-le h q =
     elim (nat_cmp h.ledger q.ledger) as (λ r. r ≡ nat_cmp h.ledger q.ledger → is_lt (ordering_then r (nat_cmp h.entry q.entry)) ≡ true → h.ledger ≤ q.ledger) [
@@ -131,7 +131,7 @@ own_from ledger q own =
     ] refl
 
 module _ {X : Type 0} (pairs : List (EntryKey × X)) (sorted : IsTrue (is_sorted key_cmp pairs)) where
-  -- the first of the pairs is the one of a key, or stands in front of it
+  -- a key among the pairs is the first one or greater
   in_front : (h : EntryKey × X) (q : EntryKey) (v : X) → slice_get pairs 0 ≡ Some h → find key_cmp q pairs ≡ Some v → (q ≡ h.0) ⊎ (is_lt (key_cmp h.0 q) ≡ true)
   in_front h q v at found =
       elim (eq_by_cmp key_cmp q h.0) as (λ b. eq_by_cmp key_cmp q h.0 ≡ b → (q ≡ h.0) ⊎ (is_lt (key_cmp h.0 q) ≡ true)) [
@@ -171,7 +171,8 @@ module _ {X : Type 0} (pairs : List (EntryKey × X)) (sorted : IsTrue (is_sorted
       both true is = (refl, is)
       both false is = cc
 
-  -- there is none of the ledger where that pair is none, or of another ledger
+  -- the ledger has no pair if there is none from its least key on, or the first is of another
+  -- ledger
   pub none_found : (q : EntryKey) (v : X) → find key_cmp q pairs ≡ Some v → q.ledger ≡ ledger → slice_get (from_ledger ledger pairs) 0 ≡ None → ⊥
   none_found q v found own none =
       empty (from_ledger ledger pairs) none (find-from q ∙ ap (λ b. cond b (find key_cmp q pairs) None) (own_from ledger q own) ∙ found)
@@ -190,7 +191,7 @@ module _ {X : Type 0} (pairs : List (EntryKey × X)) (sorted : IsTrue (is_sorted
         | inr lower ↦ omega (arith, ledger-le h.0 q lower)
       ]
 
--- the same of a write cache, whose shared payloads are read through f
+-- the same for a write cache; `f` returns the bytes of a shared payload
 module _ {X : Type 0} (f : X → List ℕ) (es : List (EntryKey × X)) (used : ℕ) (kept : KeepsPairs (seen f es) used) (m : Payloads)
     (view : from_sorted (seen f es) ≡ m) (ledger : ℕ) where
   has : (q : EntryKey) → get m q ≡ find key_cmp q (seen f es)
@@ -202,22 +203,22 @@ module _ {X : Type 0} (f : X → List ℕ) (es : List (EntryKey × X)) (used : �
       ap (λ xs. slice_get xs 0) (filter-seen f (λ k. is_from ledger k) es) ∙ slice_get-map (λ e. (e.0, f e.1)) (from_ledger ledger es) 0
       ∙ ap (option_map (λ e. (e.0, f e.1))) is
 
-  -- no key has a ledger past 2 ^ 63 - 1
+  -- no key has a ledger above 2 ^ 63 - 1
   pub left-past : ((ledger < 2 ^ 63) × (0 < 2 ^ 63) → ⊥) → without_ledger m ledger ≡ m
   left-past past = without_ledger-none m ledger (λ q payload is own.
       let below : q.ledger < 2 ^ 63 = added_ledger-lt payload q (kept.keyed q payload (sym (has q) ∙ is)) in
       past (omega arith, omega arith))
 
-  -- no pair is at the ledger's least key or behind it
+  -- no pair is at or after the ledger's least key
   pub left-none : slice_get (from_ledger ledger es) 0 ≡ None → without_ledger m ledger ≡ m
   left-none none = without_ledger-none m ledger (λ q payload is own.
       none_found (seen f es) kept.sorted ledger q payload (sym (has q) ∙ is) own (first_seen None none))
 
-  -- the first one there is of another ledger
+  -- the first pair from there is of another ledger
   pub left-other : (h : EntryKey × X) → slice_get (from_ledger ledger es) 0 ≡ Some h → (h.0.ledger ≡ ledger → ⊥) → without_ledger m ledger ≡ m
   left-other h at other = without_ledger-none m ledger (λ q payload is own.
       other (other_found (seen f es) kept.sorted ledger (h.0, f h.1) q payload (first_seen (Some h) at) (sym (has q) ∙ is) own))
 
-  -- the first one there is an entry of the cache
+  -- the first pair from there is an entry of the cache
   pub first_held : (h : EntryKey × X) → slice_get (from_ledger ledger es) 0 ≡ Some h → IsSome (get m h.0)
   first_held h at = ap is_some (has h.0 ∙ (first_found (seen f es) kept.sorted ledger (h.0, f h.1) (first_seen (Some h) at)).1)

@@ -1,4 +1,4 @@
--- The pairs of ledger and entry that stand beside the table of recent entries, after each change of both.
+-- The set of the recent entries' keys, after each change of the table and of the set.
 use Rattle.std.proofs.Common.{◌≡◌, ℕ, zero, suc, ◌-◌, ◌<◌, ◌≤◌, Bool, true, false, cond, not, ◌==◌, ◌&&◌, List, [], ◌∷◌, take, Option, Some, None, IfSome, IsSome}
 use Rattle.std.proofs.Common.{option_map, is_some, slice_get, nat_cmp, refl, sym, ap, subst, ◌∙◌, arith}
 use Rattle.std.specs.declared.cmp.Ordering.{Ordering}
@@ -21,7 +21,7 @@ use Rattle.lru.proofs.CallerLemmas.{Contains-lookup_entry}
 use Rattle.lru.proofs.Pairs.{lookup-lookup_entry}
 use Rattle.bk_record.specs.Key.{EntryKey}
 use Rattle.bk_record.proofs.SortedPairs.{Some-same}
-use Rattle.bk_cache.specs.Recents.{Recents, same_key, recent_of, without_recent, pair_cmp, AreListed}
+use Rattle.bk_cache.specs.Recents.{Recents, same_key, recent_of, without_recent, pair_cmp, AreListedRecents}
 use Rattle.bk_cache.proofs.Options.{is_some-option_map}
 use Rattle.bk_cache.proofs.Seen.{seen, filter-seen}
 use Rattle.bk_cache.proofs.RecentPuts.{same_key_exact}
@@ -43,7 +43,7 @@ tied_is a b tied =
 tied_pair : (a : ℕ × ℕ) → is_eq (pair_cmp a a) ≡ true
 tied_pair a = ap (λ r. is_eq (ordering_then r (nat_cmp a.1 a.1))) (tied_itself nat_cmp_total a.0) ∙ ap is_eq (tied_itself nat_cmp_total a.1)
 
--- no pair of a ledger is in front of its least
+-- no pair of a ledger is before its least one
 from_least : (ledger entry : ℕ) → is_gt (pair_cmp (ledger, 0) (ledger, entry)) ≡ false
 from_least ledger entry =
     ap (λ r. is_gt (ordering_then r (nat_cmp 0 entry))) (tied_itself nat_cmp_total ledger)
@@ -62,13 +62,13 @@ ledger-le a b in_order =
       | Greater ↦ λ _ past. absurd (false≢true (sym past))
     ] refl in_order
 
--- the pairs from a ledger's least on
+-- the pairs from the least one of a ledger on
 module _ (pairs : BTreeSet (ℕ × ℕ)) (found : List (ℕ × ℕ)) (ledger : ℕ) (range : IsKeyRangeOf pair_cmp (Included (ledger, 0)) Unbounded pairs found) where
-  -- where there is none, none is of the ledger
+  -- if there is none, the ledger has none
   pub none_first : found ≡ [] → (entry : ℕ) → contains pair_cmp pairs (ledger, entry) ≡ false
   none_first none entry = range.5 none (ledger, entry) (from_least ledger entry, tt)
 
-  -- where the first is of another ledger, none is of this one
+  -- if the first is of another ledger, this ledger has none
   pub other_first : (first : ℕ × ℕ) → slice_get found 0 ≡ Some first → (first.0 ≡ ledger → ⊥) → (entry : ℕ) → contains pair_cmp pairs (ledger, entry) ≡ false
   other_first first at other entry = false_from_ne_true _ (λ there.
       let low : IsKeyInRange pair_cmp (Included (ledger, 0)) Unbounded pairs first =
@@ -79,7 +79,7 @@ module _ (pairs : BTreeSet (ℕ × ℕ)) (found : List (ℕ × ℕ)) (ledger : �
       let below : first.0 ≤ ledger = ledger-le first (ledger, entry) high in
       other (omega (arith, above, below)))
 
--- ---- one pair comes or goes
+-- ---- adding or removing one pair
 
 module _ (pairs new : BTreeSet (ℕ × ℕ)) (pair : ℕ × ℕ) where
   pub comes_itself : Updates pair_cmp pairs new pair true → contains pair_cmp new pair ≡ true
@@ -131,7 +131,7 @@ module _ {X : Type 0} where
   each_at P (f ∷ es) zero e all at = subst P (Some-same at) all.0
   each_at P (f ∷ es) (suc n) e all at = each_at P es n e all.1 at
 
-  -- the keys in front of a place are others than the one there
+  -- keys before a position differ from the one there
   apart_front : (es : List (EntryKey × X)) (n : ℕ) (e : EntryKey × X) → IsDistinct same_key (keys_of es) → slice_get es n ≡ Some e
       → AllByRecursion (λ f. same_key f.0 e.0 ≡ false) (take n es)
   apart_front es zero e distinct at = tt
@@ -142,7 +142,7 @@ module _ {X : Type 0} where
     apart_front es n e (IsDistinct-tail same_key f.0 (keys_of es) distinct) at,
   )
 
-  -- once a key is taken out, it stands there no more
+  -- a removed key is not in the list
   removed_apart : (es : List (EntryKey × X)) (key : EntryKey) → IsDistinct same_key (keys_of es)
       → AllByRecursion (λ e. same_key key e.0 ≡ false) (remove_entry (same_key key) es)
   removed_apart [] key distinct = tt
@@ -164,8 +164,8 @@ abbrev pub pair_of : EntryKey → ℕ × ℕ
 pair_of key = (key.ledger, key.entry)
 
 module _ {X : Type 0} where
-  -- an entry that is found has its pair
-  pub found_listed : (es : List (EntryKey × X)) (pairs : BTreeSet (ℕ × ℕ)) (key : EntryKey) → AreListed es pairs → IsSome (lookup (same_key key) es)
+  -- an entry that is found has its pair in the set
+  pub found_listed : (es : List (EntryKey × X)) (pairs : BTreeSet (ℕ × ℕ)) (key : EntryKey) → AreListedRecents es pairs → IsSome (lookup (same_key key) es)
       → contains pair_cmp pairs (pair_of key) ≡ true
   found_listed [] pairs key listed there = absurd (false≢true there)
   found_listed (e ∷ es) pairs key listed there =
@@ -175,30 +175,30 @@ module _ {X : Type 0} where
         | false ↦ λ _ rest. found_listed es pairs key listed.1 rest
       ] refl there
 
-  -- a pair more
-  pub listed_more : (es : List (EntryKey × X)) (pairs more : BTreeSet (ℕ × ℕ)) (pair : ℕ × ℕ) → AreListed es pairs
-      → Updates pair_cmp pairs more pair true → AreListed es more
+  -- adding a pair
+  pub listed_more : (es : List (EntryKey × X)) (pairs more : BTreeSet (ℕ × ℕ)) (pair : ℕ × ℕ) → AreListedRecents es pairs
+      → Updates pair_cmp pairs more pair true → AreListedRecents es more
   listed_more es pairs more pair listed comes =
       each (λ e. contains pair_cmp pairs (pair_of e.0) ≡ true) (λ e. contains pair_cmp more (pair_of e.0) ≡ true)
       (λ e there. comes_others pairs more pair comes (pair_of e.0) there) es listed
 
   -- the same pairs
-  pub listed_same : (es : List (EntryKey × X)) (pairs new : BTreeSet (ℕ × ℕ)) → AreListed es pairs → new.keys ≡ pairs.keys → AreListed es new
+  pub listed_same : (es : List (EntryKey × X)) (pairs new : BTreeSet (ℕ × ℕ)) → AreListedRecents es pairs → new.keys ≡ pairs.keys → AreListedRecents es new
   listed_same es pairs new listed same =
       each (λ e. contains pair_cmp pairs (pair_of e.0) ≡ true) (λ e. contains pair_cmp new (pair_of e.0) ≡ true)
       (λ e there. ap (list_any (is_at (pair_cmp (pair_of e.0)))) same ∙ there) es listed
 
-  -- a pair of no entry comes and goes again
-  pub listed_again : (es : List (EntryKey × X)) (pairs more less : BTreeSet (ℕ × ℕ)) (pair : ℕ × ℕ) → AreListed es pairs
-      → contains pair_cmp pairs pair ≡ false → Updates pair_cmp pairs more pair true → Updates pair_cmp more less pair false → AreListed es less
+  -- adding and removing a pair that has no entry
+  pub listed_again : (es : List (EntryKey × X)) (pairs more less : BTreeSet (ℕ × ℕ)) (pair : ℕ × ℕ) → AreListedRecents es pairs
+      → contains pair_cmp pairs pair ≡ false → Updates pair_cmp pairs more pair true → Updates pair_cmp more less pair false → AreListedRecents es less
   listed_again es pairs more less pair listed absent comes goes =
       each (λ e. contains pair_cmp pairs (pair_of e.0) ≡ true) (λ e. contains pair_cmp less (pair_of e.0) ≡ true)
       (λ e there. goes_others more less pair goes (pair_of e.0)
       (λ same. false≢true (sym absent ∙ ap (contains pair_cmp pairs) same ∙ there)) (comes_others pairs more pair comes (pair_of e.0) there)) es listed
 
-  -- an entry and its pair go
-  pub listed_less : (es : List (EntryKey × X)) (pairs less : BTreeSet (ℕ × ℕ)) (key : EntryKey) → AreListed es pairs
-      → IsDistinct same_key (keys_of es) → Updates pair_cmp pairs less (pair_of key) false → AreListed (remove_entry (same_key key) es) less
+  -- removing an entry and its pair
+  pub listed_less : (es : List (EntryKey × X)) (pairs less : BTreeSet (ℕ × ℕ)) (key : EntryKey) → AreListedRecents es pairs
+      → IsDistinct same_key (keys_of es) → Updates pair_cmp pairs less (pair_of key) false → AreListedRecents (remove_entry (same_key key) es) less
   listed_less es pairs less key listed distinct goes =
       let there : EntryKey × X → Type 0 = λ e. contains pair_cmp pairs (pair_of e.0) ≡ true in
       let apart : EntryKey × X → Type 0 = λ e. same_key key e.0 ≡ false in
@@ -208,7 +208,7 @@ module _ {X : Type 0} where
       (remove_entry (same_key key) es)
       (both there apart (remove_entry (same_key key) es) (each_removed there (same_key key) es listed) (removed_apart es key distinct))
 
-  -- entries that pass a test which a key does not, once it is taken out
+  -- filtering by a test that a removed key fails
   pub filter_removed : (p : EntryKey → Bool) (key : EntryKey) (es : List (EntryKey × X)) → p key ≡ false
       → filter (λ e. p e.0) (remove_entry (same_key key) es) ≡ filter (λ e. p e.0) es
   filter_removed p key [] goes = refl
@@ -220,8 +220,8 @@ module _ {X : Type 0} where
         | false ↦ λ _. ap (λ rest. cond (p e.0) (e ∷ rest) rest) (filter_removed p key es goes)
       ] refl
 
-  -- no entry is of a ledger that has no pair
-  pub none_left : (ledger : ℕ) (es : List (EntryKey × X)) (pairs : BTreeSet (ℕ × ℕ)) → AreListed es pairs
+  -- if a ledger has no pair, it has no entry
+  pub none_left : (ledger : ℕ) (es : List (EntryKey × X)) (pairs : BTreeSet (ℕ × ℕ)) → AreListedRecents es pairs
       → ((entry : ℕ) → contains pair_cmp pairs (ledger, entry) ≡ false) → filter (λ e. not (e.0.ledger == ledger)) es ≡ es
   none_left ledger [] pairs listed none = refl
   none_left ledger (e ∷ es) pairs listed none =
@@ -233,14 +233,14 @@ module _ {X : Type 0} where
         | false ↦ λ _. ap (λ rest. e ∷ rest) (none_left ledger es pairs listed.1 none)
       ] refl
 
-  module _ (c : LruCache EntryKey X) (key : EntryKey) (payload : X) (more : BTreeSet (ℕ × ℕ)) (listed : AreListed c.entries more)
+  module _ (c : LruCache EntryKey X) (key : EntryKey) (payload : X) (more : BTreeSet (ℕ × ℕ)) (listed : AreListedRecents c.entries more)
       (there : contains pair_cmp more (pair_of key) ≡ true) where
-    -- an entry that is put has its pair
-    pub listed_put : AreListed (put_entries same_key c key payload) more
+    -- inserting an entry and its pair
+    pub listed_put : AreListedRecents (put_entries same_key c key payload) more
     listed_put = put (lookup_entry (same_key key) c.entries) refl
       where
         put : (o : Option (EntryKey × X)) → lookup_entry (same_key key) c.entries ≡ o
-            → AreListed (option_map_or (λ e. (e.0, payload) ∷ remove_entry (same_key key) c.entries) o ((key, payload) ∷ take (c.cap - 1) c.entries)) more
+            → AreListedRecents (option_map_or (λ e. (e.0, payload) ∷ remove_entry (same_key key) c.entries) o ((key, payload) ∷ take (c.cap - 1) c.entries)) more
         put None none = (there, each_take (λ e. contains pair_cmp more (pair_of e.0) ≡ true) (c.cap - 1) c.entries listed)
         put (Some e) held =
             let named = same_key_exact key e.0 (Contains-lookup_entry (same_key key) c.entries e held).1 in (
@@ -248,19 +248,19 @@ module _ {X : Type 0} where
               each_removed (λ e. contains pair_cmp more (pair_of e.0) ≡ true) (same_key key) c.entries listed,
             )
 
-    pub listed_in : (new : LruCache EntryKey X) → new ≡ lru_cache (put_entries same_key c key payload) c.cap → AreListed new.entries more
-    listed_in new is = subst (λ (t : LruCache EntryKey X). AreListed t.entries more) (sym is) listed_put
+    pub listed_in : (new : LruCache EntryKey X) → new ≡ lru_cache (put_entries same_key c key payload) c.cap → AreListedRecents new.entries more
+    listed_in new is = subst (λ (t : LruCache EntryKey X). AreListedRecents t.entries more) (sym is) listed_put
 
-    -- and where another went for it, that one's pair may go
+    -- if another entry was evicted, its pair can be removed
     module _ (less : BTreeSet (ℕ × ℕ)) (distinct : IsDistinct same_key (keys_of c.entries)) (gone : EntryKey × X)
         (went : displaced same_key c key payload ≡ Some gone)
         (stay : (pair : ℕ × ℕ) → (pair.0 ≡ gone.0.ledger → pair.1 ≡ gone.0.entry → pair ≡ pair_of key) → contains pair_cmp more pair ≡ true
         → contains pair_cmp less pair ≡ true) where
-      pub listed_pushed : AreListed (put_entries same_key c key payload) less
+      pub listed_pushed : AreListedRecents (put_entries same_key c key payload) less
       listed_pushed = pushed (lookup_entry (same_key key) c.entries) refl
         where
           pushed : (o : Option (EntryKey × X)) → lookup_entry (same_key key) c.entries ≡ o
-              → AreListed (option_map_or (λ e. (e.0, payload) ∷ remove_entry (same_key key) c.entries) o ((key, payload) ∷ take (c.cap - 1) c.entries)) less
+              → AreListedRecents (option_map_or (λ e. (e.0, payload) ∷ remove_entry (same_key key) c.entries) o ((key, payload) ∷ take (c.cap - 1) c.entries)) less
           pushed None none =
               let lacks : lookup (same_key key) c.entries ≡ None =
               sym (lookup-lookup_entry (same_key key) c.entries) ∙ ap (option_map (λ (e : EntryKey × X). e.1)) none in
@@ -292,25 +292,25 @@ module _ {X : Type 0} where
                     (each_removed (λ f. contains pair_cmp more (pair_of f.0) ≡ true) (same_key key) c.entries listed),
               )
 
-      pub listed_pushed_in : (new : LruCache EntryKey X) → new ≡ lru_cache (put_entries same_key c key payload) c.cap → AreListed new.entries less
-      listed_pushed_in new is = subst (λ (t : LruCache EntryKey X). AreListed t.entries less) (sym is) listed_pushed
+      pub listed_pushed_in : (new : LruCache EntryKey X) → new ≡ lru_cache (put_entries same_key c key payload) c.cap → AreListedRecents new.entries less
+      listed_pushed_in new is = subst (λ (t : LruCache EntryKey X). AreListedRecents t.entries less) (sym is) listed_pushed
 
--- one entry of a ledger was taken out, and its pair
+-- one entry of a ledger and its pair were removed
 module _ {X : Type 0} (initial old new : LruCache EntryKey X) (pairs less : BTreeSet (ℕ × ℕ)) (ledger entry : ℕ) where
   pub one_dropped : new ≡ lru_cache (remove_entry (same_key (record { ledger = ledger; entry = entry })) old.entries) old.cap
-      → IsDistinct same_key (keys_of old.entries) → Updates pair_cmp pairs less (ledger, entry) false → AreListed old.entries pairs
+      → IsDistinct same_key (keys_of old.entries) → Updates pair_cmp pairs less (ledger, entry) false → AreListedRecents old.entries pairs
       → filter (λ e. not (e.0.ledger == ledger)) old.entries ≡ filter (λ e. not (e.0.ledger == ledger)) initial.entries → old.cap ≡ initial.cap
-      → AreListed new.entries less × (filter (λ e. not (e.0.ledger == ledger)) new.entries ≡ filter (λ e. not (e.0.ledger == ledger)) initial.entries)
+      → AreListedRecents new.entries less × (filter (λ e. not (e.0.ledger == ledger)) new.entries ≡ filter (λ e. not (e.0.ledger == ledger)) initial.entries)
       × (new.cap ≡ initial.cap)
   one_dropped is distinct goes listed same cap =
       let key : EntryKey = record { ledger = ledger; entry = entry } in (
-        subst (λ (t : LruCache EntryKey X). AreListed t.entries less) (sym is) (listed_less old.entries pairs less key listed distinct goes),
+        subst (λ (t : LruCache EntryKey X). AreListedRecents t.entries less) (sym is) (listed_less old.entries pairs less key listed distinct goes),
         ap (λ (t : LruCache EntryKey X). filter (λ e. not (e.0.ledger == ledger)) t.entries) is
             ∙ filter_removed (λ k. not (k.ledger == ledger)) key old.entries (ap not (eq-eqb ledger ledger refl)) ∙ same,
         ap (λ (t : LruCache EntryKey X). t.cap) is ∙ cap,
       )
 
--- all of a ledger were, where f reads the payloads
+-- all entries of a ledger were removed; `f` returns the bytes of a payload
 pub all_dropped : {X : Type 0} (f : X → List ℕ) (initial last : LruCache EntryKey X) (now : Recents) (ledger : ℕ)
     → record { entries = seen f initial.entries; most = initial.cap } ≡ now → filter (λ e. not (e.0.ledger == ledger)) last.entries ≡ last.entries
     → filter (λ e. not (e.0.ledger == ledger)) last.entries ≡ filter (λ e. not (e.0.ledger == ledger)) initial.entries → last.cap ≡ initial.cap
@@ -321,9 +321,9 @@ all_dropped f initial last now ledger seen_now stays same cap =
     ∙ ap (λ es. record { entries = es; most = initial.cap }) (sym (filter-seen f (λ key. not (key.ledger == ledger)) initial.entries))
     ∙ ap (λ r. without_recent r ledger) seen_now
 
--- a recent entry has its pair, where f reads the payloads
+-- a recent entry has its pair; `f` returns the bytes of a payload
 pub recent_listed : {X : Type 0} (f : X → List ℕ) (c : LruCache EntryKey X) (pairs : BTreeSet (ℕ × ℕ)) (key : EntryKey) (now : Recents)
-    → record { entries = seen f c.entries; most = c.cap } ≡ now → AreListed c.entries pairs → IsSome (recent_of now key)
+    → record { entries = seen f c.entries; most = c.cap } ≡ now → AreListedRecents c.entries pairs → IsSome (recent_of now key)
     → contains pair_cmp pairs (pair_of key) ≡ true
 recent_listed f c pairs key now seen_now listed held =
     found_listed c.entries pairs key listed (sym (is_some-option_map f (lookup (same_key key) c.entries))

@@ -1,4 +1,4 @@
--- The pairs of a write cache without one of them; f reads a payload's bytes.
+-- The pairs of a write cache without one of them; `f` returns the bytes of a payload.
 use Rattle.std.proofs.Common.{◌≡◌, ℕ, ◌+◌, ◌-◌, ◌≤◌, Bool, true, false, cond, not, ◌&&◌, List, [], ◌∷◌, length, Option, None, IsSome, is_some, zero, suc}
 use Rattle.std.proofs.Common.{option_map, unwrap_or, IsTrue, refl, sym, ap, subst, ◌∙◌, arith}
 use mathlib.Core.Bool.{false≢true}
@@ -15,7 +15,7 @@ use Rattle.bk_record.specs.Key.{EntryKey, key_cmp}
 use Rattle.bk_record.specs.Scan.{Payloads}
 use Rattle.bk_record.proofs.Keys.{key_cmp_total, key_cmp_antisymmetric}
 use Rattle.bk_record.proofs.SortedMaps.{retain_keys-sorted}
-use Rattle.bk_cache.specs.Kept.{KeepsPairs}
+use Rattle.bk_cache.specs.Invariant.{KeepsPairs}
 use Rattle.bk_cache.proofs.Seen.{seen, values_of-seen, sum_by-map}
 use Rattle.bk_cache.proofs.KeptPairs.{kept_filter}
 
@@ -32,18 +32,18 @@ untied Less is = refl
 untied Equal is = absurd (false≢true is)
 untied Greater is = refl
 
--- whether a key is another one
+-- whether a key is a different one
 abbrev pub is_other : EntryKey → EntryKey → Bool
 is_other key q = not (eq_by_cmp key_cmp key q)
 
--- pairs behind a key are of others
+-- all pairs after a key have other keys
 filter-behind_all : {X : Type 0} (key : EntryKey) (es : List (EntryKey × X)) → IsTrue (below_all key_cmp key es) → filter (λ e. is_other key e.0) es ≡ es
 filter-behind_all key [] below = refl
 filter-behind_all key (e ∷ es) below =
     ap (λ b. cond b (e ∷ filter (λ x. is_other key x.0) es) (filter (λ x. is_other key x.0) es)) (untied (key_cmp key e.0) (first _ _ below))
     ∙ ap (λ rest. e ∷ rest) (filter-behind_all key es (second _ _ below))
 
--- in order, without the pair of a key are those of other keys
+-- removing a key from sorted pairs keeps the pairs of all other keys
 pub remove_entry-sorted : {X : Type 0} (key : EntryKey) (es : List (EntryKey × X)) → IsTrue (is_sorted key_cmp es)
     → remove_entry (eq_by_cmp key_cmp key) es ≡ filter (λ e. is_other key e.0) es
 remove_entry-sorted key [] sorted = refl
@@ -56,7 +56,7 @@ remove_entry-sorted key (e ∷ es) sorted =
       | false ↦ λ _. ap (λ rest. e ∷ rest) (remove_entry-sorted key es (second _ _ sorted))
     ] refl
 
--- a map without a key is what it has of others
+-- removing a key from a map keeps its other keys
 retain_keys-others : (m : Payloads) (key : EntryKey) → retain_keys m (is_other key) ≡ remove m key
 retain_keys-others m key = same_map key_cmp_total key_cmp_antisymmetric _ _ (λ q.
     get-retain_keys m (is_other key) q (λ x tied. ap (is_other key) (sym (key_cmp_antisymmetric q x tied)))
@@ -69,7 +69,7 @@ retain_keys-others m key = same_map key_cmp_total key_cmp_antisymmetric _ _ (λ 
     alike : (q : EntryKey) → eq_by_cmp key_cmp key q ≡ eq_by_cmp key_cmp q key
     alike q = (eq_by_cmp_equiv key_cmp_total).symm key q
 
--- a key that the map has, and then has not
+-- removing an existing key lowers the number of keys by one
 pub len-removed : (m : Payloads) (key : EntryKey) → IsSome (get m key) → len (remove m key) + 1 ≡ len m
 len-removed m key there =
     let less : len (remove m key) ≡ len m - 1 = len-remove key_cmp_total m key ∙ ap (λ b. cond b (len m - 1) (len m)) there in

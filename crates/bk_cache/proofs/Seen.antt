@@ -1,4 +1,4 @@
--- Pairs whose values are seen through a function, as shared payloads are seen as their bytes.
+-- Pairs with a function applied to each value, such as shared payloads read as bytes.
 use Rattle.std.proofs.Common.{◌≡◌, ℕ, ◌+◌, Bool, true, false, cond, List, [], ◌∷◌, map, option_map, refl, sym, ap, ◌∙◌}
 use Rattle.std.specs.declared.cmp.Ordering.{Ordering}
 use Rattle.std.specs.declared.cmp.Ordering.TheVariants.{Less, Equal, Greater}
@@ -18,7 +18,7 @@ pub sum_by-map : {A B : Type 0} (g : B → ℕ) (f : A → B) (xs : List A) → 
 sum_by-map g f [] = refl
 sum_by-map g f (x ∷ xs) = sum_by-cons g (f x) (map f xs) ∙ ap (λ n. g (f x) + n) (sum_by-map g f xs) ∙ sym (sum_by-cons (λ y. g (f y)) x xs)
 
--- an insertion, in std's two words for it
+-- insertion, in two forms of std
 pub insert_entry-put : {K X : Type 0} (R : K → K → Ordering) (es : List (K × X)) (k : K) (v : X) → insert_entry R es k v ≡ put R k v es
 insert_entry-put R [] k v = refl
 insert_entry-put R (e ∷ es) k v =
@@ -60,7 +60,7 @@ module _ {K X Y : Type 0} (f : X → Y) where
           | Greater ↦ ap (λ rest. (e.0, f e.1) ∷ rest) (put-seen es k v)
         ]
 
--- a look-up in the map that the seen pairs make
+-- look-up in the map made from such pairs
 pub get-seen : {K X Y : Type 0} (f : X → Y) (R : K → K → Ordering) (es : List (K × X)) → IsTrue (is_sorted R (seen f es)) → (q : K)
     → option_map f (lookup (eq_by_cmp R q) es) ≡ map_get (from_sorted {R = R} (seen f es)) q
 get-seen f R es sorted q = sym (find-seen f R q es) ∙ sym (get-sorted R (seen f es) sorted q)

@@ -1,4 +1,4 @@
--- What the two write caches keep together, through each change.
+-- The invariant of the caches is preserved by each change.
 use Rattle.std.proofs.Common.{◌≡◌, ℕ, ◌+◌, ◌≤◌, Bool, true, false, cond, eqb, List, length, Option, Some, None}
 use Rattle.std.proofs.Common.{IsSome, option_map, unwrap_or, is_some, Result, Ok, Err, refl, sym}
 use Rattle.std.proofs.Common.{ap, subst, ◌∙◌, arith}
@@ -16,8 +16,8 @@ use Rattle.bk_record.proofs.Keys.{key_cmp_total, key_cmp_antisymmetric}
 use Rattle.bk_record.proofs.KeyedLaws.{get-without_ledger}
 use Rattle.bk_cache.specs.Recents.{Recents, without_recent}
 use Rattle.bk_cache.specs.Caches.{CacheState, used_of, flush_of, without, new_caches}
-use Rattle.bk_cache.specs.Turns.{CacheTurn}
-use Rattle.bk_cache.specs.Kept.{IsSound}
+use Rattle.bk_cache.specs.Transitions.{CacheInsertTransition}
+use Rattle.bk_cache.specs.Invariant.{IsSound}
 use Rattle.bk_cache.proofs.KeyedPayloads.{keyed_empty, keyed_insert, keyed_without, keyed_flush_without}
 use Rattle.bk_cache.proofs.Used.{used_of-empty, used_of-insert, used_of-without_ledger-le}
 
@@ -77,9 +77,9 @@ sound_inserted s key payload sound own absent unflushed fits =
       flush_keyed = sound.flush_keyed;
     }
 
--- a payload that the flush has not is offered to the active cache, which has room for it
+-- a payload whose key is not in the flush is added to the active cache, which has room for it
 pub sound_added : (s : CacheState) (key : EntryKey) (payload : List ℕ) (result : Result Bool AllocError) (active : Payloads) → IsSound s
-    → read_added payload ≡ Ok key → get (flush_of s) key ≡ None → used_of s.active + length payload ≤ s.limit → CacheTurn s.active key payload result active
+    → read_added payload ≡ Ok key → get (flush_of s) key ≡ None → used_of s.active + length payload ≤ s.limit → CacheInsertTransition s.active key payload result active
     → IsSound (record s { active = active })
 sound_added s key payload (Ok true) active sound own unflushed fits turn =
     subst (λ (m : Payloads). IsSound (record s { active = m })) (sym turn.1) (sound_inserted s key payload sound own turn.0 unflushed fits)
@@ -114,7 +114,7 @@ sound_without s ledger sound = record {
   flush_keyed = keyed_flush_without s.flush ledger sound.flush_keyed;
 }
 
--- the same, told of each part
+-- the same, with each part given separately
 pub sound_left : (s : CacheState) (ledger : ℕ) → IsSound s → (active : Payloads) (flush : Option Payloads) (recent : Recents)
     → active ≡ without_ledger s.active ledger → flush ≡ option_map (λ m. without_ledger m ledger) s.flush → recent ≡ without_recent s.recent ledger
     → IsSound (record { active = active; flush = flush; recent = recent; limit = s.limit })

@@ -1,4 +1,4 @@
--- How many payload bytes a cache has after a change.
+-- Payload bytes of a cache after a change.
 use Rattle.std.proofs.Common.{◌≡◌, ℕ, ◌+◌, ◌≤◌, not, eqb, Bool, List, [], length, None, refl, option_map, unwrap_or, sym, ap, ◌∙◌, arith}
 use Rattle.std.specs.Ordering.{eq_by_cmp}
 use Rattle.std.specs.List.{filter, sum_by, count_by}

@@ -1,4 +1,5 @@
--- The caches of a bookie: the entries that came in, those that a flush writes, and those that were flushed last.
+-- The caches as contracts see them. Read `CacheState`, then `write_cached_payload` and
+-- `cached_payload`: what the caches have for a key.
 use Rattle.std.specs.Prelude.{◌≡◌, ℕ, ◌+◌, ◌<◌, List, [], length, sum_by, Option, Some, None, IsSome, option_map, unwrap_or, Ok, slice_get, filter, refl}
 use Rattle.std.specs.Option.{option_or}
 use Rattle.std.specs.Result.{result_unwrap_or}
@@ -11,8 +12,8 @@ use Rattle.bk_record.specs.Scan.{Payloads}
 use Rattle.bk_record.specs.Keyed.{key_code, without_ledger}
 use Rattle.bk_cache.specs.Recents.{Recents, Entry, recents_code, recent_of, without_recent}
 
--- What the caches hold. Adds go to `active`; `flush` has what a running flush writes, and is None where none runs.
--- `limit` is how many payload bytes the active cache may have.
+-- Entries in memory. `flush` has the entries of a running flush, and is `None` if none runs.
+-- `limit` is the greatest number of payload bytes of the active cache.
 pub record CacheState : Type 0 where
   pub active : Payloads
   pub flush : Option Payloads
@@ -29,52 +30,52 @@ cache_code =
     (λ p. record { active = p.0; flush = p.1.0; recent = p.1.1.0; limit = p.1.1.1 })
     (λ _. refl)
 
--- the key that an accepted payload gives; of a payload that an add refuses it says nothing
+-- key of an accepted payload; no meaning for a refused one
 abbrev pub added_key : List ℕ → EntryKey
 added_key payload = result_unwrap_or (read_added payload) (record { ledger = 0; entry = 0 })
 
--- the payload bytes of a cache
+-- payload bytes of a cache
 abbrev pub used_of : Payloads → ℕ
 used_of m = sum_by length (map.values m)
 
--- the payload would take the active cache past its limit
+-- the payload would exceed the limit of the active cache
 abbrev pub IsFull : CacheState → List ℕ → Type 0
 IsFull s payload = s.limit < used_of s.active + length payload
 
--- what a flush writes, nothing where none runs
+-- entries of a flush, none if none runs
 abbrev pub entries_of_flush : Option Payloads → Payloads
 entries_of_flush flush = unwrap_or flush map.empty
 
--- what the running flush writes
+-- entries of the running flush
 abbrev pub flush_of : CacheState → Payloads
 flush_of s = entries_of_flush s.flush
 
--- the payload that one of the two write caches has for the key
-abbrev pub held : CacheState → EntryKey → Option (List ℕ)
-held s key = option_or (map.get s.active key) (map.get (flush_of s) key)
+-- payload of the key in one of the write caches
+abbrev pub write_cached_payload : CacheState → EntryKey → Option (List ℕ)
+write_cached_payload s key = option_or (map.get s.active key) (map.get (flush_of s) key)
 
--- what a read finds: the active cache first, then the flushing one, then the recent entries
-abbrev pub cached : CacheState → EntryKey → Option (List ℕ)
-cached s key = option_or (held s key) (recent_of s.recent key)
+-- payload that a read finds: in the active cache, else the flushing one, else the recent entries
+abbrev pub cached_payload : CacheState → EntryKey → Option (List ℕ)
+cached_payload s key = option_or (write_cached_payload s key) (recent_of s.recent key)
 
--- each payload stands under the key that it gives, and is one that an add accepts
+-- every payload is one that an add accepts, stored under its key
 abbrev pub AllKeyed : Payloads → Type 0
 AllKeyed m = (key : EntryKey) (payload : List ℕ) → map.get m key ≡ Some payload → read_added payload ≡ Ok key
 
--- the first pair behind a key in key order, or of all where no key is given
+-- first entry after a key in key order, or the first of all if there is no key
 abbrev pub first_after : Option EntryKey → Payloads → Option Entry
 first_after None m = slice_get (map.entries m) 0
 first_after (Some key) m = slice_get (filter (λ e. is_lt (key_cmp key e.0)) (map.entries m)) 0
 
--- caches without an entry, of this limit, with room for so many recent entries
+-- empty caches with this limit and room for `most` recent entries
 abbrev pub new_caches : ℕ → ℕ → CacheState
 new_caches limit most = record { active = map.empty; flush = None; recent = record { entries = []; most = most }; limit = limit }
 
--- the caches when an accepted payload came into the active one
+-- caches after an accepted payload is added to the active one
 abbrev pub with_added : CacheState → List ℕ → CacheState
 with_added s payload = record s { active = map.insert s.active (added_key payload) payload }
 
--- the caches without the entries of a ledger
+-- caches without the entries of a ledger
 abbrev pub without : CacheState → ℕ → CacheState
 without s ledger = record s {
   active = without_ledger s.active ledger;

@@ -1,4 +1,4 @@
 pub mod Caches
 pub mod Recents
-pub mod Turns
-pub mod Kept
+pub mod Transitions
+pub mod Invariant

@@ -1,11 +1,11 @@
-//! One write cache: the payload of each key, shared, and how many bytes the payloads have together.
+//! One write cache: shared payloads by key, and the sum of their sizes in bytes.
 
 ghost use Rattle.std.specs.Prelude.{◌≡◌, ◌↔◌, ◌+◌, ◌<◌, ◌^◌, Ok, None, length, option_map, IsSome, IfSome, IfNone, IfOk};
 ghost use Rattle.std.specs.FinMap as map;
 ghost use Rattle.bk_record.specs.Record.{read_added};
 ghost use Rattle.bk_record.specs.Keyed.{without_ledger, ledger_count};
 ghost use Rattle.bk_cache.specs.Caches.{used_of, AllKeyed, first_after};
-ghost use Rattle.bk_cache.specs.Turns.{CacheTurn};
+ghost use Rattle.bk_cache.specs.Transitions.{CacheInsertTransition};
 
 use crate::Flushing;
 use bk_record::Key;
@@ -16,7 +16,7 @@ use std::marker::Model;
 use std::ops::Bound;
 use std::sync::Arc;
 
-/// Payloads by key. Each stands under the key that it gives.
+/// Payloads by key. Each is stored under its own key.
 #[derive(Drop)]
 pub(crate) struct Cache {
     pairs: BTreeMap<Key, Arc<Vec<u8>>>,
@@ -28,7 +28,7 @@ impl Model for Cache {
     ghost use Rattle.std.specs.FinMap as entries;
     ghost use Rattle.bk_record.specs.Scan.{Payloads};
     ghost use Rattle.bk_cache.specs.Caches.{payloads_code};
-    ghost use Rattle.bk_cache.specs.Kept.{KeepsPairs};
+    ghost use Rattle.bk_cache.specs.Invariant.{KeepsPairs};
 
     ghost Value = { Payloads };
 
@@ -40,7 +40,7 @@ impl Model for Cache {
 }
 
 impl Cache {
-    /// A cache without an entry. It takes no memory yet.
+    /// Returns an empty cache. Does not allocate.
     pub(crate) fn new(alloc: Global) -> Cache
         ensures { result ≡ map.empty }
     {
@@ -50,7 +50,7 @@ impl Cache {
         }
     }
 
-    /// How many entries the cache has.
+    /// Returns the number of entries.
     pub(crate) fn len(&self) -> u64
         ensures count { result ≡ map.len self.now }
         ensures bound { result < 2 ^ 63 }
@@ -58,14 +58,14 @@ impl Cache {
         self.pairs.len() as u64
     }
 
-    /// How many bytes the payloads have together.
+    /// Returns the sum of the payloads' sizes in bytes.
     pub(crate) fn used(&self) -> u64
         ensures { result ≡ used_of self.now }
     {
         self.used
     }
 
-    /// The payload of a key.
+    /// Returns the payload of a key.
     pub(crate) fn get(&self, key: &Key) -> Option<&Arc<Vec<u8>>>
         ensures value { option_map (λ payload. payload.now.value.items) result ≡ map.get self.now key.now }
         ensures keyed { IfSome result (λ payload. read_added payload.now.value.items ≡ Ok key.now) }
@@ -73,8 +73,9 @@ impl Cache {
         self.pairs.get(key)
     }
 
-    /// Adds a copy of a payload under its own key, and answers whether it did: not where the cache has the key. The only
-    /// error is want of memory, for a key that the cache has not. Without an addition the cache stays as it was.
+    /// Adds a copy of a payload under its own key. Returns whether it was added: `false` if the
+    /// cache has the key. Fails only if an allocation fails for a new key. Unless the payload is
+    /// added, the cache is unchanged.
     pub(crate) fn add(
         &mut self,
         alloc: Global,
@@ -83,7 +84,7 @@ impl Cache {
     ) -> Result<bool, AllocError>
         requires keyed { read_added payload.now ≡ Ok key }
         requires fits { used_of self.old + length payload.now < 2 ^ 64 }
-        ensures turn { CacheTurn self.old key payload.now result self.new }
+        ensures transition { CacheInsertTransition self.old key payload.now result self.new }
     {
         match self.pairs.entry(key)? {
             Entry::Occupied(_) => Ok(false),
@@ -95,11 +96,11 @@ impl Cache {
         }
     }
 
-    /// Adds a payload under its own key as it is, and answers as `add` does.
+    /// Same as `add`, without a copy.
     pub(crate) fn put(&mut self, key: Key, payload: Arc<Vec<u8>>) -> Result<bool, AllocError>
         requires keyed { read_added payload.value.items ≡ Ok key }
         requires fits { used_of self.old + length payload.value.items < 2 ^ 64 }
-        ensures turn { CacheTurn self.old key payload.value.items result self.new }
+        ensures transition { CacheInsertTransition self.old key payload.value.items result self.new }
     {
         match self.pairs.entry(key)? {
             Entry::Occupied(_) => Ok(false),
@@ -111,14 +112,14 @@ impl Cache {
         }
     }
 
-    /// Takes the entries of a ledger out, and answers how many there were.
+    /// Removes the entries of a ledger and returns their number.
     pub(crate) fn drop_ledger(&mut self, ledger: u64) -> u64
         ensures left { self.new ≡ without_ledger self.old ledger }
         ensures count { result ≡ ledger_count self.old ledger }
         ensures bound { result < 2 ^ 63 }
     {
         let before = self.len();
-        // A ledger's keys stand together, so that no other is looked at but the one behind them.
+        // The keys of a ledger are adjacent, so at most one other key is visited.
         while let Some(key) = self.first_of(ledger) {
             self.remove(&key);
         }
@@ -142,7 +143,7 @@ impl Cache {
         }
     }
 
-    // Takes an entry out, where the cache has one of the key.
+    // Removes the entry of a key, if the cache has one.
     fn remove(&mut self, key: &Key)
         ensures { self.new ≡ map.remove self.old key.now }
     {
@@ -151,7 +152,7 @@ impl Cache {
         }
     }
 
-    /// The entries in key order.
+    /// Returns an iterator over the entries in key order.
     pub(crate) fn walk(&self) -> Flushing<'_>
         ensures items { result ≡ map.entries self.now }
         ensures keyed { AllKeyed self.now }
@@ -161,7 +162,7 @@ impl Cache {
         }
     }
 
-    /// The first entry behind a key, or of all where no key is given.
+    /// Returns the first entry after a key, or the first of all if there is no key.
     pub(crate) fn first_after(&self, key: Option<Key>) -> Option<(Key, &Arc<Vec<u8>>)>
         ensures value { option_map (λ e. (e.0, e.1.now.value.items)) result ≡ first_after key self.now }
         ensures keyed { IfSome result (λ e. read_added e.1.now.value.items ≡ Ok e.0) }
@@ -178,7 +179,11 @@ impl Cache {
     }
 }
 
-/// A copy of a payload, shared from then on. The only error is want of memory.
+/// Returns a shared copy of a payload.
+///
+/// # Errors
+///
+/// - `AllocError` if an allocation fails.
 pub fn share(alloc: Global, payload: &[u8]) -> Result<Arc<Vec<u8>>, AllocError>
     ensures { IfOk result (λ shared. shared.value.items ≡ payload.now) }
 {

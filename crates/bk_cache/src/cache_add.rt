@@ -1,10 +1,10 @@
-//! What an add to the caches did.
+//! Result of an add.
 
-/// The answer of `Caches::add`.
+/// Result of `Caches::add` and `Caches::put`.
 #[derive(Clone, Copy, Debug, PartialEq, Eq)]
 pub enum CacheAdd {
     /// The payload is in the active cache.
     Taken,
-    /// A write cache has the key, so nothing changed.
+    /// A write cache has the key; nothing changed.
     Held,
 }

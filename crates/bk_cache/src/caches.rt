@@ -1,5 +1,5 @@
-//! The two write caches and the recent entries. Adds go to the active cache; a swap makes it the flushing one, and what
-//! is flushed may be remembered. A key is in at most one of the write caches, and a read looks there first.
+//! The two write caches and the recent entries. A key is in at most one of the write caches, and a
+//! read searches these first.
 
 ghost use Rattle.std.specs.Prelude.{◌≡◌, ◌↔◌, ◌⊎◌, ◌+◌, ◌≤◌, [], Some, None, Ok, length, is_some, option_map, IsSome, IsTrue, IfSome, IfNone, IfOk};
 ghost use Rattle.std.specs.FinMap as map;
@@ -7,10 +7,10 @@ ghost use Rattle.bk_record.specs.Key.{EntryKey};
 ghost use Rattle.bk_record.specs.Limits.{max_cache_limit};
 ghost use Rattle.bk_record.specs.Record.{read_added};
 ghost use Rattle.bk_record.specs.Keyed.{ledger_count};
-ghost use Rattle.bk_cache.specs.Recents.{recent_of, remembered, IsOldOrRemembered};
-ghost use Rattle.bk_cache.specs.Caches.{used_of, flush_of, held, cached, AllKeyed, AreApart, first_after, new_caches, without};
-ghost use Rattle.bk_cache.specs.Kept.{IsSound};
-ghost use Rattle.bk_cache.specs.Turns.{CacheAddTurn, CacheSwapTurn};
+ghost use Rattle.bk_cache.specs.Recents.{recent_of, recents_with, IsOldOrRemembered};
+ghost use Rattle.bk_cache.specs.Caches.{used_of, flush_of, write_cached_payload, cached_payload, AllKeyed, AreApart, first_after, new_caches, without};
+ghost use Rattle.bk_cache.specs.Invariant.{IsSound};
+ghost use Rattle.bk_cache.specs.Transitions.{CacheAddTransition, CacheSwapTransition};
 
 use crate::cache::Cache;
 use crate::recent::Recent;
@@ -21,7 +21,8 @@ use std::marker::Model;
 use std::mem;
 use std::sync::Arc;
 
-/// What a bookie holds in memory. Payloads are shared, and copied only when they come in.
+/// Entries in memory: those of the active cache, of the flushing cache, and the recent ones.
+/// Payloads are shared, and copied only when they are added.
 #[derive(Drop)]
 pub struct Caches {
     alloc: Global,
@@ -33,7 +34,7 @@ pub struct Caches {
 
 impl Model for Caches {
     ghost use Rattle.bk_cache.specs.Caches.{CacheState, cache_code};
-    ghost use Rattle.bk_cache.specs.Kept.{IsSound};
+    ghost use Rattle.bk_cache.specs.Invariant.{IsSound};
 
     ghost Value = { CacheState };
 
@@ -45,9 +46,14 @@ impl Model for Caches {
 }
 
 impl Caches {
-    /// Caches without an entry: `limit` is how many payload bytes the active cache may have, from 16 to 1,073,741,824,
-    /// and `recent` how many recent entries there may be, from 0 to 65,536. The table of these is made at once, so the
-    /// only error is want of memory.
+    /// Returns empty caches.
+    ///
+    /// `limit` is the greatest number of payload bytes of the active cache, at most 1,073,741,824.
+    /// `recent` is the greatest number of recent entries; their table is allocated at once.
+    ///
+    /// # Errors
+    ///
+    /// - `AllocError` if an allocation fails.
     pub fn new(alloc: Global, limit: u64, recent: u32) -> Result<Caches, AllocError>
         requires { limit ≤ max_cache_limit }
         ensures value { IfOk result (λ caches. caches ≡ new_caches limit recent) }
@@ -62,7 +68,7 @@ impl Caches {
         })
     }
 
-    /// How many payload bytes the active cache may have.
+    /// Returns the greatest number of payload bytes of the active cache.
     pub fn limit(&self) -> u64
         ensures value { result ≡ self.now.limit }
         ensures sound { IsSound self.now }
@@ -70,7 +76,7 @@ impl Caches {
         self.limit
     }
 
-    /// How many payload bytes the active cache has.
+    /// Returns the number of payload bytes of the active cache.
     pub fn used(&self) -> u64
         ensures value { result ≡ used_of self.now.active }
         ensures within { result ≤ self.now.limit }
@@ -79,20 +85,20 @@ impl Caches {
         self.active.used()
     }
 
-    /// Whether one of the two write caches has the key.
+    /// Returns whether a write cache has the key.
     pub fn holds(&self, key: &Key) -> bool
-        ensures value { result ≡ is_some (held self.now key.now) }
+        ensures value { result ≡ is_some (write_cached_payload self.now key.now) }
         ensures sound { IsSound self.now }
     {
         self.written(key).is_some()
     }
 
-    /// The payload of a key: from the active cache, else from the flushing one, else from the recent entries. Nothing is
-    /// renewed.
+    /// Returns the payload of a key: from the active cache, else from the flushing one, else from
+    /// the recent entries. Does not change the order of the recent entries.
     #[inline]
     pub fn get(&self, key: &Key) -> Option<&Arc<Vec<u8>>>
-        ensures value { option_map (λ payload. payload.now.value.items) result ≡ cached self.now key.now }
-        ensures keyed { IsSome (held self.now key.now) → IfSome result (λ payload. read_added payload.now.value.items ≡ Ok key.now) }
+        ensures value { option_map (λ payload. payload.now.value.items) result ≡ cached_payload self.now key.now }
+        ensures keyed { IsSome (write_cached_payload self.now key.now) → IfSome result (λ payload. read_added payload.now.value.items ≡ Ok key.now) }
         ensures sound { IsSound self.now }
     {
         match self.written(key) {
@@ -104,7 +110,7 @@ impl Caches {
     // The payload of a key in one of the write caches.
     #[inline]
     fn written(&self, key: &Key) -> Option<&Arc<Vec<u8>>>
-        ensures value { option_map (λ payload. payload.now.value.items) result ≡ held self.now key.now }
+        ensures value { option_map (λ payload. payload.now.value.items) result ≡ write_cached_payload self.now key.now }
         ensures keyed { IfSome result (λ payload. read_added payload.now.value.items ≡ Ok key.now) }
         ensures sound { IsSound self.now }
     {
@@ -115,15 +121,21 @@ impl Caches {
         }
     }
 
-    /// Takes a payload that an add accepts, and the key that it gives, into the active cache, unless one of the two write
-    /// caches has the key: then it is `Held`, and nothing changes.
+    /// Adds a copy of a payload to the active cache.
     ///
-    /// Faults of a key that neither write cache has, tried in this order: `Full` where the payload would take the active
-    /// cache past its limit, told with the cache's payload bytes and the limit; `Memory`. A refusal leaves the caches as
-    /// they were.
+    /// Returns `Held` exactly if a write cache has the key, and then changes nothing. Requires that
+    /// `check_add` accepts the payload with this key.
+    ///
+    /// # Errors
+    ///
+    /// For a key that no write cache has, in this order; the caches are unchanged:
+    ///
+    /// - `Full` exactly if the payload would exceed the active cache's limit, with its payload
+    ///   bytes and the limit.
+    /// - `Memory` if an allocation fails.
     pub fn add(&mut self, key: Key, payload: &[u8]) -> Result<CacheAdd, CacheFault>
         requires { read_added payload.now ≡ Ok key }
-        ensures turn { CacheAddTurn self.old key payload.now result self.new }
+        ensures transition { CacheAddTransition self.old key payload.now result self.new }
         ensures sound { IsSound self.new }
     {
         if let Some(answer) = self.answered(&key, payload) {
@@ -136,10 +148,14 @@ impl Caches {
         }
     }
 
-    /// Takes a payload as `add` does, but as it is, and no copy of it. So it needs memory for its key alone.
+    /// Adds a shared payload without a copy. Returns the same as `add`.
+    ///
+    /// # Errors
+    ///
+    /// Those of `add`, in the same order. `Memory` can occur for the key only.
     pub fn put(&mut self, key: Key, payload: Arc<Vec<u8>>) -> Result<CacheAdd, CacheFault>
         requires { read_added payload.value.items ≡ Ok key }
-        ensures turn { CacheAddTurn self.old key payload.value.items result self.new }
+        ensures transition { CacheAddTransition self.old key payload.value.items result self.new }
         ensures sound { IsSound self.new }
     {
         if let Some(answer) = self.answered(&key, &payload) {
@@ -152,10 +168,10 @@ impl Caches {
         }
     }
 
-    // What an add answers before the active cache is given its payload: that a write cache has the key, or that there is
-    // no room; nothing where the running flush has not the key, and there is room.
+    // The result of an add without a change of the active cache: `Held` or `Full`. `None` if the
+    // flush does not have the key and the payload fits.
     fn answered(&self, key: &Key, payload: &[u8]) -> Option<Result<CacheAdd, CacheFault>>
-        ensures some { IfSome result (λ answer. CacheAddTurn self.now key.now payload.now answer self.now) }
+        ensures some { IfSome result (λ answer. CacheAddTransition self.now key.now payload.now answer self.now) }
         ensures absent { IfNone result (map.get (flush_of self.now) key.now ≡ None) }
         ensures fits { IfNone result (used_of self.now.active + length payload.now ≤ self.now.limit) }
     {
@@ -183,10 +199,13 @@ impl Caches {
         }
     }
 
-    /// Makes the active cache the flushing one, and answers how many entries it has. `Running` where a flush runs, also
-    /// one whose entries were all taken out, and else `Nothing` where no entry came in: then nothing changes.
+    /// Makes the active cache the flushing one.
+    ///
+    /// Returns `Running` if a flush runs, even one without entries; else `Nothing` if the active
+    /// cache is empty; else `Swapped` with its number of entries. Only `Swapped` changes the
+    /// caches.
     pub fn swap(&mut self) -> Swap
-        ensures turn { CacheSwapTurn self.old result self.new }
+        ensures transition { CacheSwapTransition self.old result self.new }
         ensures sound { IsSound self.new }
     {
         if self.flush.is_some() {
@@ -201,7 +220,7 @@ impl Caches {
         Swap::Swapped(count)
     }
 
-    /// Whether a flush runs.
+    /// Returns whether a flush runs.
     pub fn is_flushing(&self) -> bool
         ensures value { IsTrue result ↔ IsSome self.now.flush }
         ensures sound { IsSound self.now }
@@ -209,7 +228,7 @@ impl Caches {
         self.flush.is_some()
     }
 
-    /// How many entries the running flush has, 0 where none runs.
+    /// Returns the number of entries of the running flush, 0 if none runs.
     pub fn flush_len(&self) -> u64
         ensures value { result ≡ map.len (flush_of self.now) }
         ensures sound { IsSound self.now }
@@ -220,7 +239,8 @@ impl Caches {
         }
     }
 
-    /// The entries of the running flush in the order of ledger, then entry; none where no flush runs.
+    /// Returns an iterator over the entries of the running flush, by ledger, then entry; empty if
+    /// none runs.
     pub fn flushing(&self) -> Flushing<'_>
         ensures items { result ≡ map.entries (flush_of self.now) }
         ensures keyed { AllKeyed (flush_of self.now) }
@@ -232,7 +252,8 @@ impl Caches {
         }
     }
 
-    /// The first entry of the running flush behind a key, or of all where no key is given.
+    /// Returns the first entry of the running flush after a key, or the first of all if there is no
+    /// key.
     pub fn flushing_after(&self, key: Option<Key>) -> Option<(Key, &Arc<Vec<u8>>)>
         ensures value { option_map (λ e. (e.0, e.1.now.value.items)) result ≡ first_after key (flush_of self.now) }
         ensures keyed { IfSome result (λ e. read_added e.1.now.value.items ≡ Ok e.0) }
@@ -244,7 +265,7 @@ impl Caches {
         }
     }
 
-    /// Ends the flush, if one runs: its entries go.
+    /// Ends the flush, if one runs, and drops its entries.
     pub fn done(&mut self)
         ensures value { self.new ≡ record self.old { flush = None } }
         ensures sound { IsSound self.new }
@@ -252,19 +273,20 @@ impl Caches {
         self.flush = None;
     }
 
-    /// Remembers an entry that was flushed, as the one that goes last; of too many the one that was remembered first
-    /// goes. Where memory is refused for a new key, or there may be no recent entry, it is not remembered and the others
-    /// stay.
+    /// Adds a flushed entry to the recent entries, as the newest. Over the number allowed, the one
+    /// remembered first is dropped.
+    ///
+    /// Nothing changes if no recent entry is allowed, or if an allocation fails for a new key.
     pub fn remember(&mut self, key: Key, payload: Arc<Vec<u8>>)
-        ensures recent { (self.new ≡ self.old) ⊎ (self.new ≡ record self.old { recent = remembered self.old.recent key payload.value.items }) }
-        ensures replaced { IsSome (recent_of self.old.recent key) → self.new ≡ record self.old { recent = remembered self.old.recent key payload.value.items } }
+        ensures recent { (self.new ≡ self.old) ⊎ (self.new ≡ record self.old { recent = recents_with self.old.recent key payload.value.items }) }
+        ensures replaced { IsSome (recent_of self.old.recent key) → self.new ≡ record self.old { recent = recents_with self.old.recent key payload.value.items } }
         ensures only { (q : EntryKey) → IfSome (recent_of self.new.recent q) (IsOldOrRemembered self.old.recent key payload.value.items q) }
         ensures sound { IsSound self.new }
     {
         self.recent.remember(&key, payload);
     }
 
-    /// How many recent entries there are.
+    /// Returns the number of recent entries.
     pub fn recent_len(&self) -> u64
         ensures value { result ≡ length self.now.recent.entries }
         ensures within { result ≤ self.now.recent.most }
@@ -273,9 +295,10 @@ impl Caches {
         self.recent.len() as u64
     }
 
-    /// Takes the entries of a ledger out of the write caches and the recent entries, and answers how many keys of it
-    /// the write caches had: at most 134,217,728, as each payload has 16 bytes at least. A flush goes on, also one that
-    /// has no entry left.
+    /// Removes the entries of a ledger from the write caches and the recent entries.
+    ///
+    /// Returns the number of its keys in the write caches, at most 134,217,728, since a payload has
+    /// at least 16 bytes. A running flush continues, even without entries.
     pub fn drop_ledger(&mut self, ledger: u64) -> u64
         ensures left { self.new ≡ without self.old ledger }
         ensures count { result ≡ ledger_count self.old.active ledger + ledger_count (flush_of self.old) ledger }

@@ -1,19 +1,19 @@
-//! Why an entry is not taken into the active cache.
+//! Errors of an add to the caches.
 
 use thiserror::Error;
 
 /// Why the active cache refuses a payload.
 #[derive(Clone, Copy, Debug, PartialEq, Eq, Error)]
 pub enum CacheFault {
-    /// The payload would take the active cache past its limit.
+    /// The payload would exceed the limit of the active cache.
     #[error("full {used} {limit}")]
     Full {
-        /// The payload bytes that the active cache has.
+        /// Payload bytes of the active cache.
         used: u64,
-        /// The payload bytes that it may have.
+        /// Greatest number of payload bytes.
         limit: u64,
     },
-    /// No memory was to be had.
+    /// Out of memory.
     #[error("memory")]
     Memory,
 }

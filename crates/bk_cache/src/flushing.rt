@@ -1,4 +1,4 @@
-//! A walk over the entries that a flush writes: what is left of it is a list of keys and payloads.
+//! Iterator over the entries of a flush.
 
 ghost use Rattle.std.specs.Iterator.{YieldsFirstBy, item_count};
 
@@ -7,7 +7,7 @@ use std::collections::btree_map::Iter;
 use std::marker::Model;
 use std::sync::Arc;
 
-/// Gives each key of the running flush and its payload, in the order of ledger, then entry.
+/// Iterator over keys and payloads of the running flush, by ledger, then entry.
 #[derive(Drop)]
 pub struct Flushing<'a> {
     pub(crate) rest: Option<Iter<'a, Key, Arc<Vec<u8>>>>,

@@ -1,4 +1,4 @@
-//! What a bookie holds in memory: the entries that came in, those that a flush writes, and those flushed last.
+//! Entries in memory: the active cache, the flushing cache, and the recent entries.
 #![tactic(auto)]
 
 mod cache;
@@ -15,6 +15,3 @@ pub use caches::Caches;
 pub use fault::CacheFault;
 pub use flushing::Flushing;
 pub use swap::Swap;
-
-#[cfg(test)]
-mod tests;

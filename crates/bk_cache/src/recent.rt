@@ -1,9 +1,9 @@
-//! The entries that were flushed last, the one remembered last first. A read renews nothing, so of too many the one
-//! that was remembered first goes first.
+//! The recent entries: those flushed last, the newest first. A read does not change their order, so
+//! over the number allowed the one remembered first is dropped.
 
 ghost use Rattle.std.specs.Prelude.{◌≡◌, ◌⊎◌, ◌≤◌, ℕ, [], true, false, length, option_map, IsSome, IfOk, IfSome, IfNone};
 ghost use Rattle.std.specs.BTreeSet.{contains};
-ghost use Rattle.bk_cache.specs.Recents.{recent_of, remembered, without_recent, pair_cmp};
+ghost use Rattle.bk_cache.specs.Recents.{recent_of, recents_with, without_recent, pair_cmp};
 
 use bk_record::Key;
 use lru::LruCache;
@@ -14,7 +14,7 @@ use std::num::NonZeroUsize;
 use std::ops::Bound;
 use std::sync::Arc;
 
-/// A key, as the table of recent entries hashes it.
+/// A key, with a hash for the table of recent entries.
 #[derive(Clone, Copy, Debug, PartialEq, Eq, Hash)]
 struct HashedKey {
     ledger: u64,
@@ -42,7 +42,8 @@ impl HashedKey {
     }
 }
 
-/// Recent entries. `pairs` has ledger and entry of each of them in order, so that those of a ledger stand side by side.
+/// Recent entries. `pairs` has ledger and entry of each in order, so that those of a ledger are
+/// adjacent.
 #[derive(Drop)]
 struct Kept {
     entries: LruCache<HashedKey, Arc<Vec<u8>>>,
@@ -51,7 +52,7 @@ struct Kept {
 
 impl Model for Kept {
     ghost use Rattle.std.specs.Prelude.{map};
-    ghost use Rattle.bk_cache.specs.Recents.{Recents, recents_code, AreListed};
+    ghost use Rattle.bk_cache.specs.Recents.{Recents, recents_code, AreListedRecents};
 
     ghost Value = { Recents };
 
@@ -59,7 +60,7 @@ impl Model for Kept {
 
     ghost view = { λ kept. record { entries = map (λ e. (e.0, e.1.value.items)) kept.entries.entries; most = kept.entries.cap } };
 
-    ghost invariant = { λ kept. AreListed kept.entries.entries kept.pairs };
+    ghost invariant = { λ kept. AreListedRecents kept.entries.entries kept.pairs };
 }
 
 impl Kept {
@@ -77,14 +78,14 @@ impl Kept {
     }
 
     fn remember(&mut self, key: &Key, payload: Arc<Vec<u8>>)
-        ensures recent { (self.new ≡ self.old) ⊎ (self.new ≡ remembered self.old key.now payload.value.items) }
-        ensures replaced { IsSome (recent_of self.old key.now) → self.new ≡ remembered self.old key.now payload.value.items }
+        ensures recent { (self.new ≡ self.old) ⊎ (self.new ≡ recents_with self.old key.now payload.value.items) }
+        ensures replaced { IsSome (recent_of self.old key.now) → self.new ≡ recents_with self.old key.now payload.value.items }
     {
         let pair = (key.ledger(), key.entry());
         let Ok(is_new) = self.pairs.insert(pair) else {
             return;
         };
-        // Each key stands once: what the table says of itself.
+        // Lemma: each key is in the table once.
         let _ = self.entries.len();
         match self.entries.push(HashedKey::of(key), payload) {
             Ok(Some((gone, _))) => unlist(&mut self.pairs, gone, pair),
@@ -102,14 +103,14 @@ impl Kept {
     {
         while let Some(entry) = first_entry(&self.pairs, ledger) {
             self.pairs.remove(&(ledger, entry));
-            // Each key stands once.
+            // Lemma: each key is in the table once.
             let _ = self.entries.len();
             let _ = self.entries.pop(&HashedKey { ledger, entry });
         }
     }
 }
 
-// The pair of a key that went goes too, where it is not this one.
+// Removes the pair of a key that was dropped, unless it is the new one.
 fn unlist(pairs: &mut BTreeSet<(u64, u64)>, gone: HashedKey, stays: (u64, u64))
     ensures stay { (pair : ℕ × ℕ) → (pair.0 ≡ gone.ledger → pair.1 ≡ gone.entry → pair ≡ stays)
         → contains pair_cmp pairs.old pair ≡ true → contains pair_cmp pairs.new pair ≡ true }
@@ -120,7 +121,7 @@ fn unlist(pairs: &mut BTreeSet<(u64, u64)>, gone: HashedKey, stays: (u64, u64))
     }
 }
 
-// The first entry of the ledger among the pairs: those of one ledger stand side by side.
+// The first entry of the ledger among the pairs. Those of one ledger are adjacent.
 fn first_entry(pairs: &BTreeSet<(u64, u64)>, ledger: u64) -> Option<u64>
     ensures some { IfSome result (λ entry. contains pair_cmp pairs.now (ledger, entry) ≡ true) }
     ensures none { IfNone result ((entry : ℕ) → contains pair_cmp pairs.now (ledger, entry) ≡ false) }
@@ -131,7 +132,7 @@ fn first_entry(pairs: &BTreeSet<(u64, u64)>, ledger: u64) -> Option<u64>
     if *first == ledger { Some(*entry) } else { None }
 }
 
-/// At most so many recent entries; there is no table where there may be none.
+/// Recent entries up to a number. If it is 0, there is no table.
 #[derive(Drop)]
 pub(crate) struct Recent {
     kept: Option<Kept>,
@@ -149,7 +150,7 @@ impl Model for Recent {
 }
 
 impl Recent {
-    /// A table for so many entries, with none yet.
+    /// Returns a table for `most` entries, without any yet.
     pub(crate) fn new(alloc: Global, most: usize) -> Result<Recent, AllocError>
         ensures { IfOk result (λ recent. recent ≡ record { entries = []; most = most }) }
     {
@@ -163,7 +164,7 @@ impl Recent {
         Ok(Recent { kept: Some(kept) })
     }
 
-    /// How many recent entries there are.
+    /// Returns the number of recent entries.
     pub(crate) fn len(&self) -> usize
         ensures value { result ≡ length self.now.entries }
         ensures within { result ≤ self.now.most }
@@ -174,25 +175,25 @@ impl Recent {
         }
     }
 
-    /// The payload of a recent entry. It renews nothing.
+    /// Returns the payload of a recent entry. Does not change the order.
     pub(crate) fn get(&self, key: &Key) -> Option<&Arc<Vec<u8>>>
         ensures { option_map (λ payload. payload.now.value.items) result ≡ recent_of self.now key.now }
     {
         self.kept.as_ref()?.get(key)
     }
 
-    /// Puts an entry first, or none where memory is refused or there may be none. The payload of a key that is there is
-    /// always replaced.
+    /// Adds an entry as the newest, unless an allocation fails for a new key or no entry is
+    /// allowed. The payload of an existing key is always replaced.
     pub(crate) fn remember(&mut self, key: &Key, payload: Arc<Vec<u8>>)
-        ensures recent { (self.new ≡ self.old) ⊎ (self.new ≡ remembered self.old key.now payload.value.items) }
-        ensures replaced { IsSome (recent_of self.old key.now) → self.new ≡ remembered self.old key.now payload.value.items }
+        ensures recent { (self.new ≡ self.old) ⊎ (self.new ≡ recents_with self.old key.now payload.value.items) }
+        ensures replaced { IsSome (recent_of self.old key.now) → self.new ≡ recents_with self.old key.now payload.value.items }
     {
         if let Some(kept) = &mut self.kept {
             kept.remember(key, payload);
         }
     }
 
-    /// Takes the entries of a ledger out. No other is looked at but the one behind them in the order of keys.
+    /// Removes the entries of a ledger. At most one other entry is visited.
     pub(crate) fn drop_ledger(&mut self, ledger: u64)
         ensures { self.new ≡ without_recent self.old ledger }
     {

@@ -1,12 +1,12 @@
-//! What a swap of the write caches did.
+//! Result of a swap.
 
-/// The answer of `Caches::swap`.
+/// Result of `Caches::swap`.
 #[derive(Clone, Copy, Debug, PartialEq, Eq)]
 pub enum Swap {
-    /// The active cache's entries, of which there are this many, are now those of a flush.
+    /// The entries of the active cache, this many, are now those of a flush.
     Swapped(u64),
-    /// A flush runs, so nothing changed.
+    /// A flush runs; nothing changed.
     Running,
-    /// No entry came in, so nothing changed.
+    /// The active cache is empty; nothing changed.
     Nothing,
 }

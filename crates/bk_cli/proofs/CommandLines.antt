@@ -1,4 +1,4 @@
--- What clap's contracts say of the program's command line.
+-- Consequences of clap's contracts for the program's command line.
 use Rattle.std.proofs.Common.{◌≡◌, ◌≢◌, ℕ, ◌+◌, ◌<◌, ◌≤◌, ◌^◌, zero, suc, Bool, true, false, ◌||◌, List, [], ◌∷◌, ◌++◌, length, map, take, get_or, inl, inr}
 use Rattle.std.proofs.Common.{Option, Some, None, option_map, Result, Ok, Err, Box, Bor, codes, arith, refl, sym, ◌∙◌, ap, subst}
 use Rattle.std.specs.Fmt.{decimal}
@@ -26,11 +26,11 @@ use Rattle.bk_store.specs.declared.settings.Settings.{Settings}
 use Rattle.bk_cli.specs.declared.script.ScriptCall.{ScriptCall}
 use Rattle.bk_cli.specs.CommandLine.{program, last_ledger, Asks, AsksFlag, AsksLedgers, AsksMarks, AsksSettings, IsNumberIn}
 
--- a word is one number
+-- a word is at most one number
 pub same_number : (word : Text) (m n : ℕ) → m < 2 ^ 64 → n < 2 ^ 64 → word ≡ decimal m → word ≡ decimal n → m ≡ n
 same_number word m n small low is then = decimal_injective m n small low (sym is ∙ then)
 
--- the value of an option in the rows of a parse
+-- value of an option in the rows of a parse
 pub row_none : (f : Found) (id : Text) (r : Option (Bor Text)) → option_map (λ s. s.now) r ≡ first_value f id → r ≡ None
     → first_of id (rows_of f) ≡ None
 row_none f id r e is = sym (first_value-rows f id) ∙ (sym e ∙ ap (option_map (λ (s : Bor Text). s.now)) is)
@@ -39,13 +39,13 @@ pub row_some : (f : Found) (id : Text) (r : Option (Bor Text)) (text : Bor Text)
     → first_of id (rows_of f) ≡ Some text.now
 row_some f id r text e is = sym (first_value-rows f id) ∙ (sym e ∙ ap (option_map (λ (s : Bor Text). s.now)) is)
 
--- an option without a value in the rows of a parse
+-- value of a flag in the rows of a parse
 pub flag_read : (word : Option Text) (is_given : Bool) → (word ≡ None → is_given ≡ false) → (word ≡ Some (codes "true") → is_given ≡ true)
     → (word ≡ Some (codes "false") → is_given ≡ false) → AsksFlag word is_given
 flag_read None is_given none given other = none refl
 flag_read (Some word) is_given none given other = (λ is. given (ap Some is), λ is. other (ap Some is))
 
--- the words of an argument in the rows of a parse
+-- words of an argument in the rows of a parse
 pub words_none : (f : Found) (id : Text) (r : Option (Bor (List (Bor Text))))
     → option_map (λ s. map (λ v. v.now) s.now) r ≡ option_map raw_values (matched_of f id) → r ≡ None → all_of id (rows_of f) ≡ None
 words_none f id r e is = sym (raw_values-rows f id) ∙ (sym e ∙ ap (option_map (λ (s : Bor (List (Bor Text))). texts s.now)) is)
@@ -59,7 +59,7 @@ words_some f id r words e is = sym (raw_values-rows f id) ∙ (sym e ∙ ap (opt
 abbrev pub AreLedgers : List (Bor Text) → List ℕ → Type 0
 AreLedgers words dead = AllZip (IsNumberIn 0 last_ledger) (texts words) dead
 
--- the word at i is a ledger too
+-- one more word that is a ledger
 pub ledgers_more : (words : List (Bor Text)) (i : ℕ) (d : Bor Text) (dead : List ℕ) (n : ℕ) → i < length words → AreLedgers (take i words) dead
     → (n ≤ last_ledger) × ((get_or words i d).now ≡ decimal n) → AreLedgers (take (i + 1) words) (dead ++ n ∷ [])
 ledgers_more words i d dead n inside so_far one =
@@ -69,7 +69,7 @@ ledgers_more words i d dead n inside so_far one =
     subst (λ (ws : List Text). AllZip R ws (dead ++ n ∷ [])) (sym split)
     (all_zipped_more R (texts (take i words)) dead (get_or words i d).now n so_far (omega arith, one.0, one.1))
 
--- words of which one is no ledger are not ledgers
+-- words are not ledgers if one of them is not
 pub not_ledgers : (words : List (Bor Text)) (dead : List ℕ) (i : ℕ) (d : Bor Text) → i < length words
     → ((n : ℕ) → n ≤ last_ledger → (get_or words i d).now ≢ decimal n) → ¬ (AreLedgers words dead)
 not_ledgers [] dead i d inside none = absurd (omega arith)
@@ -77,7 +77,7 @@ not_ledgers (x ∷ xs) [] i d inside none = λ all. absurd all
 not_ledgers (x ∷ xs) (m ∷ ms) zero d inside none = λ all. none m all.0.1 all.0.2
 not_ledgers (x ∷ xs) (m ∷ ms) (suc i) d inside none = λ all. not_ledgers xs ms i d (omega arith) none all.1
 
--- an argument that is not global leaves a command without global ones
+-- adding an argument that is not global leaves a command without global ones
 pub still_local : {x y z : Bool} → x ≡ (y || z) → y ≡ false → z ≡ false → x ≡ false
 still_local {x} {y} {z} e h k = let both : (y || z) ≡ false = rw (h, k) refl in e ∙ both
 
@@ -106,7 +106,7 @@ module _ {Z : Type 0} where
   name_in None name rows e = cc
   name_in (Some b) name rows e = ap (option_map (λ (p : Text × List Row). p.0)) e
 
--- the rows of words that call `script` are those that they ask by
+-- the rows of a call of `script` are those of `Asks`
 pub asked_rows : (words : List Text) (over : Option Text) (settings : Settings) (dead : List ℕ) (asks : Asks words over settings dead)
     (rows : List Row) → subcommand_of program words ≡ Some (codes "script", rows) → asks.rows ≡ rows
 asked_rows words over settings dead asks rows e =
@@ -114,7 +114,7 @@ asked_rows words over settings dead asks rows e =
     let pair : (codes "script", asks.rows) ≡ (codes "script", rows) = cc in
     ap (λ (p : Text × List Row). p.1) pair
 
--- words ask for one folder, or for none
+-- the words select one directory, or none
 pub one_folder : {words : List Text} {over over' : Option Text} {settings settings' : Settings} {dead dead' : List ℕ}
     → Asks words over settings dead → Asks words over' settings' dead' → over ≡ over'
 one_folder {words} {over} {over'} {settings} {settings'} {dead} one other =
@@ -124,7 +124,7 @@ program_is_free : is_simple_and_free program ≡ true
 unfolding clap_on_literals
 program_is_free = refl
 
--- what clap's fault list says of a parse that succeeds, and of one that fails
+-- clap's list of faults for a parse that succeeds, and for one that fails
 pub taken : (app : App) (words : List Text) → app ≡ program → (is_simple_and_free app ≡ true → fault_of app words ≡ []) → fault_of program words ≡ []
 taken app words is faultless = subst (λ (a : App). fault_of a words ≡ []) is (faultless (ap is_simple_and_free is ∙ program_is_free))
 
@@ -140,13 +140,13 @@ refused_by_parse (Err error) words app told is same kinds = λ over settings dea
     let none : fault_of app words ≡ [] = ap (λ (a : App). fault_of a words) is ∙ asks.faultless in
     rw same (memory_alone told (subst (λ (list : Kinds). HasKind list told) none has))
 
--- an error for want of memory
+-- an out-of-memory error
 pub refused_for_memory : {T : Type 0} (r : Result T Error) (words : List Text) → IsErrAnd r (λ error. kind_of error ≡ OutOfMemory)
     → IfErr r (λ error. (over : Option Text) (settings : Settings) (dead : List ℕ) → Asks words over settings dead → kind_of error ≡ OutOfMemory)
 refused_for_memory (Ok x) words memory = tt
 refused_for_memory (Err error) words memory = λ over settings dead asks. memory
 
--- what the options of `script` ask for, told of the words
+-- the values of the options of `script`, from the words
 module _ (words : List Text) (rows : List Row) (called : subcommand_of program words ≡ Some (codes "script", rows)) where
   pub asked_by : fault_of program words ≡ [] → (result : Result ScriptCall Error) → IfOk result (λ call. AsksSettings rows call.settings)
       → IfOk result (λ call. first_of (codes "folder") rows ≡ option_map (λ path. path.now) call.folder)

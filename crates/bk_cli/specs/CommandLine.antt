@@ -1,5 +1,5 @@
--- The command line, and the settings and dead ledgers that it asks for. How words are read as options is clap's; what the
--- options and the words beside them mean is said here.
+-- The command line of `script`: the settings and deleted ledgers that it selects. clap defines how
+-- words become options; this file defines the values of options and operands. Read `Asks` first.
 use Rattle.std.specs.Prelude.{◌≡◌, ℕ, ◌≤◌, ◌^◌, Bool, true, false, List, [], codes, Option, Some, None}
 use Rattle.std.specs.Fmt.{decimal}
 use Rattle.std.specs.List.{AllZip}
@@ -18,11 +18,11 @@ option_rule name = record (new_rule name) { long = Some name; value_names = 1 }
 abbrev pub flag_rule : Text → Rule
 flag_rule name = record (new_rule name) { action = Some SetTrue; long = Some name }
 
--- any number of words beside the options
+-- any number of operands
 abbrev pub words_rule : Text → Rule
 words_rule name = record (new_rule name) { action = Some Append; value_names = 1 }
 
--- the command `script`, with its options and the words beside them
+-- the command `script`, with its options and operands
 abbrev pub script : App
 script = with_rule (with_rule (with_rule (with_rule (with_rule (with_rule (with_rule (with_rule (with_rule (with_rule (new_app (codes "script"))
     (option_rule (codes "log-limit"))) (option_rule (codes "cache-limit"))) (option_rule (codes "recent"))) (option_rule (codes "slots")))
@@ -33,16 +33,16 @@ script = with_rule (with_rule (with_rule (with_rule (with_rule (with_rule (with_
 abbrev pub program : App
 program = with_subcommand (on_top (λ shape. record shape { subcommand_required = true }) (new_app (codes "bk_shell"))) script.top
 
--- the word is a number from `least` to `most`, with no sign and no leading zero
+-- the word is a number from `least` to `most`, without a sign or leading zeros
 abbrev pub IsNumberIn : ℕ → ℕ → Text → ℕ → Type 0
 IsNumberIn least most word n = (least ≤ n) × (n ≤ most) × (word ≡ decimal n)
 
--- An option with this value, or without one, asks for the number (this project's rule).
+-- An option with this value selects the number; if it is absent, the default (project rule).
 abbrev pub AsksNumber : ℕ → ℕ → ℕ → Option Text → ℕ → Type 0
 AsksNumber default least most None n = n ≡ default
 AsksNumber default least most (Some word) n = IsNumberIn least most word n
 
--- An option without a value is given, or it is not: clap reads it as `true` where it is, and else as `false`.
+-- Whether a flag is given: clap parses it to `true` or `false`.
 abbrev pub AsksFlag : Option Text → Bool → Type 0
 AsksFlag None is_given = is_given ≡ false
 AsksFlag (Some word) is_given = (word ≡ codes "true" → is_given ≡ true) × (word ≡ codes "false" → is_given ≡ false)
@@ -51,12 +51,12 @@ AsksFlag (Some word) is_given = (word ≡ codes "true" → is_given ≡ true) ×
 abbrev pub last_ledger : ℕ
 last_ledger = 9223372036854775807
 
--- Words ask for the ledgers that they are, one each, in their order; no word for none.
+-- Operands select the ledgers with these ids, in order.
 abbrev pub AsksLedgers : Option (List Text) → List ℕ → Type 0
 AsksLedgers None dead = dead ≡ []
 AsksLedgers (Some words) dead = AllZip (IsNumberIn 0 last_ledger) words dead
 
--- What the options of `script` ask for.
+-- The settings that the options of `script` select.
 pub record AsksSettings (rows : List Row) (settings : Settings) : Type 0 where
   pub log_limit : AsksNumber (2 ^ 30) 2048 max_log_limit (first_of (codes "log-limit") rows) settings.log_limit
   pub cache_limit : AsksNumber (2 ^ 24) 16 max_cache_limit (first_of (codes "cache-limit") rows) settings.cache_limit
@@ -66,10 +66,10 @@ pub record AsksSettings (rows : List Row) (settings : Settings) : Type 0 where
   pub minor : AsksNumber 200 0 1000 (first_of (codes "minor") rows) settings.minor
   pub major : AsksNumber 800 0 1000 (first_of (codes "major") rows) settings.major
 
--- The words, of which the first is the program's name, call `script` with options that ask for these settings, over the folder
--- at this path or over none, and with these ledgers, which were deleted before.
+-- The command line calls `script` with these settings, on the directory at this path or in memory,
+-- with these ledgers deleted earlier. The first word is the program's name.
 pub record Asks (words : List Text) (folder : Option Text) (settings : Settings) (dead : List ℕ) : Type 0 where
-  -- nothing in them is unknown, given twice or left over, and none asks for help
+  -- No word is unknown, repeated or superfluous, and help is not requested.
   pub faultless : fault_of program words ≡ []
   pub rows : List Row
   pub called : subcommand_of program words ≡ Some (codes "script", rows)
@@ -77,7 +77,7 @@ pub record Asks (words : List Text) (folder : Option Text) (settings : Settings)
   pub over : first_of (codes "folder") rows ≡ folder
   pub ledgers : AsksLedgers (all_of (codes "LEDGER") rows) dead
 
--- The words call `script`, and ask for marks or for none.
+-- The words call `script`, with or without watermarks.
 pub record AsksMarks (words : List Text) (marks : Bool) : Type 0 where
   pub rows : List Row
   pub called : subcommand_of program words ≡ Some (codes "script", rows)

@@ -1,24 +1,24 @@
-//! The words beside the options of `script`: the ledgers that were deleted before.
+//! The operands of `script`: the ledgers deleted earlier.
 
 ghost use Rattle.std.specs.Prelude.{◌≡◌, ℕ, List, Some, false, codes, IfOk, MatchResult};
 ghost use Rattle.clap.specs.Matches.{found_of};
 ghost use Rattle.clap.specs.Walk.{all_of, rows_of, rule_of, texts};
 ghost use Rattle.bk_cli.specs.CommandLine.{last_ledger, words_rule, AsksLedgers};
 
-use bk_digits::number;
+use bk_decimal::number;
 use bk_record::LAST_ID;
 use clap::{Arg, ArgAction, ArgMatches};
 use std::alloc::{AllocError, Global};
 use thiserror::Error;
 
-/// A word beside the options is no ledger's number.
+/// An operand that is not a ledger.
 #[derive(Debug, Error, Drop)]
 #[error("invalid value '{text}' for '[LEDGER]...': not a number from 0 to 9223372036854775807 in plain digits")]
 pub(crate) struct BadLedger<'a> {
     pub text: &'a str,
 }
 
-/// The words beside the options, as a part of the command line.
+/// Returns the definition of the operands for clap.
 pub(crate) fn ledgers_arg<'a>(alloc: Global) -> Arg<'a>
     ensures rule { rule_of result ≡ words_rule (codes "LEDGER") }
     ensures local { result.global ≡ false }
@@ -26,10 +26,10 @@ pub(crate) fn ledgers_arg<'a>(alloc: Global) -> Arg<'a>
     Arg::new(alloc, "LEDGER")
         .action(ArgAction::Append)
         .value_name("LEDGER")
-        .help("Takes this ledger for deleted before the first step: 0 to 9223372036854775807")
+        .help("Take this ledger as deleted before the first step: 0 to 9223372036854775807")
 }
 
-/// The ledgers that the words beside the options are, in their order. The first word that is none is told.
+/// Parses the operands to ledgers, in order. Fails with the first operand that is not a ledger.
 pub(crate) fn read_ledgers<'a>(
     alloc: Global,
     matches: &ArgMatches<'a>,
@@ -44,7 +44,7 @@ pub(crate) fn read_ledgers<'a>(
     }
 }
 
-/// The ledgers that words are, in their order. The first word that is none is told.
+/// Parses words to ledgers, in order. Fails with the first word that is not a ledger.
 fn ledgers_of<'a>(
     alloc: Global,
     words: &[&'a str],

@@ -5,27 +5,27 @@ ghost use Rattle.clap.specs.Matches.{found_of};
 ghost use Rattle.clap.specs.Walk.{first_of, rows_of, rule_of};
 ghost use Rattle.bk_cli.specs.CommandLine.{option_rule, IsNumberIn, AsksNumber};
 
-use bk_digits::number;
+use bk_decimal::number;
 use clap::{Arg, ArgMatches};
 use std::alloc::Global;
 use thiserror::Error;
 
-/// An option whose value is a number from `least` to `most`, in the form of a script's numbers.
+/// An option whose value is a number from `least` to `most`, in plain digits.
 #[derive(Clone, Copy, Debug, PartialEq, Eq)]
 pub(crate) struct NumberOption {
-    /// The option's name, without its two dashes.
+    /// The name, without the two dashes.
     pub name: &'static str,
-    /// The least number that it takes.
+    /// The least value.
     pub least: u32,
-    /// The greatest number that it takes.
+    /// The greatest value.
     pub most: u32,
-    /// The number where the option isn't given.
+    /// The value if the option is not given.
     pub default: u32,
-    /// What the program's help says of it.
+    /// One line of help.
     pub help: &'static str,
 }
 
-/// The value of an option is no number of its range.
+/// A value that is not a number in its range.
 #[derive(Debug, Error, Drop)]
 #[error("invalid value '{text}' for '--{name} <NUMBER>': not a number from {least} to {most} in plain digits")]
 pub(crate) struct BadValue<'a> {
@@ -36,7 +36,7 @@ pub(crate) struct BadValue<'a> {
 }
 
 impl NumberOption {
-    /// The option as a part of the command line.
+    /// Returns the definition of the option for clap.
     pub(crate) fn arg<'a>(&self, alloc: Global) -> Arg<'a>
         ensures rule { rule_of result ≡ option_rule self.now.name.now }
         ensures local { result.global ≡ false }
@@ -47,7 +47,11 @@ impl NumberOption {
             .help(self.help)
     }
 
-    /// The number that the option asks for, where a parse gave these matches.
+    /// Returns the value in the matches of a parse, or the default.
+    ///
+    /// # Errors
+    ///
+    /// `BadValue` if the value is out of its range.
     pub(crate) fn read<'a>(&self, matches: &ArgMatches<'a>) -> Result<u32, BadValue<'a>>
         ensures ok { IfOk result (AsksNumber self.now.default self.now.least self.now.most
             (first_of self.now.name.now (rows_of (found_of matches.now)))) }
@@ -69,7 +73,7 @@ impl NumberOption {
     }
 }
 
-/// The number that a word is, where it is one from `least` to `most`.
+/// Returns the number of a word, if it is from `least` to `most`.
 fn number_between(word: &str, least: u32, most: u32) -> Option<u32>
     ensures value { IfSome result (IsNumberIn least most word.now) }
     ensures none { IfNone result ((n : ℕ) → ¬ (IsNumberIn least most word.now n)) }

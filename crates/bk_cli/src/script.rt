@@ -1,4 +1,4 @@
-//! How `script` is called, and what is told of words that call nothing.
+//! Command line of `script`, and the texts of parse errors.
 
 ghost use Rattle.std.specs.Prelude.{◌≡◌, ℕ, List, Option, codes, map, option_map, IfOk, IfErr, OnErr};
 ghost use Rattle.clap.specs.Matches.{found_of};
@@ -22,83 +22,75 @@ use std::convert::AsStr;
 use std::fmt::Display;
 use strsim::osa_distance;
 
-/// What a call of `script` asks for.
+/// A call of `script`.
 #[derive(Debug, PartialEq, Eq, Drop)]
 pub struct ScriptCall<'a> {
     /// The settings of the store, each in its range: `IsAllowed`.
     pub settings: Settings,
-    /// The path of the folder that it runs over; `None` for a new disk in memory.
+    /// The path of the directory; `None` for a new disk in memory.
     pub folder: Option<&'a str>,
-    /// Whether the logs of the folder get marks, which say how far each is to be believed after a crash.
+    /// Whether the logs of the directory get durability watermarks.
     pub marks: bool,
-    /// The ledgers that were deleted before, in the order of the words, each 0 to 9223372036854775807.
+    /// The ledgers deleted earlier, in the order of the words, each 0 to 9223372036854775807.
     pub dead: Vec<u64>,
 }
 
-/// The settings of a store that a call of `script` without options asks for: limits in bytes, `recent` in entries, `minor` and
-/// `major` in thousandths of live bytes.
-pub const DEFAULTS: Settings = Settings {
-    log_limit: 1_073_741_824,
-    cache_limit: 16_777_216,
-    recent: 0,
-    slots: 1024,
-    leases: 1024,
-    minor: 200,
-    major: 800,
-};
+/// The settings of a call of `script` without options: limits in bytes, `recent` in entries, `minor`
+/// and `major` in thousandths of live bytes.
+pub const DEFAULTS: Settings = Settings::DEFAULT;
 
-/// A log with a record is sealed before one that would take it past this many bytes.
+/// Length in bytes above which a log is sealed.
 const LOG_LIMIT: NumberOption = NumberOption {
     name: "log-limit",
     least: 2048,
     most: MAX_LOG_LIMIT,
     default: DEFAULTS.log_limit,
-    help: "Seals a log before a record would take it past this many bytes: 2048 to 4000000000 [default: 1073741824]",
+    help: "Seal a log before a record would take it past this many bytes: 2048 to 4000000000 [default: 1073741824]",
 };
 
-/// How many payload bytes the active cache has at most.
+/// The limit of the active cache, in payload bytes.
 const CACHE_LIMIT: NumberOption = NumberOption {
     name: "cache-limit",
     least: 16,
     most: MAX_CACHE_LIMIT,
     default: DEFAULTS.cache_limit,
-    help: "Refuses an entry that would take the cache past this many bytes: 16 to 1073741824 [default: 16777216]",
+    help: "Refuse an entry that would take the cache past this many bytes: 16 to 1073741824 [default: 16777216]",
 };
 
-/// How many entries that were flushed last are kept in memory.
+/// The number of recently flushed entries in memory.
 const RECENT: NumberOption = NumberOption {
     name: "recent",
     least: 0,
     most: 65_536,
     default: DEFAULTS.recent,
-    help: "Keeps this many of the entries that were flushed last in memory: 0 to 65536 [default: 0]",
+    help: "Keep this many of the last flushed entries in memory: 0 to 65536 [default: 0]",
 };
 
-/// How many logs are held at once.
+/// The number of logs held at once.
 const SLOTS: NumberOption = NumberOption {
     name: "slots",
     least: 1,
     most: 65_536,
     default: DEFAULTS.slots,
-    help: "Holds at most this many logs at once: 1 to 65536 [default: 1024]",
+    help: "Hold at most this many logs at once: 1 to 65536 [default: 1024]",
 };
 
-/// How many leases of one log are out at once.
+/// The number of leases on one log at once.
 const LEASES: NumberOption = NumberOption {
     name: "leases",
     least: 1,
     most: 65_535,
     default: DEFAULTS.leases,
-    help: "Gives out at most this many leases of one log at once: 1 to 65535 [default: 1024]",
+    help: "Grant at most this many leases on one log at once: 1 to 65535 [default: 1024]",
 };
 
-/// Below how many thousandths of live bytes a log is compacted by `minor`.
+/// The threshold of `minor`, in thousandths of live bytes.
 const MINOR: NumberOption = NumberOption {
     name: "minor",
     least: 0,
     most: 1000,
     default: DEFAULTS.minor,
-    help: "Compacts by `minor` a log of which fewer thousandths live than this: 0 to 1000 [default: 200]",
+    help: "Compact by `minor` a log of which less than this many thousandths are live: 0 to 1000 [default: 200]",
 };
 
 /// The same for `major`.
@@ -107,11 +99,18 @@ const MAJOR: NumberOption = NumberOption {
     least: 0,
     most: 1000,
     default: DEFAULTS.major,
-    help: "Compacts by `major` a log of which fewer thousandths live than this: 0 to 1000 [default: 800]",
+    help: "Compact by `major` a log of which less than this many thousandths are live: 0 to 1000 [default: 800]",
 };
 
-/// The call of `script` that a command line is, its first word being the program's name. An error is a wrong command
-/// line, help that was asked for, or want of memory, as its kind says.
+/// Parses a command line to a call of `script`. The first word is the program's name.
+///
+/// # Errors
+///
+/// By the kind of the error:
+///
+/// - `OutOfMemory`: an allocation failed.
+/// - `DisplayHelp`: help was requested.
+/// - any other kind: the command line is invalid.
 pub fn script_call<'a, S: AsStr>(alloc: Global, words: &'a [S]) -> Result<ScriptCall<'a>, Error>
     ensures allowed { IfOk result (λ call. IsAllowed call.settings) }
     ensures asked { IfOk result (λ call. Asks (map S.text words.now) (option_map (λ path. path.now) call.folder) call.settings
@@ -128,7 +127,14 @@ pub fn script_call<'a, S: AsStr>(alloc: Global, words: &'a [S]) -> Result<Script
     read_script(alloc, script)
 }
 
-/// The call of `script` that the options and the words beside them ask for. An error is a wrong one, or want of memory.
+/// Returns the call that the options and operands of `script` select.
+///
+/// # Errors
+///
+/// By the kind of the error:
+///
+/// - `OutOfMemory`: an allocation failed.
+/// - `ValueValidation`: a value is out of its range.
 fn read_script<'a>(alloc: Global, script: &ArgMatches<'a>) -> Result<ScriptCall<'a>, Error>
     ensures allowed { IfOk result (λ call. IsAllowed call.settings) }
     ensures asked { IfOk result (λ call. AsksSettings (rows_of (found_of script.now)) call.settings) }
@@ -153,13 +159,13 @@ fn read_script<'a>(alloc: Global, script: &ArgMatches<'a>) -> Result<ScriptCall<
     }
 }
 
-/// The error of a word behind `script` that is not what it is to be.
+/// Returns the error of a value of `script` that is out of its range.
 fn bad_script<B: Display>(alloc: Global, bad: &B) -> Result<Error, AllocError> {
     let told = format!(in alloc; "{bad}")?;
     script_error(alloc, ErrorKind::ValueValidation, &told)
 }
 
-/// The settings that the options of `script` ask for.
+/// Returns the settings that the options of `script` select.
 fn read_options<'a>(script: &ArgMatches<'a>) -> Result<Settings, BadValue<'a>>
     ensures ok { IfOk result (AsksSettings (rows_of (found_of script.now))) }
     ensures err { OnErr result ((settings : Settings) → ¬ (AsksSettings (rows_of (found_of script.now)) settings)) }
@@ -182,9 +188,13 @@ fn read_options<'a>(script: &ArgMatches<'a>) -> Result<Settings, BadValue<'a>>
     })
 }
 
-/// What the program tells of an error of a parse: the text with the usage, or the help that was asked for, to its last end of a
-/// line. Of a word behind `script` that is no option it names an option only where the two are nearly the same word. An error is
-/// want of memory.
+/// Returns the text of a parse error, with a line feed at its end: the reason with the usage, or
+/// the requested help. For an unknown option of `script`, the text names an option that differs
+/// from it by one typing error, if there is one.
+///
+/// # Errors
+///
+/// - `AllocError` if an allocation fails.
 pub fn text_of(alloc: Global, error: &Error) -> Result<String, AllocError> {
     let text = format!(in alloc; "{error}")?;
     let Some(word) = unknown_word(error, &text) else {
@@ -198,7 +208,7 @@ pub fn text_of(alloc: Global, error: &Error) -> Result<String, AllocError> {
     format!(in alloc; "{error}")
 }
 
-/// The word of an error's text that is told to be no option, where no command on a folder was called.
+/// Returns the unknown option in the text of an error; `None` if `script` was not called.
 fn unknown_word<'t>(error: &Error, text: &'t str) -> Option<&'t str> {
     let is_on_folder = text.contains("<DIR>") && !text.contains("bk_shell script ");
     let is_load = text.contains("bk_shell load ");
@@ -210,7 +220,8 @@ fn unknown_word<'t>(error: &Error, text: &'t str) -> Option<&'t str> {
     Some(word)
 }
 
-/// The option of `script` that is this word but for one slip: a letter too many, too few, another, or two exchanged.
+/// Returns the option of `script` that differs from a word by one typing error: one letter more,
+/// fewer or different, or two letters exchanged.
 fn near_option(alloc: Global, word: &str) -> Result<Option<&'static str>, AllocError> {
     let numbers = [LOG_LIMIT, CACHE_LIMIT, RECENT, SLOTS, LEASES, MINOR, MAJOR];
     for name in numbers
@@ -225,7 +236,7 @@ fn near_option(alloc: Global, word: &str) -> Result<Option<&'static str>, AllocE
     Ok(None)
 }
 
-/// An error that the program found itself in the words behind `script`.
+/// Returns an error in the words of `script` that the parser did not report.
 fn script_error(alloc: Global, kind: ErrorKind, told: &str) -> Result<Error, AllocError>
     ensures { IfOk result (λ error. kind_of error ≡ kind) }
 {
@@ -235,7 +246,7 @@ fn script_error(alloc: Global, kind: ErrorKind, told: &str) -> Result<Error, All
     script.error(kind, told)
 }
 
-/// The program's command line.
+/// Returns the part of the program's command line that concerns `script`.
 fn command<'a>(alloc: Global) -> Result<Command<'a>, AllocError>
     ensures { IfOk result (λ command. app_of command ≡ program) }
 {

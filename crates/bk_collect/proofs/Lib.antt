@@ -1,4 +1,4 @@
 mod Taking
 mod Views
 mod Reading
-mod Still
+mod CollectFrames

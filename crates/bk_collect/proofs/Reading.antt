@@ -1,4 +1,4 @@
--- The logs that are held are read by rising ids: the index is that of all entries that they show.
+-- The logs are read by rising id: the index is that of all entries in their published parts.
 use Rattle.std.proofs.Common.{◌≡◌, inl, inr, ℕ, ◌+◌, ◌<◌, Bool, true, false, if◌then◌else◌, IsTrue, List, [], ◌∷◌, ◌++◌, Option}
 use Rattle.std.proofs.Common.{Some, None, IsSome, is_some, refl, sym, ap, subst, ◌∙◌, append_assoc, arith}
 use Rattle.std.specs.Option.{option_map_or, option_and_then}
@@ -16,18 +16,18 @@ use Rattle.bk_record.proofs.Growth.{records_of-short, In-append_left, In-append_
 use Rattle.bk_record.specs.Keyed.{Places}
 use Rattle.bk_store.specs.Logs.{View, Log, Logs, HasOpenView, IsNextHeld, is_open, open_parts, published_part}
 use Rattle.bk_store.specs.State.{State}
-use Rattle.bk_store.specs.Doors.{MayReplace}
-use Rattle.bk_store.specs.Plain.{IsKept}
+use Rattle.bk_store.specs.Primitives.{CanReplaceIndex}
+use Rattle.bk_store.specs.Abstract.{SatisfiesInvariant}
 use Rattle.bk_store.proofs.Cases.{some_or_none}
 use Rattle.bk_store.proofs.Growing.{none_stands}
 use Rattle.bk_store.proofs.EntryLists.{Listed, IsIndexOfList, list_empty, list_index}
 use Rattle.bk_store.proofs.OpenedLists.{listed_entries_of}
 use Rattle.bk_store.proofs.Walks.{AreAscending, listed_of, walked, walked_lists, walked_push, walk_indexed, walk_passed, walk_foreign}
 use Rattle.bk_collect.specs.Collecting.{open_view}
-use Rattle.bk_collect.specs.Taking.{with_record_at, with_records, TakesIn}
+use Rattle.bk_collect.specs.Rebuilding.{with_record_at, with_records, TakesIn}
 use Rattle.bk_collect.proofs.Views.{shows_open, part_is, view_honest}
 
--- ---- the records of one log, one after another
+-- ---- the records of one log
 
 record_indexed : (front : Listed) (dead : Ledgers) (log : ℕ) (before : List (ℕ × List ℕ)) (index : Places) (r : ℕ × List ℕ)
     → IsIndexOfList (front ++ listed_of log before) dead index
@@ -53,14 +53,14 @@ records_indexed front dead log before (r ∷ later) index made =
     subst (λ (l : List (ℕ × List ℕ)). IsIndexOfList (front ++ listed_of log l) dead (with_records dead log next later)) (append_assoc before (r ∷ []) later)
     (records_indexed front dead log (before ++ r ∷ []) later next (record_indexed front dead log before index r made))
 
--- a log's entries behind those of other logs
+-- the entries of a log after those of other logs
 entries_indexed : (front : Listed) (dead : Ledgers) (log : ℕ) (file : List ℕ) (index : Places) → IsIndexOfList front dead index
     → IsIndexOfList (front ++ listed_of log (records_of file)) dead (with_records dead log index (entries_of file))
 entries_indexed front dead log file index made =
     subst (λ (l : Listed). IsIndexOfList (front ++ l) dead (with_records dead log index (entries_of file))) (listed_entries_of log file)
     (records_indexed front dead log [] (entries_of file) index (subst (λ (l : Listed). IsIndexOfList l dead index) (sym (append-nil front)) made))
 
--- ---- ids that rise
+-- ---- rising ids
 
 ascending_push : (ids : List ℕ) (id : ℕ) → AreAscending ids → ((other : ℕ) → In other ids → other < id) → AreAscending (ids ++ id ∷ [])
 ascending_push [] id ascending below = ((λ other never. absurd never), tt)
@@ -74,8 +74,8 @@ ascending_push (x ∷ ids) id ascending below = (
 
 -- ---- the logs read so far
 
--- The logs below this id were read, all that are held, and the index is that of the entries that they show. It names logs
--- with a view alone.
+-- All logs below this id were read, and the index is that of the entries in their published parts.
+-- It points only into logs with a view.
 pub record IsReading (s : State) (from : ℕ) (now : Places) : Type 0 where
   pub sent : (key : EntryKey) (place : Place) → finite.get now key ≡ Some place → HasOpenView s.logs place.log
   pub ids : List ℕ
@@ -118,8 +118,8 @@ module _ (s : State) (from : ℕ) (now : Places) (so_far : IsReading s from now)
       made = λ honest. subst (λ (l : Listed). IsIndexOfList l s.ledgers.dead now') (sym (walked_push (open_parts s.logs) so_far.ids log)) (made honest);
     }
 
-  -- its entries were taken in
-  pub reading_on : IsKept s → (view : View) → open_view s.logs log ≡ Some view → (now' : Places) → TakesIn s.ledgers.dead log view now now' → IsReading s (log + 1) now'
+  -- its entries were added
+  pub reading_on : SatisfiesInvariant s → (view : View) → open_view s.logs log ≡ Some view → (now' : Places) → TakesIn s.ledgers.dead log view now now' → IsReading s (log + 1) now'
   reading_on kept view shown now' takes =
       let shows = shows_open s.logs log view shown in
       reading_push now'
@@ -135,7 +135,7 @@ module _ (s : State) (from : ℕ) (now : Places) (so_far : IsReading s from now)
       (sym (takes.taken (view_honest s kept log view shown honest)))
       (entries_indexed (walked (open_parts s.logs) so_far.ids) s.ledgers.dead log view.bytes now (so_far.made honest))))
 
-  -- it shows nothing, or no key may be sent to it
+  -- it has no view, or it is not open
   pub reading_past : open_view s.logs log ≡ None → IsReading s (log + 1) now
   reading_past hidden = reading_push now so_far.sent (λ honest.
       subst (λ (b : List ℕ). IsIndexOfList (walked (open_parts s.logs) so_far.ids ++ listed_of log (records_of b)) s.ledgers.dead now) (sym (hides s.logs log hidden))
@@ -157,7 +157,7 @@ module _ (s : State) (from : ℕ) (now : Places) (so_far : IsReading s from now)
           of (Some l) is = within l.view (is_open l.state) is
 
 -- all logs were read
-pub reading_ends : (s : State) (from : ℕ) (now : Places) → IsReading s from now → IsNextHeld s.logs from None → MayReplace s now
+pub reading_ends : (s : State) (from : ℕ) (now : Places) → IsReading s from now → IsNextHeld s.logs from None → CanReplaceIndex s now
 reading_ends s from now so_far past = record {
   made = λ honest. list_index
       (walked_lists (open_parts s.logs) so_far.ids so_far.ascending (λ place key payload entry.

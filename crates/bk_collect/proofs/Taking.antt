@@ -1,4 +1,4 @@
--- The entries of one log, taken into an index as a scan gives them.
+-- The entries of one log, added to an index as a scan returns them.
 use Rattle.std.proofs.Common.{◌≡◌, ◌⊎◌, inl, inr, ℕ, zero, suc, ◌+◌, true, false, IsTrue, if◌then◌else◌, List, [], ◌∷◌, ◌++◌}
 use Rattle.std.proofs.Common.{length, take, drop, Some, None, Ok, slice_get, sym, ap, ◌∙◌, arith}
 use Rattle.std.proofs.lemmas.List.{take_all}
@@ -13,15 +13,15 @@ use Rattle.bk_record.specs.Scan.{Ledgers, entries_of}
 use Rattle.bk_disk.specs.Disk.{view_end}
 use Rattle.bk_log.specs.declared.found.Found.{Found}
 use Rattle.bk_log.specs.Ranges.{entries_in, part}
-use Rattle.bk_log.specs.Scanning.{Scan, part_of, NextMoves, NextTurn}
+use Rattle.bk_log.specs.Scanning.{Scan, part_of, NextMoves, ScanNextTransition}
 use Rattle.bk_log.proofs.Ranges.{entries_in-file, whole_view}
 use Rattle.bk_record.specs.Keyed.{Places}
 use Rattle.bk_record.proofs.Growth.{take_next}
 use Rattle.bk_store.specs.Logs.{View}
 use Rattle.bk_store.proofs.KeyMaps.{inserted_cases}
-use Rattle.bk_collect.specs.Taking.{with_key, with_record_at, with_records, TakesIn}
+use Rattle.bk_collect.specs.Rebuilding.{with_key, with_record_at, with_records, TakesIn}
 
--- ---- one record more
+-- ---- one more record
 
 records_push : (dead : Ledgers) (log : ℕ) (index : Places) (records : List (ℕ × List ℕ)) (at : ℕ) (payload : List ℕ) (key : EntryKey)
     → key_of payload ≡ Some key
@@ -30,7 +30,7 @@ records_push dead log index [] at payload key keyed = ap (with_record_at dead lo
 records_push dead log index (r ∷ records) at payload key keyed =
     records_push dead log (with_record_at dead log index r.0 (key_of r.1)) records at payload key keyed
 
--- a key that was sent somewhere by an entry more is the entry's, or was sent there before
+-- after one more entry a key is the entry's, or points to where it did
 sent_on : (dead : Ledgers) (index : Places) (key : EntryKey) (place : Place) (k : EntryKey) (p : Place)
     → finite.get (with_key dead index key place) k ≡ Some p → (finite.get index k ≡ Some p) ⊎ (place ≡ p)
 sent_on dead index key place k p is =
@@ -50,7 +50,8 @@ slice_get-In (y ∷ ys) (suc n) x is = inr (slice_get-In ys n x is)
 
 -- ---- the scan so far
 
--- The scan is one of this view's whole part, and the entries that it gave were taken in.
+-- The scan is one of the whole published part of this view, and the entries that it returned were
+-- added.
 pub record IsTaking (dead : Ledgers) (log end : ℕ) (view : View) (old : Places) (s : Scan) (now : Places) : Type 0 where
   pub sent : (key : EntryKey) (place : Place) → finite.get now key ≡ Some place → (finite.get old key ≡ Some place) ⊎ (place.log ≡ log)
   pub from : s.from ≡ header_length
@@ -70,13 +71,13 @@ module _ {dead : Ledgers} {log end : ℕ} {view : View} {old : Places} {s : Scan
   pub scan_honest : IsTrue view.is_honest → IsTrue s.honest
   scan_honest is = so_far.honest ∙ is
 
-  -- an entry more
+  -- one more entry
   module _ (found : Found) (s' : Scan) (moves : NextMoves s (Ok (Some found)) s') where
-    module _ (turn : IsTrue s.honest → NextTurn s (Ok (Some found)) s') (whole : IsTrue view.is_honest → end ≡ view_end view.bytes) where
+    module _ (turn : IsTrue s.honest → ScanNextTransition s (Ok (Some found)) s') (whole : IsTrue view.is_honest → end ≡ view_end view.bytes) where
       next_listed : (is : IsTrue view.is_honest) → slice_get (entries_of view.bytes) s.given ≡ Some (found.at, (turn (scan_honest is)).payload)
       next_listed is = ap (λ (l : List (ℕ × List ℕ)). slice_get l s.given) (sym (scan_entries (whole is))) ∙ (turn (scan_honest is)).listed
 
-      -- the entry stands in what the view shows
+      -- the entry is in the published part of the view
       pub next_stands : (is : IsTrue view.is_honest) → In (found.at, (turn (scan_honest is)).payload) (entries_of view.bytes)
       next_stands is = slice_get-In (entries_of view.bytes) s.given (found.at, (turn (scan_honest is)).payload) (next_listed is)
 
@@ -102,7 +103,7 @@ module _ {dead : Ledgers} {log end : ℕ} {view : View} {old : Places} {s : Scan
       }
 
   -- the end
-  pub taken_in : (s' : Scan) → NextMoves s (Ok None) s' → (IsTrue s.honest → NextTurn s (Ok None) s') → (IsTrue view.is_honest → end ≡ view_end view.bytes)
+  pub taken_in : (s' : Scan) → NextMoves s (Ok None) s' → (IsTrue s.honest → ScanNextTransition s (Ok None) s') → (IsTrue view.is_honest → end ≡ view_end view.bytes)
       → TakesIn dead log view old now
   taken_in s' moves turn whole = record {
     sent = so_far.sent;

@@ -1,4 +1,4 @@
--- What a store keeps of the views that a rebuild reads, and why one is refused.
+-- What the store invariant gives for the views that a rebuild reads, and why a rebuild fails.
 use Rattle.std.proofs.Common.{◌≡◌, ℕ, ◌<◌, ◌^◌, Bool, true, false, not, if◌then◌else◌, IsTrue, List, []}
 use Rattle.std.proofs.Common.{Option, Some, None, Ok, Err, unwrap_or, refl, sym, ap, subst, ◌∙◌, arith}
 use Rattle.std.specs.Option.{option_map_or, option_and_then}
@@ -18,24 +18,24 @@ use Rattle.bk_disk.specs.Disk.{AreLogFiles, view_end}
 use Rattle.bk_log.specs.Growing.{HasNoBadLength}
 use Rattle.bk_log.specs.declared.found.Found.{Found}
 use Rattle.bk_log.specs.Ranges.{part}
-use Rattle.bk_log.specs.Scanning.{Scan, part_of, NextMoves, NextTurn}
+use Rattle.bk_log.specs.Scanning.{Scan, part_of, NextMoves, ScanNextTransition}
 use Rattle.bk_log.specs.declared.fault.ScanFault.{ScanFault}
 use Rattle.bk_log.specs.declared.fault.ScanFault.TheVariants as scans
 use Rattle.bk_log.proofs.Fetches.{record_fits}
 use Rattle.bk_log.proofs.OneRecord.{stands_once}
 use Rattle.bk_store.specs.Entries.{HasEntry}
 use Rattle.bk_store.specs.Logs.{View, Log, Logs, is_open, open_parts, published_part}
-use Rattle.bk_store.specs.State.{State, Parts}
-use Rattle.bk_store.specs.Kept.{Promises, IsBacked}
-use Rattle.bk_store.specs.Plain.{IsKept}
+use Rattle.bk_store.specs.State.{State, StoreParts}
+use Rattle.bk_store.specs.Invariant.{ContentInvariant, LogMatchesFile}
+use Rattle.bk_store.specs.Abstract.{SatisfiesInvariant}
 use Rattle.bk_store.proofs.Cases.{some_value}
 use Rattle.bk_collect.specs.Collecting.{RebuildFails, open_view}
-use Rattle.bk_collect.specs.Taking.{EntryFails, collect_fault_of}
+use Rattle.bk_collect.specs.Rebuilding.{EntryFails, collect_fault_of}
 use Rattle.bk_collect.specs.declared.answer.CollectFault.{CollectFault}
 use Rattle.bk_collect.specs.declared.answer.CollectFault.TheVariants as faults
 use Rattle.bk_collect.proofs.Taking.{IsTaking, scan_part, scan_honest, next_stands}
 
--- ---- a log that keys may be sent to, and its view
+-- ---- an open log and its view
 
 pub record ShowsOpen (logs : Logs) (id : ℕ) (view : View) : Type 0 where
   pub log : Log
@@ -61,12 +61,12 @@ part_is logs id view shows =
     ap (λ (o : Option Log). option_map_or (λ log. if is_open log.state then published_part log else []) o []) shows.held
     ∙ ap (λ b. if b then published_part shows.log else []) shows.opened ∙ ap (λ (o : Option View). option_map_or (λ v. v.bytes) o []) shows.view_is
 
-module _ (p : Parts) (promise : Promises p) (id : ℕ) (view : View) (shown : open_view p.state.logs id ≡ Some view) where
+module _ (p : StoreParts) (reveal_invariant : ContentInvariant p) (id : ℕ) (view : View) (shown : open_view p.state.logs id ≡ Some view) where
   shows : ShowsOpen p.state.logs id view
   shows = shows_open p.state.logs id view shown
 
-  backed : IsBacked p.state.files p.synced id shows.log
-  backed = promise.logs.each id shows.log shows.held
+  backed : LogMatchesFile p.state.files p.synced id shows.log
+  backed = reveal_invariant.logs.each id shows.log shows.held
 
   part_honest : IsTrue view.is_honest
   part_honest = backed.honest view shows.view_is
@@ -80,7 +80,7 @@ module _ (p : Parts) (promise : Promises p) (id : ℕ) (view : View) (shown : op
       let place : Place = record { log = id; at = at } in
       let here : HasEntry (open_parts p.state.logs) place key payload =
       record { stands = subst (λ (b : List ℕ). In (at, payload) (records_of b)) (sym (part_is p.state.logs id view shows)) there; keyed = keyed } in
-      let stands = (promise.shows.stands place key payload here).stands in
+      let stands = (reveal_invariant.shows.stands place key payload here).stands in
       let file = some_value (finite.get p.state.files id) backed.stands in
       let legal = files.each id file.0 file.1 in
       let same : file_of p.state.files id ≡ file.0 = ap (λ (o : Option (List ℕ)). unwrap_or o []) file.1 in
@@ -89,14 +89,14 @@ module _ (p : Parts) (promise : Promises p) (id : ℕ) (view : View) (shown : op
       let size = legal.size in
       omega (arith, fits, size)
 
--- ---- beside an honest disk
+-- ---- on an honest disk
 
 entry_record : (file : List ℕ) (r : ℕ × List ℕ) → In r (entries_of file) → In r (records_of file)
 unfolding entries_of
 entry_record file r there = filter-In (λ x. not (is_foreign x.1)) r (records_of file) there
 
-module _ (s : State) (kept : IsKept s) (id : ℕ) (view : View) (shown : open_view s.logs id ≡ Some view) (honest : IsTrue s.honest) where
-  promised : Promises kept.parts
+module _ (s : State) (kept : SatisfiesInvariant s) (id : ℕ) (view : View) (shown : open_view s.logs id ≡ Some view) (honest : IsTrue s.honest) where
+  promised : ContentInvariant kept.parts
   promised = kept.keeps.promises (ap (λ (t : State). t.honest) kept.seen ∙ honest)
 
   shown_there : open_view kept.parts.state.logs id ≡ Some view
@@ -114,17 +114,17 @@ module _ (s : State) (kept : IsKept s) (id : ℕ) (view : View) (shown : open_vi
       part_near kept.parts promised id view shown_there (subst (λ (t : State). AreLogFiles t.files) (sym kept.seen) files) at payload key
       (entry_record view.bytes (at, payload) there) keyed
 
--- ---- why a rebuild is refused
+-- ---- why a rebuild fails
 
-module _ (s : State) (kept : IsKept s) (id : ℕ) (view : View) (shown : open_view s.logs id ≡ Some view) where
-  -- what an honest view never answers
+module _ (s : State) (kept : SatisfiesInvariant s) (id : ℕ) (view : View) (shown : open_view s.logs id ≡ Some view) where
+  -- what an honest view never returns
   pub never_honest : (IsTrue view.is_honest → ⊥) → s.honest ≡ false
   never_honest never = false_from_ne_true s.honest (λ honest. never (view_honest s kept id view shown honest))
 
   module _ {dead : Ledgers} {end : ℕ} {old : Places} {scan : Scan} {now : Places} (so_far : IsTaking dead id end view old scan now)
       (whole : IsTrue view.is_honest → end ≡ view_end view.bytes) where
     no_bad : (scan' : Scan) (at : ℕ) (value : _) → NextMoves scan (Err (scans.BadLength at value)) scan'
-        → (IsTrue scan.honest → NextTurn scan (Err (scans.BadLength at value)) scan') → IsTrue s.honest → ⊥
+        → (IsTrue scan.honest → ScanNextTransition scan (Err (scans.BadLength at value)) scan') → IsTrue s.honest → ⊥
     no_bad scan' at value moves turn honest =
         let is = view_honest s kept id view shown honest in
         let same : part_of scan' ≡ part_of scan =
@@ -135,16 +135,16 @@ module _ (s : State) (kept : IsKept s) (id : ℕ) (view : View) (shown : open_vi
         (subst (λ (b : List ℕ). IsBadAt header_length b at value) (same ∙ scan_part so_far (whole is))
         (subst (λ n. IsBadAt n (part_of scan') at value) from bad))
 
-    pub scan_refused : (fault : ScanFault) (scan' : Scan) → NextMoves scan (Err fault) scan' → (IsTrue scan.honest → NextTurn scan (Err fault) scan')
+    pub scan_refused : (fault : ScanFault) (scan' : Scan) → NextMoves scan (Err fault) scan' → (IsTrue scan.honest → ScanNextTransition scan (Err fault) scan')
         → (fault ≡ scans.Disk → scan.sound ≡ false) → RebuildFails s (collect_fault_of id fault)
     scan_refused (scans.BadLength at value) scan' moves turn cause = false_from_ne_true s.honest (no_bad scan' at value moves turn)
     scan_refused scans.Disk scan' moves turn cause = (id, (view, shown, sym so_far.sound ∙ cause refl))
     scan_refused scans.Memory scan' moves turn cause = tt
     scan_refused scans.Odd scan' moves turn cause = never_honest (λ is. turn (scan_honest so_far is))
 
-    -- an entry could not be taken in
+    -- an entry could not be added
     pub entry_refused : (found : Found) (scan' : Scan) → (moves : NextMoves scan (Ok (Some found)) scan')
-        → (IsTrue scan.honest → NextTurn scan (Ok (Some found)) scan') → (IsTrue s.honest → AreLogFiles s.files)
+        → (IsTrue scan.honest → ScanNextTransition scan (Ok (Some found)) scan') → (IsTrue s.honest → AreLogFiles s.files)
         → (fault : CollectFault) → EntryFails found fault → RebuildFails s fault
     entry_refused found scan' moves turn files faults.Disk never = absurd never
     entry_refused found scan' moves turn files faults.Memory fails = tt

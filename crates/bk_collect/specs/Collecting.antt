@@ -1,5 +1,5 @@
--- The calls of a collection, each a turn of the store: a log is retired, then closed, then removed; the index is rebuilt of
--- what the logs show.
+-- Transitions of a collection: a log is retired, then closed, then removed; the index is rebuilt
+-- from the published parts of the logs.
 use Rattle.std.specs.Prelude.{◌≡◌, ◌⊎◌, ℕ, ◌≤◌, false, if◌then◌else◌, Option, Some, None, Result, Ok, Err}
 use Rattle.std.specs.Option.{option_and_then}
 use Rattle.std.specs.FinMap as finite
@@ -7,8 +7,8 @@ use Rattle.bk_record.specs.Keyed.{log_count, Places}
 use Rattle.bk_log.specs.declared.fault.LogFault.TheVariants as log_faults
 use Rattle.bk_store.specs.Logs.{View, Logs, is_open}
 use Rattle.bk_store.specs.State.{State}
-use Rattle.bk_store.specs.Copying as copying
-use Rattle.bk_store.specs.Doors.{IsIdle, IsIn, IsOpenLog, MayReplace, Replaces, SetTurn}
+use Rattle.bk_store.specs.CompactionPrimitives as copying
+use Rattle.bk_store.specs.Primitives.{IsIdle, IsIn, IsOpenLog, CanReplaceIndex, ReplaceIndexTransition, SetLogStateTransition}
 use Rattle.bk_store.specs.Jobs.{Job}
 use Rattle.bk_store.specs.Leasing as leasing
 use Rattle.bk_store.specs.Leasing.{IsLeased}
@@ -24,15 +24,16 @@ use Rattle.bk_collect.specs.declared.answer.CollectFault.TheVariants as faults
 
 -- ---- retiring
 
--- the compaction that runs has the log, as its source or as its copy
+-- the log is the source log or the target log of the running compaction
 abbrev pub IsCompacted : State → ℕ → Type 0
 IsCompacted s id = (job : Job) × (s.job ≡ Some job) × ((job.source ≡ id) ⊎ (job.copy ≡ id))
 
--- a flush or a compaction writes the log, or will show it, or the compaction that runs has it
+-- a flush or a compaction writes the log or has yet to publish it, or the running compaction copies
+-- from it
 abbrev pub IsInUse : State → ℕ → Type 0
 IsInUse s id = IsIn s id Writing ⊎ (IsIn s id Filled ⊎ (IsIn s id Copying ⊎ (IsIn s id Readable × IsCompacted s id)))
 
--- keys may no longer be sent to the log
+-- the index may no longer point into the log
 abbrev pub IsPast : State → ℕ → Type 0
 IsPast s id = IsIn s id Retired ⊎ IsIn s id Closed
 
@@ -40,48 +41,48 @@ IsPast s id = IsIn s id Retired ⊎ IsIn s id Closed
 abbrev pub IsOnlyRead : State → ℕ → Type 0
 IsOnlyRead s id = IsIn s id Readable × IsIdle s id
 
--- A log that no key names is Retired from then on. One that is so already, or closed, stays as it is, and so does one that
--- is in use or still named: at least one key is sent to it.
-abbrev pub RetireTurn : State → ℕ → RetireAnswer → State → Type 0
-RetireTurn s id retires.NoLog t = (finite.get s.logs id ≡ None) × (t ≡ s)
-RetireTurn s id retires.InUse t = IsInUse s id × (t ≡ s)
-RetireTurn s id (retires.StillNamed n) t = IsOnlyRead s id × (n ≡ log_count s.index id) × (1 ≤ n) × (t ≡ s)
-RetireTurn s id (retires.Retired log) t = (log ≡ id)
-    × ((IsPast s id × (t ≡ s)) ⊎ (IsOnlyRead s id × (log_count s.index id ≡ 0) × SetTurn s id Retired t))
+-- A log that no index entry points into becomes Retired. A log that is Retired or Closed already is
+-- unchanged, and so is a log that is in use or has index entries.
+abbrev pub RetireTransition : State → ℕ → RetireAnswer → State → Type 0
+RetireTransition s id retires.NoLog t = (finite.get s.logs id ≡ None) × (t ≡ s)
+RetireTransition s id retires.InUse t = IsInUse s id × (t ≡ s)
+RetireTransition s id (retires.StillNamed n) t = IsOnlyRead s id × (n ≡ log_count s.index id) × (1 ≤ n) × (t ≡ s)
+RetireTransition s id (retires.Retired log) t = (log ≡ id)
+    × ((IsPast s id × (t ≡ s)) ⊎ (IsOnlyRead s id × (log_count s.index id ≡ 0) × SetLogStateTransition s id Retired t))
 
 -- ---- closing
 
--- A log that is Retired is closed where no lease of it is out, and told how many there are where some are. One that is
--- Closed stays so, and no other is closed.
-abbrev pub CloseTurn : State → ℕ → CloseAnswer → State → Type 0
-CloseTurn s id closes.NoLog t = (finite.get s.logs id ≡ None) × (t ≡ s)
-CloseTurn s id closes.NotRetired t = IsOpenLog s id × (t ≡ s)
-CloseTurn s id (closes.Leased n) t = IsIn s id Retired × IsLeased s.keeper s.logs id n × (t ≡ s)
-CloseTurn s id closes.Closed t = (IsIn s id Closed × (t ≡ s)) ⊎ (IsIn s id Retired × leasing.CloseLogTurn s id (Ok tt) t)
+-- A Retired log becomes Closed if no lease of it is out; otherwise the result is the number of its
+-- leases. A Closed log is unchanged, and no other log is closed.
+abbrev pub CloseTransition : State → ℕ → CloseAnswer → State → Type 0
+CloseTransition s id closes.NoLog t = (finite.get s.logs id ≡ None) × (t ≡ s)
+CloseTransition s id closes.NotRetired t = IsOpenLog s id × (t ≡ s)
+CloseTransition s id (closes.Leased n) t = IsIn s id Retired × IsLeased s.keeper s.logs id n × (t ≡ s)
+CloseTransition s id closes.Closed t = (IsIn s id Closed × (t ≡ s)) ⊎ (IsIn s id Retired × leasing.CloseLogTransition s id (Ok tt) t)
 
 -- ---- removing
 
--- the log is held, and not closed to leases
+-- the log is held and is not closed to leases
 abbrev pub IsUnclosed : State → ℕ → Type 0
 IsUnclosed s id = IsOpenLog s id ⊎ IsIn s id Retired
 
--- A log that is Closed goes, with its file; no other does. A refusal leaves it as it was, and its file.
-abbrev pub RemoveTurn : State → ℕ → Result RemoveAnswer CollectFault → State → Type 0
-RemoveTurn s id (Ok removes.NoLog) t = (finite.get s.logs id ≡ None) × (t ≡ s)
-RemoveTurn s id (Ok removes.NotClosed) t = IsUnclosed s id × (t ≡ s)
-RemoveTurn s id (Ok removes.Removed) t = IsIn s id Closed × copying.RemoveLogTurn s id (Ok tt) t
-RemoveTurn s id (Err faults.Disk) t = IsIn s id Closed × copying.RemoveLogTurn s id (Err log_faults.Disk) t
-RemoveTurn s id (Err faults.Memory) t = IsIn s id Closed × copying.RemoveLogTurn s id (Err log_faults.Memory) t
-RemoveTurn s id (Err (faults.Log log cause)) t = ⊥
-RemoveTurn s id (Err faults.Odd) t = IsIn s id Closed × copying.RemoveLogTurn s id (Err log_faults.Odd) t
+-- A Closed log is removed with its file; no other log is. An error leaves the log and its file.
+abbrev pub RemoveTransition : State → ℕ → Result RemoveAnswer CollectFault → State → Type 0
+RemoveTransition s id (Ok removes.NoLog) t = (finite.get s.logs id ≡ None) × (t ≡ s)
+RemoveTransition s id (Ok removes.NotClosed) t = IsUnclosed s id × (t ≡ s)
+RemoveTransition s id (Ok removes.Removed) t = IsIn s id Closed × copying.RemoveLogTransition s id (Ok tt) t
+RemoveTransition s id (Err faults.Disk) t = IsIn s id Closed × copying.RemoveLogTransition s id (Err log_faults.Disk) t
+RemoveTransition s id (Err faults.Memory) t = IsIn s id Closed × copying.RemoveLogTransition s id (Err log_faults.Memory) t
+RemoveTransition s id (Err (faults.Log log cause)) t = ⊥
+RemoveTransition s id (Err faults.Odd) t = IsIn s id Closed × copying.RemoveLogTransition s id (Err log_faults.Odd) t
 
 -- ---- rebuilding
 
--- the last view of a log, where keys may be sent to the log
+-- the last view of a log, if the log is open
 abbrev pub open_view : Logs → ℕ → Option View
 open_view logs id = option_and_then (λ log. if is_open log.state then log.view else None) (finite.get logs id)
 
--- the last view of a log that keys may be sent to can't be read
+-- the last view of an open log cannot be read
 abbrev pub HasUnsoundView : State → Type 0
 HasUnsoundView s = (id : ℕ) × ((view : View) × (open_view s.logs id ≡ Some view) × (view.is_sound ≡ false))
 
@@ -92,8 +93,8 @@ RebuildFails s faults.Memory = Unit {0}
 RebuildFails s (faults.Log id cause) = s.honest ≡ false
 RebuildFails s faults.Odd = s.honest ≡ false
 
--- The store has a new index, with so many keys: that of all entries that are published in logs which keys may be sent to,
--- without the dead ledgers. A refusal leaves it as it was.
-abbrev pub RebuildTurn : State → Result ℕ CollectFault → State → Type 0
-RebuildTurn s (Ok n) t = (index : Places) × MayReplace s index × (n ≡ finite.len index) × Replaces s index t
-RebuildTurn s (Err fault) t = RebuildFails s fault × (t ≡ s)
+-- The store has a new index of n keys: that of all entries in the published parts of open logs,
+-- without the deleted ledgers. An error leaves the store unchanged.
+abbrev pub RebuildTransition : State → Result ℕ CollectFault → State → Type 0
+RebuildTransition s (Ok n) t = (index : Places) × CanReplaceIndex s index × (n ≡ finite.len index) × ReplaceIndexTransition s index t
+RebuildTransition s (Err fault) t = RebuildFails s fault × (t ≡ s)

@@ -1,2 +1,2 @@
 pub mod Collecting
-pub mod Taking
+pub mod Rebuilding

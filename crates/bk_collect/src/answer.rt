@@ -1,58 +1,61 @@
-//! What the calls of a collection answer: an enum for each call, and why a call is refused.
+//! Results of the calls of a collection, one enum per call, and their errors.
 
 use bk_store::LogCause;
 use thiserror::Error;
 
-/// What became of a retirement.
+/// Result of retiring a log.
 #[derive(Clone, Copy, Debug, PartialEq, Eq)]
 pub enum RetireAnswer {
-    /// No such log is held.
+    /// No log of this id is held.
     NoLog,
-    /// A flush or a compaction writes the log, or will show it, or the compaction that runs copies its entries.
+    /// A flush or a compaction writes the log or has yet to publish it, or the running compaction
+    /// copies from it.
     InUse,
-    /// The log of this id is retired: no key names it, and none will again. Its file stays.
+    /// The log of this id is Retired: no index entry points into it, and none ever will. Its file
+    /// remains.
     Retired(u32),
-    /// So many keys, at least one, are still sent to the log.
+    /// N index entries, at least one, point into the log.
     StillNamed(u64),
 }
 
-/// What became of a closing.
+/// Result of closing a log.
 #[derive(Clone, Copy, Debug, PartialEq, Eq)]
 pub enum CloseAnswer {
-    /// No such log is held.
+    /// No log of this id is held.
     NoLog,
-    /// The log is not retired, so a key may still be sent to it.
+    /// The log is not Retired, so the index may still point into it.
     NotRetired,
-    /// The log is closed: no lease of it is out, and none will be.
+    /// The log is Closed: no lease of it is out, and none will be granted.
     Closed,
-    /// So many leases of the log, at least one, were out when it was to be closed.
+    /// N leases of the log, at least one, were out when the call looked.
     Leased(u64),
 }
 
-/// What became of a removal.
+/// Result of removing a log.
 #[derive(Clone, Copy, Debug, PartialEq, Eq)]
 pub enum RemoveAnswer {
-    /// No such log is held.
+    /// No log of this id is held.
     NoLog,
-    /// The log is not closed: a lease of it may be out, or may still be given.
+    /// The log is not Closed: a lease of it may be out or may still be granted.
     NotClosed,
-    /// The log is held no more, its file is gone, and its slot is free for another log. Its id is never given again.
+    /// The log is no longer held, its file is removed, and its slot is free. Its id is never used
+    /// again.
     Removed,
 }
 
-/// Why a call of a collection was refused. The store's logs and its index are as they were.
+/// Why a call of a collection failed. The logs and the index of the store are unchanged.
 #[derive(Clone, Copy, Debug, PartialEq, Eq, Error)]
 pub enum CollectFault {
-    /// The device failed: a view could not be read, or a file not be removed.
+    /// The device failed: a view could not be read, or a file not removed.
     #[error("disk")]
     Disk,
-    /// No memory was to be had.
+    /// Out of memory.
     #[error("memory")]
     Memory,
-    /// What the log of this id shows can't be read to its end. It never comes from an honest disk.
+    /// The published part of this log cannot be read to its end. Does not occur on an honest disk.
     #[error("log {id}: {cause}")]
     Log { id: u32, cause: LogCause },
-    /// The disk answered what an honest disk cannot.
+    /// The disk returned what no honest disk can.
     #[error("odd disk")]
     Odd,
 }

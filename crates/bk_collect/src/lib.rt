@@ -1,6 +1,7 @@
-//! What becomes of logs that are not needed, and of an index that is to be made anew: a log that no key names is retired,
-//! then closed to leases, then removed, and the index is rebuilt of all that the logs show. All of it is made of the store's
-//! public calls.
+//! Retires, closes and removes logs that the index does not point into, and rebuilds the index from
+//! the published parts of the logs.
+//!
+//! Uses only public calls of `Store`, so the store invariant holds whatever these functions do.
 #![tactic(auto)]
 
 mod answer;

@@ -1,15 +1,16 @@
-//! Rebuilding the index of what the logs show.
+//! Rebuilding the index from the published parts of the logs.
 //!
-//! The views of all logs that keys may be sent to are read by rising ids, each from its header to its end, so a later
-//! record of a key takes the place of an earlier one. Only when all were read does the store get the new index.
+//! Reads the views of all open logs by rising id, each from its header to its end, so a later
+//! record of a key replaces an earlier one. The store gets the new index only after all logs were
+//! read.
 
 ghost use Rattle.std.specs.Prelude.{◌≡◌, IsTrue, IsErrOf, IfOk, IfErr, OnOk, Some, option_map};
 ghost use Rattle.bk_disk.specs.Disk.{AreSound};
-ghost use Rattle.bk_store.specs.Doors.{MayReplace};
+ghost use Rattle.bk_store.specs.Primitives.{CanReplaceIndex};
 ghost use Rattle.bk_store.specs.Logs.{view_of};
-ghost use Rattle.bk_store.specs.Meaning.{MeansTheSame};
-ghost use Rattle.bk_step.specs.Staying.{StandsStill};
-ghost use Rattle.bk_collect.specs.Collecting.{RebuildFails, RebuildTurn, open_view};
+ghost use Rattle.bk_store.specs.Contents.{SameContents};
+ghost use Rattle.bk_store.specs.Frame.{FrameUnchanged};
+ghost use Rattle.bk_collect.specs.Collecting.{RebuildFails, RebuildTransition, open_view};
 
 use crate::CollectFault;
 use crate::scanning::take_in;
@@ -18,19 +19,25 @@ use bk_index::Index;
 use bk_store::{LogState, Store};
 use std::sync::Arc;
 
-/// Makes a new index of what is published of all logs that are neither retired nor closed, without the dead ledgers, and
-/// answers how many keys it has. A key is sent to its last record there, in order of log, then position (this project's
-/// rule). Every log's count of names is that of the new index.
+/// Rebuilds the index from the published parts of all logs that are neither Retired nor Closed,
+/// without the deleted ledgers. Returns the number of its keys.
+///
+/// If a key has several records, the last one wins, by log id, then position (this project's rule).
+/// The count of index entries of each log is that of the new index.
 ///
 /// # Errors
-/// `Disk` where a view could not be read, `Memory` where an allocation was refused, and `Log` and `Odd` where the disk
-/// behaved as no honest one does. The store is as it was after each.
+///
+/// The store is unchanged after every error. They can occur at any point:
+///
+/// - `Memory`: an allocation failed.
+/// - `Disk`: a view could not be read.
+/// - `Log`, `Odd`: the disk is not honest.
 pub fn rebuild<D: LogDisk>(store: &mut Store<D>) -> Result<u64, CollectFault>
-    ensures turn { RebuildTurn store.old result store.new }
-    ensures stays { StandsStill store.old store.new × (store.new.failures ≡ store.old.failures) }
+    ensures transition { RebuildTransition store.old result store.new }
+    ensures frame { FrameUnchanged store.old store.new × (store.new.failures ≡ store.old.failures) }
     ensures sound { AreSound D.View.sound → ¬ (IsErrOf result CollectFault.Disk) }
     ensures honest { store.new.honest ≡ store.old.honest }
-    ensures meaning { IsTrue store.old.honest → MeansTheSame store.old store.new }
+    ensures contents { IsTrue store.old.honest → SameContents store.old store.new }
 {
     let index = read_logs(store)?;
     let keys = index.len() as u64;
@@ -38,13 +45,13 @@ pub fn rebuild<D: LogDisk>(store: &mut Store<D>) -> Result<u64, CollectFault>
     Ok(keys)
 }
 
-/// The index of what the logs show that keys may be sent to.
+/// Returns the index of the published parts of all open logs.
 fn read_logs<D: LogDisk>(store: &Store<D>) -> Result<Index, CollectFault>
-    ensures made { IfOk result (λ index. MayReplace store.now index) }
+    ensures made { IfOk result (λ index. CanReplaceIndex store.now index) }
     ensures fails { IfErr result (λ fault. RebuildFails store.now fault) }
     ensures sound { AreSound D.View.sound → ¬ (IsErrOf result CollectFault.Disk) }
 {
-    store.promise();
+    store.reveal_invariant();
     let mut index = Index::new(store.alloc());
     let mut from = 0;
     while let Some(log) = store.log_from(from) {
@@ -56,7 +63,7 @@ fn read_logs<D: LogDisk>(store: &Store<D>) -> Result<Index, CollectFault>
     Ok(index)
 }
 
-/// The last view of a log that keys may be sent to.
+/// Returns the last view of a log if the log is open, that is, neither Retired nor Closed.
 fn shown<D: LogDisk>(store: &Store<D>, log: u32) -> Option<&Arc<D::View>>
     ensures { option_map (λ view. view_of D.View.bytes D.View.honest D.View.sound view.now.value) result ≡ open_view store.now.logs log }
 {

@@ -1,10 +1,11 @@
-//! The entries that one log shows are taken into an index as they come, so no log is held in memory.
+//! Adds the entries of the published part of one log to an index, one at a time, so no log is held
+//! in memory.
 
 ghost use Rattle.std.specs.Prelude.{◌≡◌, ◌<◌, ◌≤◌, ◌^◌, IsErrOf, IfErr, OnOk, Some};
 ghost use Rattle.bk_disk.specs.Disk.{AreSound};
 ghost use Rattle.bk_store.specs.Logs.{view_of};
 ghost use Rattle.bk_collect.specs.Collecting.{RebuildFails, open_view};
-ghost use Rattle.bk_collect.specs.Taking.{EntryFails, TakesIn, collect_fault_of, with_key};
+ghost use Rattle.bk_collect.specs.Rebuilding.{EntryFails, TakesIn, collect_fault_of, with_key};
 
 use crate::CollectFault;
 use bk_disk::{LogDisk, LogView};
@@ -13,8 +14,8 @@ use bk_log::{Found, ScanFault, Scanner};
 use bk_record::{HEADER_LENGTH, Location};
 use bk_store::{LogCause, Store};
 
-/// Takes the entries that a log shows into the index, one after another. Foreign records are passed over, and so is what is
-/// torn at the end.
+/// Adds the entries of a view of a log to the index, in order. Ignores foreign records and a torn
+/// record at the end.
 pub(crate) fn take_in<D: LogDisk>(
     store: &Store<D>,
     log: u32,
@@ -27,7 +28,7 @@ pub(crate) fn take_in<D: LogDisk>(
     ensures fails { IfErr result (λ fault. RebuildFails store.now fault) }
     ensures sound { AreSound D.View.sound → ¬ (IsErrOf result CollectFault.Disk) }
 {
-    store.promise();
+    store.reveal_invariant();
     store.disk().bounds();
     let end = view.end();
     if end < HEADER_LENGTH as u64 {
@@ -43,8 +44,8 @@ pub(crate) fn take_in<D: LogDisk>(
     }
 }
 
-/// Sends the key of an entry to its place, where its ledger lives. The faults are `Memory`, and `Odd` where the place is past
-/// 2^32 - 1.
+/// Points the key of an entry to its place, unless its ledger is deleted. Fails with `Memory`, and
+/// with `Odd` if the position exceeds 2^32 - 1.
 fn name<D: LogDisk>(
     store: &Store<D>,
     log: u32,
@@ -69,7 +70,7 @@ fn name<D: LogDisk>(
     }
 }
 
-/// A bad length is the log's of this id.
+/// Returns the fault of a rebuild for a fault of the scan of log `id`.
 fn scan_fault(id: u32, fault: ScanFault) -> CollectFault
     ensures { result ≡ collect_fault_of id fault }
 {

@@ -1,4 +1,4 @@
--- How often the device under the disk of a folder failed.
+-- The number of device failures of the disk of a directory.
 use Rattle.std.specs.Prelude.{ℕ}
 use Rattle.bk_commands.specs.declared.folder_disk.FolderDisk.{FolderDisk}
 use Rattle.bk_commands.specs.declared.folder_disk.FolderDisk.TheVariants.{Plain, Marked}

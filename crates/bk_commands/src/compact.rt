@@ -1,31 +1,41 @@
-//! A folder is compacted, or it is told what that would do.
+//! The command `compact`: compacts a directory, or shows what that would do.
 
 ghost use Rattle.std.specs.Prelude.{◌≡◌, ◌≤◌, IfOk, IfSome, IsTrue};
-ghost use Rattle.bk_store.specs.Turns.{valid_ledgers};
-ghost use Rattle.bk_sweep.specs.Sweeping.{MeanTheSame};
-ghost use Rattle.bk_dir.specs.Reading.{OnlyReads};
+ghost use Rattle.bk_store.specs.Transitions.{valid_ledgers};
+ghost use Rattle.bk_offline_gc.specs.Sweeping.{SameFileContents};
+ghost use Rattle.bk_inspect.specs.Reading.{OnlyReads};
 
+mod ask;
 mod fault;
+mod index;
+mod kept;
+mod planned;
 mod rows;
 
 use crate::dead::dead_ledgers;
+use crate::failed_calls::FailedCalls;
 use crate::folder_disk::FolderDisk;
 use crate::opening::OpeningDisk;
 use crate::progress::Progress;
-use bk_cli::{CompactAsk, DEFAULTS};
-use bk_dir::{Form, unlisted};
-use bk_disk::{DirDisk, DiskFault, LogDisk};
+pub use ask::CompactAsk;
+use bk_cli::DEFAULTS;
+use bk_disk::{DirDisk, DiskFault, FaultWatch, FileFault, LogDisk};
 use bk_drive::Settings;
-use bk_sweep::{Done, Fate, Kind, Planned, Store, SweepFault, plan, sweep_disk};
-use fault::{CompactFault, tell};
-use rows::{EmptyRow, PlannedRow, Size, Summary, write_row, write_summary};
+use bk_inspect::{Form, unlisted};
+use bk_offline_gc::{Done, Kind, SweepFault, sweep_disk};
+use fault::{CompactFault, reason_of, tell};
+use index::index_in;
+use kept::{kept_logs, tell_kept};
+use planned::{Look, show_plan};
+use rows::{EmptyRow, Size, Summary, write_row, write_summary};
 use std::alloc::Global;
 use std::collections::BTreeMap;
 use std::io;
 use std::io::Write;
 
-/// Compacts the folder at a path, or tells what that would do, as it is asked. Returns the program's status: 0, or 1 with a line
-/// `fault TEXT` on the error stream where it ends early; without it where nobody reads the output any more.
+/// Compacts the directory at a path, or shows what that would do. Returns the program's status: 0,
+/// or 1 with `fault TEXT` on the error stream if it ends early; without it if nobody reads the
+/// output any more.
 pub(crate) fn run_compact<W: Write, E: Write>(
     rt: &HostRuntime,
     form: Form,
@@ -36,26 +46,40 @@ pub(crate) fn run_compact<W: Write, E: Write>(
 ) -> u8
     ensures { result ≤ 1 }
 {
-    let alloc = rt.alloc();
-    match find_work(rt, form, path, ask, writer, errors) {
-        Ok(None) => 0,
-        Ok(Some(Work { disk, dead })) => {
-            match compact_disk(rt, form, disk, ask.below, &dead, writer, errors) {
-                Some(_) => 0,
-                None => 1,
-            }
-        }
+    let mut watch = None;
+    match compact_folder(rt, form, path, ask, &mut watch, writer, errors) {
+        Ok(()) => 0,
         Err(fault) => {
-            end_early(alloc, form, &fault, errors);
+            let call = reason_of(rt.alloc(), &fault, &watch);
+            end_early(rt.alloc(), form, &fault, &call, errors);
             1
         }
     }
 }
 
-/// Compacts the logs of a disk, log after log, until none is left of which fewer thousandths live than `below`, removes those
-/// that no key names, and prints the summary. `dead` are the ledgers that were deleted before: their entries are left behind.
-/// Gives the disk as it is then, where the program's status is 0. It is 1, and `None` given, where it ends early: with a line
-/// `fault TEXT` on the error stream, but where nobody reads the output any more. A line on the terminal tells how far it is.
+/// Compacts the directory at a path, or shows what that would do. Sets `watch` to the watch of its
+/// disk.
+fn compact_folder<W: Write, E: Write>(
+    rt: &HostRuntime,
+    form: Form,
+    path: &str,
+    ask: &CompactAsk<'_>,
+    watch: &mut Option<FaultWatch>,
+    writer: &mut W,
+    errors: &mut E,
+) -> Result<(), CompactFault> {
+    if let Some(Work { disk, dead }) = find_work(rt, form, path, ask, watch, writer, errors)? {
+        compact_and_show(rt, form, disk, ask.below, &dead, writer)?;
+    }
+    Ok(())
+}
+
+/// Compacts the logs of a disk until none has a live share below `below`, removes those that no
+/// index entry points into, and writes the summary. `dead` lists the ledgers deleted earlier: their
+/// entries are not copied. A line on the terminal shows the progress.
+///
+/// Returns the disk as it is then if the status is 0. `None` if it ends early, with status 1 and
+/// `fault TEXT` on the error stream; without it if nobody reads the output any more.
 pub fn compact_disk<D: LogDisk, W: Write, E: Write>(
     rt: &HostRuntime,
     form: Form,
@@ -67,63 +91,123 @@ pub fn compact_disk<D: LogDisk, W: Write, E: Write>(
 ) -> Option<D>
     ensures honest { IfSome result (λ left. D.honest left ≡ D.honest disk) }
     ensures same { IsTrue (D.honest disk)
-        → IfSome result (λ left. MeanTheSame (valid_ledgers dead.now) (D.files disk) (D.files left)) }
+        → IfSome result (λ left. SameFileContents (valid_ledgers dead.now) (D.files disk) (D.files left)) }
 {
     match compact_and_show(rt, form, disk, below, dead, writer) {
         Ok(left) => Some(left),
         Err(fault) => {
-            end_early(rt.alloc(), form, &fault, errors);
+            end_early(rt.alloc(), form, &fault, &None, errors);
             None
         }
     }
 }
 
-/// Tells why a compaction ends early; nothing where nobody reads the output any more.
-fn end_early<E: Write>(alloc: Global, form: Form, fault: &CompactFault, errors: &mut E) {
+/// Reports why a compaction ends early, with the call of the system that is the reason; nothing if
+/// nobody reads the output any more.
+fn end_early<E: Write>(
+    alloc: Global,
+    form: Form,
+    fault: &CompactFault,
+    call: &Option<FileFault>,
+    errors: &mut E,
+) {
     match fault {
         CompactFault::Output(error) if error.kind() == io::ErrorKind::BrokenPipe => {}
-        _ => tell(alloc, form, fault, errors),
+        _ => tell(alloc, form, fault, call, errors),
     }
 }
 
-/// A folder that is to be compacted, and the ledgers that were deleted before.
+/// A directory to be compacted, and the deleted ledgers.
 #[derive(Drop)]
 struct Work {
     disk: OpeningDisk,
     dead: Vec<u64>,
 }
 
-/// Opens a folder that is to be compacted, as its one writer. `None` where it has no log, or where it is only asked what a
-/// compaction would do: this is shown then, and what the writer has kept back is written.
+/// Opens a directory to be compacted as its one writer, and sets `watch` to the watch of its disk.
+/// `None` if it has no log, or if only the effect is to be shown: then that is shown.
 fn find_work<W: Write, E: Write>(
     rt: &HostRuntime,
     form: Form,
     path: &str,
     ask: &CompactAsk<'_>,
+    watch: &mut Option<FaultWatch>,
     writer: &mut W,
     errors: &mut E,
 ) -> Result<Option<Work>, CompactFault> {
     let dead = dead_ledgers(rt, ask)?;
-    let (disk, logs) = find_logs(rt, path)?;
+    let (disk, logs) = find_logs(rt, path, watch)?;
     if logs.is_empty() {
         show_empty(rt.alloc(), form, path, writer, errors)?;
         return Ok(None);
     }
     if ask.is_dry {
-        let disk = OpeningDisk::new(rt, FolderDisk::Plain(disk));
-        let summary = show_plan(rt.alloc(), form, disk, &logs, ask, &dead, writer)?;
-        write_summary(rt.alloc(), form, &summary, writer)?;
+        show_dry(rt, form, path, disk, &logs, ask, &dead, writer, errors)?;
         return Ok(None);
     }
     drop(disk);
-    let disk = FolderDisk::open(rt.alloc(), DirDisk::open_to_write(rt, path)?, false)?;
-    let disk = OpeningDisk::new(rt, disk);
+    if !ask.index_is_rebuilt
+        && let Some(file) = index_in(rt, path)?
+    {
+        return Err(CompactFault::Index(file));
+    }
+    let (disk, failed, logs) = open_work(rt, path, watch)?;
+    let kept = kept_logs(rt, path, &logs)?;
+    tell_kept(rt.alloc(), form, &kept, &logs, errors)?;
+    let disk = OpeningDisk::keeping(rt, disk, failed, kept);
     Ok(Some(Work { disk, dead }))
 }
 
-/// The folder, and the lengths of its logs in bytes by their ids.
-fn find_logs(rt: &HostRuntime, path: &str) -> Result<(DirDisk, BTreeMap<u32, u64>), CompactFault> {
+/// Opens a directory as its one writer, and sets `watch` to the watch of its disk. Returns its disk,
+/// the calls on it that fail, and the lengths of its logs by id.
+fn open_work(
+    rt: &HostRuntime,
+    path: &str,
+    watch: &mut Option<FaultWatch>,
+) -> Result<(FolderDisk, FailedCalls, BTreeMap<u32, u64>), CompactFault> {
+    let mut disk = DirDisk::open_to_write(rt, path)?;
+    *watch = Some(disk.fault_watch(rt.alloc())?);
+    let failed = FailedCalls::on(rt.alloc(), &disk)?;
+    let logs = lengths_of(rt.alloc(), &mut disk)?;
+    Ok((FolderDisk::open(rt.alloc(), disk, false)?, failed, logs))
+}
+
+/// Shows what a compaction of a directory would do, and flushes.
+fn show_dry<W: Write, E: Write>(
+    rt: &HostRuntime,
+    form: Form,
+    path: &str,
+    disk: DirDisk,
+    lengths: &BTreeMap<u32, u64>,
+    ask: &CompactAsk<'_>,
+    dead: &[u64],
+    writer: &mut W,
+    errors: &mut E,
+) -> Result<(), CompactFault> {
+    let alloc = rt.alloc();
+    let kept = kept_logs(rt, path, lengths)?;
+    tell_kept(alloc, form, &kept, lengths, errors)?;
+    let failed = FailedCalls::on(alloc, &disk)?;
+    let disk = OpeningDisk::new(rt, FolderDisk::Plain(disk), failed);
+    let look = Look {
+        lengths,
+        kept: &kept,
+        ask,
+        dead,
+    };
+    let summary = show_plan(alloc, form, disk, &look, writer)?;
+    write_summary(alloc, form, &summary, writer)
+}
+
+/// Returns the directory, opened to be read, and the lengths of its logs by id. Sets `watch` to the
+/// watch of its disk.
+fn find_logs(
+    rt: &HostRuntime,
+    path: &str,
+    watch: &mut Option<FaultWatch>,
+) -> Result<(DirDisk, BTreeMap<u32, u64>), CompactFault> {
     let mut disk = DirDisk::open_to_read(rt, path)?;
+    *watch = Some(disk.fault_watch(rt.alloc())?);
     if let Some(fault) = unlisted(rt, path) {
         return Err(CompactFault::Folder(fault));
     }
@@ -131,7 +215,7 @@ fn find_logs(rt: &HostRuntime, path: &str) -> Result<(DirDisk, BTreeMap<u32, u64
     Ok((disk, logs))
 }
 
-/// Writes that the folder has no log, and that nothing is done.
+/// Writes that the directory has no log, and that nothing is done.
 fn show_empty<W: Write, E: Write>(
     alloc: Global,
     form: Form,
@@ -147,7 +231,7 @@ fn show_empty<W: Write, E: Write>(
     write_summary(alloc, form, &still(Size { logs: 0, bytes: 0 }), writer)
 }
 
-/// Nothing is done.
+/// Returns the summary of nothing done.
 fn still(size: Size) -> Summary {
     Summary {
         before: size,
@@ -156,7 +240,7 @@ fn still(size: Size) -> Summary {
     }
 }
 
-/// The settings of a store of which logs are compacted below so many thousandths.
+/// Returns the settings of a store that compacts logs below this share, in thousandths.
 fn settings_below(below: u32) -> Settings {
     Settings {
         slots: 65_536,
@@ -166,7 +250,7 @@ fn settings_below(below: u32) -> Settings {
     }
 }
 
-/// The length of each log.
+/// Returns the length of each log.
 fn lengths_of<D: LogDisk>(alloc: Global, disk: &mut D) -> Result<BTreeMap<u32, u64>, CompactFault>
     ensures { OnlyReads (D.honest disk.old) (D.files disk.old) (D.honest disk.new) (D.files disk.new) }
 {
@@ -185,7 +269,7 @@ fn lengths_of<D: LogDisk>(alloc: Global, disk: &mut D) -> Result<BTreeMap<u32, u
     Ok(lengths)
 }
 
-/// How many logs these are, and their bytes.
+/// Returns the number of these logs, and their bytes.
 fn size_of(lengths: &BTreeMap<u32, u64>) -> Size {
     let mut bytes = 0u64;
     for length in lengths.values() {
@@ -197,14 +281,14 @@ fn size_of(lengths: &BTreeMap<u32, u64>) -> Size {
     }
 }
 
-/// How many logs a disk has, and their bytes.
+/// Returns the number of logs of a disk, and their bytes.
 fn size_on<D: LogDisk>(alloc: Global, disk: &mut D) -> Result<Size, CompactFault>
     ensures { OnlyReads (D.honest disk.old) (D.files disk.old) (D.honest disk.new) (D.files disk.new) }
 {
     Ok(size_of(&lengths_of(alloc, disk)?))
 }
 
-/// Compacts the logs of a disk, and writes the summary, and what the writer has kept back. Gives the disk.
+/// Compacts the logs of a disk, writes the summary and flushes. Returns the disk.
 fn compact_and_show<D: LogDisk, W: Write>(
     rt: &HostRuntime,
     form: Form,
@@ -215,7 +299,7 @@ fn compact_and_show<D: LogDisk, W: Write>(
 ) -> Result<D, CompactFault>
     ensures honest { IfOk result (λ left. D.honest left ≡ D.honest disk) }
     ensures same { IsTrue (D.honest disk)
-        → IfOk result (λ left. MeanTheSame (valid_ledgers dead.now) (D.files disk) (D.files left)) }
+        → IfOk result (λ left. SameFileContents (valid_ledgers dead.now) (D.files disk) (D.files left)) }
 {
     let alloc = rt.alloc();
     let mut disk = disk;
@@ -231,7 +315,8 @@ fn compact_and_show<D: LogDisk, W: Write>(
     Ok(disk)
 }
 
-/// Compacts the logs of a disk, and tells on the terminal how far it is. Gives the disk, and how many entries were copied.
+/// Compacts the logs of a disk, with the progress on the terminal. Returns the disk, and the number
+/// of entries copied.
 fn sweep_on<D: LogDisk>(
     rt: &HostRuntime,
     disk: D,
@@ -240,7 +325,7 @@ fn sweep_on<D: LogDisk>(
 ) -> Result<(D, u64), CompactFault>
     ensures honest { IfOk result (λ left. D.honest left.0 ≡ D.honest disk) }
     ensures same { IsTrue (D.honest disk)
-        → IfOk result (λ left. MeanTheSame (valid_ledgers dead.now) (D.files disk) (D.files left.0)) }
+        → IfOk result (λ left. SameFileContents (valid_ledgers dead.now) (D.files disk) (D.files left.0)) }
 {
     let settings = settings_below(below);
     let mut progress = Progress::new(rt);
@@ -256,67 +341,5 @@ fn sweep_on<D: LogDisk>(
         Ok(disk) => Ok((disk, swept.moved)),
         // No lease was given.
         Err(_) => Err(CompactFault::Sweep(SweepFault::Odd)),
-    }
-}
-
-/// Writes a line for each log that a compaction would take.
-fn show_plan<W: Write>(
-    alloc: Global,
-    form: Form,
-    disk: OpeningDisk,
-    lengths: &BTreeMap<u32, u64>,
-    ask: &CompactAsk<'_>,
-    dead: &[u64],
-    writer: &mut W,
-) -> Result<Summary, CompactFault> {
-    let planned = plan_on(alloc, disk, ask.below, dead)?;
-    let mut summary = still(size_of(lengths));
-    for planned in planned.iter() {
-        let length = lengths.get(&planned.log).copied().unwrap_or(0);
-        write_row(alloc, form, &planned_row(planned, length), writer)?;
-        take_in(&mut summary, planned.fate, length);
-    }
-    Ok(summary)
-}
-
-/// The logs of a disk that a compaction would take. With the store goes what stands on the terminal.
-fn plan_on(
-    alloc: Global,
-    disk: OpeningDisk,
-    below: u32,
-    dead: &[u64],
-) -> Result<Vec<Planned>, CompactFault> {
-    match Store::open(alloc, disk, settings_below(below), dead) {
-        Ok(store) => Ok(plan(&store, Kind::Major)?),
-        Err(fault) => Err(CompactFault::Sweep(SweepFault::Open(fault))),
-    }
-}
-
-/// The line of a log that a compaction would take.
-fn planned_row(planned: &Planned, length: u64) -> PlannedRow {
-    let (fate, entries) = match planned.fate {
-        Fate::Removed => ("remove", None),
-        Fate::Compacted { entries, .. } => ("compact", Some(entries)),
-    };
-    PlannedRow {
-        log: planned.log,
-        length,
-        fate,
-        entries,
-    }
-}
-
-/// Counts what would become of a log of this length.
-fn take_in(summary: &mut Summary, fate: Fate, length: u64) {
-    summary.after.bytes = summary.after.bytes.saturating_sub(length);
-    match fate {
-        Fate::Removed => summary.after.logs = summary.after.logs.saturating_sub(1),
-        Fate::Compacted {
-            entries,
-            length: copy,
-        } => {
-            summary.after.bytes = summary.after.bytes.saturating_add(copy);
-            summary.moved = summary.moved.saturating_add(entries);
-        }
     }
 }

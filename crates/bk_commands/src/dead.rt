@@ -1,32 +1,74 @@
-//! The ledgers that a compaction takes for deleted.
+//! The deleted ledgers of a call of `compact`.
 
-use bk_cli::CompactAsk;
-use bk_digits::number;
+use crate::compact::CompactAsk;
+use bk_decimal::number;
 use bk_record::LAST_ID;
 use std::alloc::AllocError;
 use std::fmt::{Display, Formatter};
 use std::{error, fmt, fs, io};
 
-/// Why a file does not tell the dead ledgers.
+/// Why a file does not name deleted ledgers.
 #[derive(Debug, Drop)]
 pub(crate) enum DeadFault {
-    /// The file at this path can't be read; the system's reason.
-    Unread { path: String, reason: io::Error },
-    /// A line of the file at this path, of this number, counted from 1, is no ledger.
-    Line { path: String, number: u64 },
-    /// No memory was to be had.
+    /// The file at this path cannot be read, for this reason.
+    Unread {
+        path: String,
+        reason: io::Error,
+    },
+    /// The line of this number, from 1, of the file at this path is no ledger.
+    Line {
+        path: String,
+        number: u64,
+        end: LineEnd,
+    },
+    /// Out of memory.
     Memory,
+}
+
+/// What is before the line feed of a line that is no ledger. The text goes on after the fault.
+#[derive(Clone, Copy, Debug, PartialEq, Eq)]
+pub(crate) enum LineEnd {
+    /// Nothing that a text editor hides.
+    Plain,
+    /// A carriage return, as in files of other systems.
+    Return,
+}
+
+impl LineEnd {
+    /// Returns the end of a line.
+    fn of(line: &str) -> LineEnd {
+        if line.ends_with('\r') {
+            LineEnd::Return
+        } else {
+            LineEnd::Plain
+        }
+    }
+}
+
+impl Display for LineEnd {
+    fn fmt<W: fmt::Write>(&self, f: &mut Formatter<W>) -> fmt::Result {
+        match self {
+            LineEnd::Plain => Ok(()),
+            LineEnd::Return => f.write_str(
+                "it ends in a carriage return, which tr -d '\\r' removes",
+            ),
+        }
+    }
 }
 
 impl Display for DeadFault {
     fn fmt<W: fmt::Write>(&self, f: &mut Formatter<W>) -> fmt::Result {
         match self {
             DeadFault::Unread { path, reason } => write!(f, "{path}: {reason}"),
-            DeadFault::Line { path, number } => {
+            DeadFault::Line { path, number, end } => {
                 write!(
                     f,
                     "{path}: line {number}: no number from 0 to {LAST_ID} in plain digits"
-                )
+                )?;
+                match end {
+                    LineEnd::Plain => Ok(()),
+                    LineEnd::Return => write!(f, "; {end}"),
+                }
             }
             DeadFault::Memory => write!(f, "memory"),
         }
@@ -41,7 +83,7 @@ impl From<AllocError> for DeadFault {
     }
 }
 
-/// The ledgers that the call names, and those of the files that it names.
+/// Returns the ledgers that the call names, and those of the files that it names.
 pub(crate) fn dead_ledgers(rt: &HostRuntime, ask: &CompactAsk<'_>) -> Result<Vec<u64>, DeadFault> {
     let mut dead = Vec::from_slice(rt.alloc(), &ask.dead)?;
     for path in ask.dead_files.iter() {
@@ -50,7 +92,7 @@ pub(crate) fn dead_ledgers(rt: &HostRuntime, ask: &CompactAsk<'_>) -> Result<Vec
     Ok(dead)
 }
 
-/// Puts the ledgers of a file behind the others.
+/// Appends the ledgers of a file.
 fn read_file(rt: &HostRuntime, path: &str, dead: &mut Vec<u64>) -> Result<(), DeadFault> {
     let text = match fs::read_to_string(rt, path) {
         Ok(text) => text,
@@ -67,6 +109,7 @@ fn read_file(rt: &HostRuntime, path: &str, dead: &mut Vec<u64>) -> Result<(), De
             return Err(DeadFault::Line {
                 path: String::from_str(rt.alloc(), path)?,
                 number: (index as u64).saturating_add(1),
+                end: LineEnd::of(line),
             });
         };
         if dead.push(ledger).is_err() {

@@ -1,29 +1,33 @@
-//! The disk of a folder whose logs have marks, or have none.
+//! The disk of a directory, with or without watermarks.
 
 ghost use Rattle.std.specs.Prelude.{false};
 ghost use Rattle.std.specs.FinMap as map;
 ghost use Rattle.bk_commands.specs.Failures.{failures_of};
 
 use bk_disk::{DirDisk, DirView, DiskFault, LogDisk};
-use bk_mark::MarkedDisk;
+use bk_watermark::WatermarkedDisk;
 use std::alloc::Global;
 
-/// The disk of a folder. It is honest of nothing, as a `DirDisk`.
+/// The disk of a directory. It is not honest, as a `DirDisk`.
 #[derive(Drop)]
 pub enum FolderDisk {
     /// Its logs are read to their ends.
     Plain(DirDisk),
-    /// Each log is cut to its mark, where it has one, and each that is written has one.
-    Marked(MarkedDisk<DirDisk>),
+    /// Each log with a watermark is cut to it, and each log that is written has one.
+    Marked(WatermarkedDisk<DirDisk>),
 }
 
 impl FolderDisk {
-    /// The disk of a folder that is written; with marks where they are asked for, and where a log has one: so a folder that was
-    /// written with marks once has them from then on. Faults: `Disk`, `Memory`; `NoLog` where a log goes meanwhile.
+    /// Returns the disk of a directory to be written; with watermarks if they are asked for, or if
+    /// a log has one.
+    ///
+    /// # Errors
+    ///
+    /// `Disk`, `Memory`; `NoLog` if a log is removed meanwhile.
     pub(crate) fn open(alloc: Global, disk: DirDisk, marks: bool) -> Result<FolderDisk, DiskFault> {
         let mut disk = disk;
         if marks || disk.has_marks(alloc)? {
-            return Ok(FolderDisk::Marked(MarkedDisk::open(disk, alloc)?));
+            return Ok(FolderDisk::Marked(WatermarkedDisk::open(disk, alloc)?));
         }
         Ok(FolderDisk::Plain(disk))
     }

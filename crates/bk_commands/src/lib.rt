@@ -1,21 +1,28 @@
-//! The commands of the program that need no threads: what its command line asks for, and what it then does, on any streams.
+//! The commands of the program that need no threads, on any streams.
 #![tactic(auto)]
 
+mod commands;
 mod compact;
 mod dead;
+mod failed_calls;
 mod folder_disk;
 mod line;
 mod opening;
+mod opening_view;
 mod program;
 mod progress;
 mod script;
 mod way_on;
 
 pub use bk_cli::{
-    COMMANDS, CompactAsk, DEFAULTS, FolderAsk, FolderCall, ScriptCall, command_of, folder_call,
-    form_of, is_folder_call, json_arg, script_call, text_of,
+    CommandRow, Commands, DEFAULTS, FolderCall, READING, ScriptCall, Value, WRITING, Word,
+    command_of, folder_call, form_of, is_folder_call, json_arg, row_of, script_call, text_of,
+    words,
 };
-pub use compact::compact_disk;
+pub use commands::dir_command;
+pub use compact::{CompactAsk, compact_disk};
+pub use failed_calls::FailedCalls;
 pub use opening::{Opened, OpeningDisk};
-pub use program::{StartFault, run_words, tell, tell_fault, words_of};
+pub use opening_view::OpeningView;
+pub use program::{StartFault, run_words, tell, tell_fault, tell_reading, words_of};
 pub use script::{OpeningFault, open_or_make};

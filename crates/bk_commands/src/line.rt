@@ -1,27 +1,27 @@
-//! A line on the terminal that is written anew, as what it tells of goes on.
+//! A line on the terminal that is rewritten as the work goes on.
 
 use std::fmt::Display;
 use std::io::{IsTerminal, Write};
 use std::time::{Duration, Instant};
 
-/// How long a line stands at least before the next one takes its place, in milliseconds.
+/// The least time between two writes of the line, in milliseconds.
 const PAUSE: u64 = 100;
 
-/// What takes the line away in which the cursor of a terminal stands.
+/// Clears the line of the cursor.
 const WIPE: &[u8] = b"\r\x1b[K";
 
-/// A line on the error stream of the process, where that is a terminal: nothing is written elsewhere. It is taken away when this
-/// is let go.
+/// A line on the error stream of the process, if that is a terminal; else nothing is written. It is
+/// cleared when this is dropped.
 pub(crate) struct Line {
     rt: HostRuntime,
-    /// When what it tells of began; `None` where nothing is told.
+    /// When the work began; `None` if there is none.
     begun: Option<Instant>,
-    /// When it was written last; `None` where it doesn't stand.
+    /// When it was written last; `None` if it is not shown.
     written: Option<Instant>,
 }
 
 impl Line {
-    /// It tells of nothing yet.
+    /// Returns a line that is not shown.
     pub(crate) fn new(rt: &HostRuntime) -> Line {
         Line {
             rt: *rt,
@@ -30,7 +30,7 @@ impl Line {
         }
     }
 
-    /// What it tells of begins now. Nothing will be told where the error stream is no terminal, or there is no clock.
+    /// Begins the work. Nothing is shown if the error stream is no terminal, or there is no clock.
     pub(crate) fn begin(&mut self) {
         self.end();
         if self.rt.stderr().is_terminal() {
@@ -38,8 +38,8 @@ impl Line {
         }
     }
 
-    /// How long ago what it tells of began, where that is no less than `patience` milliseconds, and the last line stands long
-    /// enough. A line is to be written then.
+    /// Returns the time since the work began, if it is at least `patience` milliseconds and the
+    /// line is to be written again.
     pub(crate) fn due(&mut self, patience: u64) -> Option<Duration> {
         let begun = self.begun?;
         let now = Instant::now(&self.rt).ok()?;
@@ -55,7 +55,7 @@ impl Line {
         Some(since)
     }
 
-    /// Writes it anew. Whether it comes through changes nothing.
+    /// Writes the line. A failed write is ignored.
     pub(crate) fn write<D: Display>(&self, text: &D) {
         let mut errors = self.rt.stderr();
         let _ = errors.write_all(WIPE);
@@ -63,7 +63,7 @@ impl Line {
         let _ = errors.flush();
     }
 
-    /// What it tells of has ended: takes it away.
+    /// Ends the work, and clears the line.
     pub(crate) fn end(&mut self) {
         self.begun = None;
         if self.written.is_some() {
@@ -84,7 +84,7 @@ impl Drop for Line {
     }
 }
 
-/// Takes away the line in which the cursor of the terminal stands.
+/// Clears the line of the cursor of the terminal.
 fn wipe(rt: &HostRuntime) {
     let mut errors = rt.stderr();
     let _ = errors.write_all(WIPE);

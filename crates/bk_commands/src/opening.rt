@@ -1,34 +1,37 @@
-//! A disk over a folder that tells on a terminal how far the opening of a store on it is.
+//! A disk between a store and a directory that shows on a terminal how far the opening of the store
+//! is.
 //!
-//! A store that is opened lists the logs of its disk, and then goes from log to log: it syncs the log, takes a view, and reads that
-//! to its end. So a disk in between sees where a log is done. What of a log is read it does not see.
+//! An opening lists the logs, and then syncs, views and reads one after another. So the disk sees
+//! when a log is done, and not how much of it is read.
 
 ghost use Rattle.std.specs.Prelude.{false};
 ghost use Rattle.std.specs.FinMap as map;
 ghost use Rattle.bk_commands.specs.Failures.{failures_of};
 
+use crate::failed_calls::FailedCalls;
 use crate::folder_disk::FolderDisk;
 use crate::line::Line;
-use bk_disk::{DirView, DiskFault, LogDisk, LogView};
+use crate::opening_view::OpeningView;
+use bk_disk::{DiskFault, LogDisk, LogView};
 use bk_drive::{Answer, OpenFault, Settings, Step, drive};
 use bk_script::ScriptDisk;
-use std::alloc::Global;
+use std::alloc::{AllocError, Global};
 use std::fmt;
 use std::fmt::{Display, Formatter};
 
-/// How long an opening takes before it is told how far it is, in milliseconds.
+/// How long an opening takes before its progress is shown, in milliseconds.
 const PATIENCE: u64 = 1000;
 
-/// How far an opening is. Its text is the line that tells so.
+/// The progress of an opening. Its text is the line on the terminal.
 #[derive(Clone, Copy, Debug)]
 pub struct Opened {
-    /// How many logs there are.
+    /// The number of logs.
     pub logs: u64,
-    /// How many of them were read to their ends.
+    /// The number of logs read to their ends.
     pub read: u64,
     /// The bytes of these.
     pub bytes: u64,
-    /// How many whole seconds it took so far.
+    /// The seconds so far.
     pub seconds: u64,
 }
 
@@ -47,21 +50,39 @@ impl Display for Opened {
     }
 }
 
-/// The disk of a folder that tells how far an opening of it is, in a line on the error stream of the process, where that is a
-/// terminal and the opening takes longer than a second. It is told between two logs, so never of a folder with one log. The line
-/// is taken away before anything is written to a log, made or removed, or when the disk is let go; a sync leaves it, since an
-/// opening syncs each log. In all else this is the disk of the folder.
+/// The disk of a directory that shows the progress of an opening, in a line on the error stream of
+/// the process, if that is a terminal and the opening takes longer than a second. The line is
+/// written between two logs, and cleared before a log is written, created or removed, or when the
+/// disk is dropped. A sync leaves it, since an opening syncs each log.
+///
+/// It keeps the calls of the system that fail (`FailedCalls`).
 #[derive(Drop)]
 pub struct OpeningDisk {
     disk: FolderDisk,
+    failed: FailedCalls,
     opening: Opening,
+    /// The logs whose file stays when the log is removed.
+    kept: Vec<u32>,
 }
 
 impl OpeningDisk {
-    /// Over the disk of a folder.
-    pub(crate) fn new(rt: &HostRuntime, disk: FolderDisk) -> OpeningDisk {
+    /// Returns the disk over the disk of a directory, on which these calls failed.
+    pub(crate) fn new(rt: &HostRuntime, disk: FolderDisk, failed: FailedCalls) -> OpeningDisk {
+        OpeningDisk::keeping(rt, disk, failed, Vec::new(rt.alloc()))
+    }
+
+    /// Returns the same disk, except that the files of some logs stay when these are removed. The
+    /// store takes such a log as removed; the next opening lists it again.
+    pub(crate) fn keeping(
+        rt: &HostRuntime,
+        disk: FolderDisk,
+        failed: FailedCalls,
+        kept: Vec<u32>,
+    ) -> OpeningDisk {
         OpeningDisk {
             disk,
+            failed,
+            kept,
             opening: Opening {
                 line: Line::new(rt),
                 logs: 0,
@@ -71,24 +92,30 @@ impl OpeningDisk {
             },
         }
     }
+
+    /// Returns the calls of the system that fail, which can be reported after the disk was moved or
+    /// dropped. Fails if memory is refused.
+    pub fn failed_calls(&self) -> Result<FailedCalls, AllocError> {
+        self.failed.share()
+    }
 }
 
-/// An opening, and the line that tells of it.
+/// An opening, and its line.
 #[derive(Drop)]
 struct Opening {
     line: Line,
-    /// How many logs were listed.
+    /// The number of logs listed.
     logs: u64,
-    /// Of how many a view was taken: all but the last one of these were read.
+    /// The number of logs viewed: all but the last one were read.
     viewed: u64,
     /// The bytes of those that were read.
     bytes: u64,
-    /// Those of the last one.
+    /// The bytes of the last one.
     last: u64,
 }
 
 impl Opening {
-    /// It begins, with so many logs.
+    /// Begins an opening of this number of logs.
     fn begin(&mut self, logs: usize) {
         self.logs = logs as u64;
         self.viewed = 0;
@@ -97,7 +124,7 @@ impl Opening {
         self.line.begin();
     }
 
-    /// A log of so many bytes comes next: those before it were read.
+    /// Goes on to a log of this length: those before it were read.
     fn go_on(&mut self, bytes: u64) {
         self.bytes = self.bytes.saturating_add(self.last);
         self.last = bytes;
@@ -112,14 +139,14 @@ impl Opening {
         self.viewed = self.viewed.saturating_add(1);
     }
 
-    /// It has ended.
+    /// Ends the opening.
     fn end(&mut self) {
         self.line.end();
     }
 }
 
 impl LogDisk for OpeningDisk {
-    type View = DirView;
+    type View = OpeningView;
 
     ghost files = { λ _. map.empty };
 
@@ -135,6 +162,7 @@ impl LogDisk for OpeningDisk {
 
     fn list(&mut self, alloc: Global) -> Result<Vec<u32>, DiskFault> {
         let answer = self.disk.list(alloc);
+        self.failed.see(&answer);
         if let Ok(ids) = &answer {
             self.opening.begin(ids.len());
         }
@@ -142,43 +170,67 @@ impl LogDisk for OpeningDisk {
     }
 
     fn length(&mut self, alloc: Global, log: u32) -> Result<u64, DiskFault> {
-        self.disk.length(alloc, log)
+        let answer = self.disk.length(alloc, log);
+        self.failed.see(&answer);
+        answer
     }
 
     fn create(&mut self, alloc: Global, log: u32) -> Result<(), DiskFault> {
         self.opening.end();
-        self.disk.create(alloc, log)
+        let answer = self.disk.create(alloc, log);
+        self.failed.see(&answer);
+        answer
     }
 
     fn append(&mut self, alloc: Global, log: u32, bytes: &[u8]) -> Result<(), DiskFault> {
         self.opening.end();
-        self.disk.append(alloc, log, bytes)
+        let answer = self.disk.append(alloc, log, bytes);
+        self.failed.see(&answer);
+        answer
     }
 
     fn patch(&mut self, alloc: Global, log: u32, bytes: &[u8; 12]) -> Result<(), DiskFault> {
         self.opening.end();
-        self.disk.patch(alloc, log, bytes)
+        let answer = self.disk.patch(alloc, log, bytes);
+        self.failed.see(&answer);
+        answer
     }
 
     fn sync(&mut self, alloc: Global, log: u32) -> Result<(), DiskFault> {
-        self.disk.sync(alloc, log)
+        let answer = self.disk.sync(alloc, log);
+        self.failed.see(&answer);
+        answer
     }
 
     fn read_at(&mut self, alloc: Global, log: u32, at: u64, n: u64) -> Result<Vec<u8>, DiskFault> {
-        self.disk.read_at(alloc, log, at, n)
+        let answer = self.disk.read_at(alloc, log, at, n);
+        self.failed.see(&answer);
+        answer
     }
 
-    fn view(&mut self, alloc: Global, log: u32) -> Result<DirView, DiskFault> {
+    fn view(&mut self, alloc: Global, log: u32) -> Result<OpeningView, DiskFault> {
+        let Ok(failed) = self.failed.share() else {
+            return Err(DiskFault::Memory);
+        };
         let answer = self.disk.view(alloc, log);
-        if let Ok(view) = &answer {
-            self.opening.go_on(view.end());
+        failed.see(&answer);
+        match answer {
+            Ok(view) => {
+                self.opening.go_on(view.end());
+                Ok(OpeningView { view, failed })
+            }
+            Err(fault) => Err(fault),
         }
-        answer
     }
 
     fn remove(&mut self, alloc: Global, log: u32) -> Result<(), DiskFault> {
         self.opening.end();
-        self.disk.remove(alloc, log)
+        if self.kept.contains(&log) {
+            return Ok(());
+        }
+        let answer = self.disk.remove(alloc, log);
+        self.failed.see(&answer);
+        answer
     }
 }
 

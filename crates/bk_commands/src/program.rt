@@ -1,4 +1,4 @@
-//! What the program does with the words that it is called with, on any streams.
+//! Does what the words of a command line ask for, on any streams.
 
 ghost use Rattle.std.specs.Prelude.{◌≡◌, ◌≤◌, ℕ, List, None, Option, Some, map};
 ghost use Rattle.bk_store.specs.declared.settings.Settings.{Settings};
@@ -8,13 +8,12 @@ ghost use Rattle.bk_commands.specs.Folder.{RunsOverFolder};
 ghost use Rattle.clap.specs.Values.{kind_of};
 ghost use Rattle.clap.specs.Walk.{Text};
 
-use crate::compact::run_compact;
+use crate::commands::run_call;
 use crate::script::{run_in_memory, run_over_folder};
 use bk_cli::{
-    ABOUT, COMMANDS, FolderAsk, FolderCall, PROGRAM_HELP, VERSION, folder_call, is_folder_call,
+    ABOUT, Commands, PROGRAM_HELP, VERSION, folder_call, is_folder_call, near_command_error,
     script_call, text_of,
 };
-use bk_dir::{FolderCommand, run_cut_and_seal_folder, run_folder_as, run_seal_folder};
 use clap::Error;
 use clap::error::ErrorKind;
 use std::alloc::{AllocGlobal, Global};
@@ -24,23 +23,22 @@ use std::io::{Read, Write};
 use std::{env, io};
 use thiserror::Error;
 
-/// Why the program does nothing that its command line asks for. Its text is what the program tells of it, without the end of
-/// the line.
+/// Why nothing is done. Its text is what the program reports.
 #[derive(Clone, Copy, Debug, PartialEq, Eq, Error)]
 pub enum StartFault {
-    /// A word of the command line isn't UTF-8, so that it is no command line of the program.
+    /// A word of the command line is not UTF-8.
     #[error("error: a word of the command line is not UTF-8\n\nFor more information, try '--help'.")]
     NotText,
-    /// No memory was to be had.
+    /// Out of memory.
     #[error("fault memory")]
     Memory,
-    /// Help that was asked for could not be written.
+    /// Help that was asked for cannot be written.
     #[error("fault output")]
     Output,
 }
 
 impl StartFault {
-    /// The program's status: 2 for a wrong command line, else 1.
+    /// Returns the program's status: 2 for a wrong command line, else 1.
     pub fn status(self) -> u8 {
         match self {
             StartFault::NotText => 2,
@@ -49,8 +47,11 @@ impl StartFault {
     }
 }
 
-/// The words of the process's command line, in their order, the first being the program's name. `NotText` where one of them isn't
-/// UTF-8; `Memory`.
+/// Returns the words of the process's command line, the program's name first.
+///
+/// # Errors
+///
+/// `NotText` if a word is not UTF-8; `Memory`.
 pub fn words_of<R: Env + AllocGlobal>(rt: &R) -> Result<Vec<String>, StartFault> {
     let args = match env::args(rt) {
         Ok(args) => args,
@@ -62,19 +63,34 @@ pub fn words_of<R: Env + AllocGlobal>(rt: &R) -> Result<Vec<String>, StartFault>
     args.collect(rt.alloc()).map_err(|_| StartFault::Memory)
 }
 
-/// Tells a fault on the error stream, in a line. Nothing is said of whether it comes through: the program's status,
-/// `StartFault::status`, is the same.
+/// Reports a fault on the error stream. A failed write is ignored.
 pub fn tell_fault<E: Write>(fault: StartFault, errors: &mut E) {
     let _ = writeln!(errors, "{fault}");
 }
 
-/// Does what the words ask for, the first being the program's name: runs the script that the reader gives with the settings of
-/// its options and the dead ledgers beside them, in memory or over a folder, or a command on a folder, or writes the help that
-/// was asked for. `load` is no command here. The reader is read for a script alone. Returns the program's status: 0, 1 as
-/// `run_in_memory`, `run_over_folder`, `bk_dir::run_folder_as`, `bk_dir::run_seal_folder`, `bk_dir::run_cut_and_seal_folder` and
-/// `run_compact` say, or where no memory is to be had or the help can't be written, and 2 where the words are a wrong command
-/// line. The error stream gets the reason, `writer` nothing but answers and help, which it has been told to hand on (`flush`)
-/// where the status is 0.
+/// Reports on the error stream that a script is read from the terminal, if words call one and the
+/// standard input is a terminal. A failed write is ignored.
+pub fn tell_reading<S: AsStr, E: Write>(
+    alloc: Global,
+    words: &[S],
+    is_terminal: bool,
+    errors: &mut E,
+) {
+    if is_terminal && script_call(alloc, words).is_ok() {
+        let _ = writeln!(
+            errors,
+            "reading the steps from the terminal until Ctrl-D; then they are run"
+        );
+    }
+}
+
+/// Does what the words ask for, of which the first is the program's name: runs the script of the
+/// reader, in memory or on a directory, or a command on a directory, or writes help. `load` is no
+/// command here. The reader is read by a script only.
+///
+/// Returns the program's status: 0; 1 on a fault, as `run_in_memory`, `run_over_folder`, `run_call`
+/// and `tell` say; 2 if the words are a wrong command line. The error stream gets the reason.
+/// `writer` gets answers and help, and is flushed if the status is 0.
 pub fn run_words<S: AsStr, R: Read, W: Write, E: Write>(
     rt: &HostRuntime,
     words: &[S],
@@ -103,8 +119,8 @@ pub fn run_words<S: AsStr, R: Read, W: Write, E: Write>(
     }
 }
 
-/// Does what words ask for that call no script, as the error says: a command on a folder, or help; or tells what is wrong
-/// with them. Returns the status.
+/// Does what words ask for that call no script, as the error says: a command on a directory, or
+/// help; or reports why they are wrong. Returns the status.
 fn run_other<S: AsStr, W: Write, E: Write>(
     rt: &HostRuntime,
     words: &[S],
@@ -129,41 +145,16 @@ fn run_other<S: AsStr, W: Write, E: Write>(
     }
 }
 
-/// Runs a command on a folder.
-fn run_call<W: Write, E: Write>(
-    rt: &HostRuntime,
-    call: &FolderCall<'_>,
-    writer: &mut W,
-    errors: &mut E,
-) -> u8 {
-    let (form, path) = (call.form, call.path);
-    match &call.ask {
-        FolderAsk::Dir(command) => {
-            let command = FolderCommand::Dir(*command);
-            run_folder_as(rt, form, path, &command, writer, errors)
-        }
-        FolderAsk::Stat(dead) => {
-            let command = FolderCommand::Stat(dead);
-            run_folder_as(rt, form, path, &command, writer, errors)
-        }
-        FolderAsk::Seal(log) => run_seal_folder(rt, form, path, *log, writer, errors),
-        FolderAsk::CutAndSeal(log) => {
-            run_cut_and_seal_folder(rt, form, path, *log, writer, errors)
-        }
-        FolderAsk::Compact(ask) => run_compact(rt, form, path, ask, writer, errors),
-    }
-}
-
 /// What is asked of the program itself.
 #[derive(Clone, Copy)]
 enum About {
-    /// What it is for, and its commands.
+    /// The help with the list of commands.
     Help,
-    /// Its version.
+    /// The version.
     Version,
 }
 
-/// What words ask of the program itself.
+/// Returns what words ask of the program itself.
 fn about_program<S: AsStr>(words: &[S]) -> Option<About> {
     match words {
         [_, word] => match word.as_str() {
@@ -175,7 +166,7 @@ fn about_program<S: AsStr>(words: &[S]) -> Option<About> {
     }
 }
 
-/// Shows what was asked of the program itself. Returns the status.
+/// Writes what was asked of the program itself. Returns the status.
 fn show<W: Write, E: Write>(about: About, writer: &mut W, errors: &mut E) -> u8 {
     let written = match about {
         About::Help => write_program_help(writer),
@@ -187,15 +178,15 @@ fn show<W: Write, E: Write>(about: About, writer: &mut W, errors: &mut E) -> u8 
     }
 }
 
-/// Writes what the program is for, and its commands.
+/// Writes the help with the list of commands.
 fn write_program_help<W: Write>(writer: &mut W) -> io::Result<()> {
     writer.write_all(ABOUT.as_bytes())?;
-    writer.write_all(COMMANDS.as_bytes())?;
+    write!(writer, "{Commands}")?;
     write_help(PROGRAM_HELP, writer)
 }
 
-/// Tells what is wrong with words that call no command on a folder, and where they call no command at all, which there
-/// are. Returns the status.
+/// Reports why words are wrong that call no command on a directory. If they call none at all, the
+/// command that was meant is named, or else all commands are listed. Returns the status.
 fn tell_wrong<S: AsStr, W: Write, E: Write>(
     alloc: Global,
     words: &[S],
@@ -203,16 +194,34 @@ fn tell_wrong<S: AsStr, W: Write, E: Write>(
     writer: &mut W,
     errors: &mut E,
 ) -> u8 {
+    if matches!(words, [_, first, ..] if first.as_str() == "script") {
+        return tell(alloc, error, writer, errors);
+    }
+    match near_command_error(alloc, words) {
+        Ok(Some(near)) => tell(alloc, &near, writer, errors),
+        Ok(None) => tell_unknown(alloc, error, writer, errors),
+        Err(_) => {
+            tell_fault(StartFault::Memory, errors);
+            1
+        }
+    }
+}
+
+/// Reports why words are wrong that call no command, and lists the commands. Returns the status.
+fn tell_unknown<W: Write, E: Write>(
+    alloc: Global,
+    error: &Error,
+    writer: &mut W,
+    errors: &mut E,
+) -> u8 {
     let status = tell(alloc, error, writer, errors);
-    let calls_script = matches!(words, [_, first, ..] if first.as_str() == "script");
-    if status == 2 && !calls_script {
-        let _ = errors.write_all(b"\n");
-        let _ = errors.write_all(COMMANDS.as_bytes());
+    if status == 2 {
+        let _ = write!(errors, "\n{Commands}");
     }
     status
 }
 
-/// Tells that help could not be written; nothing where nobody reads it any more. Returns the status.
+/// Reports that help cannot be written; nothing if nobody reads it any more. Returns the status.
 fn tell_unwritten<E: Write>(error: &io::Error, errors: &mut E) -> u8
     ensures { result ≡ 1 }
 {
@@ -222,10 +231,10 @@ fn tell_unwritten<E: Write>(error: &io::Error, errors: &mut E) -> u8
     1
 }
 
-/// Does what an error of a parse of words asks for: writes help, where that is what was asked for, or tells on the error stream
-/// what is wrong with the words. Returns the program's status: 0 where the help was written; 2 where the words are wrong; 1 where
-/// no memory is to be had, which is told as `StartFault::Memory`, or where the help can't be written, as `StartFault::Output`, but
-/// where nobody reads it any more.
+/// Writes the help that an error of a parse asks for, or reports why the words are wrong. Returns
+/// the program's status: 0 if the help was written; 2 if the words are wrong; 1 if memory is
+/// refused (`StartFault::Memory`) or the help cannot be written (`StartFault::Output`, without a
+/// report if nobody reads it any more).
 pub fn tell<W: Write, E: Write>(alloc: Global, error: &Error, writer: &mut W, errors: &mut E) -> u8
     ensures { kind_of error.now ≡ ErrorKind.OutOfMemory → result ≡ 1 }
 {
@@ -247,7 +256,7 @@ pub fn tell<W: Write, E: Write>(alloc: Global, error: &Error, writer: &mut W, er
     }
 }
 
-/// Writes help, and everything that the writer has kept back.
+/// Writes help and flushes.
 fn write_help<W: Write>(text: &str, writer: &mut W) -> io::Result<()> {
     writer.write_all(text.as_bytes())?;
     writer.flush()

@@ -1,18 +1,18 @@
-//! How far a compaction is, told on a terminal.
+//! The progress of a compaction, on a terminal.
 
 use crate::line::Line;
-use bk_sweep::{Swept, Watch};
+use bk_offline_gc::{Swept, Watch};
 use std::fmt;
 use std::fmt::{Display, Formatter};
 
-/// Where it is told how far a compaction is: in a line on the terminal.
+/// The line of a compaction on the terminal.
 #[derive(Drop)]
 pub(crate) struct Progress {
     line: Line,
 }
 
 impl Progress {
-    /// The compaction begins now.
+    /// Begins the compaction.
     pub(crate) fn new(rt: &HostRuntime) -> Progress {
         let mut line = Line::new(rt);
         line.begin();
@@ -31,7 +31,7 @@ impl Watch for Progress {
     }
 }
 
-/// How far a compaction is after so many whole seconds.
+/// The progress of a compaction after this time.
 #[derive(Clone, Copy)]
 struct Far {
     swept: Swept,

@@ -1,24 +1,25 @@
-//! Scripts in memory, and over a folder, which is made where it is not there.
+//! The command `script`: in memory, and on a directory, which is created if it does not exist.
 
 ghost use Rattle.std.specs.Prelude.{◌≡◌, ◌≤◌};
 ghost use Rattle.bk_script.specs.Run.{RunsScript};
 ghost use Rattle.bk_commands.specs.Folder.{RunsOverFolder};
 
+use crate::failed_calls::FailedCalls;
 use crate::folder_disk::FolderDisk;
 use crate::opening::OpeningDisk;
 use crate::way_on::WayOn;
 use bk_cli::ScriptCall;
-use bk_dir::unlisted;
-use bk_disk::{DirDisk, DiskFault, FolderFault, MemDisk};
+use bk_disk::{DirDisk, DiskFault, FileFault, FolderFault, MemDisk};
+use bk_inspect::{Form, unlisted};
 use bk_script::{RunFault, ScriptFault, run_on};
-use std::alloc::Global;
+use std::alloc::{AllocError, Global};
 use std::fs::{self, File};
 use std::io::{self, ErrorKind, Read, Write};
 use std::path::Path;
 use thiserror::Error;
 
-/// Runs the script that a reader gives on a new disk in memory. Returns the status: 0, or 1 with a line on the error stream that
-/// tells why (`RunFault`); without it where nobody reads the answers any more.
+/// Runs the script of a reader on a new disk in memory. Returns the status: 0, or 1 with the reason
+/// on the error stream (`RunFault`); without it if nobody reads the answers any more.
 pub(crate) fn run_in_memory<R: Read, W: Write, E: Write>(
     alloc: Global,
     call: &ScriptCall<'_>,
@@ -40,10 +41,11 @@ pub(crate) fn run_in_memory<R: Read, W: Write, E: Write>(
     }
 }
 
-/// Runs the script that a reader gives over the folder at a path, of which it is the one writer until it ends. Returns the
-/// status, as `run_in_memory` does; 1 too where the folder can't be written, with a line `fault TEXT` on the error stream that
-/// tells which file or folder is to blame, and who writes there if somebody else does. Where no store is opened on the folder and
-/// there is a way on, another line tells it (`WayOn`).
+/// Runs the script of a reader on the directory at a path, as its one writer. Returns the status,
+/// as `run_in_memory` does; also 1 if the directory cannot be written, with `fault TEXT` on the
+/// error stream, which names the file, or the process that writes there. If no store is opened and
+/// there is a way on, another line names it (`WayOn`). Each call of the system that failed has a
+/// line on the error stream (`FailedCalls`), also if the status is 0.
 pub(crate) fn run_over_folder<R: Read, W: Write, E: Write>(
     rt: &HostRuntime,
     path: &str,
@@ -65,7 +67,7 @@ pub(crate) fn run_over_folder<R: Read, W: Write, E: Write>(
     }
 }
 
-/// Runs the script over a folder that is there.
+/// Runs the script on a directory that is open.
 fn run_on_folder<R: Read, W: Write, E: Write>(
     alloc: Global,
     disk: OpeningDisk,
@@ -78,17 +80,25 @@ fn run_on_folder<R: Read, W: Write, E: Write>(
     ensures done { result ≡ 0 → RunsOverFolder call.now.settings call.now.dead.items (R.remaining reader.old) (R.remaining reader.new)
         (W.contents writer.old) (W.contents writer.new) }
 {
+    let Ok(failed) = disk.failed_calls() else {
+        tell(&RunFault::Script(ScriptFault::Memory), errors);
+        return 1;
+    };
     match run_on(alloc, disk, call.settings, &call.dead, reader, writer) {
-        Ok(()) => 0,
+        Ok(()) => {
+            failed.tell(Form::Text, errors);
+            0
+        }
         Err(fault) => {
             tell(&fault, errors);
+            failed.tell(Form::Text, errors);
             1
         }
     }
 }
 
-/// Tells why a run of a script shows nothing, or not all, and the way on where there is one; nothing where nobody reads the
-/// answers any more. Whether this comes through changes nothing.
+/// Reports why a script was not run, or its answers not written, and the way on if there is one;
+/// nothing if nobody reads the answers any more. A failed write is ignored.
 fn tell<E: Write>(fault: &RunFault, errors: &mut E) {
     match fault {
         RunFault::Output(error) if error.kind() == ErrorKind::BrokenPipe => {}
@@ -103,13 +113,17 @@ fn tell<E: Write>(fault: &RunFault, errors: &mut E) {
     }
 }
 
-/// Why there is no disk of a folder to be written. Its text is what the program tells of it.
+/// Why there is no disk of a directory to be written. Its text is what the program reports.
 #[derive(Debug, Error, Drop)]
 pub enum OpeningFault {
-    /// The folder is not opened.
+    /// The directory is not opened.
     #[error("{0}")]
     Folder(FolderFault),
-    /// A log can't be cut to its mark, or not be asked for it: `Disk`, `Memory`, or `NoLog` where it went meanwhile.
+    /// A log cannot be cut to its watermark, or not be asked for it, since this call of the system
+    /// failed.
+    #[error("disk: {0}")]
+    Call(FileFault),
+    /// The same without such a call: `Memory`, or `NoLog` if a log is removed meanwhile.
     #[error("{0}")]
     Marks(DiskFault),
 }
@@ -126,27 +140,50 @@ impl From<DiskFault> for OpeningFault {
     }
 }
 
-/// The disk of the folder at a path, to be written, of which it is the one writer until it is dropped. Where nothing is there, the
-/// folder is made, if its parent is there. Its logs get marks where `marks` says so, or one has a mark already. It tells how far an
-/// opening of a store on it is (`OpeningDisk`). `Folder` where the system refuses the folder, or can't list it, with the path and
-/// the system's reason, where another disk writes there, of this process or of another one, or where no memory is to be had;
-/// `Marks` where a log's mark is not to be had.
+impl From<AllocError> for OpeningFault {
+    fn from(_: AllocError) -> OpeningFault {
+        OpeningFault::Folder(FolderFault::Memory)
+    }
+}
+
+/// Returns the disk of the directory at a path, to be written, as its one writer until it is
+/// dropped. The directory is created if nothing is there and its parent exists. Its logs get
+/// watermarks if `marks` says so, or if one has a watermark. The disk shows the progress of an
+/// opening (`OpeningDisk`).
+///
+/// # Errors
+///
+/// - `Folder`: the system refuses the directory, or cannot list it, with the path and the reason;
+///   another disk writes there; or memory is refused.
+/// - `Call`, `Marks`: the watermark of a log cannot be read, or a log not be cut to it.
 pub fn open_or_make(
     rt: &HostRuntime,
     path: &str,
     marks: bool,
 ) -> Result<OpeningDisk, OpeningFault> {
-    let disk = FolderDisk::open(rt.alloc(), dir_disk(rt, path)?, marks)?;
-    Ok(OpeningDisk::new(rt, disk))
+    let disk = dir_disk(rt, path)?;
+    let watch = disk.fault_watch(rt.alloc())?;
+    let failed = FailedCalls::on(rt.alloc(), &disk)?;
+    match FolderDisk::open(rt.alloc(), disk, marks) {
+        Ok(disk) => Ok(OpeningDisk::new(rt, disk, failed)),
+        Err(DiskFault::Disk) => match watch.last(rt.alloc())? {
+            Some(call) => Err(OpeningFault::Call(call)),
+            None => Err(OpeningFault::Marks(DiskFault::Disk)),
+        },
+        Err(fault) => Err(OpeningFault::Marks(fault)),
+    }
 }
 
-/// The same, without a word of how far an opening is.
+/// The same, without the progress of an opening.
 fn dir_disk(rt: &HostRuntime, path: &str) -> Result<DirDisk, FolderFault> {
     let fault = match DirDisk::open_to_write(rt, path) {
         Ok(disk) => {
-            return match unlisted(rt, path) {
-                Some(fault) => Err(fault),
-                None => Ok(disk),
+            if let Some(fault) = unlisted(rt, path) {
+                return Err(fault);
+            }
+            return match sync_name(rt, path) {
+                Ok(()) => Ok(disk),
+                Err(reason) => Err(refused(rt, path, reason)),
             };
         }
         Err(fault) => fault,
@@ -156,14 +193,19 @@ fn dir_disk(rt: &HostRuntime, path: &str) -> Result<DirDisk, FolderFault> {
     }
     match make_folder(rt, path) {
         Ok(()) => DirDisk::open_to_write(rt, path),
-        Err(reason) => match String::from_str(rt.alloc(), path) {
-            Ok(path) => Err(FolderFault::Refused { path, reason }),
-            Err(_) => Err(FolderFault::Memory),
-        },
+        Err(reason) => Err(refused(rt, path, reason)),
     }
 }
 
-/// Whether nothing is there.
+/// Returns the fault of a directory that the system refuses for this reason.
+fn refused(rt: &HostRuntime, path: &str, reason: io::Error) -> FolderFault {
+    match String::from_str(rt.alloc(), path) {
+        Ok(path) => FolderFault::Refused { path, reason },
+        Err(_) => FolderFault::Memory,
+    }
+}
+
+/// Returns whether nothing is there.
 fn is_missing(fault: &FolderFault) -> bool {
     match fault {
         FolderFault::Refused { reason, .. } => reason.kind() == ErrorKind::NotFound,
@@ -171,11 +213,26 @@ fn is_missing(fault: &FolderFault) -> bool {
     }
 }
 
-/// Makes a folder, and syncs the one that it is in, so that its name stays.
+/// Creates a directory, and syncs its parent, so that its name is durable.
 fn make_folder(rt: &HostRuntime, path: &str) -> io::Result<()> {
     fs::create_dir(rt, path)?;
+    File::open(rt, parent_of(path))?.sync_all()
+}
+
+/// Syncs the parent of a directory, since a call that created the directory may have ended before it
+/// did. Does nothing if the parent may not be read: such a call had to read it.
+fn sync_name(rt: &HostRuntime, path: &str) -> io::Result<()> {
+    match File::open(rt, parent_of(path)) {
+        Ok(parent) => parent.sync_all(),
+        Err(reason) if reason.kind() == ErrorKind::PermissionDenied => Ok(()),
+        Err(reason) => Err(reason),
+    }
+}
+
+/// Returns the path of the parent of a directory.
+fn parent_of(path: &str) -> &str {
     match Path::new(path).parent() {
-        Some(parent) if !parent.as_str().is_empty() => File::open(rt, parent)?.sync_all(),
-        _ => File::open(rt, ".")?.sync_all(),
+        Some(parent) if !parent.as_str().is_empty() => parent.as_str(),
+        _ => ".",
     }
 }

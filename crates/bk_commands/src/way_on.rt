@@ -1,20 +1,22 @@
-//! What an operator may do where no store is opened on a folder.
+//! What an operator may do if a command refuses a directory.
 
 use bk_drive::{LogCause, OpenFault};
 use std::fmt;
 use std::fmt::{Display, Formatter};
 
-/// The way on behind a refused opening. Its text is a sentence that names the commands.
+/// The way on after a refusal. Its text is a sentence that names the commands.
 #[derive(Clone, Copy, Debug, PartialEq, Eq)]
 pub(crate) enum WayOn {
-    /// Behind the whole records of a log stands what is no record, as zeros after a crash.
+    /// What follows the whole records of a log is no record, such as zeros after a crash.
     Cut,
-    /// The header of a log is none, as that of a new log may be after a crash.
+    /// The header of a log is invalid, as that of a new log may be after a crash.
     MoveAway,
+    /// A bookie's index would point into logs that are removed.
+    RebuildIndex,
 }
 
 impl WayOn {
-    /// Behind this refusal; `None` where a log is not to blame, or is too long.
+    /// Returns the way on after a refused opening; `None` if no log is to blame, or one is too long.
     pub(crate) fn behind(fault: &OpenFault) -> Option<WayOn> {
         match fault {
             OpenFault::Log {
@@ -43,6 +45,9 @@ impl Display for WayOn {
             ),
             WayOn::MoveAway => f.write_str(
                 "where 'bk_shell scan' shows no entry in the log, a crash may have left it so, and its file can be moved away",
+            ),
+            WayOn::RebuildIndex => f.write_str(
+                "a bookie's index points into logs that a compaction removes: stop the bookie, compact with --index-is-rebuilt, then rebuild its index with 'bookkeeper shell rebuild-db-ledger-locations-index' before it starts",
             ),
         }
     }

@@ -1,4 +1,4 @@
-//! The tests of `bk_commands`, in a crate of their own: a crate with tests is proved twice.
+//! Tests of `bk_commands`.
 #![tactic(auto)]
 
 #[cfg(test)]

@@ -1,4 +1,4 @@
--- A job that begins keeps what a job keeps.
+-- The begin of a job establishes the job invariant.
 use Rattle.std.proofs.Common.{◌≡◌, inl, inr, ℕ, ◌<◌, ◌≤◌, IsTrue}
 use Rattle.std.proofs.Common.{Some, refl, sym, ap, subst, ◌∙◌, arith}
 use Rattle.std.specs.Option.{option_and_then}
@@ -8,11 +8,11 @@ use Rattle.bk_record.specs.Files.{header_length}
 use Rattle.bk_record.proofs.KeyedCounts.{log_count-none}
 use Rattle.bk_log.specs.Writing as writers
 use Rattle.bk_store.specs.Jobs.{new_job}
-use Rattle.bk_store.specs.JobKept.{IsJob}
+use Rattle.bk_store.specs.JobInvariant.{JobInvariant}
 use Rattle.bk_store.specs.Logs.{Log, Logs, HasOpenView, is_open, made_log, open_parts}
 use Rattle.bk_store.specs.State.{State}
-use Rattle.bk_store.specs.Doors.{IsMade}
-use Rattle.bk_store.specs.Plain.{IsKept}
+use Rattle.bk_store.specs.Primitives.{IsMade}
+use Rattle.bk_store.specs.Abstract.{SatisfiesInvariant}
 use Rattle.bk_store.specs.declared.log.LogState.TheVariants.{Copying}
 use Rattle.bk_store.proofs.Cases.{some_or_none}
 use Rattle.bk_store.proofs.LogMaps.{log-inserted, log-insert_else}
@@ -20,8 +20,8 @@ use Rattle.bk_compact.specs.Compacting.{IsCandidate}
 use Rattle.bk_compact.proofs.Positions.{read_start, record_behind}
 use Rattle.bk_compact.proofs.Stored.{kept_sent, kept_held, kept_shows}
 
--- a log that keys are sent to has a view
-candidate_shown : (s : State) → IsKept s → (source : ℕ) → IsCandidate s source → HasOpenView s.logs source
+-- a log that the index points into has a view
+candidate_shown : (s : State) → SatisfiesInvariant s → (source : ℕ) → IsCandidate s source → HasOpenView s.logs source
 candidate_shown s kept source is = elim (some_or_none is.state.log.view) [
   | inr view ↦ record { log = is.state.log; view = view.0; held = is.state.held; opened = ap is_open is.state.state_is; view_is = view.1 }
   | inl none ↦ absurd (
@@ -34,7 +34,7 @@ candidate_shown s kept source is = elim (some_or_none is.state.log.view) [
       omega (arith, unnamed, named))
 ]
 
-module _ (s t : State) (kept : IsKept s) (source : ℕ) (is : IsCandidate s source) (made : IsMade s Copying t) where
+module _ (s t : State) (kept : SatisfiesInvariant s) (source : ℕ) (is : IsCandidate s source) (made : IsMade s Copying t) where
   logs_are : t.logs ≡ finite.insert s.logs s.next (made_log Copying s.next made.slot)
   logs_are = ap (λ (x : State). x.logs) made.left
 
@@ -48,7 +48,7 @@ module _ (s t : State) (kept : IsKept s) (source : ℕ) (is : IsCandidate s sour
   copy_is : finite.get t.logs s.next ≡ Some (made_log Copying s.next made.slot)
   copy_is = ap (λ (l : Logs). finite.get l s.next) logs_are ∙ log-inserted s.logs s.next (made_log Copying s.next made.slot) s.next refl
 
-  pub begun : IsJob t (new_job source s.next)
+  pub begun : JobInvariant t (new_job source s.next)
   begun =
       let shown = candidate_shown s kept source is in
       record {

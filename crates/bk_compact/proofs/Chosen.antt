@@ -1,4 +1,4 @@
--- The choice among the logs that were looked at, and one more.
+-- The choice among the logs considered so far, and with one more.
 use Rattle.std.proofs.Common.{◌≡◌, ◌⊎◌, inl, inr, ℕ, zero, suc, ◌+◌, ◌*◌, ◌<◌, ◌≤◌, true, false, IsTrue, List, []}
 use Rattle.std.proofs.Common.{◌∷◌, ◌++◌, Option, Some, None, IsSome, IfSome, is_some, refl, sym, ap, subst, ◌∙◌, arith}
 use Rattle.std.proofs.lemmas.Bool.{cases_lt}
@@ -14,9 +14,9 @@ use Rattle.bk_store.specs.Logs.{IsNextHeld, Log}
 use Rattle.bk_store.specs.declared.log.LogState.{LogState}
 use Rattle.bk_store.specs.declared.log.LogState.TheVariants.{Writing, Filled, Copying, Readable, Retired, Closed}
 use Rattle.bk_store.specs.State.{State}
-use Rattle.bk_store.specs.Copying.{IsLeastUsed, log_bytes, live_log_bytes}
+use Rattle.bk_store.specs.CompactionPrimitives.{IsLeastUsed, log_bytes, live_log_bytes}
 use Rattle.bk_compact.specs.Compacting.{Chooses, IsCandidate}
-use Rattle.bk_compact.specs.Going.{IsBetter, IsChoosing}
+use Rattle.bk_compact.specs.JobSteps.{IsBetter, IsChoosing}
 
 -- ---- lists of one or two
 
@@ -25,9 +25,9 @@ either best log other (zero, within, is) = inl is
 either best log other (suc zero, within, is) = inr is
 either best log other (suc (suc k), within, is) = absurd (omega arith)
 
--- ---- one log more
+-- ---- one more log
 
--- the choice among some logs, none where none is used below the threshold
+-- the choice among some logs, none if no log is below the threshold
 abbrev least_of : (ℕ → ℕ) → (ℕ → ℕ) → ℕ → List ℕ → Option ℕ → Type 0
 least_of total remaining threshold allowed None = NoneBelow total remaining threshold allowed
 least_of total remaining threshold allowed (Some id) = IsChoice total remaining threshold allowed id
@@ -36,7 +36,7 @@ module _ (total remaining : ℕ → ℕ) (threshold : ℕ) (seen : List ℕ) (lo
   abbrev least : List ℕ → Option ℕ → Type 0
   least allowed chosen = least_of total remaining threshold allowed chosen
 
-  -- the first that is used below the threshold
+  -- the first log below the threshold
   first_taken : least seen None → IsChoice total remaining threshold (log ∷ []) log → least (seen ++ log ∷ []) (Some log)
   first_taken none choice = taken_first total remaining threshold seen log none choice.below
 
@@ -47,7 +47,7 @@ module _ (total remaining : ℕ → ℕ) (threshold : ℕ) (seen : List ℕ) (lo
   ]
   first_spared none (Some id) alone not = absurd (not (ap Some (sym (only log id alone.allowed_log))))
 
-  -- one is used least so far, and its id is lower
+  -- there is a choice so far, with a lower id
   module _ (best : ℕ) (below : best < log) (choice : least seen (Some best)) where
     next_taken : IsChoice total remaining threshold (best ∷ log ∷ []) log → least (seen ++ log ∷ []) (Some log)
     next_taken now =
@@ -95,14 +95,14 @@ module _ (total remaining : ℕ → ℕ) (threshold : ℕ) (seen : List ℕ) (lo
           ]
     ]
 
--- ---- the logs that were looked at
+-- ---- the logs considered so far
 
 least_is : (s : State) (threshold : ℕ) (chosen : Option ℕ) (allowed : List ℕ) → IsLeastUsed s threshold allowed chosen
     → least_of (log_bytes s) (live_log_bytes s) threshold allowed chosen
 least_is s threshold None allowed is = is
 least_is s threshold (Some id) allowed is = is
 
--- whether a log may be compacted can be told
+-- whether a log is a candidate is decidable
 candidate_or_not : (s : State) (id : ℕ) → IsCandidate s id ⊎ (¬ (IsCandidate s id))
 candidate_or_not s id = of_log (finite.get s.logs id) refl
   where
@@ -157,14 +157,14 @@ module _ (s : State) (threshold : ℕ) where
   chosen_candidate from (Some id) so_far = so_far.candidate.0
 
   module _ (from log : ℕ) (next : IsNextHeld s.logs from (Some log)) where
-    -- a log behind those that were looked at, and no further, is the next one
+    -- a candidate below the next position was considered or is the next log
     here : (id : ℕ) → IsCandidate s id → id < log + 1 → (id < from) ⊎ (id ≡ log)
     here id is within = elim (dec_le from id) [
       | no less ↦ inl (omega (arith, less))
       | yes above ↦ let least = next.2 id (ap is_some is.state.held) above in inr (omega (arith, least, within))
     ]
 
-    -- it may not be compacted
+    -- the next log is not a candidate
     pub choosing_past : (best : Option ℕ) → IsChoosing s threshold from best → ¬ (IsCandidate s log) → IsChoosing s threshold (log + 1) best
     choosing_past best so_far not = record {
       allowed = so_far.allowed;
@@ -183,7 +183,7 @@ module _ (s : State) (threshold : ℕ) where
         still None old = tt
         still (Some id) old = (old.0, omega (arith, old.1, next.1))
 
-    -- it may
+    -- the next log is a candidate
     module _ (is : IsCandidate s log) where
       more : (best now : Option ℕ) → (so_far : IsChoosing s threshold from best)
           → (IsTrue s.honest → IsLeastUsed s threshold (so_far.allowed ++ log ∷ []) now) → IfSome now (λ id. IsCandidate s id × (id < log + 1))
@@ -225,7 +225,7 @@ module _ (s : State) (threshold : ℕ) where
           (so_far.choice honest) (better honest).0 (least_is s threshold (better honest).0 (best ∷ log ∷ []) (better honest).1) (better honest).2)
           (so_far.candidate.0, omega (arith, so_far.candidate.1, next.1))
 
-    -- it is not to be chosen, whether or not it may be compacted
+    -- the next log is not better, whether or not it is a candidate
     pub choosing_spared : (best : Option ℕ) → IsChoosing s threshold from best → (IsTrue s.honest → IsBetter s threshold best log false)
         → IsChoosing s threshold (log + 1) best
     choosing_spared best so_far better = elim (candidate_or_not s log) [

@@ -1,4 +1,4 @@
--- A job that is out of the store goes on by an entry, and keeps what a job keeps.
+-- A job that is out of the store advances by one entry, and preserves the job invariant.
 use Rattle.std.proofs.Common.{◌≡◌, ◌≢◌, ◌⊎◌, inl, inr, ℕ, ◌+◌, ◌<◌, ◌≤◌, true, false, IsTrue, List, [], ◌∷◌, ◌++◌}
 use Rattle.std.proofs.Common.{length, Option, Some, Ok, unwrap_or, refl, sym, ap, subst, ◌∙◌, arith}
 use Rattle.std.specs.Option.{option_and_then}
@@ -15,15 +15,15 @@ use Rattle.bk_log.specs.Writing.{with_put}
 use Rattle.bk_log.proofs.Gains.{put_gains}
 use Rattle.bk_log.specs.declared.found.Found.{Found}
 use Rattle.bk_record.specs.Keyed.{Places}
-use Rattle.bk_disk.specs.Disk.{grown}
+use Rattle.bk_disk.specs.Disk.{files_after_append}
 use Rattle.bk_store.specs.Entries.{HasEntry}
 use Rattle.bk_store.specs.Logs.{Log, Logs, open_parts}
 use Rattle.bk_store.specs.State.{State}
 use Rattle.bk_store.specs.Jobs.{Job, with_move, Waits}
-use Rattle.bk_store.specs.JobKept.{IsReadTo, copied_in, copy_state}
-use Rattle.bk_store.specs.Putting.{next_place, grown_log}
-use Rattle.bk_store.specs.Doors.{IsIn}
-use Rattle.bk_store.specs.Plain.{IsKept}
+use Rattle.bk_store.specs.JobInvariant.{IsReadTo, copied_in, copy_state}
+use Rattle.bk_store.specs.Appending.{next_place, grown_log}
+use Rattle.bk_store.specs.Primitives.{IsIn}
+use Rattle.bk_store.specs.Abstract.{SatisfiesInvariant}
 use Rattle.bk_store.specs.declared.job.Move.{Move}
 use Rattle.bk_store.specs.declared.job.Phase.{Phase}
 use Rattle.bk_store.specs.declared.job.Phase.TheVariants.{Copy, Switch}
@@ -33,12 +33,12 @@ use Rattle.bk_store.proofs.Growing.{entry_same}
 use Rattle.bk_store.proofs.LogMaps.{log-inserted, log-insert_else}
 use Rattle.bk_store.proofs.JobStays.{part_same, view_same, in_same}
 use Rattle.bk_compact.specs.Compacting.{Copies, Examines, behind, place_of}
-use Rattle.bk_compact.specs.Going.{CopiesEntry, IsAhead, IsCopying, IsEntry}
+use Rattle.bk_compact.specs.JobSteps.{CopiesEntry, IsAhead, IsCopying, IsEntry}
 use Rattle.bk_compact.proofs.Stored.{kept_backed, kept_held}
 use Rattle.bk_compact.proofs.Stored.{named_ahead, behind_is}
 use Rattle.bk_compact.proofs.CopyWriter.{writer_is}
 
--- ---- the files after an entry was put
+-- ---- the files after an entry was appended
 
 gained : (files files' : Files) (log : ℕ) (others : List (ℕ × List ℕ)) → Gains files log others files' → (place : Place) (key : EntryKey) (payload : List ℕ)
     → HasEntry (file_of files) place key payload → HasEntry (file_of files') place key payload
@@ -62,13 +62,13 @@ gained_new files files' w payload key gains keyed = record {
   keyed = keyed;
 }
 
--- ---- the job behind an entry that was copied
+-- ---- the job after an entry that was copied
 
-module _ (s : State) (kept : IsKept s) (job : Job) (is : IsCopying s job) (found : Found) (ahead : IsAhead s job found) where
+module _ (s : State) (kept : SatisfiesInvariant s) (job : Job) (is : IsCopying s job) (found : Found) (ahead : IsAhead s job found) where
   pub behind_later : job.at ≤ behind found
   behind_later = omega (arith, ahead.ahead, ahead.long)
 
-  -- an entry that the index does not name
+  -- an entry that the index does not point to
   module _ (unsent : ¬ (finite.get s.index found.key ≡ Some (place_of job found))) where
     pub passed_keeps : IsCopying s (record job { at = behind found })
     passed_keeps =
@@ -108,7 +108,7 @@ module _ (s : State) (kept : IsKept s) (job : Job) (is : IsCopying s job) (found
         not_both : Copy ≡ Switch → ⊥
         not_both wrong = cc
 
-  -- an entry that was put in the copy
+  -- an entry that was appended to the target log
   module _ (t : State) (payload : List ℕ) (to_place : Place) (copies : Copies s job found payload (Ok to_place) t) (entry : IsEntry payload found) where
     abbrev noted : Move
     noted = record { key = found.key; from = place_of job found; to = to_place }
@@ -153,7 +153,7 @@ module _ (s : State) (kept : IsKept s) (job : Job) (is : IsCopying s job) (found
         let writes = (kept_backed s kept honest job.copy log copies.put.1.1.held).writes w copies.put.1.1.writer in
         subst (λ id. Gains s.files id (put_record w payload) t.files) own
         (put_gains s.files t.files w payload (Ok to_place) writes entry.legal
-        (copies.put.1.3 honest ∙ ap (λ id. grown s.files id (record_of payload)) (sym own)))
+        (copies.put.1.3 honest ∙ ap (λ id. files_after_append s.files id (record_of payload)) (sym own)))
 
     was_room : w.end ≤ job.at
     was_room = is.out.keeps.room w (writer_is s.logs job.copy log copies.put.1.1.held ∙ copies.put.1.1.writer)
@@ -239,7 +239,7 @@ module _ (s : State) (kept : IsKept s) (job : Job) (is : IsCopying s job) (found
 
 -- ---- an entry was examined
 
-pub examined_copied : (s : State) → IsKept s → (job : Job) → IsCopying s job → (found : Found) → IsAhead s job found → (t : State) (mid after : Job)
+pub examined_copied : (s : State) → SatisfiesInvariant s → (job : Job) → IsCopying s job → (found : Found) → IsAhead s job found → (t : State) (mid after : Job)
     → CopiesEntry s job found (Ok tt) t mid → after ≡ record mid { at = behind found } → Examines s job found true t after × IsCopying t after
 examined_copied s kept job is found ahead t mid after copied moved =
     let payload = copied.0 in
@@ -251,7 +251,7 @@ examined_copied s kept job is found ahead t mid after copied moved =
       subst (IsCopying t) (sym job_is) (copied_keeps s kept job is found ahead t payload place copies copied.1.2),
     )
 
-pub examined_past : (s : State) → IsKept s → (job : Job) → IsCopying s job → (found : Found) → IsAhead s job found → (t : State) (mid after : Job)
+pub examined_past : (s : State) → SatisfiesInvariant s → (job : Job) → IsCopying s job → (found : Found) → IsAhead s job found → (t : State) (mid after : Job)
     → ¬ (finite.get s.index found.key ≡ Some (place_of job found)) → t ≡ s → mid ≡ job → after ≡ record mid { at = behind found }
     → Examines s job found false t after × IsCopying t after
 examined_past s kept job is found ahead t mid after unsent same mid_is moved =

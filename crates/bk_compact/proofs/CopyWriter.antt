@@ -1,4 +1,4 @@
--- The writer of a copy, and the entry that it takes next.
+-- The writer of a target log, and the next entry to append.
 use Rattle.std.proofs.Common.{◌≡◌, ◌⊎◌, inl, inr, ℕ, zero, suc, ◌+◌, ◌<◌, ◌≤◌, ◌^◌, true, false, IsTrue, List, [], ◌∷◌}
 use Rattle.std.proofs.Common.{length, Option, Some, None, Result, Ok, Err, unwrap_or, refl, sym, ap, subst, ◌∙◌, arith}
 use Rattle.std.specs.Option.{option_and_then}
@@ -25,23 +25,23 @@ use Rattle.bk_store.specs.Entries.{HasEntry}
 use Rattle.bk_store.specs.Logs.{Log, Logs, View, is_written, open_parts, last_view}
 use Rattle.bk_store.specs.State.{State}
 use Rattle.bk_store.specs.Jobs.{Job, with_move}
-use Rattle.bk_store.specs.JobKept.{IsJob, copy_state}
-use Rattle.bk_store.specs.Putting.{next_place}
-use Rattle.bk_store.specs.Doors.{IsIn, CanTake, PutTurn, SetTurn, writer_of}
-use Rattle.bk_store.specs.Copying.{MayCopy}
-use Rattle.bk_store.specs.Plain.{IsKept}
+use Rattle.bk_store.specs.JobInvariant.{JobInvariant, copy_state}
+use Rattle.bk_store.specs.Appending.{next_place}
+use Rattle.bk_store.specs.Primitives.{IsIn, CanTake, AppendRecordTransition, SetLogStateTransition, writer_of}
+use Rattle.bk_store.specs.CompactionPrimitives.{CanAppendCopied}
+use Rattle.bk_store.specs.Abstract.{SatisfiesInvariant}
 use Rattle.bk_store.specs.declared.job.Phase.{Phase}
 use Rattle.bk_store.specs.declared.log.LogState.TheVariants.{Copying, Readable}
 use Rattle.bk_store.proofs.Cases.{some_value}
 use Rattle.bk_compact.specs.declared.entries.Stopped.{Stopped}
 use Rattle.bk_compact.specs.declared.entries.Stopped.TheVariants as stops
 use Rattle.bk_compact.specs.Compacting.{behind, place_of}
-use Rattle.bk_compact.specs.Going.{CopiesEntry, IsAhead, IsCopying, IsEntry, IsScanOf, StopsAt, told_put}
+use Rattle.bk_compact.specs.JobSteps.{CopiesEntry, IsAhead, IsCopying, IsEntry, IsScanOf, StopsAt, stop_of_put}
 use Rattle.bk_compact.proofs.Stored.{kept_backed, kept_headed, kept_held, kept_ids, kept_shows}
 use Rattle.bk_compact.proofs.Stored.{next_entry, source_bytes, source_honest, behind_is}
 use Rattle.std.proofs.lemmas.Bool.{false_from_ne_true}
 
--- ---- the copy and its writer
+-- ---- the target log and its writer
 
 pub record HasWriter (s : State) (id : ℕ) : Type 0 where
   pub log : Log
@@ -57,7 +57,7 @@ pub record HasWriter (s : State) (id : ℕ) : Type 0 where
 pub writer_is : (logs : Logs) (id : ℕ) (log : Log) → finite.get logs id ≡ Some log → writer_of logs id ≡ log.writer
 writer_is logs id log held = ap (λ (o : Option Log). option_and_then (λ (l : Log). l.writer) o) held
 
-pub copy_writer : (s : State) → IsKept s → (id : ℕ) → IsIn s id Copying → HasWriter s id
+pub copy_writer : (s : State) → SatisfiesInvariant s → (id : ℕ) → IsIn s id Copying → HasWriter s id
 copy_writer s kept id is =
     let old = kept_held s kept id is.log is.held in
     let found = some_value is.log.writer (old.written (copying is.log is.state_is)) in
@@ -76,7 +76,7 @@ copy_writer s kept id is =
     copying : (log : Log) → log.state ≡ Copying → is_written log.state ≡ true
     copying log state_is = ap is_written state_is
 
--- the place behind the length field of its next record
+-- the place of its next payload, after the length field
 pub place_next : (s : State) (id : ℕ) (has : HasWriter s id) (w : writers.Writing) → writer_of s.logs id ≡ Some w → (place : Place) (end : ℕ) → end ≡ w.end
     → place ≡ record { log = id; at = end + 4 } → (x : writers.Writing) × (writer_of s.logs id ≡ Some x) × (place ≡ next_place x)
 place_next s id has w there place end end_is is =
@@ -84,8 +84,8 @@ place_next s id has w there place end end_is is =
     let own : w.log ≡ id = ap (λ (x : writers.Writing). x.log) (sym one) ∙ has.own in
     (w, there, same_place place (next_place w) (ap (λ (p : Place). p.log) is ∙ sym own) (ap (λ (p : Place). p.at) is ∙ ap (λ n. n + 4) end_is))
 
--- the copy can take the next entry
-module _ (s : State) (kept : IsKept s) (job : Job) (is : IsCopying s job) (found : Found) (ahead : IsAhead s job found) (near : behind found < 2 ^ 32)
+-- the target log has room for the next entry
+module _ (s : State) (kept : SatisfiesInvariant s) (job : Job) (is : IsCopying s job) (found : Found) (ahead : IsAhead s job found) (near : behind found < 2 ^ 32)
     (payload : List ℕ) (entry : IsEntry payload found) where
   in_copy : IsIn s job.copy Copying
   in_copy = subst (λ (p : Phase). IsIn s job.copy (copy_state p)) is.phase is.out.keeps.copy
@@ -105,7 +105,7 @@ module _ (s : State) (kept : IsKept s) (job : Job) (is : IsCopying s job) (found
 
   pub may_copy : finite.get s.index found.key ≡ Some (place_of job found)
       → (IsTrue s.honest → HasEntry (file_of s.files) (place_of job found) found.key payload)
-      → MayCopy s job.copy found.key (place_of job found) payload
+      → CanAppendCopied s job.copy found.key (place_of job found) payload
   may_copy sent stands = record {
     idle = λ other runs. absurd (none_some other (sym is.out.none ∙ runs));
     sent = sent;
@@ -118,8 +118,8 @@ module _ (s : State) (kept : IsKept s) (job : Job) (is : IsCopying s job) (found
       none_some : (other : Job) → None ≡ Some other → ⊥
       none_some other wrong = cc
 
--- what was fetched of the entry is the one that the source shows
-module _ (s : State) (kept : IsKept s) (job : Job) (is : IsJob s job) (found : Found) (ahead : IsAhead s job found) (payload : List ℕ)
+-- a payload of the entry's key is the one in the source log
+module _ (s : State) (kept : SatisfiesInvariant s) (job : Job) (is : JobInvariant s job) (found : Found) (ahead : IsAhead s job found) (payload : List ℕ)
     (fetched : HasEntryAt (open_parts s.logs job.source) found.at found.key payload) (honest : IsTrue s.honest) where
   fetched_is : (ahead.next honest).payload ≡ payload
   fetched_is =
@@ -140,8 +140,8 @@ module _ (s : State) (kept : IsKept s) (job : Job) (is : IsJob s job) (found : F
     keyed = fetched.keyed;
   }
 
--- the same of a fetch in a view of the source
-module _ (s : State) (kept : IsKept s) (job : Job) (is : IsCopying s job) (found : Found) (ahead : IsAhead s job found) (view : View)
+-- the same for a fetch from a view of the source log
+module _ (s : State) (kept : SatisfiesInvariant s) (job : Job) (is : IsCopying s job) (found : Found) (ahead : IsAhead s job found) (view : View)
     (last : last_view s.logs job.source ≡ Some view) (from_place : Place) (place : from_place ≡ place_of job found) where
   whole : open_parts s.logs job.source ≡ view.bytes
   whole = source_bytes s kept job is.out.keeps view last
@@ -151,7 +151,7 @@ module _ (s : State) (kept : IsKept s) (job : Job) (is : IsCopying s job) (found
       subst (λ (b : List ℕ). HasEntryAt b found.at found.key payload) (sym whole)
       (subst (λ n. HasEntryAt view.bytes n found.key payload) (ap (λ (p : Place). p.at) place) entry)
 
-  -- a fetch that finds no such record, or an odd one, is of a disk that is not honest
+  -- a fetch that finds no such record, or fails with `Odd`, contradicts an honest disk
   pub never_missing : (fault : FetchFault) → (IsTrue view.is_honest → FetchFails view.bytes from_place.at found.key fault)
       → (fault ≡ fetches.NotThere) ⊎ (fault ≡ fetches.Odd) → s.honest ≡ false
   never_missing fetches.NotThere fails is_so = false_from_ne_true s.honest (λ honest.
@@ -176,12 +176,12 @@ module _ (s : State) (kept : IsKept s) (job : Job) (is : IsCopying s job) (found
       another : fetches.Memory ≡ fetches.Odd → ⊥
       another wrong = cc
 
-  -- and what it finds is the entry
+  -- the payload fetched is that of the entry
   pub fetched_there : (payload : List ℕ) → (IsTrue view.is_honest → HasEntryAt view.bytes from_place.at found.key payload) → IsTrue s.honest
       → HasEntryAt (open_parts s.logs job.source) found.at found.key payload
   fetched_there payload fetched honest = there payload (fetched (source_honest s kept job is.out.keeps view last honest))
 
-  -- as is what the scan lends of it
+  -- the payload lent by the scan is that of the entry
   pub lent_there : (scan : Scan) → IsScanOf view.bytes view.is_honest scan → (lent : List ℕ)
       → (IsTrue scan.honest → (payload : List ℕ) → HasEntryAt scan.file found.at found.key payload → found.size ≡ 4 + length payload → lent ≡ payload)
       → IsTrue s.honest → HasEntryAt (open_parts s.logs job.source) found.at found.key lent
@@ -193,13 +193,13 @@ module _ (s : State) (kept : IsKept s) (job : Job) (is : IsCopying s job) (found
       subst (λ (p : List ℕ). HasEntryAt (open_parts s.logs job.source) found.at found.key p) (sym (entry truth next.payload here next.found_is.sized))
       next.stands
 
--- the disk is odd, so the copy is read as it is
-pub stops_odd : (s t : State) (job : Job) (found : Found) (stopped : Stopped) → stopped ≡ stops.Odd → s.honest ≡ false → SetTurn s job.copy Readable t
+-- the disk is not honest, so the target log becomes Readable
+pub stops_odd : (s t : State) (job : Job) (found : Found) (stopped : Stopped) → stopped ≡ stops.Odd → s.honest ≡ false → SetLogStateTransition s job.copy Readable t
     → StopsAt s job found stopped t job
 stops_odd s t job found stopped is honest turn = subst (λ (r : Stopped). StopsAt s job found r t job) (sym is) (honest, inl turn)
 
--- the next entry lies in the first 2^32 bytes of an honest disk's log
-pub next_near : (s : State) → IsKept s → (job : Job) → IsJob s job → (found : Found) → IsAhead s job found → (IsTrue s.honest → AreLogFiles s.files)
+-- on an honest disk the next entry is in the first 2 ^ 32 bytes of the log
+pub next_near : (s : State) → SatisfiesInvariant s → (job : Job) → JobInvariant s job → (found : Found) → IsAhead s job found → (IsTrue s.honest → AreLogFiles s.files)
     → IsTrue s.honest → behind found < 2 ^ 32
 next_near s kept job is found ahead files honest =
     let next = ahead.next honest in
@@ -221,14 +221,14 @@ next_near s kept job is found ahead files honest =
     each_byte (b ∷ bytes) all zero = All-head (λ x. x < 2 ^ 8) b bytes all
     each_byte (b ∷ bytes) all (suc i) = each_byte bytes (All-tail (λ x. x < 2 ^ 8) b bytes all) i
 
--- an entry was put where the job has noted it
+-- an entry was appended at the place that the job has noted
 pub put_copies : (s t : State) (job after : Job) (found : Found) (payload : List ℕ) (place noted : Place) → (result : Result Place LogFault) → result ≡ Ok place
     → finite.get s.index found.key ≡ Some (place_of job found)
-    → (IsTrue s.honest → HasEntry (open_parts s.logs) (place_of job found) found.key payload) → PutTurn s job.copy payload result t
+    → (IsTrue s.honest → HasEntry (open_parts s.logs) (place_of job found) found.key payload) → AppendRecordTransition s job.copy payload result t
     → IsEntry payload found → (x : writers.Writing) × (writer_of s.logs job.copy ≡ Some x) × (noted ≡ next_place x)
     → after ≡ with_move job (record { key = found.key; from = place_of job found; to = noted }) → CopiesEntry s job found (Ok tt) t after
 put_copies s t job after found payload place noted result is sent stands turn entry at moved =
-    let put : PutTurn s job.copy payload (Ok place) t = subst (λ (r : Result Place LogFault). PutTurn s job.copy payload r t) is turn in
+    let put : AppendRecordTransition s job.copy payload (Ok place) t = subst (λ (r : Result Place LogFault). AppendRecordTransition s job.copy payload r t) is turn in
     let one : put.1.0 ≡ at.0 = same_Some put.1.0 at.0 (sym (writer_is s.logs job.copy put.0 put.1.1.held ∙ put.1.1.writer) ∙ at.1) in
     let same : noted ≡ place = at.2 ∙ ap next_place (sym one) ∙ sym put.1.2 in (
       payload,
@@ -240,10 +240,10 @@ put_copies s t job after found payload place noted result is sent stands turn en
       ),
     )
 
--- what a refused put leaves
+-- state after a failed append
 pub put_stops : (s t : State) (job : Job) (found : Found) (payload : List ℕ) (fault : LogFault) → finite.get s.index found.key ≡ Some (place_of job found)
-    → (IsTrue s.honest → HasEntry (open_parts s.logs) (place_of job found) found.key payload) → PutTurn s job.copy payload (Err fault) t
-    → StopsAt s job found (told_put fault) t job
+    → (IsTrue s.honest → HasEntry (open_parts s.logs) (place_of job found) found.key payload) → AppendRecordTransition s job.copy payload (Err fault) t
+    → StopsAt s job found (stop_of_put fault) t job
 put_stops s t job found payload log_faults.Memory sent stands turn = (turn.0, turn.1, refl)
 put_stops s t job found payload log_faults.Disk sent stands turn = (payload, record { sent = sent; stands = stands; put = turn })
 put_stops s t job found payload log_faults.Failed sent stands never = absurd never

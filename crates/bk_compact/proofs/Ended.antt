@@ -1,4 +1,5 @@
--- A job that is out of the store begins, is sealed and shown, and is switched, and keeps what a job keeps.
+-- While it is out of the store, a job that begins, is sealed and published, and is switched
+-- preserves the job invariant.
 use Rattle.std.proofs.Common.{◌≡◌, ◌≢◌, ◌⊎◌, inl, inr, ℕ, ◌<◌, Bool, true, false, IsTrue, List, []}
 use Rattle.std.proofs.Common.{not, is_some, Option, Some, None, Ok, unwrap_or, refl, sym, ap, subst, ◌∙◌, arith}
 use Rattle.std.specs.Option.{option_and_then}
@@ -16,10 +17,10 @@ use Rattle.bk_store.specs.Entries.{HasEntry}
 use Rattle.bk_store.specs.Logs.{Log, Logs, HasOpenView, unwritten_log, is_open, open_parts, with_view}
 use Rattle.bk_store.specs.State.{State}
 use Rattle.bk_store.specs.Jobs.{Job, Waits, waits_from}
-use Rattle.bk_store.specs.JobKept.{IsJob, IsReadTo, entries_from, copied_in, copy_state}
-use Rattle.bk_store.specs.Doors.{Seals, ShowTurn}
-use Rattle.bk_store.specs.Copying.{MayRename, RenameTurn}
-use Rattle.bk_store.specs.Plain.{IsKept}
+use Rattle.bk_store.specs.JobInvariant.{JobInvariant, IsReadTo, entries_from, copied_in, copy_state}
+use Rattle.bk_store.specs.Primitives.{SealLogTransition, PublishLogTransition}
+use Rattle.bk_store.specs.CompactionPrimitives.{CanRelocate, RelocateTransition}
+use Rattle.bk_store.specs.Abstract.{SatisfiesInvariant}
 use Rattle.bk_store.specs.declared.job.Move.{Move}
 use Rattle.bk_store.specs.declared.job.Phase.{Phase}
 use Rattle.bk_store.specs.declared.job.Phase.TheVariants.{Switch}
@@ -29,7 +30,7 @@ use Rattle.bk_store.proofs.KeyMaps.{inserted_cases}
 use Rattle.bk_store.proofs.JobStays.{part_same, view_same, in_same}
 use Rattle.bk_record.proofs.Entries.{In-filter, filter-In}
 use Rattle.bk_compact.specs.Compacting.{entries_left}
-use Rattle.bk_compact.specs.Going.{IsCopying, IsOut}
+use Rattle.bk_compact.specs.JobSteps.{IsCopying, IsTakenOut}
 use Rattle.bk_compact.proofs.Stored.{shown_part, none_ahead}
 
 -- ---- a log's entries
@@ -44,10 +45,10 @@ unlisted : (file : List ℕ) (at : ℕ) (payload : List ℕ) → In (at, payload
 unfolding entries_of
 unlisted file at payload there = filter-In (λ r. not (is_foreign r.1)) (at, payload) (records_of file) there
 
--- ---- the copy is sealed and shown
+-- ---- the target log is sealed and published
 
 module _ (s mid t : State) (job : Job) (is : IsCopying s job) (all : IsTrue s.honest → entries_left s job ≡ [])
-    (seals : Seals s job.copy Readable (Ok tt) mid) (shows : ShowTurn mid job.copy (Ok tt) t) where
+    (seals : SealLogTransition s job.copy Readable (Ok tt) mid) (shows : PublishLogTransition mid job.copy (Ok tt) t) where
   abbrev shown_log : Log
   shown_log = with_view shows.2.0 shows.0
 
@@ -78,7 +79,7 @@ module _ (s mid t : State) (job : Job) (is : IsCopying s job) (all : IsTrue s.ho
   copy_shown : HasOpenView t.logs job.copy
   copy_shown = record { log = shown_log; view = shows.2.0; held = shown_now; opened = ap is_open is_readable; view_is = refl }
 
-  -- what was copied is shown
+  -- the copied entries are published
   filed_shown : IsTrue s.honest → (place : Place) (key : EntryKey) (payload : List ℕ) → place.log ≡ job.copy
       → HasEntry (file_of s.files) place key payload → HasEntry (open_parts t.logs) place key payload
   filed_shown honest place key payload here entry =
@@ -97,7 +98,7 @@ module _ (s mid t : State) (job : Job) (is : IsCopying s job) (all : IsTrue s.ho
         keyed = entry.keyed;
       }
 
-  pub sealed_keeps : IsJob t (record job { phase = Switch })
+  pub sealed_keeps : JobInvariant t (record job { phase = Switch })
   sealed_keeps =
       let old = is.out.keeps in
       let part : open_parts s.logs job.source ≡ open_parts t.logs job.source = sym (part_same s.logs t.logs job.source source_stays) in
@@ -129,13 +130,13 @@ module _ (s mid t : State) (job : Job) (is : IsCopying s job) (all : IsTrue s.ho
       no_writer : (w : writers.Writing) → None ≡ Some w → ⊥
       no_writer w wrong = cc
 
--- ---- a move is taken
+-- ---- one relocation
 
-module _ (s t : State) (job rest : Job) (first : Move) (is : IsOut s job) (phase : job.phase ≡ Switch) (waits : waits_from job first rest) where
+module _ (s t : State) (job rest : Job) (first : Move) (is : IsTakenOut s job) (phase : job.phase ≡ Switch) (waits : waits_from job first rest) where
   first_move : In first job.moves
   first_move = subst (In first) (sym waits.0) (inl refl)
 
-  pub may_rename : MayRename s first.key first.from first.to
+  pub may_rename : CanRelocate s first.key first.from first.to
   may_rename =
       let old = is.keeps in
       let move = old.moves first first_move in
@@ -148,13 +149,13 @@ module _ (s t : State) (job rest : Job) (first : Move) (is : IsOut s job) (phase
             (entry.0, subst (λ (p : Phase). HasEntry (copied_in s.files s.logs p) first.to first.key entry.0) phase entry.1);
       }
 
-  -- of the index and the moves that wait: what the job owes
+  -- what the job invariant requires of the index and of the pending relocations
   abbrev owes : State → Job → Type 0
   owes u j = (key : EntryKey) (place : Place) → finite.get u.index key ≡ Some place → place.log ≡ job.source → (job.at < place.at) ⊎ Waits j.moves key place
 
   module _ (same_logs : t.logs ≡ s.logs) (same_honest : t.honest ≡ s.honest) (same_job : t.job ≡ s.job)
       (examined : IsTrue s.honest → job.rebuilt ≡ false → owes t rest) where
-    taken_keeps : IsJob t (record job { moves = rest.moves })
+    taken_keeps : JobInvariant t (record job { moves = rest.moves })
     taken_keeps =
         let old = is.keeps in
         let source_stays : finite.get t.logs job.source ≡ finite.get s.logs job.source = ap (λ (l : Logs). finite.get l job.source) same_logs in
@@ -187,12 +188,12 @@ module _ (s t : State) (job rest : Job) (first : Move) (is : IsOut s job) (phase
               };
         }
 
-    pub taken_out : IsOut t rest
-    taken_out = record { none = same_job ∙ is.none; keeps = subst (IsJob t) (sym waits.1) taken_keeps }
+    pub taken_out : IsTakenOut t rest
+    taken_out = record { none = same_job ∙ is.none; keeps = subst (JobInvariant t) (sym waits.1) taken_keeps }
 
--- the index was sent on, or was sent elsewhere before
-pub switched_out : (s t : State) (job rest : Job) (first : Move) → IsOut s job → job.phase ≡ Switch → waits_from job first rest → (moved : Bool)
-    → RenameTurn s first.key first.from first.to moved t → IsOut t rest
+-- the index was switched, or pointed elsewhere before
+pub switched_out : (s t : State) (job rest : Job) (first : Move) → IsTakenOut s job → job.phase ≡ Switch → waits_from job first rest → (moved : Bool)
+    → RelocateTransition s first.key first.from first.to moved t → IsTakenOut t rest
 switched_out s t job rest first is phase waits true turn =
     taken_out s t job rest first is phase waits
     (ap (λ (x : State). x.logs) turn.1) (ap (λ (x : State). x.honest) turn.1) (ap (λ (x : State). x.job) turn.1)
@@ -227,8 +228,9 @@ switched_out s t job rest first is phase waits false turn =
 
 -- ---- the finish
 
--- beside an honest disk the index names nothing in the source where every move was taken and no rebuild came
-pub source_unnamed : (s : State) → IsKept s → (job : Job) → IsJob s job → job.phase ≡ Switch → job.moves ≡ [] → job.rebuilt ≡ false → IsTrue s.honest
+-- On an honest disk the index points to nothing in the source log, if no relocation is pending and
+-- the index was not rebuilt.
+pub source_unnamed : (s : State) → SatisfiesInvariant s → (job : Job) → JobInvariant s job → job.phase ≡ Switch → job.moves ≡ [] → job.rebuilt ≡ false → IsTrue s.honest
     → log_count s.index job.source ≡ 0
 source_unnamed s kept job is phase none new honest = log_count-none s.index job.source (λ key place named here.
     let was = is.honest honest in

@@ -1,15 +1,15 @@
--- Entries that were examined: one more, none, and no more copied than examined.
+-- Lists of examined entries: one more, none, and at most as many copied as examined.
 use Rattle.std.proofs.Common.{◌≡◌, ℕ, ◌+◌, ◌-◌, ◌≤◌, Bool, true, false}
 use Rattle.std.proofs.Common.{if◌then◌else◌, List, [], ◌∷◌, ◌++◌, length, take}
 use Rattle.std.proofs.Common.{None, refl, ap, subst, arith}
 use Rattle.bk_log.specs.declared.found.Found.{Found}
 use Rattle.bk_store.specs.State.{State}
 use Rattle.bk_store.specs.Jobs.{Job}
-use Rattle.bk_store.specs.Meaning.{KeepsMeaning}
+use Rattle.bk_store.specs.Contents.{PreservesContents}
 use Rattle.bk_compact.specs.Compacting.{AreFound, Examines, ExaminesAll, IsFound}
 use Rattle.bk_compact.specs.Compacting.{with_job}
 
--- ---- one entry more
+-- ---- one more entry
 
 pub found_push : (entries : List (ℕ × List ℕ)) (founds : List Found) (entry : ℕ × List ℕ) (found : Found) → AreFound entries founds → IsFound entry found
     → AreFound (entries ++ entry ∷ []) (founds ++ found ∷ [])
@@ -46,7 +46,7 @@ examined_push s job (f ∷ founds) copied mid next found is_copied t after all l
       ),
     )
 
--- no more were copied than were examined
+-- at most as many are copied as were examined
 pub copied_few : (s : State) (job : Job) (founds : List Found) (copied : ℕ) (t : State) (after : Job) → ExaminesAll s job founds copied t after
     → copied ≤ length founds
 copied_few s job [] copied t after all = omega (arith, all.0)
@@ -61,7 +61,7 @@ copied_few s job (f ∷ founds) copied t after all =
 
 -- ---- whether any was examined
 
--- where some were, some were left
+-- if some were examined, some were left
 pub some_left : (l : List (ℕ × List ℕ)) (founds : List Found) → AreFound (take (length founds) l) founds → 1 ≤ length founds → ¬ (l ≡ [])
 some_left [] [] found some none = absurd (omega (arith, some))
 some_left [] (f ∷ founds) found some none = found
@@ -79,7 +79,7 @@ none_examined s job (f ∷ founds) copied t after all none = absurd (omega (arit
 pub out_same : (s : State) → s.job ≡ None → s ≡ with_job s None
 out_same s none = ap (λ j. with_job s j) none
 
-pub stays_itself : (s : State) → KeepsMeaning s s
+pub stays_itself : (s : State) → PreservesContents s s
 stays_itself s = record { honest = refl; meaning = λ _ key. refl }
 
 -- ---- the copying so far

@@ -1,24 +1,25 @@
--- A compaction ends: what its calls owe, and that a source which nobody disturbed is named by no key.
+-- The end of a compaction: the obligations of its calls, and that no index entry points into an
+-- undisturbed source log.
 use Rattle.std.proofs.Common.{◌≡◌, ℕ, ◌<◌, IsTrue, Option}
 use Rattle.std.proofs.Common.{Some, None, option_map, sym, ap, subst, ◌∙◌, arith}
 use Rattle.std.specs.FinMap as finite
 use Rattle.bk_record.specs.Keyed.{log_count}
 use Rattle.bk_store.specs.Jobs.{Job}
-use Rattle.bk_store.specs.JobKept.{IsJob}
+use Rattle.bk_store.specs.JobInvariant.{JobInvariant}
 use Rattle.bk_store.specs.Logs.{Log}
 use Rattle.bk_store.specs.State.{State}
-use Rattle.bk_store.specs.Plain.{IsKept}
+use Rattle.bk_store.specs.Abstract.{SatisfiesInvariant}
 use Rattle.bk_compact.specs.Compacting.{IsUndisturbed, with_job}
-use Rattle.bk_compact.specs.Going.{IsOut}
+use Rattle.bk_compact.specs.JobSteps.{IsTakenOut}
 use Rattle.bk_store.proofs.JobStays.{job_stays, stays_same}
 use Rattle.bk_compact.proofs.Ended.{source_unnamed}
 
--- the job that a store has is kept
-pub kept_job : (s : State) → IsKept s → (job : Job) → s.job ≡ Some job → IsJob s job
-kept_job s kept = subst (λ (t : State). (job : Job) → t.job ≡ Some job → IsJob t job) kept.seen kept.keeps.job
+-- the job in a store satisfies its invariant
+pub kept_job : (s : State) → SatisfiesInvariant s → (job : Job) → s.job ≡ Some job → JobInvariant s job
+kept_job s kept = subst (λ (t : State). (job : Job) → t.job ≡ Some job → JobInvariant t job) kept.seen kept.keeps.job
 
--- and so it is when it is taken out
-pub taken_out : (s t : State) → IsKept s → (job : Job) → s.job ≡ Some job → t ≡ with_job s None → IsOut t job
+-- the job invariant also holds when the job is taken out
+pub taken_out : (s t : State) → SatisfiesInvariant s → (job : Job) → s.job ≡ Some job → t ≡ with_job s None → IsTakenOut t job
 taken_out s t kept job runs out = record {
   none = ap (λ (x : State). x.job) out;
   keeps = job_stays s t job
@@ -27,14 +28,15 @@ taken_out s t kept job runs out = record {
       (kept_job s kept job runs);
 }
 
--- beside an honest disk no key is sent to the source of a compaction that only has to be finished, and whose index was not made anew
-pub undisturbed_unnamed : (s : State) → IsKept s → (source : ℕ) → IsUndisturbed s source → IsTrue s.honest → log_count s.index source ≡ 0
+-- On an honest disk no index entry points into the source log of a compaction without pending
+-- relocations whose index was not rebuilt.
+pub undisturbed_unnamed : (s : State) → SatisfiesInvariant s → (source : ℕ) → IsUndisturbed s source → IsTrue s.honest → log_count s.index source ≡ 0
 undisturbed_unnamed s kept source is honest =
     ap (log_count s.index) (sym is.source_is)
     ∙ source_unnamed s kept is.job (kept_job s kept is.job is.switched.running.runs) is.switched.running.phase_is is.switched.none is.kept honest
 
--- so it is not told to be named
-pub still_named : (s : State) → IsKept s → (job : Job) → s.job ≡ Some job → (named : ℕ) → 0 < named
+-- so the result is not `StillNamed`
+pub still_named : (s : State) → SatisfiesInvariant s → (job : Job) → s.job ≡ Some job → (named : ℕ) → 0 < named
     → Some named ≡ option_map (λ (_ : Log). log_count s.index job.source) (finite.get s.logs job.source)
     → IsTrue s.honest → (source : ℕ) → IsUndisturbed s source → ⊥
 still_named s kept job runs named some is honest source whole =

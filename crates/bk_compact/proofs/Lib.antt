@@ -12,4 +12,4 @@ mod SteppingEnds
 mod Switched
 mod Sealed
 mod Turns
-mod Still
+mod CompactFrames

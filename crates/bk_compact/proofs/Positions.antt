@@ -1,4 +1,4 @@
--- The entries of a log from a position on, at which whole records end.
+-- The entries of a log from a position that is at the end of a record.
 use Rattle.std.proofs.Common.{◌≡◌, inl, inr, ℕ, zero, suc, ◌+◌, ◌-◌, ◌<◌, ◌≤◌, ℤ, Bool, not}
 use Rattle.std.proofs.Common.{Option, List, [], ◌∷◌, ◌++◌, length, drop, Some, is_some, slice_get}
 use Rattle.std.proofs.Common.{refl, sym, ap, ◌∙◌, subst, arith, length-append, length-drop, length-take, append_assoc}
@@ -21,7 +21,7 @@ use Rattle.bk_log.specs.Growing.{HasNoBadLength}
 use Rattle.bk_log.specs.Ranges.{IsPassed, entries_in, part}
 use Rattle.bk_log.proofs.Ranges.{all_pieces-behind, all_pieces-file}
 use Rattle.bk_log.proofs.Passes.{goes_on, passed_none}
-use Rattle.bk_store.specs.JobKept.{IsReadTo, entries_from}
+use Rattle.bk_store.specs.JobInvariant.{IsReadTo, entries_from}
 
 abbrev is_entry : ℕ × List ℕ → Bool
 is_entry r = not (is_foreign r.1)
@@ -40,17 +40,17 @@ body_ends at payload (more {from = from} {payload = first} {behind = behind} leg
     let next = body_ends at payload body later in
     omega (arith, next, length-append (record_of first) behind, length-record_of first)
 
--- a record of a log stands behind its header
+-- a record of a log is after its header
 pub record_behind : (bytes : List ℕ) (at : ℕ) (payload : List ℕ) → In (at, payload) (records_of bytes) → header_length < at
 unfolding records_of
 record_behind bytes at payload there = pieces_behind (length bytes) header_length (drop header_length bytes) at payload there
 
--- ---- the part behind the header
+-- ---- the part after the header
 
 whole_part : (bytes : List ℕ) → part bytes header_length (view_end bytes) ≡ drop header_length bytes
 whole_part bytes = take_all (view_end bytes - header_length) (drop header_length bytes) (omega (arith, length-drop header_length bytes))
 
--- a log is read up to its header
+-- the end of the header is such a position
 pub read_start : (bytes : List ℕ) → IsReadTo bytes header_length
 read_start bytes = record {
   given = 0;
@@ -59,7 +59,7 @@ read_start bytes = record {
   passed = passed_none header_length (part bytes header_length (view_end bytes));
 }
 
--- and further, where whole records follow
+-- so is a later position, if whole records are between
 pub read_on : (bytes : List ℕ) (at next given foreign : ℕ) → IsReadTo bytes at
     → IsPassed at (part bytes at (view_end bytes)) next (part bytes next (view_end bytes)) given foreign → IsReadTo bytes next
 read_on bytes at next given foreign r p =
@@ -84,7 +84,7 @@ read_on bytes at next given foreign r p =
       };
     }
 
--- ---- what stands behind the position
+-- ---- records after the position
 
 records_split : (bytes : List ℕ) (at : ℕ) (r : IsReadTo bytes at) → records_of bytes ≡ r.passed.records ++ all_pieces at (part bytes at (view_end bytes))
 records_split bytes at r =
@@ -92,7 +92,7 @@ records_split bytes at r =
     sym (all_pieces-file bytes) ∙ ap (all_pieces header_length) (sym (whole_part bytes) ∙ r.passed.split)
     ∙ all_pieces-behind left r.passed.whole refl ∙ ap (λ n. r.passed.records ++ all_pieces n left) (sym r.passed.place)
 
--- an entry of the log behind the position is one of those from there on
+-- an entry of the log after the position is among those from it on
 pub entry_ahead : (bytes : List ℕ) (at : ℕ) → IsReadTo bytes at → (place : ℕ) (payload : List ℕ) (key : EntryKey)
     → In (place, payload) (records_of bytes) → key_of payload ≡ Some key → at < place → In (place, payload) (entries_from bytes at)
 unfolding entries_in
@@ -103,14 +103,14 @@ entry_ahead bytes at r place payload key there keyed behind =
       | inr ahead ↦ In-filter is_entry (place, payload) left ahead (ap (λ (o : Option EntryKey). not (not (is_some o))) keyed)
     ]
 
--- an entry from a position on stands behind it
+-- the entries from a position on are after it
 pub ahead_behind : (bytes : List ℕ) (at place : ℕ) (payload : List ℕ) → In (place, payload) (entries_from bytes at) → at < place
 unfolding entries_in
 ahead_behind bytes at place payload there =
     let bytes' = part bytes at (view_end bytes) in
     pieces_behind (length bytes') at bytes' place payload (filter-In is_entry (place, payload) (all_pieces at bytes') there)
 
--- and is a record of the log
+-- they are records of the log
 pub ahead_stands : (bytes : List ℕ) (at place : ℕ) (payload : List ℕ) → IsReadTo bytes at → In (place, payload) (entries_from bytes at)
     → In (place, payload) (records_of bytes)
 unfolding entries_in
@@ -122,14 +122,14 @@ ahead_stands bytes at place payload r there =
     In-behind [] behind is = is
     In-behind (x ∷ front) behind is = inr (In-behind front behind is)
 
--- no bad length stands there where none stands in the log
+-- there is no bad length if the log has none
 pub none_bad : (bytes : List ℕ) (at : ℕ) → IsReadTo bytes at → HasNoBadLength bytes → (place : ℕ) (value : ℤ)
     → ¬ (IsBadAt at (part bytes at (view_end bytes)) place value)
 none_bad bytes at r none place value bad =
     let goes = goes_on bytes header_length (view_end bytes) at r.given r.foreign r.passed in
     none place value (subst (λ (b : List ℕ). IsBadAt header_length b place value) (whole_part bytes) (goes.bad place value bad))
 
--- ---- one entry more
+-- ---- one more entry
 
 pub drop_next : {X : Type 0} (xs : List X) (n : ℕ) (x : X) → slice_get xs n ≡ Some x → drop n xs ≡ x ∷ drop (n + 1) xs
 drop_next [] n x is = cc
@@ -138,7 +138,7 @@ drop_next (y ∷ ys) (suc n) x is =
     let one : suc n + 1 ≡ suc (n + 1) = omega arith in
     drop_next ys n x is ∙ ap (λ k. x ∷ drop k (y ∷ ys)) (sym one)
 
--- what is passed behind a position that a scan has come to
+-- the entries from a position, after a scan from it has given some
 pub entries_passed : (bytes : List ℕ) (from next given foreign : ℕ)
     → IsPassed from (part bytes from (view_end bytes)) next (part bytes next (view_end bytes)) given foreign
     → entries_from bytes next ≡ drop given (entries_from bytes from)

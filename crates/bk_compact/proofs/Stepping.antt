@@ -1,4 +1,4 @@
--- Entries are examined one after another, as a scan of the source gives them.
+-- Entries are examined one after another, in the order of a scan of the source log.
 use Rattle.std.proofs.Common.{◌≡◌, ◌≢◌, inl, inr, ℕ, ◌+◌, ◌-◌, ◌<◌, ◌≤◌, ◌^◌, Bool, true, false}
 use Rattle.std.proofs.Common.{IsTrue, List, [], ◌∷◌, ◌++◌, length, take, drop, not}
 use Rattle.std.proofs.Common.{Some, None, Ok, Err, refl, sym, ap, subst, ◌∙◌, arith, length-append}
@@ -9,31 +9,32 @@ use Rattle.bk_disk.specs.Disk.{view_end}
 use Rattle.bk_record.specs.Body.{IsBadAt}
 use Rattle.bk_log.specs.Growing.{HasNoBadLength}
 use Rattle.bk_log.specs.Ranges.{entries_in, part}
-use Rattle.bk_log.specs.Scanning.{Scan, NextMoves, NextTurn, part_of}
+use Rattle.bk_log.specs.Scanning.{Scan, NextMoves, ScanNextTransition, part_of}
 use Rattle.bk_log.specs.declared.found.Found.{Found}
 use Rattle.bk_log.specs.declared.fault.ScanFault.TheVariants as scans
 use Rattle.bk_store.specs.Logs.{Log, Logs, View, last_view, open_parts}
 use Rattle.bk_store.specs.State.{State}
 use Rattle.bk_store.specs.Jobs.{Job}
-use Rattle.bk_store.specs.JobKept.{IsReadTo, entries_from}
-use Rattle.bk_store.specs.Doors.{SetTurn}
-use Rattle.bk_store.specs.Plain.{IsKept}
+use Rattle.bk_store.specs.JobInvariant.{IsReadTo, entries_from}
+use Rattle.bk_store.specs.Primitives.{SetLogStateTransition}
+use Rattle.bk_store.specs.Abstract.{SatisfiesInvariant}
 use Rattle.bk_store.specs.declared.log.LogState.TheVariants.{Readable}
 use Rattle.bk_store.proofs.LogMaps.{log-insert_else}
 use Rattle.bk_store.proofs.JobStays.{job_stays, stays_same}
-use Rattle.bk_store.specs.Meaning.{KeepsMeaning}
-use Rattle.bk_store.proofs.SameMeaning.{stays_on}
+use Rattle.bk_store.specs.Contents.{PreservesContents}
+use Rattle.bk_store.proofs.SameContents.{stays_on}
 use Rattle.bk_compact.specs.declared.entries.Stopped.{Stopped}
 use Rattle.bk_compact.specs.declared.entries.Stopped.TheVariants as stops
 use Rattle.bk_compact.specs.Compacting.{AreFound, Examines, HasUnsoundSource}
 use Rattle.bk_compact.specs.Compacting.{Steps, behind, entries_left, with_job}
-use Rattle.bk_compact.specs.Going.{CopiesAll, CopiesNext, ExaminesOne, IsAhead, IsCopying, IsNextFound, IsOut}
-use Rattle.bk_compact.specs.Going.{ScansFrom, StopsAt, told_after}
+use Rattle.bk_compact.specs.JobSteps.{CopiesAll, CopiesNext, ExaminesOne, IsAhead, IsCopying, IsNextFound, IsTakenOut}
+use Rattle.bk_compact.specs.JobSteps.{ScansFrom, StopsAt, stop_after}
 use Rattle.bk_compact.proofs.Positions.{none_bad}
 use Rattle.bk_compact.proofs.Stored.{scan_found, scan_come, scan_taken, source_bytes, source_honest, source_spelled}
 use Rattle.bk_compact.proofs.Examined.{found_push, one, examined_push, some_left, no_entries, none_examined, out_same, stays_itself}
 
--- So many entries were examined, as the scan gave them, which is one of what the source shows from where the job was.
+-- Loop invariant: `number` entries were examined, as the scan gave them. The scan is one of the
+-- published part of the source log from the position of the job.
 pub record IsGoing (view : View) (s : State) (job : Job) (number : ℕ) (scan : Scan) (copied : ℕ) (t : State) (after : Job) : Type 0 where
   pub copying : IsCopying t after
   pub steps : Steps s job number copied t after
@@ -42,7 +43,7 @@ pub record IsGoing (view : View) (s : State) (job : Job) (number : ℕ) (scan : 
   pub was : last_view s.logs job.source ≡ Some view
   pub source : after.source ≡ job.source
   pub copy : after.copy ≡ job.copy
-  pub stays : KeepsMeaning s t
+  pub stays : PreservesContents s t
   pub from : scan.from ≡ job.at
   pub file : scan.file ≡ view.bytes
   pub is_honest : scan.honest ≡ view.is_honest
@@ -56,7 +57,7 @@ pub record IsGoing (view : View) (s : State) (job : Job) (number : ℕ) (scan : 
   pub read : IsTrue s.honest → IsReadTo view.bytes job.at
   pub come : IsTrue s.honest → entries_from view.bytes after.at ≡ drop scan.given (entries_from view.bytes job.at)
 
-pub going_starts : (view : View) (s : State) → IsKept s → (job : Job) → (is : IsCopying s job) → last_view s.logs job.source ≡ Some view
+pub going_starts : (view : View) (s : State) → SatisfiesInvariant s → (job : Job) → (is : IsCopying s job) → last_view s.logs job.source ≡ Some view
     → (scan : Scan) → ScansFrom view.bytes view.is_honest view.is_sound job.at scan → IsGoing view s job 0 scan 0 s job
 going_starts view s kept job is last scan scans =
     let parts = source_bytes s kept job is.out.keeps view last in
@@ -92,7 +93,7 @@ going_starts view s kept job is last scan scans =
       come = λ _. ap (λ n. drop n (entries_from view.bytes job.at)) (sym given);
     }
 
-module _ (view : View) (s : State) (job : Job) (number : ℕ) (scan : Scan) (copied : ℕ) (t : State) (kept : IsKept t) (after : Job)
+module _ (view : View) (s : State) (job : Job) (number : ℕ) (scan : Scan) (copied : ℕ) (t : State) (kept : SatisfiesInvariant t) (after : Job)
     (so_far : IsGoing view s job number scan copied t after) where
   was_honest : IsTrue t.honest → IsTrue s.honest
   was_honest honest = sym so_far.stays.honest ∙ honest
@@ -107,14 +108,14 @@ module _ (view : View) (s : State) (job : Job) (number : ℕ) (scan : Scan) (cop
   scan_read honest =
       subst (λ (b : List ℕ). IsReadTo b scan.from) (sym so_far.file) (subst (IsReadTo view.bytes) (sym so_far.from) (so_far.read (was_honest honest)))
 
-  -- the entries that were left when the copying began
+  -- the entries that were left when copying began
   all_left : entries_from scan.file scan.from ≡ entries_left s job
   all_left = ap (λ (b : List ℕ). entries_from b scan.from) (so_far.file ∙ sym so_far.parts) ∙ ap (entries_from (open_parts s.logs job.source)) so_far.from
 
   -- ---- an entry was found
 
   module _ (found : Found) (scan' : Scan) (moves : NextMoves scan (Ok (Some found)) scan')
-      (turn : IsTrue scan.honest → NextTurn scan (Ok (Some found)) scan') where
+      (turn : IsTrue scan.honest → ScanNextTransition scan (Ok (Some found)) scan') where
     next_found : IsTrue t.honest → IsNextFound scan.file after.at found
     next_found honest =
         scan_found scan scan'.foreign found (ends honest) (scan_read honest) (turn (view_truth honest)) after.at
@@ -134,8 +135,8 @@ module _ (view : View) (s : State) (job : Job) (number : ℕ) (scan : Scan) (cop
               (so_far.file ∙ sym (source_bytes t kept after so_far.copying.out.keeps view so_far.last)) (next_found honest);
         }
 
-    -- and examined
-    module _ (is_copied : Bool) (u : State) (later : Job) (examined : ExaminesOne t after found (Ok is_copied) u later) (stays : KeepsMeaning t u) where
+    -- and was examined
+    module _ (is_copied : Bool) (u : State) (later : Job) (examined : ExaminesOne t after found (Ok is_copied) u later) (stays : PreservesContents t u) where
       same_source : (b : Bool) → Examines t after found b u later → (later.source ≡ after.source) × (later.copy ≡ after.copy) × (later.at ≡ behind found)
           × (last_view u.logs after.source ≡ last_view t.logs after.source)
       same_source true turn' =
@@ -215,9 +216,9 @@ module _ (view : View) (s : State) (job : Job) (number : ℕ) (scan : Scan) (cop
                 ∙ ap (λ n. drop scan'.given (entries_from view.bytes n)) so_far.from;
           }
 
-    -- or it was refused
+    -- or examining it failed
     module _ (stopped : Stopped) (u : State) (later : Job) (n : ℕ) (within_n : number ≤ n) where
-      pub going_stops : StopsAt t after found stopped u later → CopiesAll s job n (Err (told_after copied stopped)) u later
+      pub going_stops : StopsAt t after found stopped u later → CopiesAll s job n (Err (stop_after copied stopped)) u later
       going_stops = by stopped
         where
           steps_n : Steps s job n copied t after
@@ -231,10 +232,10 @@ module _ (view : View) (s : State) (job : Job) (number : ℕ) (scan : Scan) (cop
           unsound : HasUnsoundSource t after → HasUnsoundSource s job
           unsound is = (is.0, so_far.was ∙ sym so_far.last ∙ is.1, is.2)
 
-          by : (r : Stopped) → StopsAt t after found r u later → CopiesAll s job n (Err (told_after copied r)) u later
+          by : (r : Stopped) → StopsAt t after found r u later → CopiesAll s job n (Err (stop_after copied r)) u later
           by (stops.Memory done) turn' = (
             (t, subst (Steps s job n copied t) (sym turn'.2) steps_n, turn'.0, turn'.1),
-            subst (IsOut u) (sym turn'.2) (record {
+            subst (IsTakenOut u) (sym turn'.2) (record {
               none = ap (λ (x : State). x.job) turn'.1 ∙ so_far.copying.out.none;
               keeps = job_stays t u after
                   (stays_same t u after (ap (λ (x : State). x.honest) turn'.1) (ap (λ (x : State). x.logs) turn'.1)
@@ -245,7 +246,7 @@ module _ (view : View) (s : State) (job : Job) (number : ℕ) (scan : Scan) (cop
           by stops.Unread turn' = (
             (copied, subst (λ (x : State). Steps s job n copied x later) (sym turn'.1) (subst (Steps s job n copied t) (sym turn'.2) steps_n)),
             unsound turn'.0,
-            subst (λ (x : State). IsOut x later) (sym turn'.1) (subst (IsOut t) (sym turn'.2) so_far.copying.out),
+            subst (λ (x : State). IsTakenOut x later) (sym turn'.1) (subst (IsTakenOut t) (sym turn'.2) so_far.copying.out),
           )
           by stops.Failed turn' = (copied, (t, (after, steps_n, (found, (turn'.0, turn'.1)))))
           by stops.Odd turn' = (
@@ -258,7 +259,7 @@ module _ (view : View) (s : State) (job : Job) (number : ℕ) (scan : Scan) (cop
                   after,
                   steps_n,
                   elim turn'.1 [
-                    | inl set ↦ inl (subst (λ (n' : ℕ). SetTurn t n' Readable u) so_far.copy set)
+                    | inl set ↦ inl (subst (λ (n' : ℕ). SetLogStateTransition t n' Readable u) so_far.copy set)
                     | inr put ↦ inr (found, (put.0, put.1))
                   ],
                 ),
@@ -277,7 +278,7 @@ module _ (view : View) (s : State) (job : Job) (number : ℕ) (scan : Scan) (cop
       examined = so_far.steps.examined;
     }
 
-    -- so many were examined as were to be
+    -- the requested number of entries was examined
     pub going_done : number ≡ n → CopiesAll s job n (Ok copied) t after
     unfolding steps_at
     going_done all = (
@@ -288,8 +289,8 @@ module _ (view : View) (s : State) (job : Job) (number : ℕ) (scan : Scan) (cop
       so_far.copying.out,
     )
 
-    -- a scan that is at its end has given all that were left
-    ended_long : (scan' : Scan) → NextMoves scan (Ok None) scan' → (IsTrue scan.honest → NextTurn scan (Ok None) scan') → IsTrue s.honest
+    -- a scan at its end has given all entries that were left
+    ended_long : (scan' : Scan) → NextMoves scan (Ok None) scan' → (IsTrue scan.honest → ScanNextTransition scan (Ok None) scan') → IsTrue s.honest
         → number ≡ length (entries_left s job)
     ended_long scan' moves turn honest =
         let is = turn (view_truth (so_far.stays.honest ∙ honest)) in
@@ -302,8 +303,8 @@ module _ (view : View) (s : State) (job : Job) (number : ℕ) (scan : Scan) (cop
         let same : scan'.given ≡ scan.given = ap (λ (x : Scan). x.given) shape in
         sym so_far.given ∙ sym same ∙ count
 
-    -- none is left
-    pub going_ends : (scan' : Scan) → NextMoves scan (Ok None) scan' → (IsTrue scan.honest → NextTurn scan (Ok None) scan')
+    -- no entry is left
+    pub going_ends : (scan' : Scan) → NextMoves scan (Ok None) scan' → (IsTrue scan.honest → ScanNextTransition scan (Ok None) scan')
         → CopiesAll s job n (Ok copied) t after
     unfolding steps_at
     going_ends scan' moves turn = (
@@ -319,14 +320,14 @@ module _ (view : View) (s : State) (job : Job) (number : ℕ) (scan : Scan) (cop
       so_far.copying.out,
     )
 
-    -- an entry was found before, or none at all
+    -- either an entry was examined before, or none is left
     pub going_some : 1 ≤ number → CopiesAll s job n (Ok copied) t after → CopiesNext s job n (Ok (Some copied)) t after
     going_some some all = (
       all,
       λ honest. some_left (entries_left s job) so_far.steps.founds (so_far.steps.first honest) (omega (arith, some, so_far.long)),
     )
 
-    pub going_none : number ≡ 0 → s.job ≡ None → (scan' : Scan) → NextMoves scan (Ok None) scan' → (IsTrue scan.honest → NextTurn scan (Ok None) scan')
+    pub going_none : number ≡ 0 → s.job ≡ None → (scan' : Scan) → NextMoves scan (Ok None) scan' → (IsTrue scan.honest → ScanNextTransition scan (Ok None) scan')
         → CopiesNext s job n (Ok None) t after
     going_none zero out scan' moves turn =
         let same = none_examined (with_job s None) job so_far.steps.founds copied t after so_far.steps.examined (omega (arith, zero, so_far.long)) in (
@@ -336,23 +337,23 @@ module _ (view : View) (s : State) (job : Job) (number : ℕ) (scan : Scan) (cop
           so_far.copying.out,
         )
 
-    -- the source could not be read
+    -- the source log could not be read
     pub going_memory : CopiesAll s job n (Err (stops.Memory copied)) t after
     going_memory = ((t, steps_at, (λ _. refl), refl), so_far.copying.out)
 
     pub going_unread : scan.sound ≡ false → CopiesAll s job n (Err stops.Unread) t after
     going_unread unsound = ((copied, steps_at), (view, so_far.was, sym so_far.is_sound ∙ unsound), so_far.copying.out)
 
-    -- the disk is odd
-    pub going_odd : (u : State) (later : Job) → t.honest ≡ false → SetTurn t after.copy Readable u → CopiesAll s job n (Err stops.Odd) u later
+    -- the disk is not honest
+    pub going_odd : (u : State) (later : Job) → t.honest ≡ false → SetLogStateTransition t after.copy Readable u → CopiesAll s job n (Err stops.Odd) u later
     going_odd u later odd set = (
       sym so_far.stays.honest ∙ odd,
-      (copied, (t, (after, steps_at, inl (subst (λ (n' : ℕ). SetTurn t n' Readable u) so_far.copy set)))),
+      (copied, (t, (after, steps_at, inl (subst (λ (n' : ℕ). SetLogStateTransition t n' Readable u) so_far.copy set)))),
     )
 
-  -- what an honest view never answers
+  -- an honest view does not return this
   pub never_bad : (at : ℕ) (value : _) (scan' : Scan) → NextMoves scan (Err (scans.BadLength at value)) scan'
-      → (IsTrue scan.honest → NextTurn scan (Err (scans.BadLength at value)) scan') → t.honest ≡ false
+      → (IsTrue scan.honest → ScanNextTransition scan (Err (scans.BadLength at value)) scan') → t.honest ≡ false
   never_bad at value scan' moves turn = false_from_ne_true t.honest (λ honest.
       let bad = (turn (view_truth honest)).1 in
       let list : part_of scan' ≡ part scan.file scan.from (view_end scan.file) =
@@ -363,5 +364,5 @@ module _ (view : View) (s : State) (job : Job) (number : ℕ) (scan : Scan) (cop
       (subst (λ (b : List ℕ). IsBadAt scan.from b at value) list
       (subst (λ n. IsBadAt n (part_of scan') at value) (ap (λ (x : Scan). x.from) moves) bad)))
 
-  pub never_odd : (scan' : Scan) → (IsTrue scan.honest → NextTurn scan (Err scans.Odd) scan') → t.honest ≡ false
+  pub never_odd : (scan' : Scan) → (IsTrue scan.honest → ScanNextTransition scan (Err scans.Odd) scan') → t.honest ≡ false
   never_odd scan' turn = false_from_ne_true t.honest (λ honest. turn (view_truth honest))

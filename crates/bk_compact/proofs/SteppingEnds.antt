@@ -1,4 +1,4 @@
--- A scan of the source that does not begin, or has no entry left.
+-- A scan of the source log that cannot begin, or has no entry left.
 use Rattle.std.proofs.Common.{◌≡◌, inl, ℕ, ◌-◌, ◌<◌, ◌≤◌, Bool, true, false}
 use Rattle.std.proofs.Common.{IsTrue, List, [], ◌∷◌, length, slice_get, not, is_some, Option}
 use Rattle.std.proofs.Common.{Some, None, Ok, Err, refl, sym, ap, subst, ◌∙◌, arith}
@@ -7,28 +7,28 @@ use Rattle.bk_disk.specs.Disk.{view_end}
 use Rattle.bk_record.specs.Body.{IsBadAt}
 use Rattle.bk_log.specs.Growing.{HasNoBadLength}
 use Rattle.bk_log.specs.Ranges.{entries_in, part}
-use Rattle.bk_log.specs.Scanning.{Scan, NextMoves, NextTurn, part_of}
+use Rattle.bk_log.specs.Scanning.{Scan, NextMoves, ScanNextTransition, part_of}
 use Rattle.bk_log.specs.declared.found.Found.{Found}
 use Rattle.bk_log.specs.declared.fault.ScanFault.{ScanFault}
 use Rattle.bk_log.specs.declared.fault.ScanFault.TheVariants as scans
 use Rattle.bk_store.specs.Logs.{View, last_view, open_parts}
 use Rattle.bk_store.specs.State.{State}
 use Rattle.bk_store.specs.Jobs.{Job}
-use Rattle.bk_store.specs.JobKept.{IsJob, IsReadTo, entries_from}
-use Rattle.bk_store.specs.Doors.{SetTurn}
-use Rattle.bk_store.specs.Plain.{IsKept}
+use Rattle.bk_store.specs.JobInvariant.{JobInvariant, IsReadTo, entries_from}
+use Rattle.bk_store.specs.Primitives.{SetLogStateTransition}
+use Rattle.bk_store.specs.Abstract.{SatisfiesInvariant}
 use Rattle.bk_store.specs.declared.log.LogState.TheVariants.{Readable}
 use Rattle.bk_compact.specs.declared.entries.Stopped.TheVariants as stops
 use Rattle.bk_compact.specs.Compacting.{SourceFails, entries_left}
-use Rattle.bk_compact.specs.Going.{CopiesAll, IsAtEnd, IsCopying}
-use Rattle.bk_compact.specs.Going.{ScansFrom, told_read, told_unread}
+use Rattle.bk_compact.specs.JobSteps.{CopiesAll, IsAtEnd, IsCopying}
+use Rattle.bk_compact.specs.JobSteps.{ScansFrom, unread_of_scan, fault_of_unread}
 use Rattle.bk_compact.proofs.Positions.{none_bad}
 use Rattle.bk_compact.proofs.Stored.{source_bytes, source_honest, source_spelled}
 use Rattle.bk_compact.proofs.Examined.{out_same}
 
--- ---- the scan does not begin
+-- ---- the scan cannot begin
 
-module _ (view : View) (s : State) (kept : IsKept s) (job : Job) (is : IsCopying s job) (last : last_view s.logs job.source ≡ Some view)
+module _ (view : View) (s : State) (kept : SatisfiesInvariant s) (job : Job) (is : IsCopying s job) (last : last_view s.logs job.source ≡ Some view)
     (before : IsTrue view.is_honest → view_end view.bytes < job.at) where
   pub view_short : s.honest ≡ false
   view_short = false_from_ne_true s.honest (λ honest.
@@ -37,7 +37,7 @@ module _ (view : View) (s : State) (kept : IsKept s) (job : Job) (is : IsCopying
       subst (λ (b : List ℕ). job.at ≤ view_end b) (source_bytes s kept job is.out.keeps view last) read.within in
       omega (arith, within, before (source_honest s kept job is.out.keeps view last honest)))
 
-  pub short_odd : (n : ℕ) (u : State) (later : Job) → SetTurn s job.copy Readable u → CopiesAll s job n (Err stops.Odd) u later
+  pub short_odd : (n : ℕ) (u : State) (later : Job) → SetLogStateTransition s job.copy Readable u → CopiesAll s job n (Err stops.Odd) u later
   short_odd n u later set = (
     view_short,
     (
@@ -55,7 +55,7 @@ module _ (view : View) (s : State) (kept : IsKept s) (job : Job) (is : IsCopying
 
 -- ---- whether an entry is left
 
-module _ (view : View) (s : State) (kept : IsKept s) (job : Job) (is : IsJob s job) (last : last_view s.logs job.source ≡ Some view)
+module _ (view : View) (s : State) (kept : SatisfiesInvariant s) (job : Job) (is : JobInvariant s job) (last : last_view s.logs job.source ≡ Some view)
     (scan : Scan) (begins : ScansFrom view.bytes view.is_honest view.is_sound job.at scan) where
   first_truth : IsTrue s.honest → IsTrue scan.honest
   first_truth honest = ap (λ (x : Scan). x.honest) begins.is ∙ source_honest s kept job is view last honest
@@ -76,7 +76,7 @@ module _ (view : View) (s : State) (kept : IsKept s) (job : Job) (is : IsJob s j
   none_given : scan.given ≡ 0
   none_given = ap (λ (x : Scan). x.given) begins.is
 
-  pub at_end_none : (scan' : Scan) → NextMoves scan (Ok None) scan' → (IsTrue scan.honest → NextTurn scan (Ok None) scan') → IsAtEnd s job true
+  pub at_end_none : (scan' : Scan) → NextMoves scan (Ok None) scan' → (IsTrue scan.honest → ScanNextTransition scan (Ok None) scan') → IsAtEnd s job true
   at_end_none scan' moves turn = λ honest.
       let is' = turn (first_truth honest) in
       let shape = moves.1 in
@@ -91,7 +91,7 @@ module _ (view : View) (s : State) (kept : IsKept s) (job : Job) (is : IsJob s j
       empty [] few = refl
       empty (x ∷ l) few = absurd (omega arith)
 
-  pub at_end_some : (found : Found) (scan' : Scan) → (IsTrue scan.honest → NextTurn scan (Ok (Some found)) scan') → IsAtEnd s job false
+  pub at_end_some : (found : Found) (scan' : Scan) → (IsTrue scan.honest → ScanNextTransition scan (Ok (Some found)) scan') → IsAtEnd s job false
   at_end_some found scan' turn = λ honest none.
       let is' = turn (first_truth honest) in
       let listed : slice_get (entries_left s job) 0 ≡ Some (found.at, is'.payload) =
@@ -104,14 +104,14 @@ module _ (view : View) (s : State) (kept : IsKept s) (job : Job) (is : IsJob s j
       not_there (x ∷ l) e none wrong = cc
 
   pub at_end : (o : Option Found) (answer : Bool) → is_some o ≡ not answer → (scan' : Scan) → NextMoves scan (Ok o) scan'
-      → (IsTrue scan.honest → NextTurn scan (Ok o) scan') → IsAtEnd s job answer
+      → (IsTrue scan.honest → ScanNextTransition scan (Ok o) scan') → IsAtEnd s job answer
   at_end None true told scan' moves turn = at_end_none scan' moves turn
   at_end None false told scan' moves turn = cc
   at_end (Some found) true told scan' moves turn = cc
   at_end (Some found) false told scan' moves turn = at_end_some found scan' turn
 
-  pub read_fails : (fault : ScanFault) (scan' : Scan) → NextMoves scan (Err fault) scan' → (IsTrue scan.honest → NextTurn scan (Err fault) scan')
-      → (fault ≡ scans.Disk → scan.sound ≡ false) → SourceFails s job (told_unread (told_read fault))
+  pub read_fails : (fault : ScanFault) (scan' : Scan) → NextMoves scan (Err fault) scan' → (IsTrue scan.honest → ScanNextTransition scan (Err fault) scan')
+      → (fault ≡ scans.Disk → scan.sound ≡ false) → SourceFails s job (fault_of_unread (unread_of_scan fault))
   read_fails scans.Disk scan' moves turn cause = (view, last, sym (ap (λ (x : Scan). x.sound) begins.is) ∙ cause refl)
   read_fails scans.Memory scan' moves turn cause = refl
   read_fails scans.Odd scan' moves turn cause = false_from_ne_true s.honest (λ honest. turn (first_truth honest))

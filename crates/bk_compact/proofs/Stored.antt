@@ -1,4 +1,5 @@
--- What any store keeps, told of its visible state; the source of a job and what it shows.
+-- The store invariant in terms of the visible state; the source log of a job and its published
+-- part.
 use Rattle.std.proofs.Common.{◌≡◌, ◌⊎◌, inl, inr, ℕ, ◌+◌, ◌<◌, ◌≤◌, ◌^◌, true, if◌then◌else◌, IsTrue, List, []}
 use Rattle.std.proofs.Common.{◌∷◌, ◌++◌, length, take, drop, slice_get, Option, Some, refl, sym, ap, subst, ◌∙◌, arith}
 use Rattle.std.specs.Option.{option_map_or, option_and_then}
@@ -18,26 +19,26 @@ use Rattle.bk_log.specs.declared.found.Found.{Found}
 use Rattle.bk_store.specs.Entries.{HasEntry}
 use Rattle.bk_store.specs.Logs.{View, Log, Logs, HasOpenView, is_open, last_view, open_parts, published_part}
 use Rattle.bk_store.specs.State.{State}
-use Rattle.bk_store.specs.Shown.{Shows}
+use Rattle.bk_store.specs.Published.{IndexIsPublished}
 use Rattle.bk_store.specs.Jobs.{Job}
-use Rattle.bk_store.specs.JobKept.{IsJob, IsReadTo, entries_from}
-use Rattle.bk_store.specs.Kept.{IsHeld, IsBacked}
-use Rattle.bk_store.specs.Plain.{IsKept}
+use Rattle.bk_store.specs.JobInvariant.{JobInvariant, IsReadTo, entries_from}
+use Rattle.bk_store.specs.Invariant.{HeldLogInvariant, LogMatchesFile}
+use Rattle.bk_store.specs.Abstract.{SatisfiesInvariant}
 use Rattle.bk_compact.specs.Compacting.{behind, place_of, entries_left}
-use Rattle.bk_compact.specs.Going.{IsNextFound}
+use Rattle.bk_compact.specs.JobSteps.{IsNextFound}
 use Rattle.bk_compact.proofs.Positions.{read_on, entry_ahead, ahead_behind, ahead_stands, drop_next, entries_passed}
 use Rattle.bk_record.proofs.Growth.{take_next}
 
 -- ---- any store
 
-module _ (s : State) (kept : IsKept s) where
+module _ (s : State) (kept : SatisfiesInvariant s) where
   pub kept_sent : (key : EntryKey) (place : Place) → finite.get s.index key ≡ Some place → HasOpenView s.logs place.log
   kept_sent =
       subst (λ (t : State). (key : EntryKey) (place : Place) → finite.get t.index key ≡ Some place → HasOpenView t.logs place.log) kept.seen
       kept.keeps.fits.sent
 
-  pub kept_held : (id : ℕ) (log : Log) → finite.get s.logs id ≡ Some log → IsHeld s.next id log
-  kept_held = subst (λ (t : State). (id : ℕ) (log : Log) → finite.get t.logs id ≡ Some log → IsHeld t.next id log) kept.seen kept.keeps.fits.logs.each
+  pub kept_held : (id : ℕ) (log : Log) → finite.get s.logs id ≡ Some log → HeldLogInvariant s.next id log
+  kept_held = subst (λ (t : State). (id : ℕ) (log : Log) → finite.get t.logs id ≡ Some log → HeldLogInvariant t.next id log) kept.seen kept.keeps.fits.logs.each
 
   pub kept_ids : s.next ≤ 2 ^ 31
   kept_ids = subst (λ (t : State). t.next ≤ 2 ^ 31) kept.seen kept.keeps.fits.limits.ids
@@ -46,15 +47,15 @@ module _ (s : State) (kept : IsKept s) where
   kept_headed = subst (λ (t : State). (id : ℕ) (log : Log) → finite.get t.logs id ≡ Some log → header_length ≤ log.acknowledged) kept.seen
       (λ id log held. let least = kept.keeps.fits.accounts.total id log held in omega (arith, least))
 
-  pub kept_job : (job : Job) → s.job ≡ Some job → IsJob s job
-  kept_job = subst (λ (t : State). (job : Job) → t.job ≡ Some job → IsJob t job) kept.seen kept.keeps.job
+  pub kept_job : (job : Job) → s.job ≡ Some job → JobInvariant s job
+  kept_job = subst (λ (t : State). (job : Job) → t.job ≡ Some job → JobInvariant t job) kept.seen kept.keeps.job
 
-  pub kept_backed : IsTrue s.honest → (id : ℕ) (log : Log) → finite.get s.logs id ≡ Some log → IsBacked s.files kept.parts.synced id log
-  kept_backed = subst (λ (t : State). IsTrue t.honest → (id : ℕ) (log : Log) → finite.get t.logs id ≡ Some log → IsBacked t.files kept.parts.synced id log) kept.seen
+  pub kept_backed : IsTrue s.honest → (id : ℕ) (log : Log) → finite.get s.logs id ≡ Some log → LogMatchesFile s.files kept.parts.synced id log
+  kept_backed = subst (λ (t : State). IsTrue t.honest → (id : ℕ) (log : Log) → finite.get t.logs id ≡ Some log → LogMatchesFile t.files kept.parts.synced id log) kept.seen
       (λ honest. (kept.keeps.promises honest).logs.each)
 
-  pub kept_shows : IsTrue s.honest → Shows (file_of s.files) (open_parts s.logs) s.index
-  kept_shows = subst (λ (t : State). IsTrue t.honest → Shows (file_of t.files) (open_parts t.logs) t.index) kept.seen
+  pub kept_shows : IsTrue s.honest → IndexIsPublished (file_of s.files) (open_parts s.logs) s.index
+  kept_shows = subst (λ (t : State). IsTrue t.honest → IndexIsPublished (file_of t.files) (open_parts t.logs) t.index) kept.seen
       (λ honest. (kept.keeps.promises honest).shows)
 
 -- ---- a log that shows a view
@@ -69,8 +70,8 @@ module _ (logs : Logs) (id : ℕ) (log : Log) (view : View) (held : finite.get l
   pub shown_last : last_view logs id ≡ Some view
   shown_last = ap (λ (o : Option Log). option_and_then (λ (l : Log). l.view) o) held ∙ view_is
 
--- the source of a job, by its last view
-module _ (s : State) (kept : IsKept s) (job : Job) (is : IsJob s job) (view : View) (last : last_view s.logs job.source ≡ Some view) where
+-- the source log of a job, by its latest view
+module _ (s : State) (kept : SatisfiesInvariant s) (job : Job) (is : JobInvariant s job) (view : View) (last : last_view s.logs job.source ≡ Some view) where
   same_view : is.shown.view ≡ view
   same_view = same_Some is.shown.view view
       (sym (shown_last s.logs job.source is.shown.log is.shown.view is.shown.held is.shown.opened is.shown.view_is) ∙ last)
@@ -92,7 +93,7 @@ module _ (s : State) (kept : IsKept s) (job : Job) (is : IsJob s job) (view : Vi
 pub behind_is : (found : Found) (n : ℕ) → found.size ≡ 4 + n → found.at + n ≡ behind found
 behind_is found n sized = omega (arith, sized)
 
--- a scan that began where a log was read to, and that has come to the position, gives it
+-- a scan from a position of the log that has reached the entry returns it
 module _ (scan : Scan) (foreign : ℕ) (found : Found) (ends : scan.end ≡ view_end scan.file) (read : IsReadTo scan.file scan.from)
     (given : IsGiven scan found foreign) where
   passed : IsPassed scan.from (part scan.file scan.from (view_end scan.file)) (behind found)
@@ -117,7 +118,7 @@ module _ (scan : Scan) (foreign : ℕ) (found : Found) (ends : scan.end ≡ view
     read = read_on scan.file scan.from (behind found) (scan.given + 1) foreign read passed;
   }
 
-  -- and then the scan has come behind it
+  -- afterwards the scan is at the end of the entry
   pub scan_come : entries_from scan.file (behind found) ≡ drop (scan.given + 1) (entries_from scan.file scan.from)
   scan_come = entries_passed scan.file scan.from (behind found) (scan.given + 1) foreign passed
 
@@ -125,10 +126,11 @@ module _ (scan : Scan) (foreign : ℕ) (found : Found) (ends : scan.end ≡ view
       ≡ take scan.given (entries_from scan.file scan.from) ++ (found.at, given.payload) ∷ []
   scan_taken = take_next (entries_from scan.file scan.from) scan.given (found.at, given.payload) listed
 
--- ---- what the index names ahead of the job
+-- ---- what the index points to ahead of the job
 
--- The entry at which a key of the source stands ahead of the job is the next one, or stands behind it.
-pub named_ahead : (s : State) (kept : IsKept s) (job : Job) (found : Found) → IsTrue s.honest → IsReadTo (open_parts s.logs job.source) job.at
+-- If the index points to an entry of the source log that was not examined yet, that entry is the
+-- next one or after it.
+pub named_ahead : (s : State) (kept : SatisfiesInvariant s) (job : Job) (found : Found) → IsTrue s.honest → IsReadTo (open_parts s.logs job.source) job.at
     → IsNextFound (open_parts s.logs job.source) job.at found
     → (key : EntryKey) (place : Place) → finite.get s.index key ≡ Some place → place.log ≡ job.source → job.at < place.at
     → ((key ≡ found.key) × (place ≡ place_of job found)) ⊎ (behind found < place.at)
@@ -146,8 +148,8 @@ named_ahead s kept job found honest read next key place named here ahead =
       | inr later ↦ inr (ahead_behind bytes (behind found) place.at entry.0 later)
     ]
 
--- nothing is named there where no entry is left
-pub none_ahead : (s : State) (kept : IsKept s) (job : Job) → IsTrue s.honest → IsReadTo (open_parts s.logs job.source) job.at
+-- if no entry is left, the index points to none there
+pub none_ahead : (s : State) (kept : SatisfiesInvariant s) (job : Job) → IsTrue s.honest → IsReadTo (open_parts s.logs job.source) job.at
     → entries_left s job ≡ [] → (key : EntryKey) (place : Place) → finite.get s.index key ≡ Some place → place.log ≡ job.source → ¬ (job.at < place.at)
 none_ahead s kept job honest read none key place named here ahead =
     let bytes = open_parts s.logs job.source in
@@ -155,7 +157,7 @@ none_ahead s kept job honest read none key place named here ahead =
     let stands : In (place.at, entry.0) (records_of bytes) = subst (λ (n : ℕ). In (place.at, entry.0) (records_of (open_parts s.logs n))) here entry.1.stands in
     subst (In (place.at, entry.0)) none (entry_ahead bytes job.at read place.at entry.0 key stands entry.1.keyed ahead)
 
--- the next entry stands in what the source shows
+-- the next entry is in the published part of the source log
 pub next_entry : (s : State) (job : Job) (found : Found) → IsReadTo (open_parts s.logs job.source) job.at
     → (next : IsNextFound (open_parts s.logs job.source) job.at found) → HasEntry (open_parts s.logs) (place_of job found) found.key next.payload
 next_entry s job found read next = record {

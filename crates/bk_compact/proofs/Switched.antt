@@ -1,16 +1,16 @@
--- Moves are taken one after another.
+-- Taking relocations one after another.
 use Rattle.std.proofs.Common.{◌≡◌, ℕ, zero, suc, ◌+◌, ◌≤◌, Bool, true, false, if◌then◌else◌, IsTrue, List, []}
 use Rattle.std.proofs.Common.{◌∷◌, ◌++◌, length, take, drop, refl, sym, ap, subst, ◌∙◌, arith}
 use Rattle.std.proofs.lemmas.List.{take_all}
 use Rattle.std.proofs.Math.ListN.{drop_of_length-le}
 use Rattle.bk_store.specs.State.{State}
-use Rattle.bk_store.specs.Meaning.{MeansTheSame, KeepsMeaning}
+use Rattle.bk_store.specs.Contents.{SameContents, PreservesContents}
 use Rattle.bk_store.specs.Jobs.{Job, waits_from}
-use Rattle.bk_store.specs.Copying.{RenameTurn}
+use Rattle.bk_store.specs.CompactionPrimitives.{RelocateTransition}
 use Rattle.bk_store.specs.declared.job.Move.{Move}
 use Rattle.bk_store.specs.declared.job.Phase.TheVariants.{Switch}
 use Rattle.bk_compact.specs.Compacting.{TakesMoves}
-use Rattle.bk_compact.specs.Going.{IsOut, Switches}
+use Rattle.bk_compact.specs.JobSteps.{IsTakenOut, Switches}
 use Rattle.bk_compact.proofs.Ended.{switched_out}
 
 -- ---- lists
@@ -38,15 +38,15 @@ none_left [] n is = omega arith
 none_left (y ∷ ys) zero is = absurd (cc)
 none_left (y ∷ ys) (suc n) is = let rest = none_left ys n is in omega (arith, rest)
 
--- ---- the moves that were taken
+-- ---- the relocations taken
 
 takes_more : (s t u : State) (moves : List Move) (moved : ℕ) (first : Move) (is_moved : Bool) → TakesMoves s moves moved t
-    → RenameTurn t first.key first.from first.to is_moved u → TakesMoves s (moves ++ first ∷ []) (moved + (if is_moved then 1 else 0)) u
+    → RelocateTransition t first.key first.from first.to is_moved u → TakesMoves s (moves ++ first ∷ []) (moved + (if is_moved then 1 else 0)) u
 takes_more s t u [] moved first is_moved takes turn = (
   is_moved,
   (
     u,
-    subst (λ (x : State). RenameTurn x first.key first.from first.to is_moved u) takes.1 turn,
+    subst (λ (x : State). RelocateTransition x first.key first.from first.to is_moved u) takes.1 turn,
     (0, (let none = takes.0 in omega (arith, none)), (refl, refl)),
   ),
 )
@@ -63,20 +63,21 @@ takes_more s t u (m ∷ ms) moved first is_moved takes turn = (
   ),
 )
 
--- the first moves of a job were taken, so many, and `moved` of them sent their key on
+-- Loop invariant: the first n relocations of the job were taken, and `moved` of them switched their
+-- index entry.
 pub record IsTaking (s : State) (job : Job) (n moved : ℕ) (t : State) (after : Job) : Type 0 where
   pub takes : TakesMoves s (take n job.moves) moved t
   pub left : after ≡ record job { moves = drop n job.moves }
   pub few : moved ≤ n
-  pub out : IsOut t after
-  pub stays : KeepsMeaning s t
+  pub out : IsTakenOut t after
+  pub stays : PreservesContents s t
 
 module _ (s : State) (job : Job) (n moved : ℕ) (t : State) (after : Job) (so_far : IsTaking s job n moved t after) (phase : job.phase ≡ Switch) where
   pub after_phase : after.phase ≡ Switch
   after_phase = ap (λ (j : Job). j.phase) so_far.left ∙ phase
 
   pub taking_more : (first : Move) (rest : Job) → waits_from after first rest → (is_moved : Bool) (u : State)
-      → RenameTurn t first.key first.from first.to is_moved u → (IsTrue t.honest → MeansTheSame t u)
+      → RelocateTransition t first.key first.from first.to is_moved u → (IsTrue t.honest → SameContents t u)
       → IsTaking s job (n + 1) (moved + (if is_moved then 1 else 0)) u rest
   taking_more first rest waits is_moved u turn means =
       let next : drop n job.moves ≡ first ∷ rest.moves = sym (ap (λ (j : Job). j.moves) so_far.left) ∙ waits.0 in
@@ -96,7 +97,7 @@ module _ (s : State) (job : Job) (n moved : ℕ) (t : State) (after : Job) (so_f
         };
       }
     where
-      renamed_honest : (b : Bool) → RenameTurn t first.key first.from first.to b u → u.honest ≡ t.honest
+      renamed_honest : (b : Bool) → RelocateTransition t first.key first.from first.to b u → u.honest ≡ t.honest
       renamed_honest true is = ap (λ (x : State). x.honest) is.1
       renamed_honest false is = ap (λ (x : State). x.honest) is.1
 
@@ -104,7 +105,7 @@ module _ (s : State) (job : Job) (n moved : ℕ) (t : State) (after : Job) (so_f
       at_most true old = omega (arith, old)
       at_most false old = omega (arith, old)
 
-  -- no move waits any more
+  -- no relocation is pending
   pub taking_stops : (count : ℕ) → n ≤ count → after.moves ≡ [] → Switches s job count moved t after
   taking_stops count within none =
       let gone : drop n job.moves ≡ [] = sym (ap (λ (j : Job). j.moves) so_far.left) ∙ none in
@@ -115,6 +116,6 @@ module _ (s : State) (job : Job) (n moved : ℕ) (t : State) (after : Job) (so_f
             (gone ∙ sym (drop_of_length-le job.moves {i = count} (omega (arith, long, within))));
       }
 
-  -- so many were taken
+  -- the requested number was taken
   pub taking_ends : (count : ℕ) → n ≡ count → Switches s job count moved t after
   taking_ends count same = subst (λ c. Switches s job c moved t after) same (record { takes = so_far.takes; left = so_far.left })

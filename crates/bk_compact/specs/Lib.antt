@@ -1,2 +1,2 @@
 pub mod Compacting
-pub mod Going
+pub mod JobSteps

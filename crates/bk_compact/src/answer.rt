@@ -1,82 +1,86 @@
-//! What the calls of a compaction answer: an enum for each call.
+//! Results of the calls of a compaction, one enum per call.
 
-/// The two kinds of compaction: they differ in the threshold below which a log is compacted.
+/// The two kinds of compaction. They differ in the threshold below which a log is compacted.
 #[derive(Clone, Copy, Debug, PartialEq, Eq)]
 pub enum Kind {
-    /// By the threshold `minor` of the store's settings.
+    /// Uses the threshold `minor` of the settings.
     Minor,
-    /// By the threshold `major`.
+    /// Uses the threshold `major`.
     Major,
 }
 
-/// What became of the begin of a compaction.
+/// Result of beginning a compaction.
 #[derive(Clone, Copy, Debug, PartialEq, Eq)]
 pub enum BeginAnswer {
-    /// A compaction runs already.
+    /// A compaction is running.
     JobRunning,
-    /// No log is to be compacted.
+    /// No log qualifies.
     NothingToDo,
-    /// The log of this id was chosen: its entries will be copied to a new log.
+    /// The log of this id was chosen as the source log.
     Chosen(u32),
 }
 
-/// What became of a step of copying.
+/// Result of one call that copies entries.
 #[derive(Clone, Copy, Debug, PartialEq, Eq)]
 pub enum CopyAnswer {
-    /// No compaction runs.
+    /// No compaction is running.
     NoJob,
-    /// All entries were copied, and the copy is sealed.
+    /// All entries were copied, and the target log is sealed.
     NotNow,
-    /// No entry of the source is left to examine.
+    /// Every entry of the source log was examined.
     AtEnd,
-    /// So many of the entries that were examined were copied.
+    /// N of the examined entries were copied.
     Copied(u64),
 }
 
-/// What became of the end of copying.
+/// Result of ending the copying.
 #[derive(Clone, Copy, Debug, PartialEq, Eq)]
 pub enum EndAnswer {
-    /// No compaction runs.
+    /// No compaction is running.
     NoJob,
-    /// The copy is sealed already.
+    /// The target log is sealed already.
     NotNow,
-    /// An entry of the source was not examined yet.
+    /// An entry of the source log was not examined yet.
     NotAtEnd,
-    /// The copy is sealed and shown; so many moves wait.
+    /// The target log is sealed and published; N relocations are pending.
     Ended(u64),
 }
 
-/// What became of a step of switching.
+/// Result of one call that switches index entries.
 #[derive(Clone, Copy, Debug, PartialEq, Eq)]
 pub enum SwitchAnswer {
-    /// No compaction runs.
+    /// No compaction is running.
     NoJob,
-    /// The entries are still copied.
+    /// Entries are still being copied.
     NotNow,
-    /// So many keys were sent to their copies, since the index still sent them to the source; and so many moves wait.
+    /// The first number counts the index entries that were switched to the target log, the second
+    /// the pending relocations.
     Moved(u64, u64),
 }
 
-/// What became of the finish of a compaction.
+/// Result of finishing a compaction.
 #[derive(Clone, Copy, Debug, PartialEq, Eq)]
 pub enum FinishAnswer {
-    /// No compaction runs.
+    /// No compaction is running.
     NoJob,
-    /// The entries are still copied.
+    /// Entries are still being copied.
     NotNow,
-    /// So many moves, at least one, wait.
+    /// N relocations, at least one, are pending.
     Left(u64),
-    /// The compaction is over, and so many keys, at least one, are still sent to its source, which stays as it was.
+    /// The compaction ended. N index entries, at least one, point into its source log, which is
+    /// unchanged.
     StillNamed(u64),
-    /// The compaction is over, and its source, of this id, is retired: no key names it, and none will again.
+    /// The compaction ended, and its source log, of this id, is Retired: no index entry points into
+    /// it, and none will.
     Retired(u32),
 }
 
-/// What became of giving a compaction up.
+/// Result of giving a compaction up.
 #[derive(Clone, Copy, Debug, PartialEq, Eq)]
 pub enum GiveUpAnswer {
-    /// No compaction runs.
+    /// No compaction is running.
     NoJob,
-    /// The compaction is over. What was copied stays in the copy, and keys that were sent there stay so.
+    /// The compaction ended. Copied entries remain in the target log, and switched index entries
+    /// stay switched.
     GivenUp,
 }

@@ -1,54 +1,55 @@
-//! The begin of a compaction: a log is chosen, and the log that its entries are copied to is made.
+//! Beginning a compaction: chooses the source log and creates the target log.
 
 ghost use Rattle.std.specs.Prelude.{◌≡◌, ◌↔◌, ◌+◌, ℕ, Some, IsTrue, IfSome, IsSome};
 ghost use Rattle.std.specs.FinMap as finite;
 ghost use Rattle.bk_store.specs.Logs.{IsNextHeld};
-ghost use Rattle.bk_store.specs.Meaning.{MeansTheSame};
-ghost use Rattle.bk_step.specs.Staying.{StandsStill};
-ghost use Rattle.bk_step.specs.Faults.{TellsItsCause};
-ghost use Rattle.bk_compact.specs.Compacting.{BeginTurn, Chooses, IsCandidate, threshold_of};
-ghost use Rattle.bk_compact.specs.Going.{IsBetter, IsChoosing};
+ghost use Rattle.bk_store.specs.Contents.{SameContents};
+ghost use Rattle.bk_store.specs.Frame.{FrameUnchanged};
+ghost use Rattle.bk_store.specs.Faults.{ReportsDeviceFault};
+ghost use Rattle.bk_compact.specs.Compacting.{BeginTransition, Chooses, IsCandidate, threshold_of};
+ghost use Rattle.bk_compact.specs.JobSteps.{IsBetter, IsChoosing};
 
 use crate::{BeginAnswer, Kind};
 use bk_disk::LogDisk;
-use bk_step::StepFault;
-use bk_store::{Job, LogState, Store, TakenJob};
+use bk_store::{Job, LogState, StepFault, Store, TakenJob};
 
-/// Begins a compaction, unless one runs: chooses the log to compact, and makes the log that its entries will be copied to.
+/// Begins a compaction: chooses a source log and creates the target log.
 ///
-/// The choice is among the logs that are Readable and that the index sends keys to. Of those of which less than the kind's
-/// threshold, in thousandths, is of ledgers that live, it is the one of which the least part is; of several such the lowest
-/// id (this project's rule).
+/// Candidates are the Readable logs that the index points into. A candidate qualifies if its share
+/// of live bytes is below the threshold of `kind`, in thousandths. The one with the smallest share
+/// is chosen; of equals, the one with the lowest id (project rule).
 ///
 /// # Errors
-/// `LogsFull` where no slot is free, then `NoMoreIds` where the last id is used up: nothing is changed. `Memory`, with
-/// `done` 0, where an allocation was refused, `Disk` where the device failed, and `Odd` where it behaved as no honest one
-/// does: no compaction runs, and a log whose file stands is held as a Readable one without records.
+///
+/// No compaction is running after an error:
+///
+/// - `LogsFull`: every slot is taken. Nothing changes.
+/// - `NoMoreIds`: the last id is used. Nothing changes.
+/// - `Memory { done: 0 }`: an allocation failed.
+/// - `Disk`: the device failed. `Odd`: the disk is not honest.
+///
+/// After the last three a log whose file exists is held as a Readable log without records.
 pub fn begin<D: LogDisk>(store: &mut Store<D>, kind: Kind) -> Result<BeginAnswer, StepFault>
-    ensures turn { BeginTurn store.old kind result store.new }
-    ensures stays { StandsStill store.old store.new }
-    ensures cause { TellsItsCause store.old result store.new }
+    ensures transition { BeginTransition store.old kind result store.new }
+    ensures frame { FrameUnchanged store.old store.new }
+    ensures cause { ReportsDeviceFault store.old result store.new }
     ensures honest { store.new.honest ≡ store.old.honest }
-    ensures meaning { IsTrue store.old.honest → MeansTheSame store.old store.new }
+    ensures contents { IsTrue store.old.honest → SameContents store.old store.new }
 {
-    store.promise();
+    store.reveal_invariant();
     if store.job().is_some() {
         return Ok(BeginAnswer::JobRunning);
     }
     let Some(source) = chosen(store, threshold(store, kind)) else {
         return Ok(BeginAnswer::NothingToDo);
     };
-    match store.make_log(LogState::Copying) {
-        Ok(copy) => {
-            let job = Job::new(store.alloc(), source, copy);
-            store.set_job(TakenJob { job });
-            Ok(BeginAnswer::Chosen(source))
-        }
-        Err(fault) => Err(StepFault::of_make(fault)),
-    }
+    let copy = store.create_log(LogState::Copying)?;
+    let job = Job::new(store.alloc(), source, copy);
+    store.set_job(TakenJob { job });
+    Ok(BeginAnswer::Chosen(source))
 }
 
-/// The threshold of a kind of compaction, in thousandths.
+/// Returns the threshold of a kind of compaction, in thousandths.
 fn threshold<D: LogDisk>(store: &Store<D>, kind: Kind) -> u32
     ensures { result ≡ threshold_of store.now.settings kind }
 {
@@ -59,7 +60,8 @@ fn threshold<D: LogDisk>(store: &Store<D>, kind: Kind) -> u32
     }
 }
 
-/// The log to compact, `None` where there is none: a walk over all logs by rising ids, which takes no memory.
+/// Returns the log to compact, if there is one. Walks over all logs by rising id, and does not
+/// allocate.
 fn chosen<D: LogDisk>(store: &Store<D>, threshold: u32) -> Option<u32>
     ensures candidate { IfSome result (IsCandidate store.now) }
     ensures choice { IsTrue store.now.honest → Chooses store.now threshold result }
@@ -73,14 +75,14 @@ fn chosen<D: LogDisk>(store: &Store<D>, threshold: u32) -> Option<u32>
     best
 }
 
-/// The better one of the best log so far and the next one that is held.
+/// Returns the better one of the best log so far and the next log.
 fn best_of<D: LogDisk>(store: &Store<D>, threshold: u32, best: Option<u32>, log: u32) -> Option<u32>
     requires held { IsSome (finite.get store.now.logs log) }
     requires best { IfSome best (IsCandidate store.now) }
     ensures { (from : ℕ) → IsNextHeld store.now.logs from (Some log) → IsChoosing store.now threshold from best
         → IsChoosing store.now threshold (log + 1) result }
 {
-    // Few logs are used that little, so that is asked first.
+    // The comparison is first because it is cheap: few logs are below the threshold.
     if is_better(store, threshold, best, log) && is_candidate(store, log) {
         Some(log)
     } else {
@@ -88,7 +90,7 @@ fn best_of<D: LogDisk>(store: &Store<D>, threshold: u32, best: Option<u32>, log:
     }
 }
 
-/// Whether the log may be compacted: it is Readable, and the index sends a key to it.
+/// Returns whether the log is Readable and the index points into it.
 fn is_candidate<D: LogDisk>(store: &Store<D>, log: u32) -> bool
     ensures { IsTrue result ↔ IsCandidate store.now log }
 {
@@ -98,7 +100,7 @@ fn is_candidate<D: LogDisk>(store: &Store<D>, log: u32) -> bool
     matches!(state, LogState::Readable) && named > 0
 }
 
-/// Whether the log is to be chosen rather than the best one so far.
+/// Returns whether the log is chosen over the best one so far.
 fn is_better<D: LogDisk>(store: &Store<D>, threshold: u32, best: Option<u32>, log: u32) -> bool
     requires held { IsSome (finite.get store.now.logs log) }
     requires best { IfSome best (λ id. IsSome (finite.get store.now.logs id)) }

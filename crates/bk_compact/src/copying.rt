@@ -1,42 +1,49 @@
-//! Copying: entries of the source are examined one after another, and those that the index names there are copied.
+//! Copying: examines the entries of the source log in order, and copies those that the index points
+//! to.
 //!
-//! The job is out of the store while this goes on. It is given back unless the device failed while an entry was put in the
-//! copy, or the disk is odd: then the compaction is over, and the copy is read as it is.
+//! The job is taken out of the store during a call, and usually given back. If an append to the
+//! target log failed on the device, or the disk is not honest, the compaction ends instead, and the
+//! target log is Readable as it is.
 
 ghost use Rattle.std.specs.Prelude.{◌≡◌, ◌≤◌, IsTrue};
 ghost use Rattle.bk_disk.specs.Disk.{AreSound};
 ghost use Rattle.bk_store.specs.Jobs.{Job as JobState};
-ghost use Rattle.bk_store.specs.Meaning.{MeansTheSame, KeepsMeaning};
+ghost use Rattle.bk_store.specs.Contents.{SameContents, PreservesContents};
 ghost use Rattle.bk_store.specs.declared.job.Phase.TheVariants.{Copy as CopyPhase};
-ghost use Rattle.bk_step.specs.Staying.{StandsStill};
-ghost use Rattle.bk_step.specs.Faults.{TellsItsCause};
-ghost use Rattle.bk_compact.specs.Compacting.{CopyTurn, IsRunning, TellsFailures};
+ghost use Rattle.bk_store.specs.Frame.{FrameUnchanged};
+ghost use Rattle.bk_store.specs.Faults.{ReportsDeviceFault};
+ghost use Rattle.bk_compact.specs.Compacting.{CopyTransition, IsRunning, BoundsDeviceFaults};
 
 use crate::CopyAnswer;
 use crate::entries::{Stopped, copy_entries};
 use crate::finishing::abandon;
 use crate::scanning::{Unread, is_at_end};
 use bk_disk::LogDisk;
-use bk_step::StepFault;
-use bk_store::{Phase, Store};
+use bk_store::{Phase, StepFault, Store};
 
-/// Examines the next `count` entries of what the source shows, or those that are left, and copies each that the index sends
-/// its key to; the answer tells how many were copied. Foreign records are passed over.
+/// Examines the next `count` entries of the published part of the source log, or all that are left,
+/// and copies each entry that the index points to. Returns how many were copied. Ignores foreign
+/// records.
 ///
 /// # Errors
-/// `Memory` where an allocation was refused, and then `done` entries were copied: they stay so, and the next call goes on
-/// with the entry that was refused. `Disk` where the source can't be read: the same. `Disk` where the copy could not be
-/// written, and `Odd` where the disk behaved as no honest one does: the compaction is over, and the copy is Readable as it
-/// is.
+///
+/// In the order in which entries are examined:
+///
+/// - `Memory { done }`: an allocation failed. `done` entries were copied and are not copied again;
+///   the next call continues with the entry that failed.
+/// - `Disk`: the source log could not be read. The compaction continues as after `Memory`.
+/// - `Disk`: an append to the target log failed. The compaction ends, and the target log is
+///   Readable as it is.
+/// - `Odd`: the disk is not honest. The compaction ends likewise.
 pub fn copy<D: LogDisk>(store: &mut Store<D>, count: u64) -> Result<CopyAnswer, StepFault>
-    ensures turn { CopyTurn store.old count result store.new }
-    ensures stays { StandsStill store.old store.new }
-    ensures cause { TellsFailures store.old result store.new }
-    ensures sound { AreSound D.View.sound → TellsItsCause store.old result store.new }
+    ensures transition { CopyTransition store.old count result store.new }
+    ensures frame { FrameUnchanged store.old store.new }
+    ensures cause { BoundsDeviceFaults store.old result store.new }
+    ensures sound { AreSound D.View.sound → ReportsDeviceFault store.old result store.new }
     ensures honest { store.new.honest ≡ store.old.honest }
-    ensures meaning { IsTrue store.old.honest → MeansTheSame store.old store.new }
+    ensures contents { IsTrue store.old.honest → SameContents store.old store.new }
 {
-    store.promise();
+    store.reveal_invariant();
     let Some(job) = store.job() else {
         return Ok(CopyAnswer::NoJob);
     };
@@ -47,7 +54,7 @@ pub fn copy<D: LogDisk>(store: &mut Store<D>, count: u64) -> Result<CopyAnswer, 
     if count > 0 {
         return go_on(store, count);
     }
-    // No entry is to be examined, and it is told whether one is left.
+    // With `count` 0 nothing is examined; the result only depends on whether an entry is left.
     match is_at_end(store, job) {
         Ok(true) => Ok(CopyAnswer::AtEnd),
         Ok(false) => Ok(CopyAnswer::Copied(0)),
@@ -60,15 +67,16 @@ pub fn copy<D: LogDisk>(store: &mut Store<D>, count: u64) -> Result<CopyAnswer, 
     }
 }
 
-/// Takes the job out, copies, and gives the job back, or ends the compaction.
+/// Takes the job out of the store and copies entries. Then gives the job back, or ends the
+/// compaction.
 fn go_on<D: LogDisk>(store: &mut Store<D>, count: u64) -> Result<CopyAnswer, StepFault>
     requires some { 1 ≤ count }
     requires runs { (job : JobState) × IsRunning store.old CopyPhase job }
-    ensures turn { CopyTurn store.old count result store.new }
-    ensures sound { AreSound D.View.sound → TellsItsCause store.old result store.new }
-    ensures stays { KeepsMeaning store.old store.new }
+    ensures transition { CopyTransition store.old count result store.new }
+    ensures sound { AreSound D.View.sound → ReportsDeviceFault store.old result store.new }
+    ensures frame { PreservesContents store.old store.new }
 {
-    store.promise();
+    store.reveal_invariant();
     let Some(job) = store.job() else {
         unreachable!();
     };

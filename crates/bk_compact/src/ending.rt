@@ -1,38 +1,40 @@
-//! The end of copying: the copy is sealed and shown, so that keys may be sent to it.
+//! Ending the copying: seals and publishes the target log, so that the index may point into it.
 
 ghost use Rattle.std.specs.Prelude.{◌≡◌, true, IsTrue};
 ghost use Rattle.bk_disk.specs.Disk.{AreSound};
 ghost use Rattle.bk_store.specs.Jobs.{Job as JobState};
-ghost use Rattle.bk_store.specs.Meaning.{MeansTheSame, KeepsMeaning};
+ghost use Rattle.bk_store.specs.Contents.{SameContents, PreservesContents};
 ghost use Rattle.bk_store.specs.declared.job.Phase.TheVariants.{Copy as CopyPhase};
-ghost use Rattle.bk_step.specs.Staying.{StandsStill};
-ghost use Rattle.bk_step.specs.Faults.{TellsItsCause};
-ghost use Rattle.bk_compact.specs.Compacting.{EndTurn, IsRunning, TellsFailures};
-ghost use Rattle.bk_compact.specs.Going.{IsAtEnd};
+ghost use Rattle.bk_store.specs.Frame.{FrameUnchanged};
+ghost use Rattle.bk_store.specs.Faults.{ReportsDeviceFault};
+ghost use Rattle.bk_compact.specs.Compacting.{EndCopyTransition, IsRunning, BoundsDeviceFaults};
+ghost use Rattle.bk_compact.specs.JobSteps.{IsAtEnd};
 
 use crate::EndAnswer;
 use crate::finishing::abandon;
 use crate::scanning::is_at_end;
 use bk_disk::LogDisk;
-use bk_step::StepFault;
-use bk_store::{LogState, Phase, Store};
+use bk_store::{LogState, Phase, StepFault, Store};
 
-/// Ends the copying, once every entry of what the source shows was examined: the copy is sealed and shown, and from now on
-/// the index is sent there. The answer tells how many moves wait.
+/// Ends the copying if every entry of the published part of the source log was examined: seals and
+/// publishes the target log. Returns the number of pending relocations.
 ///
 /// # Errors
-/// `Disk` where the source can't be read, or the device failed, `Memory`, with `done` 0, where an allocation was refused,
-/// and `Odd` where the disk behaved as no honest one does. After each the compaction is over, and the copy is Readable as it
-/// is.
+///
+/// The compaction ends with every error, and the target log is Readable as it is:
+///
+/// - `Disk`: the source log could not be read, or the device failed.
+/// - `Memory { done: 0 }`: an allocation failed.
+/// - `Odd`: the disk is not honest.
 pub fn end_copy<D: LogDisk>(store: &mut Store<D>) -> Result<EndAnswer, StepFault>
-    ensures turn { EndTurn store.old result store.new }
-    ensures stays { StandsStill store.old store.new }
-    ensures cause { TellsFailures store.old result store.new }
-    ensures sound { AreSound D.View.sound → TellsItsCause store.old result store.new }
+    ensures transition { EndCopyTransition store.old result store.new }
+    ensures frame { FrameUnchanged store.old store.new }
+    ensures cause { BoundsDeviceFaults store.old result store.new }
+    ensures sound { AreSound D.View.sound → ReportsDeviceFault store.old result store.new }
     ensures honest { store.new.honest ≡ store.old.honest }
-    ensures meaning { IsTrue store.old.honest → MeansTheSame store.old store.new }
+    ensures contents { IsTrue store.old.honest → SameContents store.old store.new }
 {
-    store.promise();
+    store.reveal_invariant();
     let Some(job) = store.job() else {
         return Ok(EndAnswer::NoJob);
     };
@@ -45,30 +47,30 @@ pub fn end_copy<D: LogDisk>(store: &mut Store<D>) -> Result<EndAnswer, StepFault
         Ok(true) => seal_copy(store),
         Err(unread) => {
             abandon(store);
-            Err(unread.told())
+            Err(StepFault::from(unread))
         }
     }
 }
 
-/// Seals and shows the copy, all entries being examined.
+/// Seals and publishes the target log after every entry was examined.
 fn seal_copy<D: LogDisk>(store: &mut Store<D>) -> Result<EndAnswer, StepFault>
     requires { (job : JobState) × IsRunning store.old CopyPhase job × IsAtEnd store.old job true }
-    ensures turn { EndTurn store.old result store.new }
-    ensures cause { TellsItsCause store.old result store.new }
-    ensures stays { KeepsMeaning store.old store.new }
+    ensures transition { EndCopyTransition store.old result store.new }
+    ensures cause { ReportsDeviceFault store.old result store.new }
+    ensures frame { PreservesContents store.old store.new }
 {
-    store.promise();
+    store.reveal_invariant();
     let Some(mut taken) = store.take_job() else {
         unreachable!();
     };
     let copy = taken.job.copy();
     if let Err(fault) = store.seal(copy, LogState::Readable) {
         taken.end();
-        return Err(StepFault::of_log(fault));
+        return Err(StepFault::from(fault));
     }
-    if let Err(fault) = store.show(copy) {
+    if let Err(fault) = store.publish_log(copy) {
         taken.end();
-        return Err(StepFault::of_log(fault));
+        return Err(StepFault::from(fault));
     }
     taken.job.begin_switch();
     let left = taken.job.left();

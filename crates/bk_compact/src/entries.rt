@@ -1,16 +1,16 @@
-//! The entries of a source are examined one by one, and copied.
+//! Examines and copies the entries of a source log one by one.
 
 ghost use Rattle.std.specs.Prelude.{◌≡◌, ◌+◌, ◌<◌, ◌≤◌, ◌^◌, IsTrue, Ok, Some, length};
 ghost use Rattle.std.specs.FinMap as finite;
 ghost use Rattle.bk_log.specs.Places.{HasEntryAt};
 ghost use Rattle.bk_log.specs.Writing.{Writing};
-ghost use Rattle.bk_store.specs.Doors.{IsIn, SetTurn, writer_of};
-ghost use Rattle.bk_store.specs.Putting.{next_place};
+ghost use Rattle.bk_store.specs.Primitives.{IsIn, SetLogStateTransition, writer_of};
+ghost use Rattle.bk_store.specs.Appending.{next_place};
 ghost use Rattle.bk_store.specs.Logs.{last_view, open_parts, view_of};
 ghost use Rattle.bk_store.specs.declared.log.LogState.TheVariants.{Copying as CopyingState, Readable as ReadableState};
-ghost use Rattle.bk_store.specs.Meaning.{KeepsMeaning};
+ghost use Rattle.bk_store.specs.Contents.{PreservesContents};
 ghost use Rattle.bk_compact.specs.Compacting.{behind, place_of};
-ghost use Rattle.bk_compact.specs.Going.{CopiesEntry, CopiesNext, ExaminesOne, IsAhead, IsCopying, IsEntry, IsScanOf, told_after, told_put};
+ghost use Rattle.bk_compact.specs.JobSteps.{CopiesEntry, CopiesNext, ExaminesOne, IsAhead, IsCopying, IsEntry, IsScanOf, stop_after};
 
 use crate::scanning::scan_from;
 use bk_disk::LogDisk;
@@ -19,23 +19,23 @@ use bk_log::{FetchFault, Found, LogFault, ScanFault, Scanner, fetch};
 use bk_record::{Key, Location, key_of};
 use bk_store::{Job, LogState, Move, Store};
 
-/// Why entries were examined no further.
+/// Why no further entry was examined.
 #[derive(Clone, Copy)]
 pub(crate) enum Stopped {
-    /// No memory was to be had; so many were copied before.
+    /// Out of memory. This many entries were copied before.
     Memory(u64),
-    /// The source could not be read: its device failed.
+    /// The source log could not be read: its device failed.
     Unread,
-    /// The device failed while an entry was put in the copy, which is Readable.
+    /// The device failed in an append to the target log, which is Readable.
     Failed,
-    /// The disk answered what an honest disk cannot; the copy is Readable.
+    /// The disk returned what no honest disk can. The target log is Readable.
     Odd,
 }
 
 impl Stopped {
-    /// The same, when so many entries were copied before.
+    /// Returns the same reason with this number of copied entries.
     fn after(self, copied: u64) -> Stopped
-        ensures { result ≡ told_after copied self }
+        ensures { result ≡ stop_after copied self }
     {
         match self {
             Stopped::Memory(_) => Stopped::Memory(copied),
@@ -46,8 +46,8 @@ impl Stopped {
     }
 }
 
-/// Examines so many entries, at least one, of what a view of the source shows, from the job's position on, or those that are
-/// left, and answers how many were copied; `None` where no entry is left.
+/// Examines the next `count` entries, at least one, of a view of the source log, or all that are
+/// left. Returns how many were copied, and `None` if no entry is left.
 pub(crate) fn copy_entries<D: LogDisk>(
     store: &mut Store<D>,
     view: &D::View,
@@ -57,17 +57,17 @@ pub(crate) fn copy_entries<D: LogDisk>(
     requires some { 1 ≤ count }
     requires copying { IsCopying store.old job.old }
     requires view { last_view store.old.logs job.old.source ≡ Some (view_of D.View.bytes D.View.honest D.View.sound view.now) }
-    ensures turn { CopiesNext store.old job.old count result store.new job.new }
-    ensures stays { KeepsMeaning store.old store.new }
+    ensures transition { CopiesNext store.old job.old count result store.new job.new }
+    ensures frame { PreservesContents store.old store.new }
 {
-    store.promise();
+    store.reveal_invariant();
     let Some(mut scanner) = scan_from(view, store.alloc(), job.at()) else {
         return Err(odd(store, job));
     };
     let mut near = Near::start();
     let mut copied = 0;
     for number in 0..count {
-        store.promise();
+        store.reveal_invariant();
         match scanner.next() {
             Ok(None) => {
                 if number == 0 {
@@ -89,12 +89,12 @@ pub(crate) fn copy_entries<D: LogDisk>(
             Err(ScanFault::Odd) => return Err(odd(store, job)),
         }
     }
-    store.promise();
+    store.reveal_invariant();
     Ok(Some(copied))
 }
 
-/// Copies an entry of the source where the index sends its key there, and answers whether it did. The job has come behind
-/// the entry then.
+/// Copies an entry of the source log if the index points to it, and returns whether it did. Moves
+/// the position of the job past the entry.
 fn examine<D: LogDisk>(
     store: &mut Store<D>,
     view: &D::View,
@@ -107,11 +107,11 @@ fn examine<D: LogDisk>(
     requires view { last_view store.old.logs job.old.source ≡ Some (view_of D.View.bytes D.View.honest D.View.sound view.now) }
     requires scans { IsScanOf (D.View.bytes view.now) (D.View.honest view.now) scanner.now }
     requires ahead { IsAhead store.old job.old found.now }
-    ensures turn { ExaminesOne store.old job.old found.now result store.new job.new }
-    ensures stays { KeepsMeaning store.old store.new }
+    ensures transition { ExaminesOne store.old job.old found.now result store.new job.new }
+    ensures frame { PreservesContents store.old store.new }
 {
-    store.promise();
-    // No log of an honest disk has more bytes than a location can say.
+    store.reveal_invariant();
+    // On an honest disk no position in a log exceeds what a location can hold.
     store.disk().bounds();
     let behind = found.at + u64::from(found.size - 4);
     if behind > u64::from(u32::MAX) {
@@ -126,8 +126,8 @@ fn examine<D: LogDisk>(
     Ok(named)
 }
 
-/// Whether the index sends the key to this place. Entries mostly stand in the order of their keys, so each is looked for
-/// beside the one before.
+/// Returns whether the index points the key to this place. Entries are mostly in key order, so each
+/// look-up starts near the previous key.
 fn is_sent<D: LogDisk>(store: &Store<D>, near: &mut Near, key: Key, place: Location) -> bool
     ensures sent { IsTrue result → finite.get store.now.index key ≡ Some place }
     ensures unsent { finite.get store.now.index key ≡ Some place → IsTrue result }
@@ -138,7 +138,8 @@ fn is_sent<D: LogDisk>(store: &Store<D>, near: &mut Near, key: Key, place: Locat
     }
 }
 
-/// Copies an entry of the source, and notes its move: from the window in which the scan found it, where that has all of it.
+/// Copies an entry of the source log and notes its relocation. Uses the scanner's window if that
+/// has the whole payload; otherwise fetches the entry.
 fn copy_entry<D: LogDisk>(
     store: &mut Store<D>,
     view: &D::View,
@@ -154,10 +155,10 @@ fn copy_entry<D: LogDisk>(
     requires near { behind found.now < 2 ^ 32 }
     requires place { from ≡ place_of job.old found.now }
     requires sent { finite.get store.old.index found.now.key ≡ Some from }
-    ensures turn { CopiesEntry store.old job.old found.now result store.new job.new }
-    ensures stays { KeepsMeaning store.old store.new }
+    ensures transition { CopiesEntry store.old job.old found.now result store.new job.new }
+    ensures frame { PreservesContents store.old store.new }
 {
-    store.promise();
+    store.reveal_invariant();
     if let Some(payload) = scanner.payload(found) {
         return put_entry(store, job, found, from, payload);
     }
@@ -171,7 +172,7 @@ fn copy_entry<D: LogDisk>(
     put_entry(store, job, found, from, &payload)
 }
 
-/// Puts an entry of the source in the copy, and notes its move. Beside an honest disk the payload is the entry's.
+/// Appends an entry of the source log to the target log, and notes its relocation.
 fn put_entry<D: LogDisk>(
     store: &mut Store<D>,
     job: &mut Job,
@@ -185,10 +186,10 @@ fn put_entry<D: LogDisk>(
     requires place { from ≡ place_of job.old found.now }
     requires sent { finite.get store.old.index found.now.key ≡ Some from }
     requires stands { IsTrue store.old.honest → HasEntryAt (open_parts store.old.logs job.old.source) found.now.at found.now.key payload.now }
-    ensures turn { CopiesEntry store.old job.old found.now result store.new job.new }
-    ensures stays { KeepsMeaning store.old store.new }
+    ensures transition { CopiesEntry store.old job.old found.now result store.new job.new }
+    ensures frame { PreservesContents store.old store.new }
 {
-    store.promise();
+    store.reveal_invariant();
     if !is_entry(payload, found) {
         return Err(odd(store, job));
     }
@@ -197,25 +198,31 @@ fn put_entry<D: LogDisk>(
     let Ok(()) = job.note(Move { key, from, to }) else {
         return Err(Stopped::Memory(0));
     };
-    let Err(fault) = store.put(job.copy(), key, payload) else {
+    let Err(fault) = store.append_copied(job.copy(), key, payload) else {
         return Ok(());
     };
     job.take_back();
-    Err(put_fault(fault))
+    Err(Stopped::from(fault))
 }
 
-/// What a fault of the copy means: but for want of memory, it is Readable.
-fn put_fault(fault: LogFault) -> Stopped
-    ensures { result ≡ told_put fault }
-{
-    match fault {
-        LogFault::Memory => Stopped::Memory(0),
-        LogFault::Disk => Stopped::Failed,
-        LogFault::Failed | LogFault::Odd => Stopped::Odd,
+// Unless the fault is `Memory`, the target log is Readable after it.
+impl From<LogFault> for Stopped {
+    ghost use Rattle.std.specs.Prelude.{◌≡◌};
+    ghost use Rattle.bk_compact.specs.JobSteps.{stop_of_put};
+
+    ghost from_gives = { λ fault e. e ≡ stop_of_put fault };
+
+    fn from(fault: LogFault) -> Stopped {
+        match fault {
+            LogFault::Memory => Stopped::Memory(0),
+            LogFault::Disk => Stopped::Failed,
+            LogFault::Failed | LogFault::Odd => Stopped::Odd,
+        }
     }
 }
 
-/// Whether these bytes are a payload of the entry's key and size, as they are beside an honest disk.
+/// Returns whether these bytes are a payload of the entry's key and size. On an honest disk they
+/// are.
 fn is_entry(payload: &[u8], found: &Found) -> bool
     requires { 20 ≤ found.now.size }
     ensures entry { IsTrue result → IsEntry payload.now found.now }
@@ -230,25 +237,25 @@ fn is_entry(payload: &[u8], found: &Found) -> bool
     }
 }
 
-/// Where the next payload that is put in the copy will stand.
+/// Returns the location of the next payload in the target log.
 fn place_in<D: LogDisk>(store: &Store<D>, copy: u32) -> Location
     requires copying { IsIn store.now copy CopyingState }
     requires room { (w : Writing) → writer_of store.now.logs copy ≡ Some w → w.end + 4 < 2 ^ 32 }
     ensures { (w : Writing) × (writer_of store.now.logs copy ≡ Some w) × (result ≡ next_place w) }
 {
-    store.promise();
+    store.reveal_invariant();
     let Some(writer) = store.writer(copy) else {
         unreachable!();
     };
     Location::pack(copy, (writer.length() + 4) as u32).unwrap()
 }
 
-/// The disk is odd, so the copy is read as it is.
+/// Ends writing to the target log, because the disk is not honest.
 fn odd<D: LogDisk>(store: &mut Store<D>, job: &Job) -> Stopped
     requires { IsCopying store.old job.now }
     ensures value { result ≡ Stopped.Odd }
-    ensures turn { SetTurn store.old job.now.copy ReadableState store.new }
-    ensures stays { KeepsMeaning store.old store.new }
+    ensures transition { SetLogStateTransition store.old job.now.copy ReadableState store.new }
+    ensures frame { PreservesContents store.old store.new }
 {
     store.set_log_state(job.copy(), LogState::Readable);
     Stopped::Odd

@@ -1,28 +1,31 @@
-//! A compaction ends: its source is retired where no key names it any more, or the compaction is given up.
+//! Ending a compaction: retires its source log, or gives the compaction up.
 
 ghost use Rattle.std.specs.Prelude.{◌≡◌, ℕ, None, IsTrue};
-ghost use Rattle.bk_store.specs.Doors.{SetTurn};
+ghost use Rattle.bk_store.specs.Primitives.{SetLogStateTransition};
 ghost use Rattle.bk_store.specs.Jobs.{Job as JobState};
-ghost use Rattle.bk_store.specs.Meaning.{MeansTheSame, KeepsMeaning};
+ghost use Rattle.bk_store.specs.Contents.{SameContents, PreservesContents};
 ghost use Rattle.bk_store.specs.declared.job.Phase.TheVariants.{Copy as CopyPhase};
 ghost use Rattle.bk_store.specs.declared.log.LogState.TheVariants.{Readable as ReadableState};
-ghost use Rattle.bk_step.specs.Staying.{StandsStill};
-ghost use Rattle.bk_compact.specs.Compacting.{FinishTurn, GiveUpTurn, IsRunning, IsUndisturbed, with_job};
+ghost use Rattle.bk_store.specs.Frame.{FrameUnchanged};
+ghost use Rattle.bk_compact.specs.Compacting.{FinishTransition, GiveUpTransition, IsRunning, IsUndisturbed, with_job};
 
 use crate::{FinishAnswer, GiveUpAnswer};
 use bk_disk::LogDisk;
 use bk_store::{LogState, Phase, Store};
 
-/// Finishes a compaction of which no move waits: its source is retired where no key is sent to it. Where one is, since the
-/// index was made anew after the entries were copied, the source stays as it was. It takes no memory, and asks no device.
+/// Finishes a compaction without pending relocations. Retires its source log if the index does not
+/// point into it.
+///
+/// If the index was rebuilt after entries were copied, it may still point into the source log,
+/// which is then unchanged. Does not allocate and does not use the device.
 pub fn finish<D: LogDisk>(store: &mut Store<D>) -> FinishAnswer
-    ensures turn { FinishTurn store.old result store.new }
-    ensures stays { StandsStill store.old store.new × (store.new.failures ≡ store.old.failures) }
+    ensures transition { FinishTransition store.old result store.new }
+    ensures frame { FrameUnchanged store.old store.new × (store.new.failures ≡ store.old.failures) }
     ensures retires { IsTrue store.old.honest → (source : ℕ) → IsUndisturbed store.old source → result ≡ FinishAnswer.Retired source }
     ensures honest { store.new.honest ≡ store.old.honest }
-    ensures meaning { IsTrue store.old.honest → MeansTheSame store.old store.new }
+    ensures contents { IsTrue store.old.honest → SameContents store.old store.new }
 {
-    store.promise();
+    store.reveal_invariant();
     let Some(job) = store.job() else {
         return FinishAnswer::NoJob;
     };
@@ -48,15 +51,16 @@ pub fn finish<D: LogDisk>(store: &mut Store<D>) -> FinishAnswer
     FinishAnswer::Retired(source)
 }
 
-/// Gives up the compaction that runs, in whichever phase: a copy that is written becomes Readable as it is. Keys that were
-/// sent to it stay so. It takes no memory, and asks no device.
+/// Gives up the running compaction in either phase. A target log that is being written becomes
+/// Readable as it is, and switched index entries stay switched. Does not allocate and does not use
+/// the device.
 pub fn give_up<D: LogDisk>(store: &mut Store<D>) -> GiveUpAnswer
-    ensures turn { GiveUpTurn store.old result store.new }
-    ensures stays { StandsStill store.old store.new × (store.new.failures ≡ store.old.failures) }
+    ensures transition { GiveUpTransition store.old result store.new }
+    ensures frame { FrameUnchanged store.old store.new × (store.new.failures ≡ store.old.failures) }
     ensures honest { store.new.honest ≡ store.old.honest }
-    ensures meaning { IsTrue store.old.honest → MeansTheSame store.old store.new }
+    ensures contents { IsTrue store.old.honest → SameContents store.old store.new }
 {
-    store.promise();
+    store.reveal_invariant();
     let Some(job) = store.job() else {
         return GiveUpAnswer::NoJob;
     };
@@ -72,13 +76,13 @@ pub fn give_up<D: LogDisk>(store: &mut Store<D>) -> GiveUpAnswer
     GiveUpAnswer::GivenUp
 }
 
-/// The compaction is over while entries are copied: the copy is Readable as it is.
+/// Ends the compaction while entries are copied. The target log becomes Readable as it is.
 pub(crate) fn abandon<D: LogDisk>(store: &mut Store<D>)
     requires { (job : JobState) × IsRunning store.old CopyPhase job }
-    ensures turn { (job : JobState) → IsRunning store.old CopyPhase job → SetTurn (with_job store.old None) job.copy ReadableState store.new }
-    ensures stays { KeepsMeaning store.old store.new }
+    ensures transition { (job : JobState) → IsRunning store.old CopyPhase job → SetLogStateTransition (with_job store.old None) job.copy ReadableState store.new }
+    ensures frame { PreservesContents store.old store.new }
 {
-    store.promise();
+    store.reveal_invariant();
     let Some(taken) = store.take_job() else {
         unreachable!();
     };

@@ -1,5 +1,7 @@
-//! A compaction of a store, call by call: a log of which little is used is chosen, its entries that the index names are
-//! copied to a new log, the index is sent there, and the log is retired. All of it is made of the store's public calls.
+//! Compacts entry logs of a store, in small calls. Chooses a log with few live bytes, copies the
+//! entries that the index points to into a new log, switches the index, and retires the log.
+//!
+//! Uses only public calls of `Store`, so the store invariant holds whatever these functions do.
 #![tactic(auto)]
 
 mod answer;
@@ -15,7 +17,7 @@ pub use answer::{
     BeginAnswer, CopyAnswer, EndAnswer, FinishAnswer, GiveUpAnswer, Kind, SwitchAnswer,
 };
 pub use beginning::begin;
-pub use bk_step::StepFault as CompactFault;
+pub use bk_store::StepFault as CompactFault;
 pub use copying::copy;
 pub use ending::end_copy;
 pub use finishing::{finish, give_up};

@@ -1,26 +1,29 @@
-//! Switching: keys are sent to the copies of their entries, one by one, where the index still sends them to the source.
+//! Switching: points the keys of copied entries to the target log, one by one.
 
 ghost use Rattle.std.specs.Prelude.{◌≡◌, IsTrue};
-ghost use Rattle.bk_store.specs.Meaning.{MeansTheSame, KeepsMeaning};
+ghost use Rattle.bk_store.specs.Contents.{SameContents, PreservesContents};
 ghost use Rattle.bk_store.specs.declared.job.Phase.TheVariants.{Switch as SwitchPhase};
-ghost use Rattle.bk_step.specs.Staying.{StandsStill};
-ghost use Rattle.bk_compact.specs.Compacting.{SwitchTurn};
-ghost use Rattle.bk_compact.specs.Going.{IsOut, Switches};
+ghost use Rattle.bk_store.specs.Frame.{FrameUnchanged};
+ghost use Rattle.bk_compact.specs.Compacting.{SwitchTransition};
+ghost use Rattle.bk_compact.specs.JobSteps.{IsTakenOut, Switches};
 
 use crate::SwitchAnswer;
 use bk_disk::LogDisk;
 use bk_store::{Job, Phase, Store};
 
-/// Takes the next `count` moves, or those that wait, and sends the key of each to its copy where the index still sends it to
-/// the place that was copied: a key that was deleted since, or sent elsewhere, stays as it is. The answer tells how many
-/// were sent, and how many moves wait. It takes no memory, and asks no device.
+/// Takes the next `count` pending relocations, or all of them. Points the key of each to its copy
+/// if the index still points to the place that was copied; a key that was deleted or changed
+/// meanwhile is unchanged.
+///
+/// Returns how many index entries were switched and how many relocations are pending. Does not
+/// allocate and does not use the device.
 pub fn switch<D: LogDisk>(store: &mut Store<D>, count: u64) -> SwitchAnswer
-    ensures turn { SwitchTurn store.old count result store.new }
-    ensures stays { StandsStill store.old store.new × (store.new.failures ≡ store.old.failures) }
+    ensures transition { SwitchTransition store.old count result store.new }
+    ensures frame { FrameUnchanged store.old store.new × (store.new.failures ≡ store.old.failures) }
     ensures honest { store.new.honest ≡ store.old.honest }
-    ensures meaning { IsTrue store.old.honest → MeansTheSame store.old store.new }
+    ensures contents { IsTrue store.old.honest → SameContents store.old store.new }
 {
-    store.promise();
+    store.reveal_invariant();
     let Some(job) = store.job() else {
         return SwitchAnswer::NoJob;
     };
@@ -36,20 +39,21 @@ pub fn switch<D: LogDisk>(store: &mut Store<D>, count: u64) -> SwitchAnswer
     SwitchAnswer::Moved(moved, left)
 }
 
-/// Takes so many moves of the job, or those that wait, and answers how many keys were sent to their copies.
+/// Takes the next `count` pending relocations, or all of them, and returns how many index entries
+/// were switched.
 fn take_moves<D: LogDisk>(store: &mut Store<D>, job: &mut Job, count: u64) -> u64
-    requires out { IsOut store.old job.old }
+    requires out { IsTakenOut store.old job.old }
     requires switching { job.old.phase ≡ SwitchPhase }
-    ensures turn { Switches store.old job.old count result store.new job.new }
-    ensures out { IsOut store.new job.new }
-    ensures stays { KeepsMeaning store.old store.new }
+    ensures transition { Switches store.old job.old count result store.new job.new }
+    ensures out { IsTakenOut store.new job.new }
+    ensures frame { PreservesContents store.old store.new }
 {
     let mut moved = 0;
     for _ in 0..count {
         let Some(next) = job.next_move() else {
             break;
         };
-        if store.rename(next.key, next.from, next.to) {
+        if store.relocate(next.key, next.from, next.to) {
             moved += 1;
         }
     }

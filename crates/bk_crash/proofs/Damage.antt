@@ -1,4 +1,4 @@
--- What stands in front of a mark in a damaged file is a cut of the file, and so for all files.
+-- The part of a damaged file before its watermark is a cut of the file; the same for all files.
 use Rattle.std.proofs.Common.{◌≡◌, ◌⊎◌, inl, inr, ℕ, ◌+◌, ◌-◌, ◌≤◌, List, [], ◌++◌, length, take, drop, Option, Some, None, option_map, unwrap_or}
 use Rattle.std.proofs.Common.{refl, sym, ap, ◌∙◌, subst, arith, length-append, length-drop, length-take}
 use Rattle.std.proofs.Math.Decide.{dec_le}
@@ -7,15 +7,15 @@ use Rattle.std.proofs.lemmas.Option.{same_Some, none-some}
 use Rattle.std.specs.FinMap as map
 use Rattle.bk_record.specs.Files.{Files, file_of, header_length}
 use Rattle.bk_record.specs.Longer.{IsLonger}
-use Rattle.bk_disk.specs.Marks.{Marks, believed, AreCut}
-use Rattle.bk_mark.specs.Marking.{Written, AreCovered, sure_fronts}
-use Rattle.bk_mark.proofs.Fronts.{IsFront, front_there, longer_fronts}
+use Rattle.bk_disk.specs.Watermarks.{Watermarks, durable_prefix, AreTruncated}
+use Rattle.bk_watermark.specs.Marking.{Written, AreCovered, sure_fronts}
+use Rattle.bk_watermark.proofs.Fronts.{IsFront, front_there, longer_fronts}
 use Rattle.bk_crash.specs.Damage.{IsDamaged, MayBeMark, IsLeftMarked, MayDamage}
 use Rattle.bk_store.specs.Crash.{IsCut, IsLeft, MayLeave}
 
 -- ---- one file
 
--- so many bytes behind some first ones
+-- Equal bytes after position 20 of a prefix.
 drop_part : (n m : ℕ) (a b : List ℕ) → drop 20 a ≡ drop 20 (take n b) → m ≤ n → drop 20 (take m a) ≡ drop 20 (take m b)
 drop_part n m a b same order = elim (dec_le 20 m) [
   | no few ↦ nil_from_length (drop 20 (take m a)) (omega (arith, few, length-drop 20 (take m a), length-take m a))
@@ -30,7 +30,7 @@ drop_part n m a b same order = elim (dec_le 20 m) [
       front a ∙ ap (take k) (same ∙ all) ∙ take-take k j (drop 20 b) (omega (arith, order)) ∙ sym (front b)
 ]
 
--- the first eight bytes of the first ones
+-- Equal first eight bytes of a prefix.
 take_part : (n m : ℕ) (a b : List ℕ) → take 8 a ≡ take 8 (take n b) → m ≤ n → take 8 (take m a) ≡ take 8 (take m b)
 take_part n m a b same order = elim (dec_le 8 m) [
   | yes enough ↦ take-take 8 m a enough ∙ same ∙ take-take 8 n b (omega (arith, enough, order)) ∙ sym (take-take 8 m b enough)
@@ -40,7 +40,7 @@ take_part n m a b same order = elim (dec_le 8 m) [
       short a ∙ sym (take-take m 8 a less) ∙ ap (take m) same ∙ take-take m 8 (take n b) less ∙ take-take m n b order ∙ sym (short b)
 ]
 
--- the first bytes of a cut are one
+-- A prefix of a cut is a cut.
 pub cut_take : (m : ℕ) (file left : List ℕ) → IsCut file left → IsCut file (take m left)
 cut_take m file left cut = elim (dec_le (length left) m) [
   | yes all ↦ subst (IsCut file) (sym (take_all m left all)) cut
@@ -54,7 +54,7 @@ cut_take m file left cut = elim (dec_le (length left) m) [
       }
 ]
 
--- a cut of a file's first bytes is one of the file
+-- A cut of a prefix of a file is a cut of the file.
 cut_of_front : (n : ℕ) (file left : List ℕ) → IsCut (take n file) left → IsCut file left
 cut_of_front n file left cut =
     let order : length left ≤ n = omega (arith, cut.within, length-take n file) in
@@ -65,13 +65,13 @@ cut_of_front n file left cut =
       behind = cut.behind ∙ ap (drop 20) same;
     }
 
--- the first bytes, in two parts
+-- The first bytes, in two parts.
 in_two : (n k : ℕ) (l : List ℕ) → n ≤ length l → take (n + k) l ≡ take n l ++ take k (drop n l)
 in_two n k l order =
     sym (take-append-drop n (take (n + k) l)) ∙ (λ i. take-take n (n + k) l (omega arith) i ++ drop-take n k l i)
 
 module _ (kept file left : List ℕ) (damaged : IsDamaged kept file left) (mark : ℕ) (covers : mark ≤ header_length + length (drop header_length kept)) where
-  -- a mark behind the header
+  -- A watermark at or after the end of the header.
   behind_header : header_length ≤ mark → (mark ≡ header_length) ⊎ (header_length + 1 ≤ mark) → IsCut file (take mark left)
   behind_header headed (inl it) =
       subst (λ n. IsCut file (take n left)) (sym it) (cut_of_front header_length file (take header_length left) damaged.headed)
@@ -112,11 +112,11 @@ module _ (kept file left : List ℕ) (damaged : IsDamaged kept file left) (mark 
 
 -- ---- all files
 
-module _ {files gone kept left seen : Files} {marks : Written} {found : Marks} (covered : AreCovered kept marks)
-    (damage : MayDamage files gone kept marks left found) (cut : AreCut left found seen) where
+module _ {files gone kept left seen : Files} {marks : Written} {found : Watermarks} (covered : AreCovered kept marks)
+    (damage : MayDamage files gone kept marks left found) (cut : AreTruncated left found seen) where
   seen_is : (log : ℕ) (now : List ℕ) (at : ℕ) → map.get left log ≡ Some now → map.get found log ≡ Some at → map.get seen log ≡ Some (take at now)
   seen_is log now at there mark =
-      cut.each log ∙ ap (option_map (believed (map.get found log))) there ∙ ap (λ (m : Option ℕ). Some (believed m now)) mark
+      cut.each log ∙ ap (option_map (durable_prefix (map.get found log))) there ∙ ap (λ (m : Option ℕ). Some (durable_prefix m now)) mark
 
   covers_mark : (log at : ℕ) → MayBeMark marks log at → at ≤ header_length + length (drop header_length (file_of kept log))
   covers_mark log at (inl one) =
@@ -126,7 +126,7 @@ module _ {files gone kept left seen : Files} {marks : Written} {found : Marks} (
   covers_mark log at (inr none) = omega (arith, none.1)
 
   left_seen : (log : ℕ) (file : List ℕ) → map.get seen log ≡ Some file → (o : Option (List ℕ)) → map.get left log ≡ o → IsLeft files gone log file
-  left_seen log file is None gone_is = absurd (none-some file (sym (cut.each log ∙ ap (option_map (believed (map.get found log))) gone_is) ∙ is))
+  left_seen log file is None gone_is = absurd (none-some file (sym (cut.each log ∙ ap (option_map (durable_prefix (map.get found log))) gone_is) ∙ is))
   left_seen log file is (Some now) there =
       let one = damage.each log now there in
       let same : take one.0 now ≡ file = same_Some _ _ (sym (seen_is log now one.0 there one.1) ∙ is) in

@@ -1,4 +1,4 @@
--- What is left of logs one after another, and of files that were removed.
+-- What is left of the logs one after another, and of the removed files.
 use Rattle.std.proofs.Common.{◌≡◌, ◌⊎◌, inl, inr, ℕ, ◌+◌, ◌<◌, ◌≤◌, Bool, true, false, cond, suc, List, [], ◌∷◌, ◌++◌, map, length, take, drop, get_or, Option, Some, None, option_map, IsSome, Vec, Global}
 use Rattle.std.proofs.Common.{refl, sym, ap, ◌∙◌, subst, append_assoc, arith, length-append, length-drop, length-take, leb, le-leb, leb-true}
 use Rattle.std.proofs.Math.Decide.{dec_le}
@@ -27,17 +27,17 @@ use Rattle.bk_record.proofs.Longer.{longer_same, longer_append, longer_trans}
 use Rattle.bk_disk.specs.Disk.{patched_file}
 use Rattle.bk_disk.specs.Logs.{listed}
 use Rattle.bk_log.proofs.Gains.{longer_patch}
-use Rattle.bk_mark.specs.Marking as marking
-use Rattle.bk_mark.specs.Marking.{AreCovered, sure_fronts}
-use Rattle.bk_mark.specs.declared.marks.Mark.{Mark}
-use Rattle.bk_mark.proofs.Fronts.{front_there, longer_fronts}
+use Rattle.bk_watermark.specs.Marking as marking
+use Rattle.bk_watermark.specs.Marking.{AreCovered, sure_fronts}
+use Rattle.bk_watermark.specs.declared.marks.Mark.{Mark}
+use Rattle.bk_watermark.proofs.Fronts.{front_there, longer_fronts}
 use Rattle.bk_store.specs.Crash.{IsCut, IsLeft, MayLeave}
 use Rattle.bk_crash.proofs.Damage.{cut_take, marked_cut}
 use Rattle.bk_crash.specs.Damage.{IsDamaged}
 use Rattle.bk_crash.specs.Leaving.{HasSynced, IsLeftOf, IsInFront, IsBefore, IsBackOf, IsBack, IsSpoiled, IsPutBack, by_id}
 use Rattle.bk_crash.specs.AllLogs.{logs_of, files_of, gone_of, AreSynced, AreMarked, HasMarkOf, ArePutBack}
 use Rattle.bk_crash.specs.declared.written.Written.{Written}
-use Rattle.bk_crash.specs.Noting.{Log}
+use Rattle.bk_crash.specs.Noting.{NotedLog}
 
 -- ---- one file
 
@@ -49,7 +49,7 @@ cut_same file =
 pub cut_of_take : (count : ℕ) (file : List ℕ) → IsCut file (take count file)
 cut_of_take count file = cut_take count file file (cut_same file)
 
--- a cut whose header was patched is one, and has as much behind its header
+-- A cut whose header was patched is a cut, with as many bytes after its header.
 module _ (file left bytes : List ℕ) (twelve : length bytes ≡ 12) where
   patched_long : 20 ≤ length left → IsCut file left → IsCut file (take 8 left ++ bytes ++ drop 20 left)
   patched_long long cut =
@@ -84,8 +84,8 @@ module _ (file left bytes : List ℕ) (twelve : length bytes ≡ 12) where
       | false ↦ λ _. refl
     ] refl
 
--- the first bytes of a log, at least as many as were synced, are left of it
-pub log_left : (log : Log) (least count : ℕ) → HasSynced log.synced log.bytes (take least log.bytes) → least ≤ count
+-- A prefix of a log, at least as long as its synced part, is left of it.
+pub log_left : (log : NotedLog) (least count : ℕ) → HasSynced log.synced log.bytes (take least log.bytes) → least ≤ count
     → IsLeftOf log (Some (take count log.bytes))
 log_left log least count has order = (cut_of_take count log.bytes, kept log.synced has) where
   kept : (o : Option ℕ) → HasSynced o log.bytes (take least log.bytes) → HasSynced o log.bytes (take count log.bytes)
@@ -93,7 +93,7 @@ log_left log least count has order = (cut_of_take count log.bytes, kept log.sync
   kept (Some synced) has = longer_trans (take synced log.bytes) (take least log.bytes) (take count log.bytes) has
       (longer_fronts least count log.bytes log.bytes order (longer_same log.bytes))
 
--- so many were synced; or none, where any are enough
+-- At least the synced bytes; any number if nothing was synced.
 pub has_synced : (o : Option ℕ) (least synced : ℕ) (bytes : List ℕ) → o ≡ Some synced → least ≡ synced → HasSynced o bytes (take least bytes)
 has_synced o least synced bytes is same =
     subst (λ o. HasSynced o bytes (take least bytes)) (sym is) (subst (λ n. IsLonger (take synced bytes) (take n bytes)) (sym same) (longer_same (take synced bytes)))
@@ -101,8 +101,8 @@ has_synced o least synced bytes is same =
 pub has_nothing : (o : Option ℕ) (bytes left : List ℕ) → o ≡ None → HasSynced o bytes left
 has_nothing o bytes left none = subst (λ o. HasSynced o bytes left) (sym none) tt
 
--- other bytes may stand in its header
-pub log_spoiled : (log : Log) (left now : List ℕ) → IsSpoiled left now → IsLeftOf log (Some left) → IsLeftOf log (Some now)
+-- The header may have other bytes.
+pub log_spoiled : (log : NotedLog) (left now : List ℕ) → IsSpoiled left now → IsLeftOf log (Some left) → IsLeftOf log (Some now)
 log_spoiled log left now (inl same) of = subst (λ l. IsLeftOf log (Some l)) (sym same) of
 log_spoiled log left now (inr other) of =
     subst (λ l. IsLeftOf log (Some l)) (sym other.2) (cut_patched log.bytes left other.0 other.1 of.0, kept log.synced of.1) where
@@ -118,7 +118,7 @@ longer_of_take n file = elim (dec_le n (length file)) [
   | no past ↦ subst (λ f. IsLonger f file) (sym (take_all n file (omega (arith, past)))) (longer_same file)
 ]
 
--- the header of a cut is a cut of the header
+-- The header of a cut is a cut of the header.
 cut_head : (file left : List ℕ) → IsCut file left → IsCut (take header_length file) (take header_length left)
 cut_head file left cut =
     let part = cut_take header_length file left cut in
@@ -132,11 +132,11 @@ cut_head file left cut =
     }
 
 module _ (bytes left : List ℕ) (synced : ℕ) (cut : IsCut bytes left) (longer : IsLonger (take synced bytes) left) where
-  -- with nothing behind it
+  -- Without bytes after the synced part.
   pub as_it_is : IsDamaged (take synced bytes) bytes left
   as_it_is = record { begins = longer_of_take synced bytes; stands = longer; headed = cut_head bytes left cut }
 
-  -- with other bytes behind a part that has a header and all that was synced
+  -- With other bytes after a part that has a header and all synced bytes.
   pub damaged_behind : (n : ℕ) (more : List ℕ) → synced ≤ n → header_length ≤ n → header_length ≤ length left
       → IsDamaged (take synced bytes) bytes (take n left ++ more)
   damaged_behind n more enough headed long =
@@ -163,28 +163,28 @@ length_spoiled : (file now : List ℕ) → IsSpoiled file now → length now ≡
 length_spoiled file now (inl same) = ap length same
 length_spoiled file now (inr other) = ap length other.2 ∙ length_patched file other.0 other.1
 
--- a log whose bytes were spoiled where they stand
-pub spoiled_in_place : (log : Log) (bytes : Vec ℕ Global) (now : List ℕ) → IsSpoiled bytes.items now → IsLeftOf log (Some bytes.items)
+-- A log with other bytes in its patched header.
+pub spoiled_in_place : (log : NotedLog) (bytes : Vec ℕ Global) (now : List ℕ) → IsSpoiled bytes.items now → IsLeftOf log (Some bytes.items)
     → IsLeftOf log (Some (with_items bytes now).items)
 spoiled_in_place log bytes now spoiled of =
     let size = length_spoiled bytes.items now spoiled in
     subst (λ l. IsLeftOf log (Some l)) (sym (with_items_is bytes now (omega (arith, size, bytes.ok.0)))) (log_spoiled log bytes.items now spoiled of)
 
--- what is left in front of a mark
-module _ (log : Log) (mark : ℕ) (which : (mark ≡ log.sure) ⊎ (mark ≡ log.last)) (left now : List ℕ) (of : IsLeftOf log (Some left)) where
+-- What is left before a watermark.
+module _ (log : NotedLog) (mark : ℕ) (which : (mark ≡ log.sure) ⊎ (mark ≡ log.last)) (left now : List ℕ) (of : IsLeftOf log (Some left)) where
   in_front : (o : Option ℕ) → log.synced ≡ o → IsBefore o log.bytes mark now → IsInFront log (Some now)
   in_front o is before = (mark, which, subst (λ s. IsBefore s log.bytes mark now) (sym is) before)
 
-  -- of a log of which nothing was synced
+  -- For a log without synced bytes.
   pub before_nothing : log.synced ≡ None → now ≡ take mark left → IsInFront log (Some now)
   before_nothing none front = in_front None none (subst (IsCut log.bytes) (sym front) (cut_take mark log.bytes left of.0))
 
-  -- of one that was synced, and has no other bytes behind
+  -- For a synced log without other bytes after its end.
   pub before_cut : (synced : ℕ) → log.synced ≡ Some synced → now ≡ take mark left → IsInFront log (Some now)
   before_cut synced is front = in_front (Some synced) is
       (left, front, as_it_is log.bytes left synced of.0 (subst (λ s. HasSynced s log.bytes left) is of.1))
 
-  -- of one that has
+  -- For a synced log with other bytes after its end.
   pub before_damage : (synced n : ℕ) (more : List ℕ) → log.synced ≡ Some synced → synced ≤ n → header_length ≤ n → header_length ≤ length left
       → now ≡ take mark (take n left ++ more) → IsInFront log (Some now)
   before_damage synced n more is enough headed long front = in_front (Some synced) is (
@@ -193,7 +193,7 @@ module _ (log : Log) (mark : ℕ) (which : (mark ≡ log.sure) ⊎ (mark ≡ log
     damaged_behind log.bytes left synced of.0 (subst (λ s. HasSynced s log.bytes left) is of.1) n more enough headed long,
   )
 
--- ---- finding in a list that grows
+-- ---- look-up in a list that grows
 
 abbrev pub or_else : {X : Type 0} → Option X → Option X → Option X
 or_else None other = other
@@ -212,7 +212,7 @@ find-push (e ∷ es) k v q = elim (eq_by_cmp nat_cmp q e.0) as (λ b. cond b (So
       | false ↦ find-push es k v q
     ]
 
--- a list with a pair more, or as it is
+-- A list, possibly with one more pair.
 abbrev pub pushed : {X : Type 0} → List (ℕ × X) → ℕ → Option X → List (ℕ × X)
 pushed es k None = es
 pushed es k (Some v) = es ++ (k, v) ∷ []
@@ -233,7 +233,7 @@ find-map f (e ∷ es) q = elim (eq_by_cmp nat_cmp q e.0) as (λ b. cond b (Some 
       | false ↦ find-map f es q
     ]
 
--- what a look into a map of the entries tells
+-- The result of a look-up in a map of the entries.
 look : {X : Type 0} (es : List (ℕ × X)) (q : ℕ) → find nat_cmp q es ≡ lookup (is_at (nat_cmp q)) es
 look es q = sym (get-from_entries nat_cmp_total es q) ∙ get-entries es q
 
@@ -246,12 +246,12 @@ there_is_none {X} es q told = none (find nat_cmp q es) (ap is_some (look es q) �
   none None _ = refl
   none (Some x) it = absurd (false≢true (sym it))
 
--- a file more in a list of files
+-- One more file in a list of files.
 listed_more : (files now : List (ℕ × Vec ℕ Global)) (id : ℕ) (file : Vec ℕ Global) → now ≡ files ++ (id, file) ∷ []
     → listed now ≡ listed files ++ (id, file.items) ∷ []
 listed_more files now id file more = ap listed more ∙ map-append (λ f. (f.0, f.1.items)) files ((id, file) ∷ [])
 
--- a key of a rising list does not stand before its own place
+-- A key of an ascending list does not occur before its position.
 apart_numbers : (a b : ℕ) → b < a → eq_by_cmp nat_cmp a b ≡ false
 apart_numbers a b below = go (nat_cmp a b) refl where
   go : (r : Ordering) → nat_cmp a b ≡ r → is_eq r ≡ false
@@ -286,27 +286,27 @@ find_before front behind e rising =
 
 -- ---- logs one after another
 
--- of each log is left what this says of it
-module _ (IsOf : Log → Option (List ℕ) → Type 0) where
-  -- what is left at an id, where these logs came so far
-  abbrev pub IsLeftSoFar : Option Log → Option (List ℕ) → Type 0
+-- The relation holds of each log and what is left of it.
+module _ (IsOf : NotedLog → Option (List ℕ) → Type 0) where
+  -- What is left at an id after these logs.
+  abbrev pub IsLeftSoFar : Option NotedLog → Option (List ℕ) → Type 0
   IsLeftSoFar None left = left ≡ None
   IsLeftSoFar (Some log) left = IsOf log left
 
-  one_more : (front : Option Log) (left : Option (List ℕ)) (tied : Bool) (log : Log) (o : Option (List ℕ)) → (tied ≡ true → front ≡ None)
+  one_more : (front : Option NotedLog) (left : Option (List ℕ)) (tied : Bool) (log : NotedLog) (o : Option (List ℕ)) → (tied ≡ true → front ≡ None)
       → IsLeftSoFar front left → IsOf log o → IsLeftSoFar (or_else front (cond tied (Some log) None)) (or_else left (cond tied o None))
   one_more (Some w) left true log o apart is of = absurd (none-some w (sym (apart refl)))
   one_more (Some w) left false log o apart is of = subst (IsOf w) (sym (or_none left)) is
   one_more None left true log o apart is of = subst (λ l. IsOf log (or_else l o)) (sym is) of
   one_more None left false log o apart is of = or_none left ∙ is
 
-  abbrev pub AreLeftSoFar : List (ℕ × Log) → List (ℕ × List ℕ) → Type 0
+  abbrev pub AreLeftSoFar : List (ℕ × NotedLog) → List (ℕ × List ℕ) → Type 0
   AreLeftSoFar logs left = (id : ℕ) → IsLeftSoFar (find nat_cmp id logs) (find nat_cmp id left)
 
   pub none_left : AreLeftSoFar [] []
   none_left id = refl
 
-  log_more : (front behind : List (ℕ × Log)) (log : ℕ × Log) (left : List (ℕ × List ℕ)) (o : Option (List ℕ))
+  log_more : (front behind : List (ℕ × NotedLog)) (log : ℕ × NotedLog) (left : List (ℕ × List ℕ)) (o : Option (List ℕ))
       → IsStrictlySortedBy nat_cmp (keys_of (front ++ log ∷ behind)) → IsOf log.1 o → AreLeftSoFar front left
       → AreLeftSoFar (front ++ log ∷ []) (pushed left log.0 o)
   log_more front behind log left o rising of so_far id =
@@ -316,20 +316,20 @@ module _ (IsOf : Log → Option (List ℕ) → Type 0) where
       (subst (IsLeftSoFar (or_else (find nat_cmp id front) (cond (eq_by_cmp nat_cmp id log.0) (Some log.1) None))) (sym (find-pushed left log.0 o id))
       (one_more (find nat_cmp id front) (find nat_cmp id left) (eq_by_cmp nat_cmp id log.0) log.1 o apart (so_far id) of))
 
-  -- some of the logs came, and the rest are still to come
-  pub record Came (rest all : List (ℕ × Log)) (left : List (ℕ × Vec ℕ Global)) : Type 0 where
-    pub front : List (ℕ × Log)
+  -- Loop invariant: some of the logs are done, the rest are not.
+  pub record Came (rest all : List (ℕ × NotedLog)) (left : List (ℕ × Vec ℕ Global)) : Type 0 where
+    pub front : List (ℕ × NotedLog)
     pub whole : all ≡ front ++ rest
     pub so_far : AreLeftSoFar front (listed left)
 
-  pub none_came : (all : List (ℕ × Log)) → Came all all []
+  pub none_came : (all : List (ℕ × NotedLog)) → Came all all []
   none_came all = record { front = []; whole = refl; so_far = none_left }
 
-  came_on : (rest behind all : List (ℕ × Log)) (log : ℕ × Log) (left now : List (ℕ × Vec ℕ Global)) (o : Option (List ℕ))
+  came_on : (rest behind all : List (ℕ × NotedLog)) (log : ℕ × NotedLog) (left now : List (ℕ × Vec ℕ Global)) (o : Option (List ℕ))
       → IsStrictlySortedBy nat_cmp (keys_of all) → rest ≡ log ∷ behind → Came rest all left → IsOf log.1 o → listed now ≡ pushed (listed left) log.0 o
       → Came behind all now
   came_on rest behind all log left now o rising is came of more =
-      let whole : all ≡ came.front ++ log ∷ behind = came.whole ∙ ap (λ (r : List (ℕ × Log)). came.front ++ r) is in
+      let whole : all ≡ came.front ++ log ∷ behind = came.whole ∙ ap (λ (r : List (ℕ × NotedLog)). came.front ++ r) is in
       record {
         front = came.front ++ log ∷ [];
         whole = whole ∙ sym (append_assoc came.front (log ∷ []) behind);
@@ -337,27 +337,27 @@ module _ (IsOf : Log → Option (List ℕ) → Type 0) where
             (log_more came.front behind log (listed left) o (subst (λ l. IsStrictlySortedBy nat_cmp (keys_of l)) whole rising) of came.so_far);
       }
 
-  -- a file of the log is left
-  pub came_with : (rest behind all : List (ℕ × Log)) (log : ℕ × Log) (left now : List (ℕ × Vec ℕ Global)) (file : Vec ℕ Global)
+  -- The next log leaves a file.
+  pub came_with : (rest behind all : List (ℕ × NotedLog)) (log : ℕ × NotedLog) (left now : List (ℕ × Vec ℕ Global)) (file : Vec ℕ Global)
       → IsStrictlySortedBy nat_cmp (keys_of all) → rest ≡ log ∷ behind → Came rest all left → IsOf log.1 (Some file.items)
       → now ≡ left ++ (log.0, file) ∷ [] → Came behind all now
   came_with rest behind all log left now file rising is came of more =
       came_on rest behind all log left now (Some file.items) rising is came of (listed_more left now log.0 file more)
 
-  -- and none is
-  pub came_without : (rest behind all : List (ℕ × Log)) (log : ℕ × Log) (left : List (ℕ × Vec ℕ Global))
+  -- The next log leaves no file.
+  pub came_without : (rest behind all : List (ℕ × NotedLog)) (log : ℕ × NotedLog) (left : List (ℕ × Vec ℕ Global))
       → IsStrictlySortedBy nat_cmp (keys_of all) → rest ≡ log ∷ behind → Came rest all left → IsOf log.1 None → Came behind all left
   came_without rest behind all log left rising is came of = came_on rest behind all log left left None rising is came of refl
 
-  -- when no more are to come all came
-  pub all_came : (rest all : List (ℕ × Log)) (left : List (ℕ × Vec ℕ Global)) → rest ≡ [] → Came rest all left → AreLeftSoFar all (listed left)
+  -- All logs are done if none remain.
+  pub all_came : (rest all : List (ℕ × NotedLog)) (left : List (ℕ × Vec ℕ Global)) → rest ≡ [] → Came rest all left → AreLeftSoFar all (listed left)
   all_came rest all left none came =
-      let whole : all ≡ came.front = came.whole ∙ ap (λ (r : List (ℕ × Log)). came.front ++ r) none ∙ append-nil came.front in
+      let whole : all ≡ came.front = came.whole ∙ ap (λ (r : List (ℕ × NotedLog)). came.front ++ r) none ∙ append-nil came.front in
       subst (λ l. AreLeftSoFar l (listed left)) (sym whole) came.so_far
 
 -- ---- removed files one after another
 
-back_more : (log : Option Log) (removed before left : Option (List ℕ)) (tied : Bool) (file : List ℕ) (o : Option (List ℕ))
+back_more : (log : Option NotedLog) (removed before left : Option (List ℕ)) (tied : Bool) (file : List ℕ) (o : Option (List ℕ))
     → (tied ≡ true → log ≡ None) → (tied ≡ true → removed ≡ None) → IsPutBack log removed before left → IsBackOf file o
     → IsPutBack log (or_else removed (cond tied (Some file) None)) before (or_else left (cond tied o None))
 back_more (Some w) removed before left true file o free apart is of = absurd (none-some w (sym (free refl)))
@@ -368,31 +368,31 @@ back_more None removed before left true file o free apart is of = λ none.
 back_more None removed before left false file o free apart is of = λ none.
     subst (λ g. IsBack g (or_else left None)) (sym (or_none removed)) (subst (IsBack removed) (sym (or_none left)) (is none))
 
-back_past : (log : Option Log) (removed before left : Option (List ℕ)) (tied : Bool) (file : List ℕ) → (tied ≡ true → IsSome log)
+back_past : (log : Option NotedLog) (removed before left : Option (List ℕ)) (tied : Bool) (file : List ℕ) → (tied ≡ true → IsSome log)
     → IsPutBack log removed before left → IsPutBack log (or_else removed (cond tied (Some file) None)) before left
 back_past (Some w) removed before left tied file held is = is
 back_past None removed before left true file held is = absurd (false≢true (held refl))
 back_past None removed before left false file held is = λ none. subst (λ g. IsBack g left) (sym (or_none removed)) (is none)
 
-abbrev pub AreBackSoFar : List (ℕ × Log) → List (ℕ × List ℕ) → List (ℕ × List ℕ) → List (ℕ × List ℕ) → Type 0
+abbrev pub AreBackSoFar : List (ℕ × NotedLog) → List (ℕ × List ℕ) → List (ℕ × List ℕ) → List (ℕ × List ℕ) → Type 0
 AreBackSoFar logs gone before left = (id : ℕ) → IsPutBack (find nat_cmp id logs) (find nat_cmp id gone) (find nat_cmp id before) (find nat_cmp id left)
 
-pub none_back : (logs : List (ℕ × Log)) (before : List (ℕ × List ℕ)) → AreBackSoFar logs [] before before
+pub none_back : (logs : List (ℕ × NotedLog)) (before : List (ℕ × List ℕ)) → AreBackSoFar logs [] before before
 none_back logs before id = start (find nat_cmp id logs) where
-  start : (log : Option Log) → IsPutBack log None (find nat_cmp id before) (find nat_cmp id before)
+  start : (log : Option NotedLog) → IsPutBack log None (find nat_cmp id before) (find nat_cmp id before)
   start None = λ none. none
   start (Some w) = refl
 
--- some of the removed files came, and the rest are still to come
-pub record CameBack (logs : List (ℕ × Log)) (rest all : List (ℕ × Vec ℕ Global)) (before left : List (ℕ × Vec ℕ Global)) : Type 0 where
+-- Loop invariant: some of the removed files are done, the rest are not.
+pub record CameBack (logs : List (ℕ × NotedLog)) (rest all : List (ℕ × Vec ℕ Global)) (before left : List (ℕ × Vec ℕ Global)) : Type 0 where
   pub front : List (ℕ × Vec ℕ Global)
   pub whole : all ≡ front ++ rest
   pub so_far : AreBackSoFar logs (listed front) (listed before) (listed left)
 
-pub none_came_back : (logs : List (ℕ × Log)) (all before : List (ℕ × Vec ℕ Global)) → CameBack logs all all before before
+pub none_came_back : (logs : List (ℕ × NotedLog)) (all before : List (ℕ × Vec ℕ Global)) → CameBack logs all all before before
 none_came_back logs all before = record { front = []; whole = refl; so_far = none_back logs (listed before) }
 
-module _ (logs : List (ℕ × Log)) (rest behind all : List (ℕ × Vec ℕ Global)) (file : ℕ × Vec ℕ Global) (before left : List (ℕ × Vec ℕ Global))
+module _ (logs : List (ℕ × NotedLog)) (rest behind all : List (ℕ × Vec ℕ Global)) (file : ℕ × Vec ℕ Global) (before left : List (ℕ × Vec ℕ Global))
     (rising : IsStrictlySortedBy nat_cmp (keys_of all)) (is : rest ≡ file ∷ behind) (came : CameBack logs rest all before left) where
   whole_is : all ≡ came.front ++ file ∷ behind
   whole_is = came.whole ∙ ap (λ (r : List (ℕ × Vec ℕ Global)). came.front ++ r) is
@@ -424,16 +424,16 @@ module _ (logs : List (ℕ × Log)) (rest behind all : List (ℕ × Vec ℕ Glob
         (came.so_far id) of));
   }
 
-  -- the file is put back
+  -- The file is back.
   pub back_with : (now : List (ℕ × Vec ℕ Global)) (bytes : Vec ℕ Global) → find nat_cmp file.0 logs ≡ None → IsBackOf file.1.items (Some bytes.items)
       → now ≡ left ++ (file.0, bytes) ∷ [] → CameBack logs behind all before now
   back_with now bytes free of more = back_on now (Some bytes.items) free of (listed_more left now file.0 bytes more)
 
-  -- it is not
+  -- The file is not back.
   pub back_without : find nat_cmp file.0 logs ≡ None → CameBack logs behind all before left
   back_without free = back_on left None free tt refl
 
-  -- there is a log of its id
+  -- There is a log with its id, so it is not back.
   pub back_beside : IsSome (find nat_cmp file.0 logs) → CameBack logs behind all before left
   back_beside held = record {
     front = came.front ++ file ∷ [];
@@ -445,7 +445,7 @@ module _ (logs : List (ℕ × Log)) (rest behind all : List (ℕ × Vec ℕ Glob
         (λ tied. subst (λ q. IsSome (find nat_cmp q logs)) (sym (same_id id tied)) held) (came.so_far id));
   }
 
-pub all_came_back : (logs : List (ℕ × Log)) (rest all before left : List (ℕ × Vec ℕ Global)) → rest ≡ [] → CameBack logs rest all before left
+pub all_came_back : (logs : List (ℕ × NotedLog)) (rest all before left : List (ℕ × Vec ℕ Global)) → rest ≡ [] → CameBack logs rest all before left
     → AreBackSoFar logs (listed all) (listed before) (listed left)
 all_came_back logs rest all before left none came =
     let whole : all ≡ came.front = came.whole ∙ ap (λ (r : List (ℕ × Vec ℕ Global)). came.front ++ r) none ∙ append-nil came.front in
@@ -456,13 +456,13 @@ all_came_back logs rest all before left none came =
 at : {X : Type 0} (es : List (ℕ × X)) (q : ℕ) → finite.get (finite.from_entries {R = nat_cmp} es) q ≡ find nat_cmp q es
 at es q = get-from_entries nat_cmp_total es q
 
--- the value at a key, where each value is mapped
+-- The value at a key of a mapped map.
 pub get-mapped : {X Y : Type 0} (f : X → Y) (es : List (ℕ × X)) (q : ℕ)
     → finite.get (finite.from_entries {R = nat_cmp} (map (λ e. (e.0, f e.1)) es)) q ≡ option_map f (finite.get (finite.from_entries {R = nat_cmp} es) q)
 get-mapped f es q = at (map (λ e. (e.0, f e.1)) es) q ∙ find-map f es q ∙ ap (option_map f) (sym (at es q))
 
 module _ (written : Written) where
-  abbrev pub logs : List (ℕ × Log)
+  abbrev pub logs : List (ℕ × NotedLog)
   logs = written.logs.entries
 
   abbrev pub gone : List (ℕ × List ℕ)
@@ -475,14 +475,14 @@ module _ (written : Written) where
   file_at : (id : ℕ) → finite.get (files_of written) id ≡ option_map (λ log. log.bytes) (finite.get (logs_of written) id)
   file_at id = get-mapped (λ log. log.bytes) logs id
 
-  -- what is left at an id at the end, where this is left of each log
-  abbrev pub IsLeftAt : (Log → Option (List ℕ) → Type 0) → Option Log → Option (List ℕ) → Option (List ℕ) → Type 0
+  -- What is left at an id at the end, for this relation on logs.
+  abbrev pub IsLeftAt : (NotedLog → Option (List ℕ) → Type 0) → Option NotedLog → Option (List ℕ) → Option (List ℕ) → Type 0
   IsLeftAt IsOf (Some log) removed now = IsOf log now
   IsLeftAt IsOf None removed now = IsBack removed now
 
-  module _ (IsOf : Log → Option (List ℕ) → Type 0) (before left : List (ℕ × Vec ℕ Global)) (so_far : AreLeftSoFar IsOf logs (listed before))
+  module _ (IsOf : NotedLog → Option (List ℕ) → Type 0) (before left : List (ℕ × Vec ℕ Global)) (so_far : AreLeftSoFar IsOf logs (listed before))
       (back : ArePutBack written before left) where
-    ends : (log : Option Log) (removed old now : Option (List ℕ)) → IsLeftSoFar IsOf log old → IsPutBack log removed old now
+    ends : (log : Option NotedLog) (removed old now : Option (List ℕ)) → IsLeftSoFar IsOf log old → IsPutBack log removed old now
         → IsLeftAt IsOf log removed now
     ends (Some log) removed old now is put = subst (IsOf log) (sym put) is
     ends None removed old now is put = put is
@@ -491,12 +491,12 @@ module _ (written : Written) where
     left_at id = ends (finite.get (logs_of written) id) (finite.get (gone_of written) id) (finite.get (by_id before) id) (finite.get (by_id left) id)
         (rw (at logs id) (rw (at (listed before) id) (so_far id))) (back id)
 
-    -- each file that is left is one that this relation allows, where it says so of a log's
-    pub each_left : ((id : ℕ) (log : Log) (file : List ℕ) → finite.get (logs_of written) id ≡ Some log → IsOf log (Some file) → IsCut log.bytes file)
+    -- If the relation allows what is left of each log, it allows each file that is left.
+    pub each_left : ((id : ℕ) (log : NotedLog) (file : List ℕ) → finite.get (logs_of written) id ≡ Some log → IsOf log (Some file) → IsCut log.bytes file)
         → (id : ℕ) (file : List ℕ) → finite.get (by_id left) id ≡ Some file → IsLeft (files_of written) (gone_of written) id file
     each_left cuts id file is =
         each_of (finite.get (logs_of written) id) (finite.get (gone_of written) id) (finite.get (by_id left) id) refl refl is (left_at id) where
-          each_of : (log : Option Log) (removed now : Option (List ℕ)) → finite.get (logs_of written) id ≡ log
+          each_of : (log : Option NotedLog) (removed now : Option (List ℕ)) → finite.get (logs_of written) id ≡ log
               → finite.get (gone_of written) id ≡ removed → now ≡ Some file → IsLeftAt IsOf log removed now → IsLeft (files_of written) (gone_of written) id file
           each_of (Some log) removed now there was is of = inl (
             log.bytes,
@@ -511,10 +511,10 @@ module _ (written : Written) where
           )
           each_of None None now there was is of = absurd (none-some file (sym of ∙ is))
 
-  -- ---- what is left where bytes are kept as they were written
+  -- ---- what is left if bytes are kept as written
 
-  -- a log of which something was synced stands
-  stands_of : (log : Log) (synced : ℕ) (now : Option (List ℕ)) → log.synced ≡ Some synced → IsLeftOf log now
+  -- A log with synced bytes still exists.
+  stands_of : (log : NotedLog) (synced : ℕ) (now : Option (List ℕ)) → log.synced ≡ Some synced → IsLeftOf log now
       → (file : List ℕ) × (now ≡ Some file) × IsLonger (take synced log.bytes) file
   stands_of log synced None is none = absurd (none-some synced (sym none ∙ is))
   stands_of log synced (Some file) is of = (file, refl, subst (λ o. HasSynced o log.bytes file) is of.1)
@@ -530,31 +530,31 @@ module _ (written : Written) where
     each = each_left IsLeftOf before left so_far back (λ id log file there of. of.0);
   }
 
-  -- ---- what is left in front of marks
+  -- ---- what is left before watermarks
 
   module _ (kept : Files) (marks : marking.Written) (synced : AreSynced written kept) (marked : AreMarked written marks) (covered : AreCovered kept marks) where
-    -- what is kept of a log, and its mark
-    record Known (id : ℕ) (log : Log) : Type 0 where
+    -- The durable part of a log, and its watermark.
+    record Known (id : ℕ) (log : NotedLog) : Type 0 where
       pub mark : Mark
       pub there : finite.get marks id ≡ Some mark
       pub sure : mark.sure ≡ log.sure
       pub last : mark.last ≡ log.last
 
-    known : (id : ℕ) (log : Log) (n : ℕ) → finite.get (logs_of written) id ≡ Some log → log.synced ≡ Some n → Known id log
+    known : (id : ℕ) (log : NotedLog) (n : ℕ) → finite.get (logs_of written) id ≡ Some log → log.synced ≡ Some n → Known id log
     known id log n there is = by_mark (finite.get marks id) refl (marked.each id log there) where
       by_mark : (o : Option Mark) → finite.get marks id ≡ o → HasMarkOf o log → Known id log
       by_mark None none of = absurd (none-some n (sym of ∙ is))
       by_mark (Some mark) here of = record { mark = mark; there = here; sure = of.0; last = of.1 }
 
-    -- no mark of a log says more than what was synced
-    within : (id : ℕ) (log : Log) (n at : ℕ) → finite.get (logs_of written) id ≡ Some log → log.synced ≡ Some n
+    -- The watermarks of a log do not exceed its synced length.
+    within : (id : ℕ) (log : NotedLog) (n at : ℕ) → finite.get (logs_of written) id ≡ Some log → log.synced ≡ Some n
         → (at ≡ log.sure) ⊎ (at ≡ log.last) → at ≤ header_length + length (drop header_length (take n log.bytes))
     within id log n at there is which =
         let one = known id log n there is in
         let held = covered.covers id one.mark one.there in
         let own = synced.each id held.0 held.1 in
         let same : own.0 ≡ log = same_Some _ _ (sym own.2 ∙ there) in
-        let count : own.1 ≡ n = same_Some _ _ (sym own.3 ∙ ap (λ (l : Log). l.synced) same ∙ is) in
+        let count : own.1 ≡ n = same_Some _ _ (sym own.3 ∙ ap (λ (l : NotedLog). l.synced) same ∙ is) in
         let part : IsLonger held.0 (take n log.bytes) =
         subst (λ k. IsLonger held.0 (take k log.bytes)) count (subst (λ l. IsLonger held.0 (take own.1 l.bytes)) same own.4) in
         let least : at ≤ one.mark.last = elim which [
@@ -563,7 +563,7 @@ module _ (written : Written) where
         ] in
         omega (arith, least, held.2, ap length part.is, length-append (drop header_length held.0) part.behind)
 
-    cut_in_front : (id : ℕ) (log : Log) (file : List ℕ) → finite.get (logs_of written) id ≡ Some log → IsInFront log (Some file)
+    cut_in_front : (id : ℕ) (log : NotedLog) (file : List ℕ) → finite.get (logs_of written) id ≡ Some log → IsInFront log (Some file)
         → IsCut log.bytes file
     cut_in_front id log file there of = by_synced log.synced refl of.2 where
       by_synced : (o : Option ℕ) → log.synced ≡ o → IsBefore o log.bytes of.0 file → IsCut log.bytes file
@@ -571,7 +571,7 @@ module _ (written : Written) where
       by_synced (Some n) is one = subst (IsCut log.bytes) (sym one.1)
           (marked_cut (take n log.bytes) log.bytes one.0 one.2 of.0 (within id log n of.0 there is of.1))
 
-    stands_in_front : (id : ℕ) (log : Log) (n : ℕ) (now : Option (List ℕ)) → finite.get (logs_of written) id ≡ Some log
+    stands_in_front : (id : ℕ) (log : NotedLog) (n : ℕ) (now : Option (List ℕ)) → finite.get (logs_of written) id ≡ Some log
         → log.synced ≡ Some n → IsInFront log now → (mark : Mark) → finite.get marks id ≡ Some mark
         → (file : List ℕ) × (now ≡ Some file) × IsLonger (take mark.sure (take n log.bytes)) file
     stands_in_front id log n None there is none mark here = absurd (none-some n (sym none ∙ is))

@@ -1,4 +1,4 @@
--- What is noted of a log that was looked up, put or removed.
+-- What is recorded of a log that was looked up, put or removed.
 use Rattle.std.proofs.Common.{◌≡◌, ℕ, Bool, true, false, cond, List, map, Option, Some, None, option_map, Vec, Global, MutBor, BTreeMap, refl, sym, ap, ◌∙◌, subst}
 use Rattle.std.specs.Ordering.{nat_cmp, eq_by_cmp}
 use Rattle.std.specs.Cmp.{nat_cmp_total}
@@ -10,28 +10,28 @@ use Rattle.std.specs.FinMap.{get-insert}
 use Rattle.bk_record.specs.Files.{Files}
 use Rattle.bk_record.proofs.NumberMaps.{get-entries, same_by_get, inserted, removed}
 use Rattle.bk_store.proofs.Tables.{lent_at, changed_at}
-use Rattle.bk_crash.specs.Noting.{Log, Logs, noted, with_removed}
+use Rattle.bk_crash.specs.Noting.{NotedLog, NotedLogs, noted, with_removed}
 use Rattle.bk_crash.proofs.Leaving.{get-mapped}
 
--- a log that was changed through its loan
-pub noted_at : (m n : BTreeMap ℕ Log) (log : ℕ) (r : Option (MutBor Log)) (value : MutBor Log) (change : Log → Log) (now : Log)
+-- A log that was changed through a mutable reference.
+pub noted_at : (m n : BTreeMap ℕ NotedLog) (log : ℕ) (r : Option (MutBor NotedLog)) (value : MutBor NotedLog) (change : NotedLog → NotedLog) (now : NotedLog)
     → option_copied_mut r ≡ lookup (is_at (nat_cmp log)) m.entries → r ≡ Some value → WritesThrough nat_cmp (nat_cmp log) m now n → now ≡ change value.now
     → finite.from_entries n.entries ≡ noted change (finite.from_entries m.entries) log
 noted_at m n log r value change now lent is writes same =
-    let table : Logs = finite.from_entries m.entries in
+    let table : NotedLogs = finite.from_entries m.entries in
     let found : finite.get table log ≡ Some value.now = lent_at m table log refl r value lent is in
     changed_at m table log refl n now writes (ap is_some found) ∙ ap (finite.insert table log) same
     ∙ ap (λ o. option_map_or (λ l. finite.insert table log (change l)) o table) (sym found)
 
--- there is no such log
-pub noted_none : (m n : BTreeMap ℕ Log) (log : ℕ) (r : Option (MutBor Log)) (change : Log → Log) → option_copied_mut r ≡ lookup (is_at (nat_cmp log)) m.entries
+-- There is no such log.
+pub noted_none : (m n : BTreeMap ℕ NotedLog) (log : ℕ) (r : Option (MutBor NotedLog)) (change : NotedLog → NotedLog) → option_copied_mut r ≡ lookup (is_at (nat_cmp log)) m.entries
     → r ≡ None → n ≡ m → finite.from_entries n.entries ≡ noted change (finite.from_entries m.entries) log
 noted_none m n log r change lent none same =
-    let table : Logs = finite.from_entries m.entries in
+    let table : NotedLogs = finite.from_entries m.entries in
     let gone : finite.get table log ≡ None = get-entries m.entries log ∙ sym lent ∙ ap option_copied_mut none in
-    ap (λ (t : BTreeMap ℕ Log). finite.from_entries {R = nat_cmp} t.entries) same ∙ ap (λ o. option_map_or (λ l. finite.insert table log (change l)) o table) (sym gone)
+    ap (λ (t : BTreeMap ℕ NotedLog). finite.from_entries {R = nat_cmp} t.entries) same ∙ ap (λ o. option_map_or (λ l. finite.insert table log (change l)) o table) (sym gone)
 
--- a value that was put, or removed
+-- A value that was inserted or removed.
 pub put_at : {X : Type 0} (m n : BTreeMap ℕ X) (key : ℕ) (value : X) → Updates nat_cmp m n key (Some value)
     → finite.from_entries {R = nat_cmp} n.entries ≡ finite.insert (finite.from_entries m.entries) key value
 put_at m n key value updates = inserted m.entries n.entries key value updates.0
@@ -44,7 +44,7 @@ map_cond : {X Y : Type 0} (f : X → Y) (b : Bool) (x : X) (o : Option X) → op
 map_cond f true x o = refl
 map_cond f false x o = refl
 
--- a file that was put among the removed ones
+-- A file that was inserted among the removed ones.
 pub put_file : (m n : BTreeMap ℕ (Vec ℕ Global)) (key : ℕ) (file : Vec ℕ Global) → Updates nat_cmp m n key (Some file)
     → finite.from_entries {R = nat_cmp} (map (λ e. (e.0, e.1.items)) n.entries)
     ≡ finite.insert (finite.from_entries (map (λ e. (e.0, e.1.items)) m.entries)) key file.items
@@ -57,11 +57,11 @@ put_file m n key file updates =
     ∙ ap (cond (eq_by_cmp nat_cmp q key) (Some file.items)) (sym (get-mapped items m.entries q))
     ∙ sym (get-insert nat_cmp_total (finite.from_entries (map (λ e. (e.0, e.1.items)) m.entries)) key file.items q))
 
--- a log that was removed, whose file is among the removed ones from then on
-pub with_it : (gone : Files) (logs : Logs) (key : ℕ) (log : Log) → finite.get logs key ≡ Some log
+-- A log that was removed, and whose file is now among the removed ones.
+pub with_it : (gone : Files) (logs : NotedLogs) (key : ℕ) (log : NotedLog) → finite.get logs key ≡ Some log
     → finite.insert gone key log.bytes ≡ with_removed gone key (finite.get logs key)
 with_it gone logs key log there = ap (with_removed gone key) (sym there)
 
--- there was none
-pub without_it : (gone : Files) (logs : Logs) (key : ℕ) → finite.get logs key ≡ None → gone ≡ with_removed gone key (finite.get logs key)
+-- There was no such log.
+pub without_it : (gone : Files) (logs : NotedLogs) (key : ℕ) → finite.get logs key ≡ None → gone ≡ with_removed gone key (finite.get logs key)
 without_it gone logs key none = ap (with_removed gone key) (sym none)

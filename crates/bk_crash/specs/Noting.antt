@@ -1,5 +1,5 @@
--- What a disk for tests notes of the calls on it: of each log its bytes, how many of them are on the device for sure, and its marks;
--- and the files that were removed.
+-- The record of the calls on a test disk: of each log its bytes, its synced length and its
+-- watermarks; and the removed files.
 use Rattle.std.specs.Prelude.{◌≡◌, ◌⊎◌, ℕ, Bool, true, false, List, [], ◌++◌, length, Option, None, Some, Result, Ok, Err, refl}
 use Rattle.std.specs.Ordering.{nat_cmp}
 use Rattle.std.specs.Option.{option_map_or}
@@ -9,72 +9,74 @@ use Rattle.bk_record.specs.Files.{Files, header_length}
 use Rattle.bk_disk.specs.Disk.{patched_file}
 use Rattle.bk_disk.specs.declared.fault.DiskFault.{DiskFault}
 
--- what is noted of a log: its bytes; how many of them are on the device for sure, none where not even its file is; whether its header
--- was patched since; the mark that it has for sure, and the last that was written
-pub record Log : Type 0 where
+-- The record of a log: its bytes; the number of its durable bytes, or `None` if the file itself is
+-- not durable. Also whether its header was patched since, its durable watermark, and the last one
+-- written.
+pub record NotedLog : Type 0 where
   pub bytes : List ℕ
   pub synced : Option ℕ
   pub patched : Bool
   pub sure : ℕ
   pub last : ℕ
 
-abbrev pub log_code : Coded Log
+abbrev pub log_code : Coded NotedLog
 log_code = code_by (List ℕ × (Option ℕ × (Bool × (ℕ × ℕ)))) (coded× (coded_list coded_ℕ) (coded× (coded_option coded_ℕ) (coded× coded_bool (coded× coded_ℕ coded_ℕ))))
     (λ l. (l.bytes, (l.synced, (l.patched, (l.sure, l.last))))) (λ p. record { bytes = p.0; synced = p.1.0; patched = p.1.1.0; sure = p.1.1.1.0; last = p.1.1.1.1 }) (λ _. refl)
 
-abbrev pub Logs : Type 0
-Logs = finite.FinMap nat_cmp Log
+abbrev pub NotedLogs : Type 0
+NotedLogs = finite.FinMap nat_cmp NotedLog
 
 -- ---- a log
 
--- one that is on the device with all its bytes
-abbrev pub found_log : List ℕ → Log
+-- A log that is durable with all its bytes.
+abbrev pub found_log : List ℕ → NotedLog
 found_log bytes = record { bytes = bytes; synced = Some (length bytes); patched = false; sure = length bytes; last = length bytes }
 
--- one that was made
-abbrev pub made_log : Log
+-- A log that was created.
+abbrev pub made_log : NotedLog
 made_log = record { bytes = []; synced = None; patched = false; sure = header_length; last = header_length }
 
--- with more bytes at its end
-abbrev pub longer_log : List ℕ → Log → Log
+-- With more bytes at its end.
+abbrev pub longer_log : List ℕ → NotedLog → NotedLog
 longer_log more log = record log { bytes = log.bytes ++ more }
 
--- with other bytes in its header
-abbrev pub patched_log : List ℕ → Log → Log
+-- With other bytes in its header.
+abbrev pub patched_log : List ℕ → NotedLog → NotedLog
 patched_log bytes log = record log { bytes = patched_file log.bytes bytes; patched = true }
 
--- on the device as it is, with the last mark that was written
-abbrev pub synced_log : Log → Log
+-- Durable as it is, with the last watermark written.
+abbrev pub synced_log : NotedLog → NotedLog
 synced_log log = record log { synced = Some (length log.bytes); patched = false; sure = log.last }
 
--- with another mark written
-abbrev pub marked_log : ℕ → Log → Log
+-- With another watermark written.
+abbrev pub marked_log : ℕ → NotedLog → NotedLog
 marked_log mark log = record log { last = mark }
 
--- ---- all of them
+-- ---- all logs
 
--- a change of one log, where it is there
-abbrev pub noted : (Log → Log) → Logs → ℕ → Logs
+-- A change of one log, if it exists.
+abbrev pub noted : (NotedLog → NotedLog) → NotedLogs → ℕ → NotedLogs
 noted change logs log = option_map_or (λ l. finite.insert logs log (change l)) (finite.get logs log) logs
 
--- the file of a log that was there, beside those that were removed before
-abbrev pub with_removed : Files → ℕ → Option Log → Files
+-- The removed files with that of this log, if it existed.
+abbrev pub with_removed : Files → ℕ → Option NotedLog → Files
 with_removed gone log None = gone
 with_removed gone log (Some removed) = finite.insert gone log removed.bytes
 
--- ---- when it is noted
+-- ---- when it is recorded
 
--- what a call does is noted where the disk says that it was done, and nothing else is
+-- A call is recorded exactly if the disk reports success.
 abbrev pub IsNoted : {T X : Type 0} → Result T DiskFault → X → X → X → Type 0
 IsNoted (Ok _) before now after = now ≡ after
 IsNoted (Err _) before now after = now ≡ before
 
--- where a call fails it may be noted in part
+-- A call that fails may be recorded in part.
 abbrev pub IsNotedInPart : {T X : Type 0} → Result T DiskFault → X → X → (ℕ → X) → X → Type 0
 IsNotedInPart (Ok _) before now part after = now ≡ after
 IsNotedInPart (Err _) before now part after = (now ≡ before) ⊎ ((n : ℕ) × (now ≡ part n))
 
--- A mark that was kept is noted, and that the log was synced with it. Where that fails the mark may be there.
-abbrev pub IsMarkNoted : {T : Type 0} → Result T DiskFault → Logs → Logs → Logs → ℕ → Type 0
+-- A watermark that was written is recorded, and its log as synced. If writing fails, the watermark
+-- may be recorded.
+abbrev pub IsMarkNoted : {T : Type 0} → Result T DiskFault → NotedLogs → NotedLogs → NotedLogs → ℕ → Type 0
 IsMarkNoted (Ok _) before now marked log = now ≡ noted synced_log marked log
 IsMarkNoted (Err _) before now marked log = (now ≡ before) ⊎ (now ≡ marked)

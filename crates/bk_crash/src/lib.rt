@@ -1,4 +1,5 @@
-//! What a crash may leave of a store's logs, what an opening makes of it, and a disk for tests whose power goes.
+//! What a crash may leave of a store's logs and what an opening finds, and a test disk whose power
+//! fails.
 #![tactic(auto)]
 
 mod laws;

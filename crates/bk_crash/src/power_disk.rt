@@ -1,30 +1,30 @@
-//! A disk over another one whose power goes: so many calls are passed on, and each one after fails and changes nothing.
+//! A disk whose power fails: it passes on N calls; each later call fails and changes nothing.
 
 ghost use Rattle.std.specs.Prelude.{◌≡◌, ◌↔◌, ◌+◌, ◌<◌, ◌≤◌, ◌^◌, false, length, take, IsTrue, OnOk};
 ghost use Rattle.std.specs.Bool.{OnTrue, OnFalse};
 ghost use Rattle.std.specs.FinMap as map;
-ghost use Rattle.bk_disk.specs.Disk.{HasCause, Lists, Creates, Appends, Patches, Syncs, Removes};
+ghost use Rattle.bk_disk.specs.Disk.{FailsExactlyOnDiskFault, Lists, Creates, Appends, Patches, Syncs, Removes};
 ghost use Rattle.bk_record.specs.Files.{file_of};
-ghost use Rattle.bk_disk.specs.Marks.{Covers, HasMark};
-ghost use Rattle.bk_disk.specs.Durable.{KeepsMore, ListSettles, SyncKeeps, RemoveKeeps};
+ghost use Rattle.bk_disk.specs.Watermarks.{IsDurableUpTo, HasWatermark};
+ghost use Rattle.bk_disk.specs.Durable.{DurableGrows, ListDurability, SyncDurability, RemoveDurability};
 ghost use Rattle.bk_crash.specs.Noting.{IsNoted, IsNotedInPart, IsMarkNoted, noted, made_log, longer_log, patched_log, synced_log, marked_log, with_removed};
 ghost use Rattle.bk_crash.specs.AllLogs.{logs_of, gone_of};
 
 use crate::Written;
-use bk_disk::{DiskFault, LogDisk, MarkDisk};
+use bk_disk::{DiskFault, LogDisk, WatermarkDisk};
 use std::alloc::Global;
 
-/// A disk that passes so many calls on. It writes down what was asked of it, for what a loss of power may leave.
+/// A disk that passes on N calls and records them, to compute what a loss of power may leave.
 #[derive(Drop)]
 pub struct PowerDisk<D: LogDisk> {
     inner: D,
     written: Written,
     power: Power,
-    /// How many bytes of an append at which the power goes are written.
+    /// Number of bytes that are written of the append during which the power fails.
     kept: usize,
 }
 
-/// How many calls there is power for, and how many were refused since.
+/// Number of calls left that have power, and number of calls refused since.
 #[derive(Drop)]
 struct Power {
     left: u64,
@@ -32,8 +32,8 @@ struct Power {
 }
 
 impl Power {
-    /// Counts a call: whether there is no power for it. (Where 2^64 - 1 calls were refused no more can be counted, and the
-    /// power comes back.)
+    /// Counts a call and returns whether it has no power. After 2^64 - 1 refused calls the power is
+    /// back.
     fn fails(&mut self) -> bool
         ensures yes { OnTrue result (self.new.refused ≡ self.old.refused + 1) }
         ensures no { OnFalse result (self.new.refused ≡ self.old.refused) }
@@ -55,8 +55,8 @@ impl Power {
 }
 
 impl<D: LogDisk> PowerDisk<D> {
-    /// A disk with power for so many calls. `written` has what the logs of `inner` have; of an append at which the power goes
-    /// `kept` bytes are written, or all.
+    /// Returns a disk with power for `calls` calls. `written` records the logs of `inner`. If the
+    /// power fails during an append, at most `kept` bytes of it are written.
     pub fn new(inner: D, written: Written, calls: u64, kept: usize) -> Self
         ensures files { D.files result.inner ≡ D.files inner }
         ensures written { result.written ≡ written }
@@ -73,14 +73,14 @@ impl<D: LogDisk> PowerDisk<D> {
         }
     }
 
-    /// Whether the power is gone: a call was refused.
+    /// Returns whether the power has failed: a call was refused.
     pub fn is_dead(&self) -> bool
         ensures { IsTrue result ↔ (0 < self.now.power.refused) }
     {
         self.power.refused > 0
     }
 
-    /// What was written to the logs.
+    /// Returns the record of what was written.
     pub fn written(&self) -> &Written
         ensures { result.now ≡ self.now.written }
     {
@@ -88,7 +88,7 @@ impl<D: LogDisk> PowerDisk<D> {
     }
 }
 
-#[tactic(auto, using(bk_disk::proofs::KeepsMore::kept_rules))]
+#[tactic(auto, using(bk_disk::proofs::DurableGrows::kept_rules))]
 impl<D: LogDisk> LogDisk for PowerDisk<D> {
     type View = D::View;
 
@@ -108,11 +108,11 @@ impl<D: LogDisk> LogDisk for PowerDisk<D> {
 
     fn list(&mut self, alloc: Global) -> Result<Vec<u32>, DiskFault>
         ensures honest { D.honest self.new.inner ≡ D.honest self.old.inner }
-        ensures kept { IsTrue (D.honest self.old.inner)
-            → KeepsMore (D.synced self.old.inner) (D.gone self.old.inner) (D.synced self.new.inner) (D.gone self.new.inner) }
-        ensures back { IsTrue (D.honest self.old.inner) → ListSettles result (D.gone self.new.inner) }
-        ensures cause { HasCause (D.failures self.old.inner + self.old.power.refused) (D.failures self.new.inner + self.new.power.refused) result }
-        ensures turn { IsTrue (D.honest self.old.inner) → Lists (λ v. v.items) (D.files self.old.inner) result (D.files self.new.inner) }
+        ensures durable { IsTrue (D.honest self.old.inner)
+            → DurableGrows (D.synced self.old.inner) (D.gone self.old.inner) (D.synced self.new.inner) (D.gone self.new.inner) }
+        ensures back { IsTrue (D.honest self.old.inner) → ListDurability result (D.gone self.new.inner) }
+        ensures cause { FailsExactlyOnDiskFault (D.failures self.old.inner + self.old.power.refused) (D.failures self.new.inner + self.new.power.refused) result }
+        ensures transition { IsTrue (D.honest self.old.inner) → Lists (λ v. v.items) (D.files self.old.inner) result (D.files self.new.inner) }
         ensures noted { logs_of self.new.written ≡ logs_of self.old.written }
         ensures gone { IsNoted result (gone_of self.old.written) (gone_of self.new.written) map.empty }
     {
@@ -136,10 +136,10 @@ impl<D: LogDisk> LogDisk for PowerDisk<D> {
     fn create(&mut self, alloc: Global, log: u32) -> Result<(), DiskFault>
         requires { log < 2 ^ 31 }
         ensures honest { D.honest self.new.inner ≡ D.honest self.old.inner }
-        ensures kept { IsTrue (D.honest self.old.inner)
-            → KeepsMore (D.synced self.old.inner) (D.gone self.old.inner) (D.synced self.new.inner) (D.gone self.new.inner) }
-        ensures cause { HasCause (D.failures self.old.inner + self.old.power.refused) (D.failures self.new.inner + self.new.power.refused) result }
-        ensures turn { IsTrue (D.honest self.old.inner) → Creates (D.files self.old.inner) log result (D.files self.new.inner) }
+        ensures durable { IsTrue (D.honest self.old.inner)
+            → DurableGrows (D.synced self.old.inner) (D.gone self.old.inner) (D.synced self.new.inner) (D.gone self.new.inner) }
+        ensures cause { FailsExactlyOnDiskFault (D.failures self.old.inner + self.old.power.refused) (D.failures self.new.inner + self.new.power.refused) result }
+        ensures transition { IsTrue (D.honest self.old.inner) → Creates (D.files self.old.inner) log result (D.files self.new.inner) }
         ensures noted { self.new.written.is_lost ≡ false → IsNoted result (logs_of self.old.written) (logs_of self.new.written) (map.insert (logs_of self.old.written) log made_log) }
         ensures gone { gone_of self.new.written ≡ gone_of self.old.written }
     {
@@ -155,10 +155,10 @@ impl<D: LogDisk> LogDisk for PowerDisk<D> {
 
     fn append(&mut self, alloc: Global, log: u32, bytes: &[u8]) -> Result<(), DiskFault>
         ensures honest { D.honest self.new.inner ≡ D.honest self.old.inner }
-        ensures kept { IsTrue (D.honest self.old.inner)
-            → KeepsMore (D.synced self.old.inner) (D.gone self.old.inner) (D.synced self.new.inner) (D.gone self.new.inner) }
-        ensures cause { HasCause (D.failures self.old.inner + self.old.power.refused) (D.failures self.new.inner + self.new.power.refused) result }
-        ensures turn { IsTrue (D.honest self.old.inner) → Appends (D.files self.old.inner) log bytes.now result (D.files self.new.inner) }
+        ensures durable { IsTrue (D.honest self.old.inner)
+            → DurableGrows (D.synced self.old.inner) (D.gone self.old.inner) (D.synced self.new.inner) (D.gone self.new.inner) }
+        ensures cause { FailsExactlyOnDiskFault (D.failures self.old.inner + self.old.power.refused) (D.failures self.new.inner + self.new.power.refused) result }
+        ensures transition { IsTrue (D.honest self.old.inner) → Appends (D.files self.old.inner) log bytes.now result (D.files self.new.inner) }
         ensures noted { self.new.written.is_lost ≡ false → IsNotedInPart result (logs_of self.old.written) (logs_of self.new.written) (λ n. noted (longer_log (take n bytes.now)) (logs_of self.old.written) log)
             (noted (longer_log bytes.now) (logs_of self.old.written) log) }
         ensures gone { gone_of self.new.written ≡ gone_of self.old.written }
@@ -180,10 +180,10 @@ impl<D: LogDisk> LogDisk for PowerDisk<D> {
 
     fn patch(&mut self, alloc: Global, log: u32, bytes: &[u8; 12]) -> Result<(), DiskFault>
         ensures honest { D.honest self.new.inner ≡ D.honest self.old.inner }
-        ensures kept { IsTrue (D.honest self.old.inner)
-            → KeepsMore (D.synced self.old.inner) (D.gone self.old.inner) (D.synced self.new.inner) (D.gone self.new.inner) }
-        ensures cause { HasCause (D.failures self.old.inner + self.old.power.refused) (D.failures self.new.inner + self.new.power.refused) result }
-        ensures turn { IsTrue (D.honest self.old.inner) → Patches (D.files self.old.inner) log bytes.now result (D.files self.new.inner) }
+        ensures durable { IsTrue (D.honest self.old.inner)
+            → DurableGrows (D.synced self.old.inner) (D.gone self.old.inner) (D.synced self.new.inner) (D.gone self.new.inner) }
+        ensures cause { FailsExactlyOnDiskFault (D.failures self.old.inner + self.old.power.refused) (D.failures self.new.inner + self.new.power.refused) result }
+        ensures transition { IsTrue (D.honest self.old.inner) → Patches (D.files self.old.inner) log bytes.now result (D.files self.new.inner) }
         ensures noted { IsNoted result (logs_of self.old.written) (logs_of self.new.written) (noted (patched_log bytes.now) (logs_of self.old.written) log) }
         ensures gone { gone_of self.new.written ≡ gone_of self.old.written }
     {
@@ -199,11 +199,11 @@ impl<D: LogDisk> LogDisk for PowerDisk<D> {
 
     fn sync(&mut self, alloc: Global, log: u32) -> Result<(), DiskFault>
         ensures honest { D.honest self.new.inner ≡ D.honest self.old.inner }
-        ensures kept { IsTrue (D.honest self.old.inner)
-            → KeepsMore (D.synced self.old.inner) (D.gone self.old.inner) (D.synced self.new.inner) (D.gone self.new.inner) }
-        ensures syncs { IsTrue (D.honest self.old.inner) → SyncKeeps (D.files self.old.inner) log result (D.synced self.new.inner) }
-        ensures cause { HasCause (D.failures self.old.inner + self.old.power.refused) (D.failures self.new.inner + self.new.power.refused) result }
-        ensures turn { IsTrue (D.honest self.old.inner) → Syncs (D.files self.old.inner) log result (D.files self.new.inner) }
+        ensures durable { IsTrue (D.honest self.old.inner)
+            → DurableGrows (D.synced self.old.inner) (D.gone self.old.inner) (D.synced self.new.inner) (D.gone self.new.inner) }
+        ensures syncs { IsTrue (D.honest self.old.inner) → SyncDurability (D.files self.old.inner) log result (D.synced self.new.inner) }
+        ensures cause { FailsExactlyOnDiskFault (D.failures self.old.inner + self.old.power.refused) (D.failures self.new.inner + self.new.power.refused) result }
+        ensures transition { IsTrue (D.honest self.old.inner) → Syncs (D.files self.old.inner) log result (D.files self.new.inner) }
         ensures noted { IsNoted result (logs_of self.old.written) (logs_of self.new.written) (noted synced_log (logs_of self.old.written) log) }
         ensures gone { gone_of self.new.written ≡ gone_of self.old.written }
     {
@@ -233,10 +233,10 @@ impl<D: LogDisk> LogDisk for PowerDisk<D> {
 
     fn remove(&mut self, alloc: Global, log: u32) -> Result<(), DiskFault>
         ensures honest { D.honest self.new.inner ≡ D.honest self.old.inner }
-        ensures kept { IsTrue (D.honest self.old.inner) → RemoveKeeps (D.files self.old.inner) log result (D.synced self.old.inner)
+        ensures durable { IsTrue (D.honest self.old.inner) → RemoveDurability (D.files self.old.inner) log result (D.synced self.old.inner)
             (D.gone self.old.inner) (D.synced self.new.inner) (D.gone self.new.inner) }
-        ensures cause { HasCause (D.failures self.old.inner + self.old.power.refused) (D.failures self.new.inner + self.new.power.refused) result }
-        ensures turn { IsTrue (D.honest self.old.inner) → Removes (D.files self.old.inner) log result (D.files self.new.inner) }
+        ensures cause { FailsExactlyOnDiskFault (D.failures self.old.inner + self.old.power.refused) (D.failures self.new.inner + self.new.power.refused) result }
+        ensures transition { IsTrue (D.honest self.old.inner) → Removes (D.files self.old.inner) log result (D.files self.new.inner) }
         ensures noted { IsNoted result (logs_of self.old.written) (logs_of self.new.written) (map.remove (logs_of self.old.written) log) }
         ensures gone { self.new.written.is_lost ≡ false
             → IsNoted result (gone_of self.old.written) (gone_of self.new.written) (with_removed (gone_of self.old.written) log (map.get (logs_of self.old.written) log)) }
@@ -252,25 +252,25 @@ impl<D: LogDisk> LogDisk for PowerDisk<D> {
     }
 }
 
-impl<D: MarkDisk> MarkDisk for PowerDisk<D> {
+impl<D: WatermarkDisk> WatermarkDisk for PowerDisk<D> {
     ghost marks = { λ disk. D.marks disk.inner };
 
-    fn begin_marks(&mut self, alloc: Global) -> Result<(), DiskFault> {
+    fn truncate_to_watermarks(&mut self, alloc: Global) -> Result<(), DiskFault> {
         if self.power.fails() {
             return Err(DiskFault::Disk);
         }
-        self.inner.begin_marks(alloc)
+        self.inner.truncate_to_watermarks(alloc)
     }
 
-    fn keep_mark(&mut self, alloc: Global, log: u32, mark: u64) -> Result<(), DiskFault>
+    fn write_watermark(&mut self, alloc: Global, log: u32, mark: u64) -> Result<(), DiskFault>
         requires within { IsTrue (D.honest self.old.inner) → mark ≤ length (file_of (D.files self.old.inner) log) }
-        requires kept { IsTrue (D.honest self.old.inner) → Covers (D.synced self.old.inner) log mark }
+        requires durable { IsTrue (D.honest self.old.inner) → IsDurableUpTo (D.synced self.old.inner) log mark }
         ensures honest { D.honest self.new.inner ≡ D.honest self.old.inner }
-        ensures kept { IsTrue (D.honest self.old.inner)
-            → KeepsMore (D.synced self.old.inner) (D.gone self.old.inner) (D.synced self.new.inner) (D.gone self.new.inner) }
-        ensures cause { HasCause (D.failures self.old.inner + self.old.power.refused) (D.failures self.new.inner + self.new.power.refused) result }
-        ensures turn { IsTrue (D.honest self.old.inner) → Syncs (D.files self.old.inner) log result (D.files self.new.inner) }
-        ensures marked { IsTrue (D.honest self.old.inner) → OnOk result (HasMark (D.marks self.new.inner) log mark) }
+        ensures durable { IsTrue (D.honest self.old.inner)
+            → DurableGrows (D.synced self.old.inner) (D.gone self.old.inner) (D.synced self.new.inner) (D.gone self.new.inner) }
+        ensures cause { FailsExactlyOnDiskFault (D.failures self.old.inner + self.old.power.refused) (D.failures self.new.inner + self.new.power.refused) result }
+        ensures transition { IsTrue (D.honest self.old.inner) → Syncs (D.files self.old.inner) log result (D.files self.new.inner) }
+        ensures marked { IsTrue (D.honest self.old.inner) → OnOk result (HasWatermark (D.marks self.new.inner) log mark) }
         ensures noted { IsMarkNoted result (logs_of self.old.written) (logs_of self.new.written) (noted (marked_log mark) (logs_of self.old.written) log) log }
         ensures gone { gone_of self.new.written ≡ gone_of self.old.written }
     {
@@ -281,7 +281,7 @@ impl<D: MarkDisk> MarkDisk for PowerDisk<D> {
             }
             return Err(DiskFault::Disk);
         }
-        let kept = self.inner.keep_mark(alloc, log, mark);
+        let kept = self.inner.write_watermark(alloc, log, mark);
         if kept.is_ok() {
             self.written.mark(log, mark);
             self.written.sync(log);

@@ -1,11 +1,11 @@
-//! What a disk was asked to write: the bytes of each log, how many of them are on the device for sure, and the files that
-//! were removed. Of it comes what a loss of power may leave.
+//! The record of a disk: the bytes of each log, its durable length, and the removed files. It
+//! determines what a loss of power may leave.
 
 ghost use Rattle.std.specs.Prelude.{◌≡◌, ℕ, ◌≤◌, false, option_map, IfOk, OnOk};
 ghost use Rattle.std.specs.FinMap as map;
 ghost use Rattle.bk_record.specs.Files.{Files};
-ghost use Rattle.bk_mark.specs.Marking as marking;
-ghost use Rattle.bk_mark.specs.Marking.{AreCovered, sure_fronts};
+ghost use Rattle.bk_watermark.specs.Marking as marking;
+ghost use Rattle.bk_watermark.specs.Marking.{AreCovered, sure_fronts};
 ghost use Rattle.bk_store.specs.Crash.{MayLeave};
 ghost use Rattle.bk_crash.specs.Noting.{noted, found_log, made_log, longer_log, patched_log, synced_log, marked_log, with_removed};
 ghost use Rattle.bk_crash.specs.Leaving.{by_id, IsBackOf};
@@ -15,28 +15,28 @@ use crate::written_log::{WrittenLog, beginning};
 use std::alloc::{AllocError, Global};
 use std::collections::BTreeMap;
 
-/// A log's id, and the bytes of its file.
+/// A log id and the bytes of its file.
 pub type File = (u32, Vec<u8>);
 
-/// Whoever chooses what a loss of power leaves, where it may leave more than one thing.
+/// Chooses what a loss of power leaves, if it may leave several things.
 pub trait Choices {
-    /// A number from 0 to this one.
+    /// Returns a number from 0 to `most`.
     fn up_to(&mut self, most: usize) -> usize
         ensures { result ≤ most };
 }
 
-/// What was written to the logs of a disk.
+/// The record of what was written to the logs of a disk.
 #[derive(Drop)]
 pub struct Written {
     logs: BTreeMap<u32, WrittenLog>,
-    /// The files that were removed.
+    /// The removed files.
     gone: BTreeMap<u32, Vec<u8>>,
-    /// Whether there was no memory for some of it.
+    /// Whether an allocation for the record failed, so that a part of it is missing.
     is_lost: bool,
 }
 
 impl Written {
-    /// Nothing.
+    /// Returns an empty record.
     pub fn new(alloc: Global) -> Written
         ensures logs { logs_of result ≡ map.empty }
         ensures gone { gone_of result ≡ map.empty }
@@ -49,7 +49,12 @@ impl Written {
         }
     }
 
-    /// The same once more, for the disk of another process: what one wrote is there for the next one, as long as there is power.
+    /// Returns a copy for the disk of the next process, which sees everything written while power
+    /// stays on.
+    ///
+    /// # Errors
+    ///
+    /// - `AllocError` if an allocation fails.
     pub fn copy(&self, alloc: Global) -> Result<Written, AllocError> {
         let mut copy = Written::new(alloc);
         for (log, written) in self.logs.iter() {
@@ -66,7 +71,11 @@ impl Written {
         Ok(copy)
     }
 
-    /// The files as they are while there is power.
+    /// Returns the files as they are while power stays on.
+    ///
+    /// # Errors
+    ///
+    /// - `AllocError` if an allocation fails.
     pub fn files(&self, alloc: Global) -> Result<Vec<File>, AllocError> {
         let mut files = Vec::new(alloc);
         for (log, written) in self.logs.iter() {
@@ -75,14 +84,14 @@ impl Written {
         Ok(files)
     }
 
-    /// Whether there was no memory for something that was written.
+    /// Returns whether an allocation for the record failed, so that a part of it is missing.
     pub fn is_lost(&self) -> bool
         ensures { result ≡ self.now.is_lost }
     {
         self.is_lost
     }
 
-    /// A log that is on the device with all its bytes.
+    /// Records a log that is durable with all its bytes.
     pub fn find(&mut self, log: u32, bytes: Vec<u8>)
         ensures logs { self.new.is_lost ≡ false → logs_of self.new ≡ map.insert (logs_of self.old) log (found_log bytes.items) }
         ensures gone { gone_of self.new ≡ gone_of self.old }
@@ -90,7 +99,7 @@ impl Written {
         self.put(log, WrittenLog::found(bytes));
     }
 
-    /// The logs were listed: no file that was removed before is back from then on.
+    /// Records a listing: no file that was removed earlier is back after a crash.
     pub(crate) fn list(&mut self, alloc: Global)
         ensures logs { logs_of self.new ≡ logs_of self.old }
         ensures gone { gone_of self.new ≡ map.empty }
@@ -145,7 +154,7 @@ impl Written {
         }
     }
 
-    /// A mark was written. It may be on the device or not, until the log is synced.
+    /// Records a watermark. It may be durable or not until the log is synced.
     pub(crate) fn mark(&mut self, log: u32, mark: u64)
         ensures logs { logs_of self.new ≡ noted (marked_log mark) (logs_of self.old) log }
         ensures gone { gone_of self.new ≡ gone_of self.old }
@@ -167,9 +176,15 @@ impl Written {
         }
     }
 
-    /// Files that a loss of power may leave: of each log a beginning, no shorter than what was synced, with any bytes where
-    /// its header was patched since; no file where nothing was synced; and removed files, or beginnings of them. The only
-    /// error is want of memory.
+    /// Returns files that a loss of power may leave.
+    ///
+    /// Each log has a prefix with at least its synced bytes, and any bytes in the part of its
+    /// header that was patched since. A log without synced bytes may be missing. Removed files, or
+    /// prefixes of them, may be back.
+    ///
+    /// # Errors
+    ///
+    /// - `AllocError` if an allocation fails.
     pub fn left<C: Choices>(&self, alloc: Global, choices: &mut C) -> Result<Vec<File>, AllocError>
         ensures { (kept : Files) → AreSynced self.now kept
             → IfOk result (λ left. MayLeave (files_of self.now) (gone_of self.now) kept (by_id left.items)) }
@@ -184,7 +199,7 @@ impl Written {
         Ok(left)
     }
 
-    /// Puts files that were removed and are back behind those that are left of the logs.
+    /// Appends the removed files that are back.
     fn put_back<C: Choices>(
         &self,
         alloc: Global,
@@ -204,8 +219,12 @@ impl Written {
         Ok(())
     }
 
-    /// Files that a loss of power may leave on a device that leaves any bytes behind those that were synced, each cut to the
-    /// mark that is found in it. The only error is want of memory.
+    /// Returns files that a loss of power may leave on a device that leaves any bytes after the
+    /// synced ones. Each is truncated at the watermark found in it.
+    ///
+    /// # Errors
+    ///
+    /// - `AllocError` if an allocation fails.
     pub fn damaged<C: Choices>(
         &self,
         alloc: Global,
@@ -225,7 +244,7 @@ impl Written {
     }
 }
 
-/// A file that was removed, or a beginning of it, where it is back.
+/// Returns a removed file or a prefix of it, if it is back.
 fn back<C: Choices>(
     alloc: Global,
     file: &[u8],

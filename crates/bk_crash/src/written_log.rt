@@ -1,4 +1,4 @@
-//! What was written to one log of a disk, and what a loss of power leaves of it.
+//! The record of one log, and what a loss of power may leave of it.
 
 ghost use Rattle.std.specs.Prelude.{◌≡◌, ℕ, ◌≤◌, List, ◌++◌, Some, None, length, take, option_map, IfOk, OnOk, OnErr};
 ghost use Rattle.bk_disk.specs.Disk.{patched_file};
@@ -10,21 +10,21 @@ use bk_record::HEADER_LENGTH;
 use std::alloc::{AllocError, Global};
 use std::marker::Model;
 
-/// Where the twelve bytes of a header that a patch writes begin, and where they end.
+/// Begin and end of the bytes of a header that a patch writes.
 const PATCHED: (usize, usize) = (8, 20);
 
-/// What was written to a log.
+/// The record of a log.
 #[derive(Drop)]
 pub(crate) struct WrittenLog {
     bytes: Vec<u8>,
-    /// How many bytes are on the device for sure; `None` where not even the file is.
+    /// Number of durable bytes, or `None` if the file itself is not durable.
     synced: Option<usize>,
     /// Whether the header was patched since.
     is_patched: bool,
     mark: Mark,
 }
 
-/// The mark that a log has on the device for sure, and the last that was written: how many bytes are to be believed.
+/// The durable watermark, and the last one written.
 #[derive(Clone, Copy)]
 struct Mark {
     sure: usize,
@@ -32,16 +32,16 @@ struct Mark {
 }
 
 impl Model for WrittenLog {
-    ghost use Rattle.bk_crash.specs.Noting.{Log, log_code};
+    ghost use Rattle.bk_crash.specs.Noting.{NotedLog, log_code};
 
-    ghost Value = { Log };
+    ghost Value = { NotedLog };
 
     ghost coded = { log_code };
 
     ghost view = { λ log. record { bytes = log.bytes.items; synced = log.synced; patched = log.is_patched; sure = log.mark.sure; last = log.mark.last } };
 }
 
-/// The mark of a log that is made, and of one that was found without one: it has its header, or all that it has.
+/// Returns the watermark of a log that has none: the given length.
 fn unmarked(length: usize) -> Mark
     ensures sure { result.sure ≡ length }
     ensures last { result.last ≡ length }
@@ -53,7 +53,7 @@ fn unmarked(length: usize) -> Mark
 }
 
 impl WrittenLog {
-    /// A log that is on the device with all its bytes.
+    /// Returns a log that is durable with all its bytes.
     pub fn found(bytes: Vec<u8>) -> WrittenLog
         ensures { result ≡ found_log bytes.items }
     {
@@ -66,7 +66,7 @@ impl WrittenLog {
         }
     }
 
-    /// A log whose file was made, and of which nothing is on the device for sure.
+    /// Returns a log that was created and of which nothing is durable.
     pub fn made(alloc: Global) -> WrittenLog
         ensures { result ≡ made_log }
     {
@@ -78,7 +78,7 @@ impl WrittenLog {
         }
     }
 
-    /// The same once more. The only error is want of memory.
+    /// Returns a copy. Fails only if out of memory.
     pub fn copy(&self) -> Result<WrittenLog, AllocError>
         ensures { IfOk result (λ copy. copy ≡ self.now) }
     {
@@ -90,21 +90,21 @@ impl WrittenLog {
         })
     }
 
-    /// The bytes that were written.
+    /// Returns the bytes that were written.
     pub fn bytes(&self) -> &Vec<u8>
         ensures { result.now.items ≡ self.now.bytes }
     {
         &self.bytes
     }
 
-    /// The bytes that were written.
+    /// Returns the bytes that were written.
     pub fn into_bytes(self) -> Vec<u8>
         ensures { result.items ≡ self.bytes }
     {
         self.bytes
     }
 
-    /// Bytes were written at the end. The only error is want of memory, and then they are not noted.
+    /// Records bytes appended. If out of memory, fails and records nothing.
     pub fn append(&mut self, more: &[u8]) -> Result<(), AllocError>
         ensures ok { OnOk result (self.new ≡ longer_log more.now self.old) }
         ensures err { OnErr result (self.new ≡ self.old) }
@@ -112,7 +112,7 @@ impl WrittenLog {
         self.bytes.extend_from_slice(more)
     }
 
-    /// Twelve bytes were written into the header.
+    /// Records twelve bytes written into the header.
     pub fn patch(&mut self, bytes: &[u8; 12])
         ensures { self.new ≡ patched_log bytes.now self.old }
     {
@@ -120,7 +120,7 @@ impl WrittenLog {
         overwrite(&mut self.bytes, bytes);
     }
 
-    /// What was written is on the device.
+    /// Records that everything written is durable.
     pub fn sync(&mut self)
         ensures { self.new ≡ synced_log self.old }
     {
@@ -129,7 +129,7 @@ impl WrittenLog {
         self.mark.sure = self.mark.last;
     }
 
-    /// A mark was written. It may be on the device or not, until the log is synced.
+    /// Records a watermark. It may be durable or not until the log is synced.
     pub fn mark(&mut self, mark: u64)
         ensures { self.new ≡ marked_log mark self.old }
     {
@@ -138,7 +138,8 @@ impl WrittenLog {
 }
 
 impl WrittenLog {
-    /// What a loss of power leaves of the log; `None` where its file is not there, of which nothing was synced.
+    /// Returns what a loss of power leaves of the log, or `None` for no file, if nothing was
+    /// synced.
     pub fn left<C: Choices>(
         &self,
         alloc: Global,
@@ -158,8 +159,8 @@ impl WrittenLog {
         Ok(Some(bytes))
     }
 
-    /// What a loss of power leaves of the log in front of its mark, where there may be any bytes behind those that were synced;
-    /// `None` where its file is not there.
+    /// Returns what a loss of power leaves of the log before its watermark, with any bytes after
+    /// the synced ones, or `None` for no file.
     pub fn damaged<C: Choices>(
         &self,
         alloc: Global,
@@ -185,12 +186,12 @@ impl WrittenLog {
     }
 }
 
-/// A record that nobody wrote.
+/// A record that was never written.
 const RECORD: [u8; 28] =
     *b"\x00\x00\x00\x18\x00\x00\x00\x00\x00\x00\x00\x4d\x00\x00\x00\x00\x00\x00\x00\x01mmmmmmmm";
 
-/// What a device may leave behind the bytes that were synced: nothing, zeros, old bytes, what was written there, or a record
-/// that nobody wrote.
+/// Appends what a device may leave after the synced bytes: nothing, zeros, old bytes, the bytes
+/// written there, or a record that was never written.
 fn add_damage<C: Choices>(
     alloc: Global,
     bytes: &mut Vec<u8>,
@@ -217,7 +218,7 @@ fn add_all(bytes: &mut Vec<u8>, more: &[u8]) -> Result<(), AllocError>
     bytes.extend_from_slice(more)
 }
 
-/// Writes twelve bytes over those at byte 8 of a file, where it has so many.
+/// Overwrites twelve bytes from byte 8 of a file, if it is long enough.
 fn overwrite(file: &mut [u8], bytes: &[u8; 12])
     ensures { file.new ≡ patched_file file.old bytes.now }
 {
@@ -226,7 +227,8 @@ fn overwrite(file: &mut [u8], bytes: &[u8; 12])
     }
 }
 
-/// The first bytes of a file, at least so many: no more, all, a few more, or any number.
+/// Returns a prefix of a file of at least `least` bytes: just these, all, a few more, or any
+/// number.
 pub(crate) fn beginning<C: Choices>(
     alloc: Global,
     file: &[u8],
@@ -246,7 +248,7 @@ pub(crate) fn beginning<C: Choices>(
     Vec::from_slice(alloc, &file[..end.min(file.len())])
 }
 
-/// Other bytes where a header is patched, or the same.
+/// Overwrites the patched bytes of a header, or leaves them.
 fn spoil<C: Choices>(file: &mut [u8], choices: &mut C)
     ensures { IsSpoiled file.old file.new }
 {

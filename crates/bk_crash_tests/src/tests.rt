@@ -1,4 +1,5 @@
-//! Stores whose power goes: each is opened again on what is left, and compared with what was published.
+//! Stores whose power fails. Each is opened again on what is left and compared with what was
+//! published.
 
 mod life;
 mod random;

@@ -1,4 +1,4 @@
--- What a long division leaves is the remainder, and the only one.
+-- Long division gives the remainder, and there is only one.
 use Rattle.std.proofs.Common.{◌≡◌, ℕ, zero, suc, ◌+◌, ◌*◌, ◌/◌, ◌%◌, ◌^◌, ◌<◌, Bool, true, false, List, [], ◌∷◌, length, refl, ap, sym, ◌∙◌, arith, inl, inr}
 use Rattle.std.specs.Prelude.{bit_xor}
 use Rattle.std.specs.Int.Bits.{xor_assoc, xor_zero_l}
@@ -9,7 +9,7 @@ use Rattle.std.proofs.lemmas.Bool.Decides.{eqb_tells}
 use Rattle.bk_crc.specs.Division.{plus, product, IsRemainder}
 use Rattle.bk_crc.proofs.Dividing.{taken, first_bit, halved, divided, xor_twice, double_half, even_first, shifted}
 
--- the coefficients that a long division meets
+-- coefficients of the quotient
 unfoldable pub quotient_of : ℕ → ℕ → ℕ → List Bool
 quotient_of divisor zero word = []
 quotient_of divisor (suc places) word = first_bit word ∷ quotient_of divisor places (halved divisor word)
@@ -19,7 +19,7 @@ unfolding quotient_of
 quotient_fills divisor zero word = refl
 quotient_fills divisor (suc places) word = ap suc (quotient_fills divisor places (halved divisor word))
 
--- a sum that is moved by some places
+-- a sum, shifted
 pub xor_moved : (places a b : ℕ) → bit_xor a b * 2 ^ places ≡ bit_xor (a * 2 ^ places) (b * 2 ^ places)
 xor_moved places a b =
     let one : a * 2 ^ places ≡ a * 2 ^ places + 0 = omega arith in
@@ -28,7 +28,7 @@ xor_moved places a b =
     let some : 0 < 2 ^ places = pow_pos places in
     sym (ap (λ (z : ℕ). bit_xor z (b * 2 ^ places)) one ∙ ap (λ (z : ℕ). bit_xor (a * 2 ^ places + 0) z) other ∙ xor_block places a b 0 0 some some ∙ both)
 
--- after the divisor was taken out where the first bit is set, that bit is not set
+-- after a step the first bit is not set
 cleared : (divisor word : ℕ) → divisor % 2 ≡ 1 → bit_xor (taken divisor (first_bit word)) word % 2 ≡ 0
 cleared divisor word odd =
     elim (eqb_tells (word % 2) 1) [
@@ -38,7 +38,7 @@ cleared divisor word odd =
           rw (unset.0, xor_zero_l word) none
     ]
 
--- a word from its first bit and what a step leaves
+-- a word is determined by its first bit and the result of the step
 rejoined : (divisor word : ℕ) → divisor % 2 ≡ 1 → bit_xor (taken divisor (first_bit word)) (halved divisor word * 2) ≡ word
 unfolding halved
 rejoined divisor word odd =
@@ -46,7 +46,7 @@ rejoined divisor word odd =
     let whole : bit_xor (taken divisor (first_bit word)) word / 2 * 2 ≡ bit_xor (taken divisor (first_bit word)) word = omega arith in
     rw whole (xor_twice (taken divisor (first_bit word)) word)
 
--- a dividend is the product of divisor and quotient, and what is left
+-- a dividend is the product of divisor and quotient, plus the remainder
 pub divides : (divisor places word : ℕ) → divisor % 2 ≡ 1
     → word ≡ plus (product divisor (quotient_of divisor places word)) (divided divisor places word * 2 ^ places)
 unfolding divided quotient_of product
@@ -61,7 +61,7 @@ divides divisor (suc places) word odd =
     ap (λ (z : ℕ). z * 2) before ∙ xor_moved 1 most (left * 2 ^ places) ∙ ap (λ (z : ℕ). bit_xor (most * 2) z) (sym (shifted left places)) in
     sym (rejoined divisor word odd) ∙ ap (λ (z : ℕ). bit_xor bit z) doubled ∙ sym (xor_assoc bit (most * 2) (left * 2 ^ suc places))
 
--- a step takes off a coefficient that a word was made with
+-- a step removes one coefficient of the product
 halved_of : (divisor rest : ℕ) (bit : Bool) → divisor % 2 ≡ 1 → halved divisor (bit_xor (taken divisor bit) (rest * 2)) ≡ rest
 unfolding halved
 halved_of divisor rest true odd =
@@ -71,7 +71,7 @@ halved_of divisor rest false odd =
     let none : rest * 2 % 2 ≡ 0 = omega arith in
     rw (xor_zero_l (rest * 2), none, xor_zero_l (rest * 2)) (double_half rest)
 
--- what is left after the coefficients of a quotient is the remainder that the dividend was made with
+-- Dividing a product of divisor and quotient, plus a remainder, gives that remainder.
 pub left_of : (divisor remainder : ℕ) (quotient : List Bool) → divisor % 2 ≡ 1
     → divided divisor (length quotient) (plus (product divisor quotient) (remainder * 2 ^ length quotient)) ≡ remainder
 unfolding divided product
@@ -91,7 +91,7 @@ taken_low : (divisor : ℕ) (bit : Bool) → divisor < 2 ^ 33 → taken divisor 
 taken_low divisor true narrow = narrow
 taken_low divisor false narrow = omega arith
 
--- a word of 32 bits leaves one of 32 bits, after any number of bits
+-- a word of 32 bits gives one of 32 bits, after any number of steps
 pub divided_low : (divisor places word : ℕ) → divisor < 2 ^ 33 → word < 2 ^ 32 → divided divisor places word < 2 ^ 32
 unfolding divided halved
 divided_low divisor zero word narrow low = low
@@ -100,7 +100,7 @@ divided_low divisor (suc places) word narrow low =
     xor_lt 33 (taken divisor (first_bit word)) word (taken_low divisor (first_bit word) narrow) (omega arith) in
     divided_low divisor places (bit_xor (taken divisor (first_bit word)) word / 2) narrow (omega arith)
 
--- what a long division leaves is a remainder
+-- the result of the long division is a remainder
 pub is_remainder : (divisor places word remainder : ℕ) → divisor % 2 ≡ 1 → remainder < 2 ^ 32 → remainder ≡ divided divisor places word
     → IsRemainder divisor places word remainder
 is_remainder divisor places word remainder odd low same = record {
@@ -110,7 +110,7 @@ is_remainder divisor places word remainder odd low same = record {
   short = low;
 }
 
--- a remainder is what a long division leaves
+-- a remainder is the result of the long division
 pub remainder_is : {divisor places word remainder : ℕ} → IsRemainder divisor places word remainder → divisor % 2 ≡ 1
     → remainder ≡ divided divisor places word
 remainder_is {divisor} {places} {word} {remainder} is odd =

@@ -1,4 +1,4 @@
--- A byte a step: what a table's entry and the rest of the register leave together.
+-- One byte per step: a table entry and the rest of the register are eight steps of the division.
 use Rattle.std.proofs.Common.{◌≡◌, ℕ, zero, suc, ◌+◌, ◌*◌, ◌/◌, ◌%◌, ◌^◌, ◌<◌, List, [], ◌∷◌, ◌++◌, length, get_or, take, ap, sym, ◌∙◌, arith}
 use Rattle.std.specs.Prelude.{bit_xor, bit_and}
 use Rattle.std.specs.Int.Bits.{xor_zero_l, xor_shifted}
@@ -12,7 +12,7 @@ use Rattle.bk_crc.proofs.Dividing.{divided, divided_behind}
 use Rattle.bk_crc.proofs.Remainders.{divided_low, is_remainder, remainder_is}
 use Rattle.bk_crc.proofs.Words.{odd_generator, narrow_generator, more}
 
--- the entries of so many bytes from one on
+-- table entries of consecutive bytes
 unfoldable pub entries : ℕ → ℕ → ℕ → List ℕ
 entries divisor from zero = []
 entries divisor from (suc count) = divided divisor 8 from ∷ entries divisor (suc from) count
@@ -25,7 +25,7 @@ entry_at divisor from (suc count) (suc at) low =
     let same : suc from + at ≡ from + suc at = omega arith in
     entry_at divisor (suc from) count at (omega arith) ∙ ap (λ (z : ℕ). divided divisor 8 z) same
 
--- these entries are the divisor's table
+-- these entries are the table of the divisor
 pub is_table : (polynomial : Polynomial) (table : List ℕ) → table ≡ entries (generator polynomial) 0 256 → IsTable (generator polynomial) table
 is_table polynomial table same byte low =
     let divisor = generator polynomial in
@@ -35,7 +35,7 @@ is_table polynomial table same byte low =
     is_remainder divisor 8 byte (get_or table byte 0) (odd_generator polynomial)
     (rw left (divided_low divisor 8 byte (narrow_generator polynomial) (omega arith))) left
 
--- a register after a byte, from the table
+-- the register after one more byte, from the table
 pub table_step : (polynomial : Polynomial) (table : List ℕ) (byte register : ℕ) → IsTable (generator polynomial) table → byte < 256
     → bit_xor (get_or table (bit_xor (bit_and register 255) byte) 0) (register / 2 ^ 8) ≡ divided (generator polynomial) 8 (plus byte register)
 table_step polynomial table byte register entry low =
@@ -59,7 +59,7 @@ table_step polynomial table byte register entry low =
     ∙ ap (λ (z : ℕ). bit_xor (register / 2 ^ 8) z) (sym here)
     ∙ xor_comm (register / 2 ^ 8) (get_or table first 0))
 
--- the remainder of a message that has a byte more, from the table
+-- the remainder of a message with one more byte, from the table
 pub table_more : (polynomial : Polynomial) (table message : List ℕ) (byte register : ℕ) → IsTable (generator polynomial) table → byte < 256
     → IsRemainder (generator polynomial) (8 * length message) (dividend_of message) register
     → IsRemainder (generator polynomial) (8 * length (message ++ byte ∷ [])) (dividend_of (message ++ byte ∷ []))
@@ -70,7 +70,7 @@ table_more polynomial table message byte register entry low before =
     more polynomial message byte register (bit_xor (get_or table (bit_xor (bit_and register 255) byte) 0) (register / 2 ^ 8)) before
     (rw step (divided_low (generator polynomial) 8 (bit_xor byte register) (narrow_generator polynomial) sum)) step
 
--- a message with one byte more of a list
+-- a message with one more byte of a list
 pub message_more : (message bytes : List ℕ) (at : ℕ) → at < length bytes → (message ++ take at bytes) ++ get_or bytes at 0 ∷ [] ≡ message ++ take (at + 1) bytes
 message_more message bytes at low =
     append_assoc message (take at bytes) (get_or bytes at 0 ∷ []) ∙ ap (λ (z : List ℕ). message ++ z) (sym (take_more bytes at 0 low))

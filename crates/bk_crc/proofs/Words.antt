@@ -1,4 +1,4 @@
--- The bits of a message: what a byte more behind it leaves.
+-- The bits of a message, and the effect of one more byte at its end.
 use Rattle.std.proofs.Common.{◌≡◌, ℕ, suc, ◌+◌, ◌*◌, ◌%◌, ◌^◌, ◌<◌, List, [], ◌∷◌, ◌++◌, length, refl, ap, sym, ◌∙◌, arith, pow-add}
 use Rattle.std.specs.Prelude.{bit_xor}
 use Rattle.std.specs.Int.Bits.{xor_assoc}
@@ -12,19 +12,19 @@ use Rattle.bk_crc.specs.Checksum.{powers, of_powers, generator, word_of, all_one
 use Rattle.bk_crc.proofs.Dividing.{divided, divided_behind, divided_twice, xor_twice, xor_swap}
 use Rattle.bk_crc.proofs.Remainders.{xor_moved, is_remainder, remainder_is}
 
--- both polynomials have x ^ 32
+-- both polynomials have the constant term, which is bit 0
 pub odd_generator : (polynomial : Polynomial) → generator polynomial % 2 ≡ 1
 unfolding generator of_powers powers
 odd_generator Castagnoli = refl
 odd_generator Ieee = refl
 
--- and no higher power
+-- their degree is 32
 pub narrow_generator : (polynomial : Polynomial) → generator polynomial < 2 ^ 33
 unfolding generator of_powers powers
 narrow_generator Castagnoli = omega arith
 narrow_generator Ieee = omega arith
 
--- the word of a message that has a byte more
+-- word of a message with one more byte
 word_more : (message : List ℕ) (byte : ℕ) → word_of (message ++ byte ∷ []) ≡ plus (byte * 2 ^ (8 * length message)) (word_of message)
 unfolding word_of
 word_more [] byte = ap (λ (z : ℕ). bit_xor z 0) (sym (mul-one byte))
@@ -38,7 +38,7 @@ word_more (first ∷ rest) byte =
     ∙ ap (λ (z : ℕ). bit_xor first (bit_xor z (word_of rest * 2 ^ 8))) moved
     ∙ xor_swap first (byte * 2 ^ (8 * suc (length rest))) (word_of rest * 2 ^ 8)
 
--- what is left of a message that has a byte more
+-- result of the division for a message with one more byte
 left_more : (divisor : ℕ) (message : List ℕ) (byte : ℕ)
     → divided divisor (8 * length (message ++ byte ∷ [])) (dividend_of (message ++ byte ∷ []))
     ≡ divided divisor 8 (plus byte (divided divisor (8 * length message) (dividend_of message)))
@@ -52,7 +52,7 @@ left_more divisor message byte =
     ∙ divided_twice divisor places 8 (bit_xor (byte * 2 ^ places) (dividend_of message))
     ∙ ap (λ (z : ℕ). divided divisor 8 z) (divided_behind divisor places byte (dividend_of message))
 
--- the remainder of a message that has a byte more
+-- remainder of a message with one more byte
 pub more : (polynomial : Polynomial) (message : List ℕ) (byte register next : ℕ)
     → IsRemainder (generator polynomial) (8 * length message) (dividend_of message) register
     → next < 2 ^ 32
@@ -63,7 +63,7 @@ more polynomial message byte register next before low is =
     is_remainder (generator polynomial) (8 * length (message ++ byte ∷ [])) (dividend_of (message ++ byte ∷ [])) next (odd_generator polynomial) low
     (is ∙ ap (λ (z : ℕ). divided (generator polynomial) 8 (bit_xor byte z)) same ∙ sym (left_more (generator polynomial) message byte))
 
--- two checksums of the same bytes are one
+-- two checksums of the same bytes are equal
 pub one_of : HasOneChecksum
 one_of polynomial message one other is also =
     let same : bit_xor one all_ones ≡ bit_xor other all_ones = remainder_is is (odd_generator polynomial) ∙ sym (remainder_is also (odd_generator polynomial)) in

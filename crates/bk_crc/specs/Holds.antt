@@ -1,4 +1,4 @@
--- A message that is divided piece by piece.
+-- State of a checksum over a message in pieces: the contracts of `new`, `update` and `finish`.
 use Rattle.std.specs.Prelude.{◌≡◌, ℕ, ◌*◌, List, length}
 use Rattle.bk_crc.specs.declared.polynomial.Polynomial.{Polynomial}
 use Rattle.bk_crc.specs.declared.checksum.Checksum.{Checksum}

@@ -1,10 +1,10 @@
-//! The two polynomials that bytes are divided by.
+//! The two polynomials.
 
-/// Which checksum is meant: the polynomial of degree 32 that it divides by.
+/// The polynomial of degree 32 that a checksum divides by.
 #[derive(Clone, Copy, Debug, PartialEq, Eq)]
 pub enum Polynomial {
-    /// CRC-32C: Castagnoli's, 0x1edc6f41.
+    /// CRC-32C: Castagnoli, 0x1edc6f41.
     Castagnoli,
-    /// CRC-32 as in zip and Ethernet: IEEE 802.3's, 0x04c11db7.
+    /// CRC-32 as in zip and Ethernet: IEEE 802.3, 0x04c11db7.
     Ieee,
 }

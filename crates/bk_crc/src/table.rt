@@ -1,4 +1,4 @@
-//! The tables: for each byte the remainder of its eight bits, so that a division goes a byte a step.
+//! Remainders of all bytes, one table per polynomial, so that a division takes one step per byte.
 ghost use Rattle.bk_crc.specs.Checksum.{generator};
 ghost use Rattle.bk_crc.specs.Table.{IsTable};
 
@@ -74,7 +74,7 @@ static IEEE: [u32; 256] = [
     0xb3667a2e, 0xc4614ab8, 0x5d681b02, 0x2a6f2b94, 0xb40bbe37, 0xc30c8ea1, 0x5a05df1b, 0x2d02ef8d,
 ];
 
-/// The remainders by a polynomial of all the bytes, in their order.
+/// Returns the table of a polynomial: entry i is the remainder of byte i.
 pub(crate) fn table_of(polynomial: Polynomial) -> &'static [u32; 256]
     ensures { IsTable (generator polynomial) result.now }
 {

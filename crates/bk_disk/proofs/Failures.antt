@@ -7,13 +7,13 @@ use Rattle.std.proofs.lemmas.List.{append-nil, take_min, take-take, length-take,
 use Rattle.std.proofs.lemmas.Bool.{leb-true}
 use Rattle.std.proofs.Math.Seq.{take-add}
 use Rattle.bk_record.specs.Files.{Files}
-use Rattle.bk_disk.specs.Disk.{Appends, grown, patched, patched_file}
+use Rattle.bk_disk.specs.Disk.{Appends, files_after_append, files_after_patch, patched_file}
 use Rattle.bk_disk.specs.declared.fault.DiskFault.{DiskFault}
 use Rattle.bk_disk.specs.declared.fault.DiskFault.TheVariants.{Disk, Exists, NoLog, PastEnd, TooLong, Memory}
 use Rattle.bk_record.proofs.NumberMaps.{insert_same}
 
 -- no bytes at the end of a log leave the files
-pub grown-nil : (old : Files) (log : ℕ) → grown old log [] ≡ old
+pub grown-nil : (old : Files) (log : ℕ) → files_after_append old log [] ≡ old
 grown-nil old log = by_file (files.get old log) refl where
   by_file : (found : Option (List ℕ)) → files.get old log ≡ found → option_map_or (λ file. files.insert old log (file ++ [])) found old ≡ old
   by_file (Some file) there = ap (files.insert old log) (append-nil file) ∙ insert_same old log file there
@@ -22,12 +22,12 @@ grown-nil old log = by_file (files.get old log) refl where
 -- an append of a piece's first bytes, whatever its answer, leaves a prefix of the piece
 pub grown_by_prefix : {T : Type 0} (old new : Files) (log : ℕ) (piece : List ℕ) (kept : ℕ) (answer : Result T DiskFault)
     → Appends old log (take kept piece) answer new
-    → (n : ℕ) × (new ≡ grown old log (take n piece))
+    → (n : ℕ) × (new ≡ files_after_append old log (take n piece))
 grown_by_prefix old new log piece kept (Ok x) appends = (kept, appends.3)
 grown_by_prefix old new log piece kept (Err Disk) appends =
     let n = min appends.0 (length (take kept piece)) in
     let below : n ≤ kept = omega (arith, length-take kept piece) in
-    (n, appends.1 ∙ ap (grown old log) (sym (take_min appends.0 (take kept piece)) ∙ take-take n kept piece below))
+    (n, appends.1 ∙ ap (files_after_append old log) (sym (take_min appends.0 (take kept piece)) ∙ take-take n kept piece below))
 grown_by_prefix old new log piece kept (Err NoLog) appends = (0, appends.1 ∙ sym (grown-nil old log))
 grown_by_prefix old new log piece kept (Err TooLong) appends = (0, appends.3 ∙ sym (grown-nil old log))
 grown_by_prefix old new log piece kept (Err Memory) appends = (0, appends.3 ∙ sym (grown-nil old log))
@@ -52,7 +52,7 @@ patched_file-own file some twelve = by_length (nat_le 20 (length file)) refl whe
   by_length false long = (some, twelve, refl)
 
 -- files that stay are files with some twelve bytes at 8 to 20 of a log
-pub patched-own : (old : Files) (log : ℕ) (some : List ℕ) → length some ≡ 12 → (left : List ℕ) × (length left ≡ 12) × (old ≡ patched old log left)
+pub patched-own : (old : Files) (log : ℕ) (some : List ℕ) → length some ≡ 12 → (left : List ℕ) × (length left ≡ 12) × (old ≡ files_after_patch old log left)
 patched-own old log some twelve = by_file (files.get old log) refl where
   by_file : (found : Option (List ℕ)) → files.get old log ≡ found
       → (left : List ℕ) × (length left ≡ 12) × (old ≡ option_map_or (λ file. files.insert old log (patched_file file left)) found old)

@@ -9,7 +9,7 @@ use Rattle.std.proofs.lemmas.Bool.{le-leb}
 use Rattle.std.specs.FinMap as files
 use Rattle.bk_record.specs.Files.{Files}
 use Rattle.bk_record.proofs.NumberMaps.{get-entries, inserted, removed, get-insert_same, insert-insert, entries-from_rising}
-use Rattle.bk_disk.specs.Disk.{grown, patched, patched_file}
+use Rattle.bk_disk.specs.Disk.{files_after_append, files_after_patch, patched_file}
 use Rattle.bk_disk.specs.Logs.{files_of}
 
 pub get-files_of : (logs : BTreeMap ℕ (List ℕ)) (q : ℕ) → files.get (files_of logs) q ≡ tree.get nat_cmp logs q
@@ -37,18 +37,18 @@ written m n log file now is found wrote = (
 )
 
 -- what a piece at the end of a log that is there leaves
-pub grown_there : (old : Files) (log : ℕ) (file piece : List ℕ) → files.get old log ≡ Some file → files.insert old log (file ++ piece) ≡ grown old log piece
+pub grown_there : (old : Files) (log : ℕ) (file piece : List ℕ) → files.get old log ≡ Some file → files.insert old log (file ++ piece) ≡ files_after_append old log piece
 grown_there old log file piece there = ap (λ o. option_map_or (λ f. files.insert old log (f ++ piece)) o old) (sym there)
 
 -- what a patch of a log that is there and long enough leaves
 pub patched_there : (old : Files) (log : ℕ) (file bytes : List ℕ) → files.get old log ≡ Some file → 20 ≤ length file
-    → files.insert old log (take 8 file ++ bytes ++ drop 20 file) ≡ patched old log bytes
+    → files.insert old log (take 8 file ++ bytes ++ drop 20 file) ≡ files_after_patch old log bytes
 patched_there old log file bytes there long =
     ap (λ b. files.insert old log (if b then take 8 file ++ bytes ++ drop 20 file else file)) (sym (le-leb 20 (length file) long))
     ∙ ap (λ o. option_map_or (λ f. files.insert old log (patched_file f bytes)) o old) (sym there)
 
 -- a piece at the end of a log that was just put
-pub grown-insert : (old : Files) (log : ℕ) (file piece : List ℕ) → grown (files.insert old log file) log piece ≡ files.insert old log (file ++ piece)
+pub grown-insert : (old : Files) (log : ℕ) (file piece : List ℕ) → files_after_append (files.insert old log file) log piece ≡ files.insert old log (file ++ piece)
 grown-insert old log file piece =
     sym (grown_there (files.insert old log file) log file piece (get-insert_same old log file)) ∙ insert-insert old log file (file ++ piece)
 

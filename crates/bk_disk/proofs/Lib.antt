@@ -7,5 +7,6 @@ pub mod Failures
 pub mod Bounds
 pub mod Causes
 pub mod Digits
-pub mod KeepsMore
+pub mod DurableGrows
 pub mod Marks
+mod Doubts

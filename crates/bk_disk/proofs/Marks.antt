@@ -13,7 +13,7 @@ use Rattle.bk_record.specs.Files.{Files, file_of}
 use Rattle.std.specs.Result.{OnOk}
 use Rattle.bk_disk.specs.Disk.{Syncs}
 use Rattle.bk_disk.specs.declared.fault.DiskFault.{DiskFault}
-use Rattle.bk_disk.specs.Marks.{mark_of, believed, lengths_of, whole_marks, HasMark, AreCut}
+use Rattle.bk_disk.specs.Watermarks.{mark_of, durable_prefix, lengths_of, full_watermarks, HasWatermark, AreTruncated}
 
 -- ---- logs that are believed whole
 
@@ -25,31 +25,31 @@ find-lengths (e ∷ es) q = elim (eq_by_cmp nat_cmp q e.0) as (λ t. cond t (Som
       | false ↦ find-lengths es q
     ]
 
-get-whole_marks : (files : Files) (log : ℕ) → map.get (whole_marks files) log ≡ option_map length (map.get files log)
-get-whole_marks files log =
+get-full_watermarks : (files : Files) (log : ℕ) → map.get (full_watermarks files) log ≡ option_map length (map.get files log)
+get-full_watermarks files log =
     map.get-from_entries nat_cmp_total (lengths_of (map.entries files)) log ∙ find-lengths (map.entries files) log
     ∙ ap (option_map length) (sym (map.get-entries files log))
 
 -- to cut a log to its length leaves it
-pub whole_cut : (files : Files) → AreCut files (whole_marks files) files
-whole_cut files = record { each = λ log. whole (map.get files log) ∙ ap (λ mark. option_map (believed mark) (map.get files log)) (sym (get-whole_marks files log)) } where
-  whole : (o : Option (List ℕ)) → o ≡ option_map (believed (option_map length o)) o
+pub whole_cut : (files : Files) → AreTruncated files (full_watermarks files) files
+whole_cut files = record { each = λ log. whole (map.get files log) ∙ ap (λ mark. option_map (durable_prefix mark) (map.get files log)) (sym (get-full_watermarks files log)) } where
+  whole : (o : Option (List ℕ)) → o ≡ option_map (durable_prefix (option_map length o)) o
   whole None = refl
   whole (Some file) = ap Some (sym (take_all (length file) file (omega arith)))
 
-pub whole_marked : (files : Files) (log n : ℕ) → IsSome (map.get files log) → n ≤ length (file_of files log) → HasMark (whole_marks files) log n
+pub whole_marked : (files : Files) (log n : ℕ) → IsSome (map.get files log) → n ≤ length (file_of files log) → HasWatermark (full_watermarks files) log n
 whole_marked files log n there within = by_file (map.get files log) refl there where
-  by_file : (o : Option (List ℕ)) → map.get files log ≡ o → IsSome o → HasMark (whole_marks files) log n
+  by_file : (o : Option (List ℕ)) → map.get files log ≡ o → IsSome o → HasWatermark (full_watermarks files) log n
   by_file None none is = cc
   by_file (Some file) has is = (
     length file,
-    get-whole_marks files log ∙ ap (option_map length) has,
+    get-full_watermarks files log ∙ ap (option_map length) has,
     omega (arith, within, ap (λ (o : Option (List ℕ)). length (unwrap_or o [])) has),
   )
 
 pub sync_marks : {T : Type 0} (old new : Files) (log n : ℕ) (result : Result T DiskFault) → Syncs old log result new → n ≤ length (file_of old log)
-    → OnOk result (HasMark (whole_marks new) log n)
-sync_marks old new log n (Ok x) turn within = subst (λ (f : Files). HasMark (whole_marks f) log n) (sym turn.1) (whole_marked old log n turn.0 within)
+    → OnOk result (HasWatermark (full_watermarks new) log n)
+sync_marks old new log n (Ok x) turn within = subst (λ (f : Files). HasWatermark (full_watermarks f) log n) (sym turn.1) (whole_marked old log n turn.0 within)
 sync_marks old new log n (Err fault) turn within = tt
 
 -- ---- the mark in a header

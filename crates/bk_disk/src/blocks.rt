@@ -1,8 +1,8 @@
-//! The bytes of a log in memory, as blocks of one size that views of the log share.
+//! Bytes of a log in memory, in blocks of one size that views share.
 //!
-//! Every block but the last is full and never changes in place, so that any number of views may share it; a patch puts
-//! another block in its stead. The last block belongs to the log alone: an append writes in it, and a view copies it.
-//! The list of the full blocks is shared too (`Chunks`).
+//! All blocks but the last are full and immutable, so views share them; a patch replaces one. The
+//! last block belongs to the log: an append writes into it, and a view copies it. The list of full
+//! blocks is shared too (`Chunks`).
 
 ghost use Rattle.std.specs.Prelude.{◌≡◌, ◌+◌, ◌-◌, ◌%◌, ◌<◌, ◌≤◌, ◌^◌, [], ◌++◌, length, map, take, drop, IfOk, OnOk, OnErr};
 ghost use Rattle.std.specs.List.{All};
@@ -63,7 +63,7 @@ impl Blocks {
         (self.full.len() * BLOCK + self.last.len()) as u64
     }
 
-    /// The same bytes, for a view: the full blocks shared, the last one copied.
+    /// Returns the same bytes for a view: the full blocks are shared, the last one is copied.
     pub(crate) fn share(&self) -> Result<Blocks, AllocError>
         ensures { IfOk result (λ copy. copy ≡ self.now) }
     {
@@ -72,7 +72,7 @@ impl Blocks {
         Ok(Blocks { full, last })
     }
 
-    /// The bytes from position `from` up to position `to`.
+    /// Returns the bytes from position `from` up to position `to`.
     pub(crate) fn read(&self, alloc: Global, from: usize, to: usize) -> Result<Vec<u8>, AllocError>
         requires order { from ≤ to }
         requires within { to ≤ length self.now }
@@ -83,7 +83,7 @@ impl Blocks {
         Ok(bytes)
     }
 
-    /// Writes the bytes from position `from` on over those of `out`, as many as it has.
+    /// Reads the bytes from position `from` on into the whole of `out`.
     pub(crate) fn read_into(&self, from: usize, out: &mut [u8])
         requires fits { from + length out.old < 2 ^ 64 }
         requires within { from + length out.old ≤ length self.now }
@@ -100,7 +100,7 @@ impl Blocks {
         }
     }
 
-    // The block in which a position lies.
+    // Returns the block that has a position.
     fn block_of(&self, at: usize) -> &[u8]
         requires { at < length self.now }
         ensures inside { at % BLOCK < length result.now }
@@ -143,7 +143,7 @@ impl Blocks {
     }
 }
 
-// The bytes of a block that isn't full and then others, cut into full blocks and the bytes of one that isn't.
+// Cuts the bytes of a block that is not full, and then others, into full blocks and a last one.
 fn cut(alloc: Global, begun: &[u8], bytes: &[u8]) -> Result<(Vec<Block>, Vec<u8>), AllocError>
     requires short { length begun.now < BLOCK }
     requires fits { length begun.now + length bytes.now < 2 ^ 32 }
@@ -165,7 +165,7 @@ fn cut(alloc: Global, begun: &[u8], bytes: &[u8]) -> Result<(Vec<Block>, Vec<u8>
     Ok((full, last))
 }
 
-// A copy of a block with other bytes at 8 to 20.
+// Returns a copy of a block with other bytes at 8 to 20.
 fn patched(alloc: Global, block: &[u8], bytes: &[u8; 12]) -> Result<Vec<u8>, AllocError>
     requires { 20 ≤ length block.now }
     ensures { IfOk result (λ copy. copy.items ≡ take 8 block.now ++ bytes.now ++ drop 20 block.now) }

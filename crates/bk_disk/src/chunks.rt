@@ -1,8 +1,7 @@
-//! The full blocks of a log in memory, in chunks of one size that views of the log share.
+//! Full blocks of a log in memory, in chunks of one size that views share.
 //!
-//! Every chunk but the last is full and never changes in place, so that any number of views may share it; where a block is
-//! put in another's stead, another chunk is put in its chunk's. The last chunk belongs to the log alone, and a view copies
-//! its list.
+//! All chunks but the last are full and immutable, so views share them; a new block replaces the
+//! chunk that has it. The last chunk belongs to the log, and a view copies its list.
 
 ghost use Rattle.std.specs.Prelude.{◌≡◌, ◌+◌, ◌<◌, ◌^◌, [], ◌++◌, length, map, set, get_or, IfOk, OnOk, OnErr};
 ghost use Rattle.bk_disk.specs.Blocks.{bytes_of, blocks_of, joined, IsCut};
@@ -14,7 +13,7 @@ use std::sync::Arc;
 /// The bytes of a full block, which the log shares with its views.
 pub(crate) type Block = Arc<Vec<u8>>;
 
-// Blocks of a full chunk.
+// The number of blocks in a full chunk.
 const CHUNK: usize = 256;
 
 /// A list of full blocks.
@@ -54,7 +53,7 @@ impl Chunks {
         self.full.len() * CHUNK + self.last.len()
     }
 
-    /// The block at a place.
+    /// Returns the block at an index.
     pub(crate) fn block(&self, at: usize) -> &[u8]
         requires { at < length self.now }
         ensures { result.now ≡ get_or self.now at [] }
@@ -67,7 +66,8 @@ impl Chunks {
         }
     }
 
-    /// The same blocks, for a view: the full chunks shared, of the last one each block.
+    /// Returns the same blocks for a view: the full chunks are shared, and so is each block of the
+    /// last one.
     pub(crate) fn share(&self) -> Result<Chunks, AllocError>
         ensures { IfOk result (λ copy. copy ≡ self.now) }
     {
@@ -76,7 +76,7 @@ impl Chunks {
         Ok(Chunks { full, last })
     }
 
-    /// Puts these blocks behind the others.
+    /// Appends these blocks.
     pub(crate) fn append(&mut self, mut blocks: Vec<Block>) -> Result<(), AllocError>
         requires { length self.old + length blocks.items < 2 ^ 32 }
         ensures ok { OnOk result (self.new ≡ self.old ++ map bytes_of blocks.items) }
@@ -92,7 +92,7 @@ impl Chunks {
         Ok(())
     }
 
-    /// Puts a block in the stead of the first.
+    /// Replaces the first block.
     pub(crate) fn replace_first(&mut self, block: Block) -> Result<(), AllocError>
         requires { 0 < length self.old }
         ensures ok { OnOk result (self.new ≡ set self.old 0 (bytes_of block)) }
@@ -110,7 +110,7 @@ impl Chunks {
     }
 }
 
-// The blocks of a chunk that isn't full and then others, cut into full chunks and the blocks of one that isn't.
+// Cuts the blocks of a chunk that is not full, and then others, into full chunks and a last one.
 fn chunked(
     alloc: Global,
     begun: Vec<Block>,

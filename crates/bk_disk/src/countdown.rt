@@ -1,11 +1,11 @@
-//! A count down to one event.
+//! Countdown to one event.
 
 ghost use Rattle.std.specs.Prelude.{◌≡◌, ◌==◌, false, IsTrue};
-ghost use Rattle.bk_disk.specs.Failing.{counted};
+ghost use Rattle.bk_disk.specs.Failing.{count_after_event};
 
 use std::marker::Model;
 
-/// A count of events down to a chosen one.
+/// A number of events until a chosen one.
 #[derive(Drop)]
 pub(crate) struct Countdown {
     left: u64,
@@ -26,7 +26,7 @@ impl Model for Countdown {
 }
 
 impl Countdown {
-    /// A count down to the event of this number, counted from 1; to none where it is 0.
+    /// Returns a countdown to the event of this number, counted from 1; with 0, to none.
     pub(crate) fn new(number: u64) -> Self
         ensures { result ≡ record { left = number; reached = false } }
     {
@@ -36,11 +36,11 @@ impl Countdown {
         }
     }
 
-    /// Counts one event: whether it is the chosen one, which comes once.
+    /// Counts one event. Returns whether it is the chosen one, which occurs once.
     pub(crate) fn count(&mut self) -> bool
         ensures chosen { result ≡ (self.old.left == 1) }
         ensures once { IsTrue result → self.old.reached ≡ false }
-        ensures counted { self.new ≡ counted self.old }
+        ensures counted { self.new ≡ count_after_event self.old }
     {
         let chosen = self.left == 1;
         self.left = self.left.saturating_sub(1);
@@ -48,7 +48,7 @@ impl Countdown {
         chosen
     }
 
-    /// Whether the chosen event has come.
+    /// Returns whether the chosen event has occurred.
     pub(crate) fn is_reached(&self) -> bool
         ensures { result ≡ self.now.reached }
     {

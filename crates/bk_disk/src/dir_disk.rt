@@ -1,31 +1,51 @@
-//! A disk over a folder of the system. It states nothing of bytes, since another process may change the folder at any
-//! time, and so it is not honest.
-//!
-//! What it asks of the system for each call stands in `folder.rt`.
+//! Disk over a directory of the system. It is not honest and states nothing of bytes, since another
+//! process may change the directory at any time. `folder.rt` has the calls of the system.
 
 ghost use Rattle.std.specs.Prelude.{false};
 ghost use Rattle.std.specs.FinMap as map;
-ghost use Rattle.bk_disk.specs.Disk.{HasCause};
+ghost use Rattle.bk_disk.specs.Disk.{FailsExactlyOnDiskFault};
 
-use crate::disk::HEADER;
 use crate::folder::{Folder, fault_of};
-use crate::{DirView, DiskFault, FolderFault, LogDisk, MarkDisk};
-use std::alloc::Global;
+use crate::{DirView, DiskFault, FaultWatch, FileFault, FolderFault, LogDisk, WatermarkDisk};
+use std::alloc::{AllocError, Global};
 
-/// A folder of entry logs, each a file of the name that `name_of` gives it. Other names are passed over, and so is a folder
-/// that has a log's name. A link is what it points to.
+/// A directory of entry logs, each a file with the name of `name_of`. Files of other names are
+/// passed over.
 ///
-/// A call on a log whose file isn't there answers `NoLog`. Every other refusal of the system is `Disk`: a file or folder
-/// that may not be read, a name that isn't UTF-8, a file that goes while it is listed, a read that ends early.
+/// A call on a log whose file is missing returns `NoLog`. Every other error of the system is
+/// `Disk`, also a name that is not UTF-8, a file that vanishes while the directory is listed, and a
+/// read that ends early. `last_fault` has the file and the reason.
 ///
-/// One disk writes a folder at a time. The first call that writes takes the folder's lock, on the file `writer.lock` in it,
-/// and answers `Disk` where another disk has it; `open_to_write` takes it at once, and says who has it. The lock goes with the
-/// disk. It keeps out those who ask for it, and no other program.
+/// One disk writes a directory at a time. The first call that writes locks the directory and the
+/// file `writer.lock` in it, and returns `Disk` if another disk has the lock; `open_to_write` locks
+/// at once. The lock ends with the disk. It keeps out disks of this kind only. In a directory that
+/// is written, a log's name that is no plain file is refused, and so is a file with the names of
+/// two logs. Reading follows links and passes over directories and pipes.
 ///
-/// A log that this disk made, or appended to, has its file kept open until its header is patched. A call on such a log is
-/// `Disk` where the file is not as long as it was left, or another file has its name; and from the first write or sync of it on
-/// that fails, each further one is `Disk`. A file that is made or removed is synced with its folder, and a file that is
-/// patched is synced.
+/// The file of a log that this disk made or appended to stays open until its header is patched. A
+/// call on such a log returns `Disk` if its file has another length than it was left with, or if
+/// another file has its name. The directory is synced with each file that is made or removed, and a
+/// file that is patched is synced.
+///
+/// # After a failed write or sync
+///
+/// Each `append`, `patch` and `sync` of the log returns `Disk` until it is removed or made again:
+/// the system may report success for bytes that it has dropped. The disk also sets the log aside
+/// for the next one: it makes the empty file `N.unsynced` beside `N.log` and syncs the directory.
+/// If this fails, the fault says so. The next disk that becomes the writer copies each such log,
+/// syncs the copy, and puts it in the log's place before it does anything else. Reading ignores
+/// these files.
+///
+/// Two cases stay open. The process may end between the failed call and the sync of the directory,
+/// or `N.unsynced` cannot be made. Then the next disk takes the log as it reads it, and a power
+/// loss may take entries that it serves. If the machine was restarted in between, all that is read
+/// comes from the device, and the log needs no copy.
+///
+/// # After a failed removal
+///
+/// If `remove` returns `Disk`, a second call ends the removal. If the last sync of the directory
+/// failed, `list` syncs it first, and returns `Disk` if that fails. So a log that was removed and is
+/// not listed does not come back.
 #[derive(Drop)]
 pub struct DirDisk {
     folder: Folder,
@@ -33,8 +53,12 @@ pub struct DirDisk {
 }
 
 impl DirDisk {
-    /// The disk of the folder at a path. Nothing is written there, and nothing locked, before the first call that writes.
-    /// Faults: `Disk` where no folder can be read there, `Memory`.
+    /// Opens the directory at a path. Writes and locks nothing before the first call that writes.
+    ///
+    /// # Errors
+    ///
+    /// - `Disk` if no directory can be read there.
+    /// - `Memory`.
     pub fn open(rt: &HostRuntime, path: &str) -> Result<DirDisk, DiskFault> {
         match DirDisk::open_to_read(rt, path) {
             Ok(disk) => Ok(disk),
@@ -42,7 +66,8 @@ impl DirDisk {
         }
     }
 
-    /// The same, but that the system's reason is told. Faults: `Refused`, `Memory`.
+    /// Opens the directory at a path, as `open` does. Fails with `Refused`, which has the reason,
+    /// or `Memory`.
     pub fn open_to_read(rt: &HostRuntime, path: &str) -> Result<DirDisk, FolderFault> {
         Ok(DirDisk {
             folder: Folder::open(rt, path)?,
@@ -50,27 +75,71 @@ impl DirDisk {
         })
     }
 
-    /// The disk of the folder at a path, which is the folder's one writer from now on. The folder is synced, so that the names
-    /// that it has stay. Faults: `InUse` where another disk writes there, `Refused` with the system's reason, `Memory`.
+    /// Opens the directory at a path as its one writer. Writes each log again that an earlier disk
+    /// set aside, and syncs the directory, so that its names are durable.
+    ///
+    /// # Errors
+    ///
+    /// - `InUse` if another disk writes there.
+    /// - `Refused` if the directory cannot be read, locked or synced, if `writer.lock` is a link or
+    ///   has a second name, if `check_names` fails, or if a log cannot be written again. Then the
+    ///   path has the file and the operation, and the next opening goes on.
+    /// - `Memory`.
     pub fn open_to_write(rt: &HostRuntime, path: &str) -> Result<DirDisk, FolderFault> {
         let mut folder = Folder::open(rt, path)?;
-        folder.lock(rt.alloc())?;
+        if let Err(refusal) = folder.lock(rt.alloc()) {
+            return Err(refusal.folder_fault(rt.alloc()));
+        }
         Ok(DirDisk {
             folder,
             failures: 0,
         })
     }
 
-    /// Whether a log of the folder has a mark. Faults: `Disk`, `Memory`; `NoLog` where one goes meanwhile.
+    /// Checks that each log's name is a plain file and no file has the names of two logs, as
+    /// `open_to_write` does. The same holds of the names `N.unsynced` and `N.log.again`.
+    ///
+    /// # Errors
+    ///
+    /// - `Refused` with both names, or with a path that cannot be listed.
+    /// - `Memory`.
+    pub fn check_names(&self, alloc: Global) -> Result<(), FolderFault> {
+        match self.folder.check_names(alloc) {
+            Ok(()) => Ok(()),
+            Err(refusal) => Err(refusal.folder_fault(alloc)),
+        }
+    }
+
+    /// Sets how many views keep their file open; other views open it for each read. The default is
+    /// half of the files that the process may have open.
+    pub fn keep_open(&mut self, most: u64) {
+        self.folder.keep_open(most)
+    }
+
+    /// Returns the last call of the system that failed, which is the reason if a call of this disk
+    /// or of a view returned `Disk`, `NoLog` or `Exists`. `None` if none has failed, or memory for
+    /// its path was refused. Fails if memory for the path is refused now.
+    pub fn last_fault(&self, alloc: Global) -> Result<Option<FileFault>, AllocError> {
+        self.folder.watch().last(alloc)
+    }
+
+    /// Returns a watch that reports the same after this disk was moved or dropped. Fails if memory
+    /// is refused.
+    pub fn fault_watch(&self, alloc: Global) -> Result<FaultWatch, AllocError> {
+        self.folder.watch().share(alloc)
+    }
+
+    /// Returns whether a log of the directory has a watermark. Fails with `Disk`, `Memory`, or with
+    /// `NoLog` if a log is removed meanwhile.
     pub fn has_marks(&mut self, alloc: Global) -> Result<bool, DiskFault> {
         let answer = self.folder.has_marks(alloc);
         counted(&mut self.failures, answer)
     }
 }
 
-// Counts an answer that tells a failing device. Where there is no further number, it is told as want of memory.
+// Counts a result that is `Disk`. If there is no further number, it becomes `Memory`.
 fn counted<T>(failures: &mut u64, answer: Result<T, DiskFault>) -> Result<T, DiskFault>
-    ensures { HasCause failures.old failures.new result }
+    ensures { FailsExactlyOnDiskFault failures.old failures.new result }
 {
     match answer {
         Err(DiskFault::Disk) => match failures.checked_add(1) {
@@ -136,11 +205,7 @@ impl LogDisk for DirDisk {
     }
 
     fn view(&mut self, alloc: Global, log: u32) -> Result<DirView, DiskFault> {
-        let opened = self.folder.open_to_read(alloc, log);
-        let answer = opened.map(|(file, length)| DirView {
-            file,
-            end: length.max(HEADER),
-        });
+        let answer = self.folder.view(alloc, log);
         counted(&mut self.failures, answer)
     }
 
@@ -150,20 +215,21 @@ impl LogDisk for DirDisk {
     }
 }
 
-/// A log's mark stands in its header at 20 to 32: the letters `mark`, and how many bytes of the file are to be believed, eight
-/// bytes, big-endian (this project's rule; a bookie has zeros there and ignores them). Something else there is left as it is,
-/// and the log read to its end; a file that is shorter, or begins with 32 zeros, had its header not written. A log that has a
-/// mark is marked anew when its header is patched.
-impl MarkDisk for DirDisk {
+/// The watermark of a log is in its header at 20 to 32: the letters `mark`, and a length of eight
+/// bytes, big-endian (this project's rule; a bookie has zeros there and ignores them). Other bytes
+/// there are left alone, and the log is read to its end. The header of a file that is shorter, or
+/// begins with 32 zeros, was not written. The patch of a header also writes the watermark of a log
+/// that has one.
+impl WatermarkDisk for DirDisk {
     ghost marks = { λ _. map.empty };
 
-    fn begin_marks(&mut self, alloc: Global) -> Result<(), DiskFault> {
-        let answer = self.folder.begin_marks(alloc);
+    fn truncate_to_watermarks(&mut self, alloc: Global) -> Result<(), DiskFault> {
+        let answer = self.folder.truncate_to_watermarks(alloc);
         counted(&mut self.failures, answer)
     }
 
-    fn keep_mark(&mut self, alloc: Global, log: u32, mark: u64) -> Result<(), DiskFault> {
-        let answer = self.folder.keep_mark(alloc, log, mark);
+    fn write_watermark(&mut self, alloc: Global, log: u32, mark: u64) -> Result<(), DiskFault> {
+        let answer = self.folder.write_watermark(alloc, log, mark);
         counted(&mut self.failures, answer)
     }
 }

@@ -1,25 +1,25 @@
 //! The two traits: a disk of entry logs, and a view of one log.
 //!
-//! A disk says what its files are, whether it is honest, and how often the device has failed. What its calls do to
-//! the files is promised under honesty alone; on any disk each call returns, honesty stays, the count of failures
-//! doesn't fall, and `Disk` is answered only where it rose. An honest disk may fail.
+//! A disk has files, whether it is honest, and how often its device has failed. The clauses on
+//! files hold on an honest disk, which may fail. On any disk each call returns, honesty is
+//! unchanged, and `Disk` is returned exactly if the number of failures rises.
 
 ghost use Rattle.std.specs.Prelude.{◌≡◌, ℕ, ◌<◌, ◌^◌, Bool, false, List, length, IsTrue, IsErrOf};
 ghost use Rattle.std.specs.List.{All};
 ghost use Rattle.bk_record.specs.Files.{Files};
-ghost use Rattle.bk_disk.specs.Disk.{AreLogFiles, HasCause, Lists, Measures, Creates, Appends, Patches, Syncs};
-ghost use Rattle.bk_disk.specs.Durable.{KeepsMore, SyncKeeps, ListSettles, RemoveKeeps};
+ghost use Rattle.bk_disk.specs.Disk.{AreLogFiles, FailsExactlyOnDiskFault, Lists, Measures, Creates, Appends, Patches, Syncs};
+ghost use Rattle.bk_disk.specs.Durable.{DurableGrows, SyncDurability, ListDurability, RemoveDurability};
 ghost use Rattle.bk_disk.specs.Disk.{Reads, Views, Removes, ReadsView, ReadsInto, view_end};
 
 use crate::DiskFault;
 use bk_record::HEADER_LENGTH;
 use std::alloc::Global;
 
-/// The position at which a view begins: behind the log's header.
+/// The position at which a view begins: after the header of the log.
 pub(crate) const HEADER: u64 = HEADER_LENGTH as u64;
 
-/// The bytes of one log as they were when the view was made, for good: from byte 1024 to `end`. Threads may read it
-/// together. A sound view never answers `Disk`.
+/// The bytes of one log, from 1024 to `end`, as they were when the view was made. Threads may read
+/// a view at the same time. A sound view never returns `Disk`.
 pub trait LogView: Send + Sync + Drop {
     ghost bytes: { Self → List ℕ };
 
@@ -27,26 +27,35 @@ pub trait LogView: Send + Sync + Drop {
 
     ghost sound: { Self → Bool };
 
-    /// Does nothing: what a view keeps. An honest view shows bytes, numbers below 2^8.
+    /// Does nothing. Theorem: an honest view has bytes, numbers below 2^8.
     fn bounds(&self)
         ensures { IsTrue (honest self.now) → All (λ b. b < 2 ^ 8) (bytes self.now) };
 
-    /// The position at which the view ends: the log's length when the view was made, or 1024 where that is less.
+    /// Returns the position at which the view ends: the length of the log when the view was made,
+    /// and at least 1024.
     fn end(&self) -> u64
         ensures { IsTrue (honest self.now) → result ≡ view_end (bytes self.now) };
 
-    /// Writes the bytes from position `at` on over those of `out`, as many as it has. It takes no memory. Faults:
-    /// `PastEnd` where they don't lie from 1024 to `end`, `Disk` where the view isn't sound, which leaves any bytes in
-    /// `out`.
+    /// Reads the bytes from position `at` on into the whole of `out`. Needs no memory.
+    ///
+    /// # Errors
+    ///
+    /// - `PastEnd` if the bytes are not between 1024 and `end`; `out` is unchanged.
+    /// - `Disk` if the device fails, never on a sound view; `out` has any bytes.
     fn read_into(&self, at: u64, out: &mut [u8]) -> Result<(), DiskFault>
         ensures cause { IsErrOf result DiskFault.Disk → sound self.now ≡ false }
-        ensures turn { IsTrue (honest self.now) → ReadsInto (bytes self.now) at (length out.old) result out.new };
+        ensures transition { IsTrue (honest self.now) → ReadsInto (bytes self.now) at (length out.old) result out.new };
 
-    /// `n` bytes from position `at` on. Faults: `PastEnd` where they don't lie from 1024 to `end`, `Disk` where the
-    /// view isn't sound, `Memory`.
+    /// Returns `n` bytes from position `at` on.
+    ///
+    /// # Errors
+    ///
+    /// - `PastEnd` if the bytes are not between 1024 and `end`.
+    /// - `Memory` if memory for the bytes is refused.
+    /// - `Disk` if the device fails, never on a sound view.
     fn read_at(&self, alloc: Global, at: u64, n: u64) -> Result<Vec<u8>, DiskFault>
         ensures cause { IsErrOf result DiskFault.Disk → sound self.now ≡ false }
-        ensures turn { IsTrue (honest self.now) → ReadsView (λ v. v.items) (bytes self.now) at n result }
+        ensures transition { IsTrue (honest self.now) → ReadsView (λ v. v.items) (bytes self.now) at n result }
     {
         let end = self.end();
         if at < HEADER || end < at || end - at < n {
@@ -58,11 +67,17 @@ pub trait LogView: Send + Sync + Drop {
     }
 }
 
-/// A folder of entry logs, each a file of bytes named by the log's id. Every fault but a failing append's or patch's
-/// `Disk` leaves the files as they were.
+/// A set of entry logs, each a file of bytes with the id of the log.
 ///
-/// `synced` is what a crash leaves of each log at least, and `gone` are the files that were removed and may be back then. A
-/// call keeps of each log no less than was kept before; a disk may keep more at any time.
+/// `synced` is what a crash leaves of each log at least. `gone` are the removed files that a crash
+/// may bring back. A call never makes less durable than before; a disk may make more durable at any
+/// time.
+///
+/// # Errors
+///
+/// Each call can fail with `Disk` if the device fails and with `Memory` if an allocation is
+/// refused; the calls list the others. An error leaves the files unchanged, except `Disk` of
+/// `append` and `patch`.
 pub trait LogDisk: Send + Drop {
     type View: LogView;
 
@@ -76,81 +91,92 @@ pub trait LogDisk: Send + Drop {
 
     ghost failures: { Self → ℕ };
 
-    /// Does nothing: what each call keeps. Ids of an honest disk's logs go up to 2^31 - 1, and their files have at most
-    /// 2^32 - 1 bytes, also where an append failed.
+    /// Does nothing. Theorem: the ids of an honest disk are at most 2^31 - 1, and its files have at
+    /// most 2^32 - 1 bytes, also after a failed append.
     fn bounds(&self)
         ensures { IsTrue (honest self.now) → AreLogFiles (files self.now) };
 
-    /// The ids of all logs, rising. No file that was removed may be back from then on. Faults: `Disk`, `Memory`.
+    /// Returns the ids of all logs, rising. After it no crash brings back a file that was removed
+    /// before.
     fn list(&mut self, alloc: Global) -> Result<Vec<u32>, DiskFault>
         ensures honest { honest self.new ≡ honest self.old }
-        ensures kept { IsTrue (honest self.old) → KeepsMore (synced self.old) (gone self.old) (synced self.new) (gone self.new) }
-        ensures back { IsTrue (honest self.old) → ListSettles result (gone self.new) }
-        ensures cause { HasCause (failures self.old) (failures self.new) result }
-        ensures turn { IsTrue (honest self.old) → Lists (λ v. v.items) (files self.old) result (files self.new) };
+        ensures durable { IsTrue (honest self.old) → DurableGrows (synced self.old) (gone self.old) (synced self.new) (gone self.new) }
+        ensures back { IsTrue (honest self.old) → ListDurability result (gone self.new) }
+        ensures cause { FailsExactlyOnDiskFault (failures self.old) (failures self.new) result }
+        ensures transition { IsTrue (honest self.old) → Lists (λ v. v.items) (files self.old) result (files self.new) };
 
-    /// The length of a log in bytes. Faults: `NoLog`, `Disk`, `Memory`.
+    /// Returns the length of a log in bytes. Fails with `NoLog` if there is no such log.
     fn length(&mut self, alloc: Global, log: u32) -> Result<u64, DiskFault>
         ensures honest { honest self.new ≡ honest self.old }
-        ensures kept { IsTrue (honest self.old) → KeepsMore (synced self.old) (gone self.old) (synced self.new) (gone self.new) }
-        ensures cause { HasCause (failures self.old) (failures self.new) result }
-        ensures turn { IsTrue (honest self.old) → Measures (files self.old) log result (files self.new) };
+        ensures durable { IsTrue (honest self.old) → DurableGrows (synced self.old) (gone self.old) (synced self.new) (gone self.new) }
+        ensures cause { FailsExactlyOnDiskFault (failures self.old) (failures self.new) result }
+        ensures transition { IsTrue (honest self.old) → Measures (files self.old) log result (files self.new) };
 
-    /// Makes an empty log. The caller gives an id of at most 2^31 - 1. Faults: `Exists` where there is one of that id,
-    /// `Disk`, `Memory`.
+    /// Makes an empty log of an id of at most 2^31 - 1. Fails with `Exists` if there is one of that
+    /// id.
     fn create(&mut self, alloc: Global, log: u32) -> Result<(), DiskFault>
         requires { log < 2 ^ 31 }
         ensures honest { honest self.new ≡ honest self.old }
-        ensures kept { IsTrue (honest self.old) → KeepsMore (synced self.old) (gone self.old) (synced self.new) (gone self.new) }
-        ensures cause { HasCause (failures self.old) (failures self.new) result }
-        ensures turn { IsTrue (honest self.old) → Creates (files self.old) log result (files self.new) };
+        ensures durable { IsTrue (honest self.old) → DurableGrows (synced self.old) (gone self.old) (synced self.new) (gone self.new) }
+        ensures cause { FailsExactlyOnDiskFault (failures self.old) (failures self.new) result }
+        ensures transition { IsTrue (honest self.old) → Creates (files self.old) log result (files self.new) };
 
-    /// Writes the bytes at a log's end. Faults: `NoLog`, `TooLong` where the log would pass 2^32 - 1 bytes, `Disk`,
-    /// which leaves the old bytes and a prefix of the new ones, possibly all of them, `Memory`.
+    /// Writes the bytes at the end of a log.
+    ///
+    /// # Errors
+    ///
+    /// - `NoLog` if there is no such log.
+    /// - `TooLong` if the log would have more than 2^32 - 1 bytes.
+    /// - `Disk` leaves the old bytes and a prefix of the new ones, possibly all of them.
     fn append(&mut self, alloc: Global, log: u32, bytes: &[u8]) -> Result<(), DiskFault>
         ensures honest { honest self.new ≡ honest self.old }
-        ensures kept { IsTrue (honest self.old) → KeepsMore (synced self.old) (gone self.old) (synced self.new) (gone self.new) }
-        ensures cause { HasCause (failures self.old) (failures self.new) result }
-        ensures turn { IsTrue (honest self.old) → Appends (files self.old) log bytes.now result (files self.new) };
+        ensures durable { IsTrue (honest self.old) → DurableGrows (synced self.old) (gone self.old) (synced self.new) (gone self.new) }
+        ensures cause { FailsExactlyOnDiskFault (failures self.old) (failures self.new) result }
+        ensures transition { IsTrue (honest self.old) → Appends (files self.old) log bytes.now result (files self.new) };
 
-    /// Writes twelve bytes over those at position 8. Faults: `NoLog`, `PastEnd` where the log is shorter than 20
-    /// bytes, `Disk`, which leaves any bytes at 8 to 20, `Memory`.
+    /// Writes twelve bytes over those at position 8.
+    ///
+    /// # Errors
+    ///
+    /// - `NoLog` if there is no such log.
+    /// - `PastEnd` if the log is shorter than 20 bytes.
+    /// - `Disk` leaves any bytes at 8 to 20.
     fn patch(&mut self, alloc: Global, log: u32, bytes: &[u8; 12]) -> Result<(), DiskFault>
         ensures honest { honest self.new ≡ honest self.old }
-        ensures kept { IsTrue (honest self.old) → KeepsMore (synced self.old) (gone self.old) (synced self.new) (gone self.new) }
-        ensures cause { HasCause (failures self.old) (failures self.new) result }
-        ensures turn { IsTrue (honest self.old) → Patches (files self.old) log bytes.now result (files self.new) };
+        ensures durable { IsTrue (honest self.old) → DurableGrows (synced self.old) (gone self.old) (synced self.new) (gone self.new) }
+        ensures cause { FailsExactlyOnDiskFault (failures self.old) (failures self.new) result }
+        ensures transition { IsTrue (honest self.old) → Patches (files self.old) log bytes.now result (files self.new) };
 
-    /// Asks the device to keep what was written to a log: all that the log has outlives a crash then. Faults: `NoLog`, `Disk`,
-    /// `Memory`.
+    /// Makes all bytes of a log durable. Fails with `NoLog` if there is no such log.
     fn sync(&mut self, alloc: Global, log: u32) -> Result<(), DiskFault>
         ensures honest { honest self.new ≡ honest self.old }
-        ensures kept { IsTrue (honest self.old) → KeepsMore (synced self.old) (gone self.old) (synced self.new) (gone self.new) }
-        ensures syncs { IsTrue (honest self.old) → SyncKeeps (files self.old) log result (synced self.new) }
-        ensures cause { HasCause (failures self.old) (failures self.new) result }
-        ensures turn { IsTrue (honest self.old) → Syncs (files self.old) log result (files self.new) };
+        ensures durable { IsTrue (honest self.old) → DurableGrows (synced self.old) (gone self.old) (synced self.new) (gone self.new) }
+        ensures syncs { IsTrue (honest self.old) → SyncDurability (files self.old) log result (synced self.new) }
+        ensures cause { FailsExactlyOnDiskFault (failures self.old) (failures self.new) result }
+        ensures transition { IsTrue (honest self.old) → Syncs (files self.old) log result (files self.new) };
 
-    /// `n` bytes of a log from position `at` on. Faults: `NoLog`, `PastEnd` where the log is shorter, `Disk`,
-    /// `Memory`.
+    /// Returns `n` bytes of a log from position `at` on. Fails with `NoLog` if there is no such
+    /// log, and with `PastEnd` if it is shorter.
     fn read_at(&mut self, alloc: Global, log: u32, at: u64, n: u64) -> Result<Vec<u8>, DiskFault>
         ensures honest { honest self.new ≡ honest self.old }
-        ensures kept { IsTrue (honest self.old) → KeepsMore (synced self.old) (gone self.old) (synced self.new) (gone self.new) }
-        ensures cause { HasCause (failures self.old) (failures self.new) result }
-        ensures turn { IsTrue (honest self.old)
+        ensures durable { IsTrue (honest self.old) → DurableGrows (synced self.old) (gone self.old) (synced self.new) (gone self.new) }
+        ensures cause { FailsExactlyOnDiskFault (failures self.old) (failures self.new) result }
+        ensures transition { IsTrue (honest self.old)
             → Reads (λ v. v.items) (files self.old) log at n result (files self.new) };
 
-    /// A view of a log as it is now. Faults: `NoLog`, `Disk`, `Memory`.
+    /// Returns a view of a log as it is now. Fails with `NoLog` if there is no such log.
     fn view(&mut self, alloc: Global, log: u32) -> Result<Self::View, DiskFault>
         ensures honest { honest self.new ≡ honest self.old }
-        ensures kept { IsTrue (honest self.old) → KeepsMore (synced self.old) (gone self.old) (synced self.new) (gone self.new) }
-        ensures cause { HasCause (failures self.old) (failures self.new) result }
-        ensures turn { IsTrue (honest self.old)
+        ensures durable { IsTrue (honest self.old) → DurableGrows (synced self.old) (gone self.old) (synced self.new) (gone self.new) }
+        ensures cause { FailsExactlyOnDiskFault (failures self.old) (failures self.new) result }
+        ensures transition { IsTrue (honest self.old)
             → Views Self.View.bytes Self.View.honest (files self.old) log result (files self.new) };
 
-    /// Takes a log's file away, which a crash may bring back. Views of it stay. Faults: `NoLog`, `Disk`, `Memory`.
+    /// Removes a log, which a crash may bring back. Views of it stay. Fails with `NoLog` if there
+    /// is no such log.
     fn remove(&mut self, alloc: Global, log: u32) -> Result<(), DiskFault>
         ensures honest { honest self.new ≡ honest self.old }
-        ensures kept { IsTrue (honest self.old) → RemoveKeeps (files self.old) log result (synced self.old) (gone self.old) (synced self.new) (gone self.new) }
-        ensures cause { HasCause (failures self.old) (failures self.new) result }
-        ensures turn { IsTrue (honest self.old) → Removes (files self.old) log result (files self.new) };
+        ensures durable { IsTrue (honest self.old) → RemoveDurability (files self.old) log result (synced self.old) (gone self.old) (synced self.new) (gone self.new) }
+        ensures cause { FailsExactlyOnDiskFault (failures self.old) (failures self.new) result }
+        ensures transition { IsTrue (honest self.old) → Removes (files self.old) log result (files self.new) };
 }

@@ -1,8 +1,8 @@
-//! A disk over another one, for tests: one call that is chosen beforehand fails, or one view is broken.
+//! Disk with one injected failure, for tests: a chosen call fails, or a chosen view is broken.
 
 ghost use Rattle.std.specs.Prelude.{◌≡◌, ◌<◌, ◌^◌, false, IsTrue};
-ghost use Rattle.bk_disk.specs.Disk.{HasCause, Lists, Measures, Creates, Appends, Patches, Syncs, Reads, Views, Removes};
-ghost use Rattle.bk_disk.specs.Durable.{KeepsMore, SyncKeeps, ListSettles, RemoveKeeps};
+ghost use Rattle.bk_disk.specs.Disk.{FailsExactlyOnDiskFault, Lists, Measures, Creates, Appends, Patches, Syncs, Reads, Views, Removes};
+ghost use Rattle.bk_disk.specs.Durable.{DurableGrows, SyncDurability, ListDurability, RemoveDurability};
 ghost use Rattle.bk_disk.specs.Failing.{failure_count, Counts, FailsUntouched, FailsKeeping, CountsView};
 
 use crate::countdown::Countdown;
@@ -10,7 +10,7 @@ use crate::{DiskFault, FaultView, LogDisk};
 use std::alloc::Global;
 use std::marker::Model;
 
-/// A disk that fails once, where it is told to, and is otherwise the disk underneath.
+/// Another disk, of which one call fails or one view is broken.
 #[derive(Drop)]
 pub struct FaultDisk<D: LogDisk> {
     inner: D,
@@ -44,9 +44,11 @@ impl<D: LogDisk> Model for FaultDisk<D> {
 }
 
 impl<D: LogDisk> FaultDisk<D> {
-    /// A disk whose call number `k` fails, counted from 1; with `k` 0 none does. Every call of `LogDisk` counts. A failing
-    /// append leaves the first `kept` bytes of its piece at the log's end, or all where the piece has fewer; every other
-    /// failing call leaves the files as they were.
+    /// Returns the disk, of which call `k` of `LogDisk` fails, counted from 1; with `k` 0 none
+    /// does.
+    ///
+    /// A failing append writes the first `kept` bytes of its piece, or all if it has fewer. Every
+    /// other failing call leaves the files unchanged.
     pub fn new(inner: D, k: u64, kept: usize) -> Self
         ensures { result ≡ record {
           files = D.files inner;
@@ -69,8 +71,8 @@ impl<D: LogDisk> FaultDisk<D> {
         }
     }
 
-    /// A disk whose calls are those of the disk underneath, and whose view number `j`, counted from 1, is broken; with `j`
-    /// 0 none is. A view counts where it was made.
+    /// Returns the disk, of which view `j` is broken, counted from 1; with `j` 0 none is. Only
+    /// views that were made count.
     pub fn broken_view(inner: D, j: u64) -> Self
         ensures { result ≡ record {
           files = D.files inner;
@@ -93,7 +95,7 @@ impl<D: LogDisk> FaultDisk<D> {
         }
     }
 
-    /// Whether the failing call has come.
+    /// Returns whether the failing call has occurred.
     pub fn has_failed(&self) -> bool
         ensures { result ≡ self.now.calls.reached }
     {
@@ -101,7 +103,7 @@ impl<D: LogDisk> FaultDisk<D> {
     }
 }
 
-#[tactic(auto, using(crate::proofs::KeepsMore::kept_rules))]
+#[tactic(auto, using(crate::proofs::DurableGrows::kept_rules))]
 impl<D: LogDisk> LogDisk for FaultDisk<D> {
     type View = FaultView<D::View>;
 
@@ -121,10 +123,10 @@ impl<D: LogDisk> LogDisk for FaultDisk<D> {
 
     fn list(&mut self, alloc: Global) -> Result<Vec<u32>, DiskFault>
         ensures honest { self.new.honest ≡ self.old.honest }
-        ensures kept { IsTrue self.old.honest → KeepsMore self.old.synced self.old.gone self.new.synced self.new.gone }
-        ensures back { IsTrue self.old.honest → ListSettles result self.new.gone }
-        ensures cause { HasCause (failure_count self.old) (failure_count self.new) result }
-        ensures turn { IsTrue self.old.honest → Lists (λ v. v.items) self.old.files result self.new.files }
+        ensures durable { IsTrue self.old.honest → DurableGrows self.old.synced self.old.gone self.new.synced self.new.gone }
+        ensures back { IsTrue self.old.honest → ListDurability result self.new.gone }
+        ensures cause { FailsExactlyOnDiskFault (failure_count self.old) (failure_count self.new) result }
+        ensures transition { IsTrue self.old.honest → Lists (λ v. v.items) self.old.files result self.new.files }
         ensures counts { Counts self.old self.new result }
         ensures untouched { FailsUntouched self.old self.new }
         ensures views { self.new.views ≡ self.old.views }
@@ -137,9 +139,9 @@ impl<D: LogDisk> LogDisk for FaultDisk<D> {
 
     fn length(&mut self, alloc: Global, log: u32) -> Result<u64, DiskFault>
         ensures honest { self.new.honest ≡ self.old.honest }
-        ensures kept { IsTrue self.old.honest → KeepsMore self.old.synced self.old.gone self.new.synced self.new.gone }
-        ensures cause { HasCause (failure_count self.old) (failure_count self.new) result }
-        ensures turn { IsTrue self.old.honest → Measures self.old.files log result self.new.files }
+        ensures durable { IsTrue self.old.honest → DurableGrows self.old.synced self.old.gone self.new.synced self.new.gone }
+        ensures cause { FailsExactlyOnDiskFault (failure_count self.old) (failure_count self.new) result }
+        ensures transition { IsTrue self.old.honest → Measures self.old.files log result self.new.files }
         ensures counts { Counts self.old self.new result }
         ensures untouched { FailsUntouched self.old self.new }
         ensures views { self.new.views ≡ self.old.views }
@@ -153,9 +155,9 @@ impl<D: LogDisk> LogDisk for FaultDisk<D> {
     fn create(&mut self, alloc: Global, log: u32) -> Result<(), DiskFault>
         requires { log < 2 ^ 31 }
         ensures honest { self.new.honest ≡ self.old.honest }
-        ensures kept { IsTrue self.old.honest → KeepsMore self.old.synced self.old.gone self.new.synced self.new.gone }
-        ensures cause { HasCause (failure_count self.old) (failure_count self.new) result }
-        ensures turn { IsTrue self.old.honest → Creates self.old.files log result self.new.files }
+        ensures durable { IsTrue self.old.honest → DurableGrows self.old.synced self.old.gone self.new.synced self.new.gone }
+        ensures cause { FailsExactlyOnDiskFault (failure_count self.old) (failure_count self.new) result }
+        ensures transition { IsTrue self.old.honest → Creates self.old.files log result self.new.files }
         ensures counts { Counts self.old self.new result }
         ensures untouched { FailsUntouched self.old self.new }
         ensures views { self.new.views ≡ self.old.views }
@@ -168,9 +170,9 @@ impl<D: LogDisk> LogDisk for FaultDisk<D> {
 
     fn append(&mut self, alloc: Global, log: u32, bytes: &[u8]) -> Result<(), DiskFault>
         ensures honest { self.new.honest ≡ self.old.honest }
-        ensures kept { IsTrue self.old.honest → KeepsMore self.old.synced self.old.gone self.new.synced self.new.gone }
-        ensures cause { HasCause (failure_count self.old) (failure_count self.new) result }
-        ensures turn { IsTrue self.old.honest → Appends self.old.files log bytes.now result self.new.files }
+        ensures durable { IsTrue self.old.honest → DurableGrows self.old.synced self.old.gone self.new.synced self.new.gone }
+        ensures cause { FailsExactlyOnDiskFault (failure_count self.old) (failure_count self.new) result }
+        ensures transition { IsTrue self.old.honest → Appends self.old.files log bytes.now result self.new.files }
         ensures counts { Counts self.old self.new result }
         ensures keeping { FailsKeeping self.old log bytes.now self.new }
         ensures views { self.new.views ≡ self.old.views }
@@ -186,9 +188,9 @@ impl<D: LogDisk> LogDisk for FaultDisk<D> {
 
     fn patch(&mut self, alloc: Global, log: u32, bytes: &[u8; 12]) -> Result<(), DiskFault>
         ensures honest { self.new.honest ≡ self.old.honest }
-        ensures kept { IsTrue self.old.honest → KeepsMore self.old.synced self.old.gone self.new.synced self.new.gone }
-        ensures cause { HasCause (failure_count self.old) (failure_count self.new) result }
-        ensures turn { IsTrue self.old.honest → Patches self.old.files log bytes.now result self.new.files }
+        ensures durable { IsTrue self.old.honest → DurableGrows self.old.synced self.old.gone self.new.synced self.new.gone }
+        ensures cause { FailsExactlyOnDiskFault (failure_count self.old) (failure_count self.new) result }
+        ensures transition { IsTrue self.old.honest → Patches self.old.files log bytes.now result self.new.files }
         ensures counts { Counts self.old self.new result }
         ensures untouched { FailsUntouched self.old self.new }
         ensures views { self.new.views ≡ self.old.views }
@@ -201,10 +203,10 @@ impl<D: LogDisk> LogDisk for FaultDisk<D> {
 
     fn sync(&mut self, alloc: Global, log: u32) -> Result<(), DiskFault>
         ensures honest { self.new.honest ≡ self.old.honest }
-        ensures kept { IsTrue self.old.honest → KeepsMore self.old.synced self.old.gone self.new.synced self.new.gone }
-        ensures syncs { IsTrue self.old.honest → SyncKeeps self.old.files log result self.new.synced }
-        ensures cause { HasCause (failure_count self.old) (failure_count self.new) result }
-        ensures turn { IsTrue self.old.honest → Syncs self.old.files log result self.new.files }
+        ensures durable { IsTrue self.old.honest → DurableGrows self.old.synced self.old.gone self.new.synced self.new.gone }
+        ensures syncs { IsTrue self.old.honest → SyncDurability self.old.files log result self.new.synced }
+        ensures cause { FailsExactlyOnDiskFault (failure_count self.old) (failure_count self.new) result }
+        ensures transition { IsTrue self.old.honest → Syncs self.old.files log result self.new.files }
         ensures counts { Counts self.old self.new result }
         ensures untouched { FailsUntouched self.old self.new }
         ensures views { self.new.views ≡ self.old.views }
@@ -217,9 +219,9 @@ impl<D: LogDisk> LogDisk for FaultDisk<D> {
 
     fn read_at(&mut self, alloc: Global, log: u32, at: u64, n: u64) -> Result<Vec<u8>, DiskFault>
         ensures honest { self.new.honest ≡ self.old.honest }
-        ensures kept { IsTrue self.old.honest → KeepsMore self.old.synced self.old.gone self.new.synced self.new.gone }
-        ensures cause { HasCause (failure_count self.old) (failure_count self.new) result }
-        ensures turn { IsTrue self.old.honest → Reads (λ v. v.items) self.old.files log at n result self.new.files }
+        ensures durable { IsTrue self.old.honest → DurableGrows self.old.synced self.old.gone self.new.synced self.new.gone }
+        ensures cause { FailsExactlyOnDiskFault (failure_count self.old) (failure_count self.new) result }
+        ensures transition { IsTrue self.old.honest → Reads (λ v. v.items) self.old.files log at n result self.new.files }
         ensures counts { Counts self.old self.new result }
         ensures untouched { FailsUntouched self.old self.new }
         ensures views { self.new.views ≡ self.old.views }
@@ -232,9 +234,9 @@ impl<D: LogDisk> LogDisk for FaultDisk<D> {
 
     fn view(&mut self, alloc: Global, log: u32) -> Result<FaultView<D::View>, DiskFault>
         ensures honest { self.new.honest ≡ self.old.honest }
-        ensures kept { IsTrue self.old.honest → KeepsMore self.old.synced self.old.gone self.new.synced self.new.gone }
-        ensures cause { HasCause (failure_count self.old) (failure_count self.new) result }
-        ensures turn { IsTrue self.old.honest → Views (λ v. v.bytes) (λ v. v.honest) self.old.files log result self.new.files }
+        ensures durable { IsTrue self.old.honest → DurableGrows self.old.synced self.old.gone self.new.synced self.new.gone }
+        ensures cause { FailsExactlyOnDiskFault (failure_count self.old) (failure_count self.new) result }
+        ensures transition { IsTrue self.old.honest → Views (λ v. v.bytes) (λ v. v.honest) self.old.files log result self.new.files }
         ensures counts { Counts self.old self.new result }
         ensures untouched { FailsUntouched self.old self.new }
         ensures views { CountsView self.old result self.new }
@@ -249,9 +251,9 @@ impl<D: LogDisk> LogDisk for FaultDisk<D> {
 
     fn remove(&mut self, alloc: Global, log: u32) -> Result<(), DiskFault>
         ensures honest { self.new.honest ≡ self.old.honest }
-        ensures kept { IsTrue self.old.honest → RemoveKeeps self.old.files log result self.old.synced self.old.gone self.new.synced self.new.gone }
-        ensures cause { HasCause (failure_count self.old) (failure_count self.new) result }
-        ensures turn { IsTrue self.old.honest → Removes self.old.files log result self.new.files }
+        ensures durable { IsTrue self.old.honest → RemoveDurability self.old.files log result self.old.synced self.old.gone self.new.synced self.new.gone }
+        ensures cause { FailsExactlyOnDiskFault (failure_count self.old) (failure_count self.new) result }
+        ensures transition { IsTrue self.old.honest → Removes self.old.files log result self.new.files }
         ensures counts { Counts self.old self.new result }
         ensures untouched { FailsUntouched self.old self.new }
         ensures views { self.new.views ≡ self.old.views }

@@ -1,4 +1,4 @@
-//! A view whose every read may answer `Disk`.
+//! View of a disk with an injected failure.
 
 ghost use Rattle.std.specs.Prelude.{◌≡◌, false, ◌&&◌, not, length, IsTrue, IsErrOf};
 ghost use Rattle.bk_disk.specs.Disk.{ReadsView, ReadsInto};
@@ -7,7 +7,8 @@ use crate::{DiskFault, LogView};
 use std::alloc::Global;
 use std::marker::Model;
 
-/// A view of a `FaultDisk`: the view underneath, unless it is broken. Then every read answers `Disk`.
+/// A view of a `FaultDisk`. If it is broken, every read fails with `Disk`; otherwise it is the
+/// inner view.
 #[derive(Drop)]
 pub struct FaultView<V: LogView> {
     pub(crate) inner: V,
@@ -46,7 +47,7 @@ impl<V: LogView> LogView for FaultView<V> {
 
     fn read_into(&self, at: u64, out: &mut [u8]) -> Result<(), DiskFault>
         ensures cause { IsErrOf result DiskFault.Disk → (self.now.sound && not self.now.broken) ≡ false }
-        ensures turn { IsTrue self.now.honest → ReadsInto self.now.bytes at (length out.old) result out.new }
+        ensures transition { IsTrue self.now.honest → ReadsInto self.now.bytes at (length out.old) result out.new }
         ensures broken { IsTrue self.now.broken → IsErrOf result DiskFault.Disk }
     {
         if self.broken {
@@ -57,7 +58,7 @@ impl<V: LogView> LogView for FaultView<V> {
 
     fn read_at(&self, alloc: Global, at: u64, n: u64) -> Result<Vec<u8>, DiskFault>
         ensures cause { IsErrOf result DiskFault.Disk → (self.now.sound && not self.now.broken) ≡ false }
-        ensures turn { IsTrue self.now.honest → ReadsView (λ v. v.items) self.now.bytes at n result }
+        ensures transition { IsTrue self.now.honest → ReadsView (λ v. v.items) self.now.bytes at n result }
         ensures broken { IsTrue self.now.broken → IsErrOf result DiskFault.Disk }
     {
         if self.broken {

@@ -1,296 +1,253 @@
-//! The calls of a disk on a folder of the system: where a log's file is, and what is asked of the system for each call.
+//! Calls of a disk on a directory of the system.
 //!
-//! A log that this disk makes or writes is kept open until it is sealed (`kept.rt`); every other call opens the log's file
-//! anew. The folder itself is synced with each file that is made or removed, so that a name stays as the file does.
+//! The file of a log that this disk makes or writes stays open until the log is sealed (`kept.rt`);
+//! every other call opens the file. The directory is synced with each file that is made or removed,
+//! so that names are durable. A failed call is remembered for its report (`fault_watch.rt`), and
+//! for later calls on the log if its contents or its file are in doubt (`trouble.rt`).
 
-ghost use Rattle.std.specs.Prelude.{◌≤◌, length};
+mod aside;
+mod marks;
+mod writing;
 
-use crate::dir_view::read_range;
-use crate::disk::HEADER;
-use crate::kept::{KeptLog, KeptLogs};
+use crate::dir_view::DirView;
+use crate::file_fault::{Failed, FileFault, Operation};
+use crate::kept::{KeptLogs, Seen, is_same_file};
 use crate::lock::WriterLock;
-use crate::mark::{MARK_AT, MARK_END, has_mark, mark_bytes, mark_in, takes_mark};
-use crate::{DiskFault, FolderFault, log_of, name_of};
+use crate::log_names::{check_names, link_failed, not_plain};
+use crate::open_views::{OpenView, most_open_views};
+use crate::reason::{Finding, Reason};
+use crate::refusal::{Refusal, device_fault};
+use crate::trouble::{State, Troubles};
+use crate::unsynced::write_again;
+use crate::{DiskFault, FaultWatch, FolderFault, log_of};
 use std::alloc::Global;
-use std::fs::{self, DirEntry, File, OpenOptions};
+use std::fs::{self, DirEntry, File, Metadata, OpenOptions};
 use std::io::{self, ErrorKind};
 use std::os::unix::fs::FileExt;
+use std::sync::Arc;
 
-/// A folder of the system, and the files of it that are written.
+/// The system's number for `Stale file handle`.
+const STALE: i32 = 116;
+
+/// A directory of the system, with the files that are written.
 #[derive(Drop)]
 pub(crate) struct Folder {
     rt: HostRuntime,
     path: String,
-    /// The lock of the folder, from the first call on that writes.
+    /// The locks of the directory, from the first call that writes.
     lock: Option<WriterLock>,
     kept: KeptLogs,
-    /// Whether a log that is made gets a mark.
+    troubles: Troubles,
+    /// The last call that failed, and what views share.
+    watch: FaultWatch,
+    /// The number of views that may keep their file open.
+    most_open: u64,
+    /// Whether a log that is made gets a watermark.
     has_marks: bool,
+    /// Whether the last sync of the directory failed, so that a removal may not be durable.
+    has_unsynced_names: bool,
+}
+
+/// A log's file that is open.
+#[derive(Drop)]
+struct Opened {
+    path: String,
+    file: File,
+    found: Metadata,
 }
 
 impl Folder {
-    /// The folder at a path. `Refused` where no folder can be read there, `Memory`.
+    /// Opens the directory at a path. Fails with `Refused` if no directory can be read there, or
+    /// `Memory`.
     pub(crate) fn open(rt: &HostRuntime, path: &str) -> Result<Folder, FolderFault> {
-        let path = String::from_str(rt.alloc(), path).map_err(|_| FolderFault::Memory)?;
         let kept = KeptLogs::new(rt.alloc()).map_err(|_| FolderFault::Memory)?;
+        let watch = FaultWatch::new(rt.alloc(), path).map_err(|_| FolderFault::Memory)?;
+        let path = String::from_str(rt.alloc(), path).map_err(|_| FolderFault::Memory)?;
         match fs::read_dir(rt, path.as_str()) {
             Ok(_) => Ok(Folder {
                 rt: *rt,
                 path,
                 lock: None,
                 kept,
+                troubles: Troubles::new(rt.alloc()),
+                watch,
+                most_open: most_open_views(rt),
                 has_marks: false,
+                has_unsynced_names: false,
             }),
             Err(reason) => Err(FolderFault::Refused { path, reason }),
         }
     }
 
-    /// Makes this disk the folder's writer, where it isn't yet: takes the lock, and syncs the folder, so that each name that
-    /// was found stays.
-    pub(crate) fn lock(&mut self, alloc: Global) -> Result<(), FolderFault> {
-        if self.lock.is_some() {
-            return Ok(());
+    /// Sets how many views may keep their file open.
+    pub(crate) fn keep_open(&mut self, most: u64) {
+        self.most_open = most;
+    }
+
+    /// Returns the watch of failed calls.
+    pub(crate) fn watch(&self) -> &FaultWatch {
+        &self.watch
+    }
+
+    /// Checks that each log is a file of its own.
+    pub(crate) fn check_names(&self, alloc: Global) -> Result<(), Refusal> {
+        check_names(&self.rt, alloc, &self.path)
+    }
+
+    /// Makes this disk the writer of the directory: takes the locks, checks the names of logs,
+    /// writes the logs again that were set aside, and syncs the directory, so that its names are
+    /// durable. If it is the writer already, checks that the path still leads to the directory.
+    pub(crate) fn lock(&mut self, alloc: Global) -> Result<(), Refusal> {
+        if let Some(lock) = &self.lock {
+            return lock
+                .check(&self.rt, &self.path)
+                .map_err(|error| Refusal::at(alloc, &self.path, error));
         }
         let lock = WriterLock::take(&self.rt, alloc, &self.path)?;
-        match self.sync_names() {
+        self.check_names(alloc)?;
+        write_again(&self.rt, alloc, &lock, &self.path)?;
+        match lock.sync() {
             Ok(()) => {
                 self.lock = Some(lock);
                 Ok(())
             }
-            Err(reason) => match self.path.clone() {
-                Ok(path) => Err(FolderFault::Refused { path, reason }),
-                Err(_) => Err(FolderFault::Memory),
-            },
+            Err(error) => Err(Refusal::at(alloc, &self.path, error)),
         }
     }
 
-    // The same, before a call that writes.
+    // Locks the directory before a call that writes.
     fn begin_write(&mut self, alloc: Global) -> Result<(), DiskFault> {
         match self.lock(alloc) {
             Ok(()) => Ok(()),
-            Err(fault) => Err(fault_of(&fault)),
+            Err(refusal) => {
+                let answer = refusal.disk_fault();
+                self.watch.note(refusal.file_fault());
+                Err(answer)
+            }
         }
     }
 
-    // Asks the device to keep the names that the folder has.
-    fn sync_names(&self) -> io::Result<()> {
-        File::open(&self.rt, self.path.as_str())?.sync_all()
+    // Notes a call that failed on a file. Returns the fault of the call on the disk.
+    fn refuse(&self, path: String, failed: Failed) -> DiskFault {
+        self.watch.note(Some(FileFault::new(path, failed)));
+        device_fault(failed.reason.kind())
     }
 
-    fn path_of(&self, alloc: Global, log: u32) -> Result<String, DiskFault> {
-        let name = name_of(alloc, log).map_err(|_| DiskFault::Memory)?;
-        format!(in alloc; "{}/{}", self.path, name).map_err(|_| DiskFault::Memory)
+    // Notes a call that failed on the file of a log, which may be missing.
+    fn refuse_log(&self, path: String, failed: Failed) -> DiskFault {
+        match (self.refuse(path, failed), failed.reason.kind()) {
+            (_, ErrorKind::NotFound) => DiskFault::NoLog,
+            (fault, _) => fault,
+        }
     }
 
-    // The path and the length of a log's file. `Disk` where it is one that is written, and another file stands there or it is
-    // not as long as it was left.
-    fn find(&mut self, alloc: Global, log: u32) -> Result<(String, u64), DiskFault> {
+    // Notes a call that failed on the directory.
+    fn refuse_folder(&self, operation: Operation, error: io::Error) -> DiskFault {
+        let failed = Failed::new(operation, error);
+        match self.path.clone() {
+            Ok(path) => self.refuse(path, failed),
+            Err(_) => {
+                self.watch.note(None);
+                device_fault(error.kind())
+            }
+        }
+    }
+
+    // Returns what has a name. Follows a link unless the directory is written.
+    fn look(&self, path: &str) -> io::Result<Metadata> {
+        match self.lock {
+            Some(_) => fs::symlink_metadata(&self.rt, path),
+            None => fs::metadata(&self.rt, path),
+        }
+    }
+
+    // Returns the path of a log's file, and what it is. Fails with `Disk` if the name is a link in
+    // a directory that is written, or if the file that is kept open is not the one of the name, or
+    // has another length than it was left with.
+    fn find(&mut self, alloc: Global, log: u32) -> Result<(String, Metadata), DiskFault> {
         let path = self.path_of(alloc, log)?;
-        let found = match fs::metadata(&self.rt, path.as_str()) {
-            Ok(found) if found.is_file() => found,
-            Ok(_) => return Err(DiskFault::NoLog),
-            Err(error) => return Err(log_fault(&error)),
+        let found = match self.look(&path) {
+            Ok(found) => found,
+            Err(reason) => {
+                return Err(self.refuse_log(path, Failed::new(Operation::Open, reason)));
+            }
         };
-        if let Some(kept) = self.kept.find(log) {
-            kept.look_at(&found)?;
+        if found.is_symlink() {
+            return Err(self.refuse(path, link_failed()));
         }
-        Ok((path, found.len()))
+        if let Some(finding) = self.no_log(&found) {
+            let failed = Failed::by(Operation::Open, Reason::Found(finding));
+            return Err(self.refuse_log(path, failed));
+        }
+        match self.compare(log, &found) {
+            None => Ok((path, found)),
+            Some((state, failed)) => Err(self.lose(log, state, path, failed)),
+        }
     }
 
-    // A log's file, opened so, and its length.
+    // Returns what a log's name leads to if it is no file. In a directory that is only read, that is
+    // no log and no fault.
+    fn no_log(&self, found: &Metadata) -> Option<Finding> {
+        match not_plain(found) {
+            Some(_) if self.lock.is_none() => Some(Finding::NoFile),
+            finding => finding,
+        }
+    }
+
+    // Compares what was found of a log with the file that is kept open. Returns the state of the
+    // log if they differ.
+    fn compare(&mut self, log: u32, found: &Metadata) -> Option<(State, Failed)> {
+        if let Some(kept) = self.kept.find(log) {
+            return match kept.look_at(found) {
+                Seen::Same => None,
+                Seen::Changed => Some((State::Lost, changed())),
+                Seen::Other => Some((State::Replaced, replaced())),
+            };
+        }
+        if self.is_left(log, State::Replaced) {
+            return Some((State::Replaced, replaced()));
+        }
+        None
+    }
+
+    // Opens a log's file.
     fn open_log(
         &mut self,
         alloc: Global,
         log: u32,
         how: &OpenOptions,
-    ) -> Result<(File, u64), DiskFault> {
-        let (path, length) = self.find(alloc, log)?;
-        match how.open(&self.rt, path.as_str()) {
-            Ok(file) => Ok((file, length)),
-            Err(error) => Err(log_fault(&error)),
+    ) -> Result<Opened, DiskFault> {
+        let (path, found) = self.find(alloc, log)?;
+        match open_found(&self.rt, &path, how, &found) {
+            Ok(file) => Ok(Opened { path, file, found }),
+            Err(reason) => Err(self.refuse_log(path, Failed::new(Operation::Open, reason))),
         }
     }
 
-    /// A log's file, opened to be read, and its length.
-    pub(crate) fn open_to_read(
-        &mut self,
-        alloc: Global,
-        log: u32,
-    ) -> Result<(File, u64), DiskFault> {
+    // Opens a log's file to read it.
+    fn open_to_read(&mut self, alloc: Global, log: u32) -> Result<Opened, DiskFault> {
         self.open_log(alloc, log, OpenOptions::new().read(true))
     }
 
-    /// The length of a log's file.
+    /// Returns a view of a log.
+    pub(crate) fn view(&mut self, alloc: Global, log: u32) -> Result<DirView, DiskFault> {
+        let Opened { path, file, found } = self.open_to_read(alloc, log)?;
+        let shared = self.watch.views();
+        let views = Arc::try_clone(shared).map_err(|_| DiskFault::Memory)?;
+        match OpenView::take(shared, self.most_open) {
+            Ok(Some(right)) => Ok(DirView::open(log, file, found.len(), right, views)),
+            Ok(None) => Ok(DirView::named(&self.rt, log, path, &found, views)),
+            Err(_) => Err(DiskFault::Memory),
+        }
+    }
+
+    /// Returns the length of a log's file.
     pub(crate) fn length(&mut self, alloc: Global, log: u32) -> Result<u64, DiskFault> {
-        self.find(alloc, log).map(|found| found.1)
+        let (_, found) = self.find(alloc, log)?;
+        Ok(found.len())
     }
 
-    // The log that an entry of the folder is.
-    fn log_at(&self, entry: &DirEntry) -> Result<Option<u32>, DiskFault> {
-        let Some(log) = log_of(entry.file_name()) else {
-            return Ok(None);
-        };
-        match fs::metadata(&self.rt, entry.path()) {
-            Ok(found) if found.is_file() => Ok(Some(log)),
-            Ok(_) => Ok(None),
-            Err(error) => Err(device_fault(&error)),
-        }
-    }
-
-    /// The ids of the folder's logs, rising.
-    pub(crate) fn ids(&self, alloc: Global) -> Result<Vec<u32>, DiskFault> {
-        let mut ids = Vec::new(alloc);
-        let entries = fs::read_dir(&self.rt, self.path.as_str());
-        for entry in entries.map_err(|error| device_fault(&error))? {
-            let entry = entry.map_err(|error| device_fault(&error))?;
-            if let Some(log) = self.log_at(&entry)? {
-                ids.push(log).map_err(|_| DiskFault::Memory)?;
-            }
-        }
-        ids.sort().map_err(|_| DiskFault::Memory)?;
-        Ok(ids)
-    }
-
-    /// Makes a log's file, and keeps it open. The folder is synced before the file is written to.
-    pub(crate) fn make(&mut self, alloc: Global, log: u32) -> Result<(), DiskFault> {
-        self.begin_write(alloc)?;
-        let path = self.path_of(alloc, log)?;
-        self.kept.make_room()?;
-        let made = OpenOptions::new()
-            .append(true)
-            .create_new(true)
-            .open(&self.rt, path.as_str());
-        let file = match made {
-            Ok(file) => file,
-            Err(error) if error.kind() == ErrorKind::AlreadyExists => {
-                return Err(DiskFault::Exists);
-            }
-            Err(error) => return Err(device_fault(&error)),
-        };
-        if let Err(error) = self.sync_names() {
-            // A file whose name may go is not to be written.
-            let _ = fs::remove_file(&self.rt, path.as_str());
-            return Err(device_fault(&error));
-        }
-        self.kept.let_go(log);
-        self.kept.keep(KeptLog::new(log, file, 0))
-    }
-
-    /// Writes at the end of a log's file.
-    pub(crate) fn write_end(
-        &mut self,
-        alloc: Global,
-        log: u32,
-        bytes: &[u8],
-    ) -> Result<(), DiskFault> {
-        if let Some(kept) = self.kept.find(log) {
-            if self.has_marks && kept.is_empty() && bytes.len() >= MARK_END {
-                return kept.append(&marked(alloc, bytes)?);
-            }
-            return kept.append(bytes);
-        }
-        self.begin_write(alloc)?;
-        let (file, length) = self.open_log(alloc, log, OpenOptions::new().append(true))?;
-        self.kept.make_room()?;
-        let mut kept = KeptLog::new(log, file, length);
-        let written = kept.append(bytes);
-        self.kept.keep(kept)?;
-        written
-    }
-
-    /// Writes twelve bytes over those at byte 8 of a log's file. By this a log is sealed, so its file is synced and kept no
-    /// longer. Where it has a mark, this says then that the file is to be believed to its end.
-    pub(crate) fn write_patch(
-        &mut self,
-        alloc: Global,
-        log: u32,
-        bytes: &[u8; 12],
-    ) -> Result<(), DiskFault> {
-        self.begin_write(alloc)?;
-        let (file, length) = self.open_to_change(alloc, log)?;
-        if length < 20 {
-            return Err(DiskFault::PastEnd);
-        }
-        file.write_all_at(bytes, 8)
-            .map_err(|error| device_fault(&error))?;
-        self.sync_log(log, &file)?;
-        if length >= MARK_END as u64 && has_mark(&front_of(&file)?) {
-            write_mark(&file, length)?;
-            self.sync_log(log, &file)?;
-        }
-        self.kept.let_go(log);
-        Ok(())
-    }
-
-    // Asks the device to keep a log's file, which is open here, and may be kept open too.
-    fn sync_log(&mut self, log: u32, file: &File) -> Result<(), DiskFault> {
-        match self.kept.find(log) {
-            Some(kept) => kept.sync(),
-            None => file.sync_all().map_err(|error| device_fault(&error)),
-        }
-    }
-
-    /// Whether a log of the folder has a mark.
-    pub(crate) fn has_marks(&mut self, alloc: Global) -> Result<bool, DiskFault> {
-        for log in &self.ids(alloc)? {
-            let (file, length) = self.open_to_read(alloc, *log)?;
-            if length >= MARK_END as u64 && has_mark(&front_of(&file)?) {
-                return Ok(true);
-            }
-        }
-        Ok(false)
-    }
-
-    /// Begins to keep marks: each log's file is cut to its mark, where it has one, and each that is made from now on has one
-    /// behind its header.
-    pub(crate) fn begin_marks(&mut self, alloc: Global) -> Result<(), DiskFault> {
-        self.begin_write(alloc)?;
-        for log in &self.ids(alloc)? {
-            self.cut_to_mark(alloc, *log)?;
-        }
-        self.has_marks = true;
-        Ok(())
-    }
-
-    // Cuts a log's file to its mark, where it has one. A file that is too short for a mark had its header not written.
-    fn cut_to_mark(&mut self, alloc: Global, log: u32) -> Result<(), DiskFault> {
-        let (file, length) = self.open_to_change(alloc, log)?;
-        let mark = if length < MARK_END as u64 {
-            Some(0)
-        } else {
-            mark_in(&front_of(&file)?)
-        };
-        match mark {
-            Some(mark) if mark < length => {
-                file.set_len(mark).map_err(|error| device_fault(&error))
-            }
-            _ => Ok(()),
-        }
-    }
-
-    /// Writes a mark into a log's header, so many bytes of the file being to be believed, and asks the device to keep it. A file
-    /// that has something else in its place is from elsewhere, and is left as it is; one that is too short for a mark has none
-    /// in front of its first record.
-    pub(crate) fn keep_mark(
-        &mut self,
-        alloc: Global,
-        log: u32,
-        mark: u64,
-    ) -> Result<(), DiskFault> {
-        self.begin_write(alloc)?;
-        let (file, has) = self.open_to_change(alloc, log)?;
-        if has >= MARK_END as u64 {
-            write_mark(&file, mark)?;
-        }
-        self.write_through(alloc, log)
-    }
-
-    // A log's file, opened to be read and written, and its length.
-    fn open_to_change(&mut self, alloc: Global, log: u32) -> Result<(File, u64), DiskFault> {
-        self.open_log(alloc, log, OpenOptions::new().read(true).write(true))
-    }
-
-    /// `n` bytes of a log's file from a position on.
+    /// Returns `n` bytes of a log's file from a position on.
     pub(crate) fn read(
         &mut self,
         alloc: Global,
@@ -298,85 +255,96 @@ impl Folder {
         at: u64,
         n: u64,
     ) -> Result<Vec<u8>, DiskFault> {
-        let (file, length) = self.open_to_read(alloc, log)?;
-        if length < at || length - at < n {
+        let Opened { path, file, found } = self.open_to_read(alloc, log)?;
+        if found.len() < at || found.len() - at < n {
             return Err(DiskFault::PastEnd);
         }
-        read_range(&file, alloc, at, n)
-    }
-
-    /// Asks the device to keep what a log's file has, and its length.
-    pub(crate) fn write_through(&mut self, alloc: Global, log: u32) -> Result<(), DiskFault> {
-        let (path, _) = self.find(alloc, log)?;
-        if let Some(kept) = self.kept.find(log) {
-            return kept.sync();
-        }
-        match File::open(&self.rt, path.as_str()) {
-            Ok(file) => file.sync_all().map_err(|error| device_fault(&error)),
-            Err(error) => Err(log_fault(&error)),
+        let mut bytes = vec![in alloc; 0u8; n as usize].map_err(|_| DiskFault::Memory)?;
+        match file.read_exact_at(&mut bytes, at) {
+            Ok(()) => Ok(bytes),
+            Err(reason) => Err(self.refuse(path, Failed::new(Operation::Read, reason))),
         }
     }
 
-    /// Takes a log's file away. `Disk` too where the folder can't be synced; the file is gone then, and a crash may bring it
-    /// back.
-    pub(crate) fn unlink(&mut self, alloc: Global, log: u32) -> Result<(), DiskFault> {
-        self.begin_write(alloc)?;
-        let (path, _) = self.find(alloc, log)?;
-        fs::remove_file(&self.rt, path.as_str()).map_err(|error| log_fault(&error))?;
-        self.kept.let_go(log);
-        self.sync_names().map_err(|error| device_fault(&error))
+    /// Returns the ids of the logs, rising. If the last sync of the directory failed, syncs it
+    /// first, so that no crash brings a removed log back.
+    pub(crate) fn ids(&mut self, alloc: Global) -> Result<Vec<u32>, DiskFault> {
+        if self.has_unsynced_names
+            && let Err(error) = self.sync_names()
+        {
+            return Err(self.refuse_folder(Operation::Sync, error));
+        }
+        self.listed(alloc)
+    }
+
+    // Returns the ids of the logs, rising.
+    fn listed(&self, alloc: Global) -> Result<Vec<u32>, DiskFault> {
+        let mut ids = Vec::new(alloc);
+        let entries = match fs::read_dir(&self.rt, self.path.as_str()) {
+            Ok(entries) => entries,
+            Err(reason) => return Err(self.refuse_folder(Operation::List, reason)),
+        };
+        for entry in entries {
+            let entry = match entry {
+                Ok(entry) => entry,
+                Err(reason) => return Err(self.refuse_folder(Operation::List, reason)),
+            };
+            if let Some(log) = self.log_at(alloc, &entry)? {
+                ids.push(log).map_err(|_| DiskFault::Memory)?;
+            }
+        }
+        ids.sort().map_err(|_| DiskFault::Memory)?;
+        Ok(ids)
+    }
+
+    // Returns the log that an entry of the directory is.
+    fn log_at(&self, alloc: Global, entry: &DirEntry) -> Result<Option<u32>, DiskFault> {
+        let Some(log) = log_of(entry.file_name()) else {
+            return Ok(None);
+        };
+        let failed = match self.look(entry.path().as_str()) {
+            Ok(found) if found.is_symlink() => link_failed(),
+            Ok(found) => match self.no_log(&found) {
+                None => return Ok(Some(log)),
+                Some(Finding::NoFile) => return Ok(None),
+                Some(finding) => Failed::by(Operation::Open, Reason::Found(finding)),
+            },
+            Err(error) => Failed::new(Operation::List, error),
+        };
+        let path = self.path_of(alloc, log)?;
+        Err(self.refuse(path, failed))
     }
 }
 
-// The bytes of a file that tell of its mark.
-fn front_of(file: &File) -> Result<[u8; MARK_END], DiskFault> {
-    let mut front = [0; MARK_END];
-    match file.read_exact_at(&mut front, 0) {
-        Ok(()) => Ok(front),
-        Err(error) => Err(device_fault(&error)),
+/// Opens the file of a name, if it is the one that was found, by device and inode.
+pub(crate) fn open_found(
+    rt: &HostRuntime,
+    path: &str,
+    how: &OpenOptions,
+    found: &Metadata,
+) -> io::Result<File> {
+    let file = how.open(rt, path)?;
+    if is_same_file(&file.metadata()?, found) {
+        return Ok(file);
     }
+    Err(io::Error::from_raw_os_error(STALE))
 }
 
-// Writes a mark into a file that has room for one, where nothing else stands there, or this very mark.
-fn write_mark(file: &File, mark: u64) -> Result<(), DiskFault> {
-    let front = front_of(file)?;
-    if !takes_mark(&front) || mark_in(&front) == Some(mark) {
-        return Ok(());
-    }
-    file.write_all_at(&mark_bytes(mark), MARK_AT)
-        .map_err(|error| device_fault(&error))
+// Returns why a log is lost whose file has another length than it was left with.
+fn changed() -> Failed {
+    Failed::by(Operation::Open, Reason::Found(Finding::Changed))
 }
 
-// A new log's header with a mark: nothing behind it is to be believed.
-fn marked(alloc: Global, header: &[u8]) -> Result<Vec<u8>, DiskFault>
-    requires { 32 ≤ length header.now }
-{
-    let mut bytes = Vec::from_slice(alloc, header).map_err(|_| DiskFault::Memory)?;
-    bytes[20..32].copy_from_slice(&mark_bytes(HEADER));
-    Ok(bytes)
+// Returns why a log is lost if another file has its name.
+fn replaced() -> Failed {
+    Failed::by(Operation::Open, Reason::Found(Finding::Replaced))
 }
 
-/// What a refusal of the folder is to a call on the disk.
+/// Returns the fault of a call on the disk if the directory is not opened.
 pub(crate) fn fault_of(fault: &FolderFault) -> DiskFault {
     match fault {
         FolderFault::InUse { .. } => DiskFault::Disk,
-        FolderFault::Refused { reason, .. } => device_fault(reason),
+        FolderFault::Refused { reason, .. } => device_fault(reason.kind()),
         FolderFault::Memory => DiskFault::Memory,
-    }
-}
-
-// What a refusal of the system on a log's file is.
-fn log_fault(error: &io::Error) -> DiskFault {
-    match error.kind() {
-        ErrorKind::NotFound => DiskFault::NoLog,
-        _ => device_fault(error),
-    }
-}
-
-/// What a refusal of the system is, where a file that isn't there is one of the device.
-pub(crate) fn device_fault(error: &io::Error) -> DiskFault {
-    match error.kind() {
-        ErrorKind::OutOfMemory => DiskFault::Memory,
-        _ => DiskFault::Disk,
     }
 }

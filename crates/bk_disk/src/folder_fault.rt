@@ -1,25 +1,25 @@
-//! Why a folder of the system is not opened.
+//! Why a directory is not opened.
 
 use std::error::Error;
 use std::fmt::{Display, Formatter};
 use std::{fmt, io};
 
-/// Why a folder is not opened to be read or to be written. Its text says which file or folder it is about.
+/// Why a directory is not opened to be read or to be written. Its text names the file or directory.
 #[derive(Debug, Drop)]
 pub enum FolderFault {
-    /// Somebody writes in the folder: another process, or another disk of this one.
+    /// Another process writes in the directory, or another disk of this process.
     InUse {
-        /// The file whose lock he holds.
+        /// The file whose lock it holds.
         lock: String,
-        /// The number of the process, where the file tells it.
+        /// The number of the process, if the file has it.
         holder: Option<u32>,
     },
-    /// The system refuses to open, to lock or to sync what is at a path; its reason.
+    /// What is at a path cannot be opened, locked or synced, or is no log; the reason.
     Refused {
         path: String,
         reason: io::Error,
     },
-    /// No memory was to be had.
+    /// An allocation was refused.
     Memory,
 }
 

@@ -1,23 +1,21 @@
-//! Logs that are written, each with its file kept open from its making to its sealing.
+//! Files of the logs that are written: each stays open until the log is sealed.
 //!
-//! A write at a file's end is one call of the system then, and no error of the system is lost between two calls: it is told
-//! to the file that stood open when it came. So a file is synced before it is let go, and of one that failed nothing is
-//! believed any more.
+//! An append is then one call of the system. The system reports a failed write-back to the files
+//! that were open when it occurred, so a file is synced before it is closed.
 
 use crate::DiskFault;
-use crate::folder::device_fault;
+use crate::file_fault::{Failed, Operation};
 use bk_record::MAX_LOG_LENGTH;
 use std::alloc::{AllocError, Global};
-use std::fs::File;
+use std::fs::{File, Metadata};
 use std::io::Write;
 use std::os::unix::fs::MetadataExt;
 
-/// How many files of logs that are written are kept open at most. A store writes two logs at a time, that of its flush and
-/// that of its compaction. The others are logs that it left without sealing them; beside these files each log that is held
-/// has one for its view, and the system lets a process have about a thousand.
+/// The most files of logs that stay open. A store writes two logs at a time, one of its flush and
+/// one of its compaction. The others are logs that it left unsealed.
 const MOST_KEPT: usize = 16;
 
-/// A log that is written.
+/// The file of a log that is written.
 #[derive(Drop)]
 pub(crate) struct KeptLog {
     log: u32,
@@ -25,121 +23,157 @@ pub(crate) struct KeptLog {
     file: File,
     /// How long the file was left.
     length: u64,
-    /// Whether a write or a sync failed, or somebody else wrote: what stands in the file is not known any more.
-    is_lost: bool,
+    /// Whether this disk made the file.
+    is_new: bool,
+}
+
+/// What a log's name leads to.
+#[derive(Clone, Copy, Debug, PartialEq, Eq)]
+pub(crate) enum Seen {
+    /// The file that is open, as it was left.
+    Same,
+    /// The file that is open, of another length.
+    Changed,
+    /// Another file.
+    Other,
 }
 
 impl KeptLog {
-    pub(crate) fn new(log: u32, file: File, length: u64) -> KeptLog {
+    /// Returns the open file of a log that was found.
+    pub(crate) fn found(log: u32, file: File, length: u64) -> KeptLog {
         KeptLog {
             log,
             file,
             length,
-            is_lost: false,
+            is_new: false,
         }
     }
 
-    /// Whether nothing was written yet.
+    /// Returns the open and empty file of a log that this disk made.
+    pub(crate) fn made(log: u32, file: File) -> KeptLog {
+        KeptLog {
+            log,
+            file,
+            length: 0,
+            is_new: true,
+        }
+    }
+
+    /// Returns whether nothing was written yet.
     pub(crate) fn is_empty(&self) -> bool {
         self.length == 0
     }
 
-    /// Writes at the file's end. Faults: `Disk`, also where the log is lost, `TooLong`.
-    pub(crate) fn append(&mut self, bytes: &[u8]) -> Result<(), DiskFault> {
-        if self.is_lost {
-            return Err(DiskFault::Disk);
-        }
-        if self.length > MAX_LOG_LENGTH || bytes.len() as u64 > MAX_LOG_LENGTH - self.length {
-            return Err(DiskFault::TooLong);
-        }
+    /// Returns whether this disk made the file, and has written nothing to it.
+    pub(crate) fn is_unwritten(&self) -> bool {
+        self.is_new && self.is_empty()
+    }
+
+    /// Returns whether a piece of this length fits.
+    pub(crate) fn has_room_for(&self, bytes: &[u8]) -> bool {
+        self.length <= MAX_LOG_LENGTH && bytes.len() as u64 <= MAX_LOG_LENGTH - self.length
+    }
+
+    /// Writes at the file's end.
+    pub(crate) fn append(&mut self, bytes: &[u8]) -> Result<(), Failed> {
         match self.file.write_all(bytes) {
             Ok(()) => {
-                self.length += bytes.len() as u64;
+                self.length = self.length.saturating_add(bytes.len() as u64);
                 Ok(())
             }
-            Err(error) => {
-                self.is_lost = true;
-                Err(device_fault(&error))
-            }
+            Err(reason) => Err(Failed::new(Operation::Write, reason)),
         }
     }
 
-    /// Asks the device to keep what was written. A sync that failed is not asked for again: the system tells a failure once,
-    /// and forgets what it could not write. Faults: `Disk`.
-    pub(crate) fn sync(&mut self) -> Result<(), DiskFault> {
-        if self.is_lost {
-            return Err(DiskFault::Disk);
-        }
-        match self.file.sync_all() {
-            Ok(()) => Ok(()),
-            Err(_) => {
-                self.is_lost = true;
-                Err(DiskFault::Disk)
-            }
-        }
+    /// Asks the device to keep what was written.
+    pub(crate) fn sync(&self) -> Result<(), Failed> {
+        self.file
+            .sync_all()
+            .map_err(|reason| Failed::new(Operation::Sync, reason))
     }
 
-    /// Looks at what the log's name leads to now. Where that is another file, or one that is not as long as it was left, the
-    /// log is lost, and the fault is `Disk`. One that is lost already is not looked at.
-    pub(crate) fn look_at(&mut self, named: &impl MetadataExt) -> Result<(), DiskFault> {
-        if self.is_lost || self.is_as_left(named) {
-            return Ok(());
-        }
-        self.is_lost = true;
-        Err(DiskFault::Disk)
-    }
-
-    fn is_as_left(&self, named: &impl MetadataExt) -> bool {
+    /// Returns whether what a name leads to is the open file.
+    pub(crate) fn is_named(&self, named: &Metadata) -> bool {
         match self.file.metadata() {
-            Ok(kept) => {
-                kept.ino() == named.ino() && kept.dev() == named.dev() && kept.len() == self.length
-            }
+            Ok(kept) => is_same_file(&kept, named),
             Err(_) => false,
+        }
+    }
+
+    /// Compares the open file with what the log's name leads to now.
+    pub(crate) fn look_at(&self, named: &Metadata) -> Seen {
+        match self.file.metadata() {
+            Ok(kept) if !is_same_file(&kept, named) => Seen::Other,
+            Ok(kept) if kept.len() == self.length => Seen::Same,
+            _ => Seen::Changed,
         }
     }
 }
 
-/// The logs that are written, those that were taken up first standing first.
+/// The device and the inode of a file.
+#[derive(Clone, Copy, Debug, PartialEq, Eq)]
+pub(crate) struct FileId {
+    device: u64,
+    inode: u64,
+}
+
+impl FileId {
+    /// Returns those of what was found.
+    pub(crate) fn of(found: &Metadata) -> FileId {
+        FileId {
+            device: found.dev(),
+            inode: found.ino(),
+        }
+    }
+}
+
+/// Returns whether one file was found twice, by device and inode.
+pub(crate) fn is_same_file(one: &Metadata, other: &Metadata) -> bool {
+    FileId::of(one) == FileId::of(other)
+}
+
+/// The files of the logs that are written, the one that was opened first in front.
 #[derive(Drop)]
 pub(crate) struct KeptLogs {
     logs: Vec<KeptLog>,
 }
 
 impl KeptLogs {
-    /// None, with room for all that are kept at once.
+    /// Returns none, with room for all that stay open at once.
     pub(crate) fn new(alloc: Global) -> Result<KeptLogs, AllocError> {
         Ok(KeptLogs {
             logs: Vec::with_capacity(alloc, MOST_KEPT)?,
         })
     }
 
-    /// The log of this id, where it is written.
+    /// Returns the open file of a log, if it has one.
     pub(crate) fn find(&mut self, log: u32) -> Option<&mut KeptLog> {
         self.logs.iter_mut().find(|kept| kept.log == log)
     }
 
-    /// Makes room for one more: where there is none the one that was taken up first is synced and let go. Faults: `Disk`
-    /// where that fails.
-    pub(crate) fn make_room(&mut self) -> Result<(), DiskFault> {
+    /// Makes room for one more file: if there is none, syncs and closes the one that was opened
+    /// first. Returns the log if its sync failed.
+    pub(crate) fn make_room(&mut self) -> Option<(u32, Failed)> {
         if self.logs.len() < MOST_KEPT {
-            return Ok(());
+            return None;
         }
-        let Some(first) = self.logs.first_mut() else {
-            return Ok(());
-        };
-        // A lost one was told when it was lost.
-        let synced = if first.is_lost { Ok(()) } else { first.sync() };
+        let first = self.logs.first()?;
+        let log = first.log;
+        let synced = first.sync();
         let _ = self.logs.remove(0);
-        synced
+        match synced {
+            Ok(()) => None,
+            Err(failed) => Some((log, failed)),
+        }
     }
 
-    /// Keeps a log, for which room was made. Faults: `Memory`.
+    /// Keeps a file open, for which room was made.
     pub(crate) fn keep(&mut self, kept: KeptLog) -> Result<(), DiskFault> {
         self.logs.push(kept).map_err(|_| DiskFault::Memory)
     }
 
-    /// Lets a log's file go, where it is kept.
-    pub(crate) fn let_go(&mut self, log: u32) {
+    /// Closes the file of a log, if it has one.
+    pub(crate) fn close(&mut self, log: u32) {
         self.logs.retain(|kept| kept.log != log);
     }
 }

@@ -1,4 +1,5 @@
-//! What the storage asks of a disk of entry logs, and disks that answer it.
+//! Disks of entry logs: the traits that the storage uses, and disks in memory, over a directory,
+//! and with an injected failure.
 #![tactic(auto)]
 
 mod blocks;
@@ -10,15 +11,23 @@ mod disk;
 mod fault;
 mod fault_disk;
 mod fault_view;
+mod fault_watch;
+mod file_fault;
 mod folder;
 mod folder_fault;
 mod kept;
 mod lock;
+mod log_names;
 mod mark;
 mod mark_disk;
 mod mem_disk;
 mod mem_view;
 mod names;
+mod open_views;
+mod reason;
+mod refusal;
+mod trouble;
+mod unsynced;
 
 pub use dir_disk::DirDisk;
 pub use dir_view::DirView;
@@ -26,8 +35,10 @@ pub use disk::{LogDisk, LogView};
 pub use fault::DiskFault;
 pub use fault_disk::FaultDisk;
 pub use fault_view::FaultView;
+pub use fault_watch::FaultWatch;
+pub use file_fault::{FileFault, Operation};
 pub use folder_fault::FolderFault;
-pub use mark_disk::MarkDisk;
+pub use mark_disk::WatermarkDisk;
 pub use mem_disk::MemDisk;
 pub use mem_view::MemView;
 pub use names::{log_of, name_of};

@@ -1,21 +1,21 @@
-//! The mark in the header of a log's file: a tag, and how many bytes of the file are to be believed. It stands where the
-//! BookKeeper format has nothing, and where a reader of that format ignores what stands.
+//! Durability watermark in the header of a log's file: a tag, and the number of bytes that are
+//! valid after a crash. BookKeeper has zeros at this position and ignores them.
 
 ghost use Rattle.std.specs.Prelude.{◌≡◌, ℕ, ◌<◌, ◌^◌, Some, drop};
-ghost use Rattle.bk_disk.specs.Marks.{mark_of};
+ghost use Rattle.bk_disk.specs.Watermarks.{mark_of};
 
 use byteorder::{BigEndian, ByteOrder};
 
-/// The position of the mark's first byte: behind what the format has in a header.
+/// The position of the first byte of a watermark.
 pub(crate) const MARK_AT: u64 = 20;
 
-/// How many bytes of a file, from its first on, tell of its mark.
+/// The number of bytes at the beginning of a file that decide its watermark.
 pub(crate) const MARK_END: usize = 32;
 
-/// What a mark begins with (this project's rule).
+/// The first bytes of a watermark (this project's rule).
 const TAG: [u8; 4] = *b"mark";
 
-/// The bytes of a mark: the tag, and the number of bytes that are to be believed, big-endian (this project's rule).
+/// Returns the bytes of a watermark: the tag, and a length, big-endian (this project's rule).
 pub(crate) fn mark_bytes(length: u64) -> [u8; 12]
     ensures { result ≡ mark_of length }
 {
@@ -25,8 +25,8 @@ pub(crate) fn mark_bytes(length: u64) -> [u8; 12]
     bytes
 }
 
-/// The mark in a file that begins with these bytes, `None` where it has none. A file that begins with zeros had its header
-/// not written, so nothing of it is to be believed.
+/// Returns the watermark of a file that begins with these bytes, `None` if it has none. The header
+/// of a file that begins with zeros was not written, so its watermark is 0.
 pub(crate) fn mark_in(front: &[u8; MARK_END]) -> Option<u64>
     ensures { (mark : ℕ) → mark < 2 ^ 64 → drop 20 front.now ≡ mark_of mark → result ≡ Some mark }
 {
@@ -39,12 +39,13 @@ pub(crate) fn mark_in(front: &[u8; MARK_END]) -> Option<u64>
     None
 }
 
-/// Whether a file that begins with these bytes has a mark.
+/// Returns whether a file that begins with these bytes has a watermark.
 pub(crate) fn has_mark(front: &[u8; MARK_END]) -> bool {
     front[20..].starts_with(&TAG)
 }
 
-/// Whether a mark may be written into a file that begins with these bytes: it has one, or zeros where it would stand.
+/// Returns whether a watermark may be written into a file that begins with these bytes: it has one,
+/// or zeros in its place.
 pub(crate) fn takes_mark(front: &[u8; MARK_END]) -> bool {
     has_mark(front) || front[20..].iter().all(|byte| *byte == 0)
 }

@@ -1,38 +1,42 @@
-//! The trait of a disk whose logs have marks, which say how far each is to be believed after a crash.
+//! Trait of a disk that stores a durability watermark with each log.
 
 ghost use Rattle.std.specs.Prelude.{◌≡◌, ◌≤◌, length, IsTrue, OnOk};
 ghost use Rattle.bk_record.specs.Files.{file_of};
-ghost use Rattle.bk_disk.specs.Disk.{HasCause, Syncs};
-ghost use Rattle.bk_disk.specs.Durable.{KeepsMore};
-ghost use Rattle.bk_disk.specs.Marks.{Marks, Covers, HasMark, CutsToMarks};
+ghost use Rattle.bk_disk.specs.Disk.{FailsExactlyOnDiskFault, Syncs};
+ghost use Rattle.bk_disk.specs.Durable.{DurableGrows};
+ghost use Rattle.bk_disk.specs.Watermarks.{Watermarks, IsDurableUpTo, HasWatermark, TruncatesToWatermarks};
 
 use crate::{DiskFault, LogDisk};
 use std::alloc::Global;
 
-/// A disk that keeps a mark with each log: how many of its bytes are to be believed after a crash. A device may leave any bytes
-/// behind those that it was asked to keep, and in front of a mark stands what it was asked to keep before the mark was written
-/// (this project's rule; `MarkedDisk` of `bk_mark` writes marks so).
-pub trait MarkDisk: LogDisk {
-    ghost marks: { Self → Marks };
+/// A disk that stores a watermark with each log: the number of its bytes that are valid after a
+/// crash.
+///
+/// A device may leave any bytes after those that were synced. All bytes before a watermark were
+/// synced before it was written (this project's rule; `WatermarkedDisk` of `bk_watermark` does so).
+pub trait WatermarkDisk: LogDisk {
+    ghost marks: { Self → Watermarks };
 
-    /// Begins to keep marks. What stands behind its mark goes from each log that has one, and each log that is made from now on
-    /// has a mark in front of its first record, until it has another. Faults: `Disk`, `Memory`; some logs are cut then, and others not.
-    fn begin_marks(&mut self, alloc: Global) -> Result<(), DiskFault>
+    /// Truncates each log that has a watermark to it. Each log that is made from now on has one, at
+    /// the end of its header. After an error some logs are truncated and others are not.
+    fn truncate_to_watermarks(&mut self, alloc: Global) -> Result<(), DiskFault>
         ensures honest { Self.honest self.new ≡ Self.honest self.old }
-        ensures cause { HasCause (Self.failures self.old) (Self.failures self.new) result }
-        ensures turn { IsTrue (Self.honest self.old)
-            → CutsToMarks (Self.files self.old) (Self.marks self.old) result (Self.files self.new) };
+        ensures cause { FailsExactlyOnDiskFault (Self.failures self.old) (Self.failures self.new) result }
+        ensures transition { IsTrue (Self.honest self.old)
+            → TruncatesToWatermarks (Self.files self.old) (Self.marks self.old) result (Self.files self.new) };
 
-    /// Writes a log's mark, and asks the device to keep it: so many bytes of the log are to be believed. They are no more than
-    /// the log has, and the device was asked to keep them before. Where this fails the log has this mark or an older one.
-    /// Faults: `NoLog`, `Disk`, `Memory`.
-    fn keep_mark(&mut self, alloc: Global, log: u32, mark: u64) -> Result<(), DiskFault>
+    /// Writes the watermark of a log and syncs it. The log has no fewer bytes, and they are
+    /// durable.
+    ///
+    /// After an error the log has this watermark or an older one. Fails with `NoLog` if there is no
+    /// such log.
+    fn write_watermark(&mut self, alloc: Global, log: u32, mark: u64) -> Result<(), DiskFault>
         requires within { IsTrue (Self.honest self.old) → mark ≤ length (file_of (Self.files self.old) log) }
-        requires kept { IsTrue (Self.honest self.old) → Covers (Self.synced self.old) log mark }
+        requires durable { IsTrue (Self.honest self.old) → IsDurableUpTo (Self.synced self.old) log mark }
         ensures honest { Self.honest self.new ≡ Self.honest self.old }
-        ensures kept { IsTrue (Self.honest self.old)
-            → KeepsMore (Self.synced self.old) (Self.gone self.old) (Self.synced self.new) (Self.gone self.new) }
-        ensures cause { HasCause (Self.failures self.old) (Self.failures self.new) result }
-        ensures turn { IsTrue (Self.honest self.old) → Syncs (Self.files self.old) log result (Self.files self.new) }
-        ensures marked { IsTrue (Self.honest self.old) → OnOk result (HasMark (marks self.new) log mark) };
+        ensures durable { IsTrue (Self.honest self.old)
+            → DurableGrows (Self.synced self.old) (Self.gone self.old) (Self.synced self.new) (Self.gone self.new) }
+        ensures cause { FailsExactlyOnDiskFault (Self.failures self.old) (Self.failures self.new) result }
+        ensures transition { IsTrue (Self.honest self.old) → Syncs (Self.files self.old) log result (Self.files self.new) }
+        ensures marked { IsTrue (Self.honest self.old) → OnOk result (HasWatermark (marks self.new) log mark) };
 }

@@ -1,20 +1,20 @@
-//! A disk of entry logs in memory: a map from ids to logs, each kept in blocks that its views share.
+//! Disk in memory: a map from ids to logs, each stored in blocks that its views share.
 //!
-//! Nothing fails here but memory, and a call that is refused memory leaves the files as they were.
+//! Only allocations fail. A call whose allocation is refused leaves the files unchanged.
 
 ghost use Rattle.std.specs.Prelude.{◌≡◌, true, IfOk};
 ghost use Rattle.std.specs.FinMap as map;
 ghost use Rattle.bk_disk.specs.Logs.{listed, IsListing};
-ghost use Rattle.bk_disk.specs.Marks.{whole_marks};
+ghost use Rattle.bk_disk.specs.Watermarks.{full_watermarks};
 
 use crate::blocks::Blocks;
-use crate::{DiskFault, LogDisk, MarkDisk, MemView};
+use crate::{DiskFault, LogDisk, MemView, WatermarkDisk};
 use bk_record::MAX_LOG_LENGTH;
 use std::alloc::{AllocError, Global};
 use std::collections::BTreeMap;
 use std::marker::Model;
 
-/// A disk in memory: honest, and its device never fails.
+/// A disk in memory. It is honest, and its device never fails.
 #[derive(Drop)]
 pub struct MemDisk {
     logs: BTreeMap<u32, Blocks>,
@@ -37,7 +37,7 @@ impl Model for MemDisk {
 }
 
 impl MemDisk {
-    /// A disk without logs.
+    /// Returns a disk without logs.
     pub fn new(alloc: Global) -> Self
         ensures { result ≡ map.empty }
     {
@@ -46,8 +46,8 @@ impl MemDisk {
         }
     }
 
-    /// A disk with these logs, each an id and its bytes. An id may go up to 2^31 - 1 and stand once, and a file may have
-    /// up to 2^32 - 1 bytes. The only fault is want of memory.
+    /// Returns a disk with these logs, each an id and its bytes. The ids differ and are at most
+    /// 2^31 - 1, and each file has at most 2^32 - 1 bytes. Fails only if memory is refused.
     pub fn of(alloc: Global, files: Vec<(u32, Vec<u8>)>) -> Result<MemDisk, AllocError>
         requires { IsListing (listed files.items) }
         ensures { IfOk result (λ disk. disk ≡ map.from_entries (listed files.items)) }
@@ -60,7 +60,7 @@ impl MemDisk {
     }
 }
 
-#[tactic(auto, using(crate::proofs::FileMaps::file_maps, crate::proofs::KeepsMore::kept_rules))]
+#[tactic(auto, using(crate::proofs::FileMaps::file_maps, crate::proofs::DurableGrows::kept_rules))]
 impl LogDisk for MemDisk {
     type View = MemView;
 
@@ -162,15 +162,15 @@ impl LogDisk for MemDisk {
     }
 }
 
-/// Nothing that a disk in memory has is lost to a crash: each log is believed whole.
-impl MarkDisk for MemDisk {
-    ghost marks = { λ disk. whole_marks disk };
+/// A crash takes nothing from a disk in memory, so the watermark of each log is its length.
+impl WatermarkDisk for MemDisk {
+    ghost marks = { λ disk. full_watermarks disk };
 
-    fn begin_marks(&mut self, _alloc: Global) -> Result<(), DiskFault> {
+    fn truncate_to_watermarks(&mut self, _alloc: Global) -> Result<(), DiskFault> {
         Ok(())
     }
 
-    fn keep_mark(&mut self, alloc: Global, log: u32, _mark: u64) -> Result<(), DiskFault> {
+    fn write_watermark(&mut self, alloc: Global, log: u32, _mark: u64) -> Result<(), DiskFault> {
         self.sync(alloc, log)
     }
 }

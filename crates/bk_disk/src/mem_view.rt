@@ -1,4 +1,4 @@
-//! A view of a log in memory: the log's blocks as they were, shared with the log.
+//! View of a log in memory: the blocks of the log as they were, shared with it.
 
 ghost use Rattle.std.specs.Prelude.{◌≡◌, ◌<◌, ◌^◌, true};
 ghost use Rattle.std.specs.List.{All};
@@ -9,7 +9,8 @@ use crate::{DiskFault, LogView};
 use std::alloc::Global;
 use std::marker::Model;
 
-/// A view of a log of a `MemDisk`. It is sound, and keeps its bytes while the log grows, is patched and is removed.
+/// A view of a log of a `MemDisk`. It is sound, and its bytes stay while the log changes or is
+/// removed.
 #[derive(Drop)]
 pub struct MemView {
     bytes: Blocks,

@@ -1,13 +1,23 @@
 //! Tests of the disk in memory and of the disk that fails, from outside and through the trait's bound.
 
+mod again;
+mod aside;
 mod bound;
 mod calls;
+mod change;
 mod failing;
 mod folder;
+mod hostile;
 mod large;
 mod listing;
+mod locks;
+mod lost;
 mod marks;
+mod memory;
 mod names;
 mod refused;
+mod sight;
+mod stage;
 mod table;
+mod views;
 mod writer;

@@ -1,4 +1,4 @@
--- The leases of the readers stand open in the store's table through each step.
+-- Every step keeps the slots of the readers' leases open in the store's table (`AreOpenLeases`).
 use Rattle.std.proofs.Common.{◌≡◌, ◌≢◌, ◌⊎◌, inl, inr, ℕ, ◌<◌, zero, suc, List, [], ◌∷◌, replicate, Option, Some}
 use Rattle.std.proofs.Common.{None, Result, Ok, Err, refl, sym, ap, subst, ◌∙◌, slice_set}
 use Rattle.std.specs.FinMap as finite
@@ -14,35 +14,35 @@ use Rattle.bk_lease.specs.Values.{SlotTable, Ticket, with_given, with_state}
 use Rattle.bk_lease.proofs.Slots.{inside_slots, state_at-set_here, state_at-set_else}
 use Rattle.bk_store.specs.Logs.{View, Log, Logs}
 use Rattle.bk_store.specs.State.{State}
-use Rattle.bk_store.specs.Seated.{AreSeated, slot_state}
+use Rattle.bk_store.specs.SlotAssignment.{AreSeated, slot_state}
 use Rattle.bk_store.specs.Leasing.{IsLeaseOf}
-use Rattle.bk_store.specs.Doors.{IsIn}
-use Rattle.bk_store.specs.Plain.{IsKept}
+use Rattle.bk_store.specs.Primitives.{IsIn}
+use Rattle.bk_store.specs.Abstract.{SatisfiesInvariant}
 use Rattle.bk_store.specs.declared.log.LogState.TheVariants as states
 use Rattle.bk_store.specs.declared.answer.TakeFault.{TakeFault}
 use Rattle.bk_store.specs.declared.answer.TakeFault.TheVariants as take_faults
 use Rattle.bk_store.proofs.Seats.{slot_state-opened}
-use Rattle.bk_collect.specs.Collecting.{CloseTurn, RemoveTurn}
+use Rattle.bk_collect.specs.Collecting.{CloseTransition, RemoveTransition}
 use Rattle.bk_collect.specs.declared.answer.CloseAnswer.TheVariants as closes
 use Rattle.bk_collect.specs.declared.answer.RemoveAnswer.TheVariants as removes
-use Rattle.bk_drive.specs.Plain.{HasAt}
-use Rattle.bk_drive.specs.Machine.{Desk, Hold, hold_on, ReaderTake, ReaderRelease, IsUnread}
+use Rattle.bk_drive.specs.Abstract.{HasAt}
+use Rattle.bk_drive.specs.Machine.{MachineState, ReaderLease, reader_lease, ReaderTakeTransition, ReaderReleaseTransition, HasNoReader}
 use Rattle.bk_drive.specs.declared.step.TakeAnswer.{TakeAnswer}
 use Rattle.bk_drive.specs.declared.step.TakeAnswer.TheVariants as takes
 use Rattle.bk_drive.specs.declared.step.ReleaseAnswer.{ReleaseAnswer}
 use Rattle.bk_drive.specs.declared.step.ReleaseAnswer.TheVariants as releases
 use Rattle.bk_drive.specs.Headline.{reader_count}
-use Rattle.bk_drive.specs.Leased.{IsOpenLease, AreOpenLeases, StandsClosed, IsShut}
+use Rattle.bk_drive.specs.ReaderLeases.{IsOpenLease, AreOpenLeases, IsClosedInTable, IsClosedOrRemoved}
 use Rattle.bk_drive.proofs.Slots.{seat_of}
-use Rattle.bk_step.specs.Staying.{IsGone, SlotsStay}
-use Rattle.bk_step.proofs.Gone.{GoneStays, gone_same}
-use Rattle.bk_step.proofs.Still.{slots_same}
+use Rattle.bk_store.specs.Frame.{IsRemovedLog, SlotsUnchanged}
+use Rattle.bk_store.proofs.RemovedLogs.{GoneStays, gone_same}
+use Rattle.bk_store.proofs.FrameLemmas.{slots_same}
 
--- the logs of a store are seated in its table
-pub seats_kept : (s : State) → IsKept s → AreSeated s.keeper s.logs
+-- The logs of a store have their slots in its table.
+pub seats_kept : (s : State) → SatisfiesInvariant s → AreSeated s.keeper s.logs
 seats_kept s kept = subst (λ (x : State). AreSeated x.keeper x.logs) kept.seen kept.keeps.fits.logs.seated.seats
 
--- ---- slots that are taken stay as they are
+-- ---- taken slots stay unchanged
 
 open-free : (id : ℕ) → Open id ≢ Free
 open-free id same = cc
@@ -53,8 +53,8 @@ closed-free id same = cc
 open-closed : (id other : ℕ) → Open id ≡ Closed other → ⊥
 open-closed id other same = cc
 
-module _ (old new : SlotTable) (stays : SlotsStay old new) where
-  pub leases_stay : (readers : List (Option Hold)) → AreOpenLeases old readers → AreOpenLeases new readers
+module _ (old new : SlotTable) (stays : SlotsUnchanged old new) where
+  pub leases_stay : (readers : List (Option ReaderLease)) → AreOpenLeases old readers → AreOpenLeases new readers
   leases_stay readers leases = λ reader hold has.
       let was = leases reader hold has in
       record {
@@ -63,21 +63,21 @@ module _ (old new : SlotTable) (stays : SlotsStay old new) where
         opened = stays.stay hold.ticket.slot (λ free. open-free hold.ticket.log (sym was.opened ∙ free)) ∙ was.opened;
       }
 
-  pub closed_stays : (log : ℕ) → StandsClosed old log → StandsClosed new log
+  pub closed_stays : (log : ℕ) → IsClosedInTable old log → IsClosedInTable new log
   closed_stays log (slot, is) = (slot, stays.stay slot (λ free. closed-free log (sym is ∙ free)) ∙ is)
 
 module _ (old new : SlotTable) (same : new ≡ old) where
-  pub leases_same : (readers : List (Option Hold)) → AreOpenLeases old readers → AreOpenLeases new readers
+  pub leases_same : (readers : List (Option ReaderLease)) → AreOpenLeases old readers → AreOpenLeases new readers
   leases_same = leases_stay old new (slots_same old new same)
 
--- a log that is closed, or gone, stays so
-shut_stays : (s t : State) → SlotsStay s.keeper t.keeper → GoneStays s t → (log : ℕ) → IsShut s log → IsShut t log
+-- A log that is closed or removed stays so.
+shut_stays : (s t : State) → SlotsUnchanged s.keeper t.keeper → GoneStays s t → (log : ℕ) → IsClosedOrRemoved s log → IsClosedOrRemoved t log
 shut_stays s t slots gone log shut = elim shut [
   | inl closed ↦ inl (closed_stays s.keeper t.keeper slots log closed)
   | inr left ↦ inr (gone log left)
 ]
 
--- the logs, their table and the next id are as before
+-- The logs, their table and the next id are unchanged.
 pub record SameLogs (s t : State) : Type 0 where
   pub keeper : t.keeper ≡ s.keeper
   pub logs : t.logs ≡ s.logs
@@ -90,17 +90,17 @@ logs_same s t same = record {
   next = ap (λ (x : State). x.next) same;
 }
 
-pub shut_same : {s t : State} → SameLogs s t → (log : ℕ) → IsShut s log → IsShut t log
+pub shut_same : {s t : State} → SameLogs s t → (log : ℕ) → IsClosedOrRemoved s log → IsClosedOrRemoved t log
 shut_same {s = s} {t = t} same = shut_stays s t (slots_same s.keeper t.keeper same.keeper) (gone_same s t same.logs same.next)
 
--- ---- what readers hold
+-- ---- leases of the readers
 
-pub none_at : (n reader : ℕ) (hold : Hold) → HasAt (replicate n None) reader hold → ⊥
+pub none_at : (n reader : ℕ) (hold : ReaderLease) → HasAt (replicate n None) reader hold → ⊥
 none_at zero reader hold has = cc
 none_at (suc n) zero hold has = cc
 none_at (suc n) (suc reader) hold has = none_at n reader hold has
 
-set_at : (hs : List (Option Hold)) (i : ℕ) (o : Option Hold) (reader : ℕ) (hold : Hold) → HasAt (slice_set hs i o) reader hold
+set_at : (hs : List (Option ReaderLease)) (i : ℕ) (o : Option ReaderLease) (reader : ℕ) (hold : ReaderLease) → HasAt (slice_set hs i o) reader hold
     → (o ≡ Some hold) ⊎ HasAt hs reader hold
 set_at [] i o reader hold has = inr has
 set_at (h ∷ hs) zero o zero hold has = inl cc
@@ -111,18 +111,18 @@ set_at (h ∷ hs) (suc i) o (suc reader) hold has = set_at hs i o reader hold ha
 pub leases_first : (keeper : SlotTable) (n : ℕ) → AreOpenLeases keeper (replicate n None)
 leases_first keeper n = λ reader hold has. absurd (none_at n reader hold has)
 
-pub leases_at : (keeper : SlotTable) (readers : List (Option Hold)) → readers ≡ replicate reader_count None → AreOpenLeases keeper readers
+pub leases_at : (keeper : SlotTable) (readers : List (Option ReaderLease)) → readers ≡ replicate reader_count None → AreOpenLeases keeper readers
 leases_at keeper readers free = subst (AreOpenLeases keeper) (sym free) (leases_first keeper reader_count)
 
--- one lease less
-pub leases_less : (keeper : SlotTable) (hs : List (Option Hold)) (i : ℕ) → AreOpenLeases keeper hs → AreOpenLeases keeper (slice_set hs i None)
+-- One lease less.
+pub leases_less : (keeper : SlotTable) (hs : List (Option ReaderLease)) (i : ℕ) → AreOpenLeases keeper hs → AreOpenLeases keeper (slice_set hs i None)
 leases_less keeper hs i leases = λ reader hold has. elim (set_at hs i None reader hold has) [
   | inl never ↦ absurd (let e = never in cc)
   | inr there ↦ leases reader hold there
 ]
 
--- one lease more
-pub leases_more : (keeper : SlotTable) (hs : List (Option Hold)) (i : ℕ) (hold : Hold) → AreOpenLeases keeper hs → IsOpenLease keeper hold
+-- One lease more.
+pub leases_more : (keeper : SlotTable) (hs : List (Option ReaderLease)) (i : ℕ) (hold : ReaderLease) → AreOpenLeases keeper hs → IsOpenLease keeper hold
     → AreOpenLeases keeper (slice_set hs i (Some hold))
 leases_more keeper hs i more leases is = λ reader hold has. elim (set_at hs i (Some more) reader hold has) [
   | inl here ↦ let same : more ≡ hold = cc in subst (IsOpenLease keeper) same is
@@ -131,7 +131,7 @@ leases_more keeper hs i more leases is = λ reader hold has. elim (set_at hs i (
 
 -- ---- a take
 
-pub lease_open : (keeper : SlotTable) (logs : Logs) (hold : Hold) (id : ℕ) → AreSeated keeper logs → IsLeaseOf keeper logs id hold.ticket hold.view
+pub lease_open : (keeper : SlotTable) (logs : Logs) (hold : ReaderLease) (id : ℕ) → AreSeated keeper logs → IsLeaseOf keeper logs id hold.ticket hold.view
     → IsOpenLease (with_given keeper) hold
 lease_open keeper logs hold id seats lease =
     let ticket = lease.ticket_is in
@@ -144,12 +144,12 @@ lease_open keeper logs hold id seats lease =
 
 -- ---- a log is closed
 
--- two that are held by one id are one
+-- Two logs with one id are one log.
 one_log : (logs : Logs) (id : ℕ) (a b : Log) → finite.get logs id ≡ Some a → finite.get logs id ≡ Some b → a ≡ b
 one_log logs id a b first second = cc
 
-module _ (s t : State) (id : ℕ) (seats : AreSeated s.keeper s.logs) (turn : CloseTurn s id closes.Closed t) where
-  -- a slot that stands open for the log is the log's
+module _ (s t : State) (id : ℕ) (seats : AreSeated s.keeper s.logs) (turn : CloseTransition s id closes.Closed t) where
+  -- A slot that is open for the log is the log's slot.
   mine : (slot : ℕ) (log : Log) → state_at s.keeper.slots slot ≡ Open id → finite.get s.logs id ≡ Some log
       → (log.slot ≡ slot) × (slot_state id log.state ≡ Open id)
   mine slot log is held =
@@ -177,7 +177,7 @@ module _ (s t : State) (id : ℕ) (seats : AreSeated s.keeper s.logs) (turn : Cl
     | inr now ↦ ap (λ (x : State). x.keeper.table) now.1.1.2
   ]
 
-  -- the slot of a lease of the log is closed now
+  -- The slot of a lease on the log is closed now.
   pub closing_meets : (slot : ℕ) → state_at s.keeper.slots slot ≡ Open id → IsClosed t.keeper.slots slot
   closing_meets slot is = elim turn [
     | inl was ↦ absurd (open-closed id id (sym (mine slot was.0.log is was.0.held).1 ∙ ap (slot_state id) was.0.state_is))
@@ -189,8 +189,8 @@ module _ (s t : State) (id : ℕ) (seats : AreSeated s.keeper s.logs) (turn : Cl
         there ∙ ap (λ (x : Slot). Closed (log_of x)) (sym there)
   ]
 
-  -- leases of other logs stand open as before
-  pub closing_leaves : (readers : List (Option Hold)) → AreOpenLeases s.keeper readers → IsUnread readers id → AreOpenLeases t.keeper readers
+  -- Leases on other logs stay open.
+  pub closing_leaves : (readers : List (Option ReaderLease)) → AreOpenLeases s.keeper readers → HasNoReader readers id → AreOpenLeases t.keeper readers
   closing_leaves readers leases unread = elim turn [
     | inl was ↦ subst (λ (x : State). AreOpenLeases x.keeper readers) (sym was.1) leases
     | inr now ↦ λ reader hold has.
@@ -206,7 +206,7 @@ module _ (s t : State) (id : ℕ) (seats : AreSeated s.keeper s.logs) (turn : Cl
         }
   ]
 
-  pub closing_closes : StandsClosed t.keeper id
+  pub closing_closes : IsClosedInTable t.keeper id
   closing_closes = elim turn [
     | inl was ↦ (
       was.0.log.slot,
@@ -216,7 +216,7 @@ module _ (s t : State) (id : ℕ) (seats : AreSeated s.keeper s.logs) (turn : Cl
     | inr now ↦ let log : Log = now.1.1.0 in (log.slot, now_closed log (retired_open log now.1.1.1 now.0) (ap (λ (x : State). x.keeper) now.1.1.2))
   ]
 
-  pub closing_stays : (other : ℕ) → StandsClosed s.keeper other → StandsClosed t.keeper other
+  pub closing_stays : (other : ℕ) → IsClosedInTable s.keeper other → IsClosedInTable t.keeper other
   closing_stays other (slot, is) = elim turn [
     | inl was ↦ (slot, ap (λ (x : State). state_at x.keeper.slots slot) was.1 ∙ is)
     | inr now ↦
@@ -226,9 +226,9 @@ module _ (s t : State) (id : ℕ) (seats : AreSeated s.keeper s.logs) (turn : Cl
         (slot, other_as log slot apart (ap (λ (x : State). x.keeper) now.1.1.2) ∙ is)
   ]
 
--- no reader holds a lease of a log that stands closed
-pub closed_unread : (s : State) (readers : List (Option Hold)) (log : ℕ) → IsKept s → AreOpenLeases s.keeper readers
-    → StandsClosed s.keeper log → IsUnread readers log
+-- No reader holds a lease on a closed log.
+pub closed_unread : (s : State) (readers : List (Option ReaderLease)) (log : ℕ) → SatisfiesInvariant s → AreOpenLeases s.keeper readers
+    → IsClosedInTable s.keeper log → HasNoReader readers log
 closed_unread s readers log kept leases (slot, is) = λ reader hold has same.
     let seats = seats_kept s kept in
     let lease = leases reader hold has in
@@ -238,8 +238,8 @@ closed_unread s readers log kept leases (slot, is) = λ reader hold has same.
     let one = one_log s.logs log a.log b.log a.held b.held in
     open-closed log log (sym opened ∙ a.stands ∙ ap (λ (l : Log). slot_state log l.state) one ∙ sym b.stands ∙ is)
 
--- nor of one that is gone
-pub shut_unread : (s : State) (readers : List (Option Hold)) (log : ℕ) → IsKept s → AreOpenLeases s.keeper readers → IsShut s log → IsUnread readers log
+-- No reader holds a lease on a closed or removed log.
+pub shut_unread : (s : State) (readers : List (Option ReaderLease)) (log : ℕ) → SatisfiesInvariant s → AreOpenLeases s.keeper readers → IsClosedOrRemoved s log → HasNoReader readers log
 shut_unread s readers log kept leases shut = elim shut [
   | inl closed ↦ closed_unread s readers log kept leases closed
   | inr gone ↦ λ reader hold has same.
@@ -250,8 +250,8 @@ shut_unread s readers log kept leases shut = elim shut [
 
 -- ---- a log is removed
 
-module _ (s t : State) (id : ℕ) (kept : IsKept s) (turn : RemoveTurn s id (Ok removes.Removed) t) where
-  -- its slot stood closed
+module _ (s t : State) (id : ℕ) (kept : SatisfiesInvariant s) (turn : RemoveTransition s id (Ok removes.Removed) t) where
+  -- Its slot was closed.
   removed_closed : state_at s.keeper.slots turn.1.0.slot ≡ Closed id
   removed_closed =
       let log : Log = turn.1.0 in
@@ -262,8 +262,8 @@ module _ (s t : State) (id : ℕ) (kept : IsKept s) (turn : RemoveTurn s id (Ok 
   removed_else slot apart =
       ap (λ (x : State). state_at x.keeper.slots slot) turn.1.3 ∙ state_at-set_else s.keeper.slots turn.1.0.slot slot Free apart
 
-  -- no reader has a lease of it, and each lease stands open as before
-  pub removed_leases : (readers : List (Option Hold)) → AreOpenLeases s.keeper readers → AreOpenLeases t.keeper readers
+  -- No reader has a lease on it, and every lease stays open.
+  pub removed_leases : (readers : List (Option ReaderLease)) → AreOpenLeases s.keeper readers → AreOpenLeases t.keeper readers
   removed_leases readers leases = λ reader hold has.
       let lease = leases reader hold has in
       let apart : hold.ticket.slot ≢ turn.1.0.slot = λ same.
@@ -274,11 +274,11 @@ module _ (s t : State) (id : ℕ) (kept : IsKept s) (turn : RemoveTurn s id (Ok 
         opened = removed_else hold.ticket.slot apart ∙ lease.opened;
       }
 
-  pub removed_unread : (readers : List (Option Hold)) → AreOpenLeases s.keeper readers → IsUnread readers id
+  pub removed_unread : (readers : List (Option ReaderLease)) → AreOpenLeases s.keeper readers → HasNoReader readers id
   removed_unread readers leases = closed_unread s readers id kept leases (turn.1.0.slot, removed_closed)
 
-  -- it is gone
-  pub removed_gone : IsGone t id
+  -- It is removed.
+  pub removed_gone : IsRemovedLog t id
   removed_gone =
       let is = kept.seen in
       let held : finite.get kept.parts.state.logs id ≡ Some turn.1.0 = ap (λ (x : State). finite.get x.logs id) is ∙ turn.1.1 in
@@ -287,21 +287,21 @@ module _ (s t : State) (id : ℕ) (kept : IsKept s) (turn : RemoveTurn s id (Ok 
         subst (λ n. id < n) (ap (λ (x : State). x.next) is ∙ sym (ap (λ (x : State). x.next) turn.1.3)) below,
       )
 
-  -- another log that is closed stays so
-  pub removed_shut : (other : ℕ) → StandsClosed s.keeper other → IsShut t other
+  -- Another closed log stays closed.
+  pub removed_shut : (other : ℕ) → IsClosedInTable s.keeper other → IsClosedOrRemoved t other
   removed_shut other (slot, is) = elim (same_or_apart slot turn.1.0.slot) [
     | inl same ↦
         let one : id ≡ other = ap log_of (sym removed_closed ∙ ap (state_at s.keeper.slots) (sym same) ∙ is) in
-        inr (subst (IsGone t) one removed_gone)
+        inr (subst (IsRemovedLog t) one removed_gone)
     | inr apart ↦ inl (slot, removed_else slot apart ∙ is)
   ]
 
 -- ---- a step of a reader
 
-same_leases : (d e : Desk) → e ≡ d → AreOpenLeases d.store.keeper d.readers → AreOpenLeases e.store.keeper e.readers
-same_leases d e same leases = subst (λ (x : Desk). AreOpenLeases x.store.keeper x.readers) (sym same) leases
+same_leases : (d e : MachineState) → e ≡ d → AreOpenLeases d.store.keeper d.readers → AreOpenLeases e.store.keeper e.readers
+same_leases d e same leases = subst (λ (x : MachineState). AreOpenLeases x.store.keeper x.readers) (sym same) leases
 
-pub take_leases : (d e : Desk) (reader : ℕ) (key : EntryKey) (r : Result TakeAnswer TakeFault) → IsKept d.store → ReaderTake d reader key r e
+pub take_leases : (d e : MachineState) (reader : ℕ) (key : EntryKey) (r : Result TakeAnswer TakeFault) → SatisfiesInvariant d.store → ReaderTakeTransition d reader key r e
     → AreOpenLeases d.store.keeper d.readers → AreOpenLeases e.store.keeper e.readers
 take_leases d e reader key (Ok takes.NoReader) kept turn leases = same_leases d e turn.1 leases
 take_leases d e reader key (Ok takes.ReaderBusy) kept turn leases = same_leases d e turn.1 leases
@@ -312,32 +312,32 @@ take_leases d e reader key (Ok (takes.Leased place)) kept turn leases =
     let ticket : Ticket = turn.1.0 in
     let view : View = turn.1.1.0 in
     let given : SlotTable = with_given d.store.keeper in
-    let hold : Hold = hold_on ticket place key view in
-    let stays : SlotsStay d.store.keeper given = record { table = refl; stay = λ slot _. refl } in
-    subst (λ (x : Desk). AreOpenLeases x.store.keeper x.readers) (sym turn.1.1.2)
+    let hold : ReaderLease = reader_lease ticket place key view in
+    let stays : SlotsUnchanged d.store.keeper given = record { table = refl; stay = λ slot _. refl } in
+    subst (λ (x : MachineState). AreOpenLeases x.store.keeper x.readers) (sym turn.1.1.2)
     (leases_more given d.readers reader hold (leases_stay d.store.keeper given stays d.readers leases)
     (lease_open d.store.keeper d.store.logs hold place.log (seats_kept d.store kept) turn.1.1.1))
 take_leases d e reader key (Err take_faults.NoSeat) kept turn leases = same_leases d e turn.2 leases
 take_leases d e reader key (Err take_faults.TooMany) kept turn leases = same_leases d e turn.3 leases
 take_leases d e reader key (Err take_faults.Memory) kept turn leases = same_leases d e turn.2 leases
 
--- a log that is closed, or gone, is so after a take
-pub take_shut : (d e : Desk) (reader : ℕ) (key : EntryKey) (r : Result TakeAnswer TakeFault) → ReaderTake d reader key r e
-    → (log : ℕ) → IsShut d.store log → IsShut e.store log
-take_shut d e reader key (Ok takes.NoReader) turn log is = subst (λ (x : Desk). IsShut x.store log) (sym turn.1) is
-take_shut d e reader key (Ok takes.ReaderBusy) turn log is = subst (λ (x : Desk). IsShut x.store log) (sym turn.1) is
-take_shut d e reader key (Ok takes.Deleted) turn log is = subst (λ (x : Desk). IsShut x.store log) (sym turn.2) is
-take_shut d e reader key (Ok (takes.Cached payload)) turn log is = subst (λ (x : Desk). IsShut x.store log) (sym turn.2) is
-take_shut d e reader key (Ok takes.NotHeld) turn log is = subst (λ (x : Desk). IsShut x.store log) (sym turn.3) is
+-- A log that is closed or removed stays so in a take.
+pub take_shut : (d e : MachineState) (reader : ℕ) (key : EntryKey) (r : Result TakeAnswer TakeFault) → ReaderTakeTransition d reader key r e
+    → (log : ℕ) → IsClosedOrRemoved d.store log → IsClosedOrRemoved e.store log
+take_shut d e reader key (Ok takes.NoReader) turn log is = subst (λ (x : MachineState). IsClosedOrRemoved x.store log) (sym turn.1) is
+take_shut d e reader key (Ok takes.ReaderBusy) turn log is = subst (λ (x : MachineState). IsClosedOrRemoved x.store log) (sym turn.1) is
+take_shut d e reader key (Ok takes.Deleted) turn log is = subst (λ (x : MachineState). IsClosedOrRemoved x.store log) (sym turn.2) is
+take_shut d e reader key (Ok (takes.Cached payload)) turn log is = subst (λ (x : MachineState). IsClosedOrRemoved x.store log) (sym turn.2) is
+take_shut d e reader key (Ok takes.NotHeld) turn log is = subst (λ (x : MachineState). IsClosedOrRemoved x.store log) (sym turn.3) is
 take_shut d e reader key (Ok (takes.Leased place)) turn log is =
     let given : State = record d.store { keeper = with_given d.store.keeper } in
-    let now : IsShut given log = elim is [ inl closed ↦ inl (closed.0, closed.1) | inr gone ↦ inr (gone.0, gone.1) ] in
-    subst (λ (x : Desk). IsShut x.store log) (sym turn.1.1.2) now
-take_shut d e reader key (Err take_faults.NoSeat) turn log is = subst (λ (x : Desk). IsShut x.store log) (sym turn.2) is
-take_shut d e reader key (Err take_faults.TooMany) turn log is = subst (λ (x : Desk). IsShut x.store log) (sym turn.3) is
-take_shut d e reader key (Err take_faults.Memory) turn log is = subst (λ (x : Desk). IsShut x.store log) (sym turn.2) is
+    let now : IsClosedOrRemoved given log = elim is [ inl closed ↦ inl (closed.0, closed.1) | inr gone ↦ inr (gone.0, gone.1) ] in
+    subst (λ (x : MachineState). IsClosedOrRemoved x.store log) (sym turn.1.1.2) now
+take_shut d e reader key (Err take_faults.NoSeat) turn log is = subst (λ (x : MachineState). IsClosedOrRemoved x.store log) (sym turn.2) is
+take_shut d e reader key (Err take_faults.TooMany) turn log is = subst (λ (x : MachineState). IsClosedOrRemoved x.store log) (sym turn.3) is
+take_shut d e reader key (Err take_faults.Memory) turn log is = subst (λ (x : MachineState). IsClosedOrRemoved x.store log) (sym turn.2) is
 
-pub release_leases : (keeper : SlotTable) (readers readers' : List (Option Hold)) (reader : ℕ) (r : ReleaseAnswer) → ReaderRelease readers reader r readers'
+pub release_leases : (keeper : SlotTable) (readers readers' : List (Option ReaderLease)) (reader : ℕ) (r : ReleaseAnswer) → ReaderReleaseTransition readers reader r readers'
     → AreOpenLeases keeper readers → AreOpenLeases keeper readers'
 release_leases keeper readers readers' reader releases.NoReader turn leases = subst (AreOpenLeases keeper) (sym turn.1) leases
 release_leases keeper readers readers' reader releases.NoLease turn leases = subst (AreOpenLeases keeper) (sym turn.1) leases

@@ -1,11 +1,11 @@
-pub mod Standing
-pub mod Owing
+pub mod FetchedEntries
+pub mod LeaseRefinement
 pub mod Slots
 pub mod Leases
-pub mod ReaderTurns
+pub mod ReaderTransitions
 pub mod Runs
-pub mod Agreeing
+pub mod StoreRefinement
 pub mod Closing
-pub mod PlainTurns
+pub mod Simulation
 pub mod Driving
 pub mod Seats

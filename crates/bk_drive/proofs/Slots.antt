@@ -1,4 +1,4 @@
--- The slots of a store's table: each that is taken is a log's, and no two stand for one log.
+-- Slots of a store's table: each taken slot belongs to one log, and no two belong to the same log.
 use Rattle.std.proofs.Common.{◌≡◌, ◌≢◌, ◌⊎◌, inl, inr, ℕ, suc, ◌≤◌, List, [], ◌∷◌, length, map, set, Some, refl, sym, ap, subst, ◌∙◌, arith}
 use Rattle.std.specs.FinMap as finite
 use Rattle.std.specs.FinMap.{nat_cmp-IsAntisymmetric}
@@ -12,17 +12,17 @@ use Rattle.bk_lease.specs.Slots.{taken_of, taken_count}
 use Rattle.bk_lease.specs.Values.{SlotTable}
 use Rattle.bk_lease.proofs.Slots.{inside_slots, taken_count-set, state_at-set_else}
 use Rattle.bk_store.specs.Logs.{Log, Logs}
-use Rattle.bk_store.specs.Seated.{AreSeated, slot_state}
+use Rattle.bk_store.specs.SlotAssignment.{AreSeated, slot_state}
 use Rattle.bk_store.proofs.Cases.{same_or_apart}
 use Rattle.bk_store.proofs.Walks.{AreAscending}
 use Rattle.bk_store.proofs.HeldWalks.{keys_ascending}
 use Rattle.bk_store.proofs.Seats.{slot_state-log, slot_state-taken}
 
--- each log of the list stands in its slot
+-- Each log of the list is in its slot.
 abbrev AllStand : List Slot → List (ℕ × Log) → Type 0
 AllStand slots es = (id : ℕ) (log : Log) → In (id, log) es → state_at slots log.slot ≡ slot_state id log.state
 
--- where a slot that is taken is freed, one fewer is taken
+-- Freeing a taken slot lowers the number of taken slots by one.
 freed : (slots : List Slot) (slot : ℕ) → taken_of (state_at slots slot) ≡ 1 → suc (taken_count (set slots slot Free)) ≡ taken_count slots
 freed slots slot is =
     let inside = inside_slots slots slot (state_at slots slot) refl
@@ -34,7 +34,7 @@ still : (slots : List Slot) (slot : ℕ) (es : List (ℕ × Log)) → AllStand s
     → AllStand (set slots slot Free) es
 still slots slot es stand apart = λ id log there. state_at-set_else slots slot log.slot Free (apart id log there) ∙ stand id log there
 
--- logs of rising ids stand in slots of their own, so there are no more of them than slots that are taken
+-- Logs with ascending ids have slots of their own, so they are at most as many as the taken slots.
 count-le : (es : List (ℕ × Log)) (slots : List Slot) → AreAscending (map (λ (e : ℕ × Log). e.0) es) → AllStand slots es → length es ≤ taken_count slots
 count-le [] slots ascending stand = omega arith
 count-le (e ∷ es) slots ascending stand =
@@ -48,7 +48,7 @@ count-le (e ∷ es) slots ascending stand =
     let rest = count-le es (set slots e.1.slot Free) ascending.1 (still slots e.1.slot es (λ id log there. stand id log (inr there)) apart) in
     omega (arith, fewer, rest)
 
--- a slot is that of a log of the list, or of none
+-- A slot belongs to a log of the list or to none.
 find_seat : (es : List (ℕ × Log)) (slot : ℕ) → ((e : ℕ × Log) × In e es × (e.1.slot ≡ slot)) ⊎ ((id : ℕ) (log : Log) → In (id, log) es → log.slot ≢ slot)
 find_seat [] slot = inr (λ id log there. absurd there)
 find_seat (e ∷ es) slot = elim (same_or_apart e.1.slot slot) [
@@ -62,7 +62,7 @@ find_seat (e ∷ es) slot = elim (same_or_apart e.1.slot slot) [
   ]
 ]
 
--- the log that stands in a slot is held, and has this slot
+-- The log of a slot is held by the store and has this slot.
 pub record HasSeat (logs : Logs) (slots : List Slot) (slot id : ℕ) : Type 0 where
   pub log : Log
   pub held : finite.get logs id ≡ Some log

@@ -1,13 +1,13 @@
--- Which answers tell of a failing device, and what a disk that cannot fail is.
+-- Which answers report a device failure, and what a disk that never fails is.
 use Rattle.std.specs.Prelude.{◌≡◌, ℕ, ◌+◌, ◌<◌, ◌≤◌, List, IsErrOf}
 use Rattle.std.specs.List.{All}
 use Rattle.bk_log.specs.declared.fault.FetchFault.TheVariants as fetch_faults
-use Rattle.bk_step.specs.declared.fault.StepFault.TheVariants as step_faults
+use Rattle.bk_store.specs.declared.step_fault.StepFault.TheVariants as step_faults
 use Rattle.bk_collect.specs.declared.answer.CollectFault.TheVariants as collect_faults
 use Rattle.bk_drive.specs.declared.step.Answer.{Answer}
 use Rattle.bk_drive.specs.declared.step.Answer.TheVariants as answers
 
--- the answer is `Disk`: the device failed, or a view could not be read
+-- The answer is `Disk`: the device failed, or a view could not be read.
 abbrev pub IsDiskFault : Answer → Type 0
 IsDiskFault (answers.Fetch r) = IsErrOf r fetch_faults.Disk
 IsDiskFault (answers.Write r) = IsErrOf r step_faults.Disk
@@ -20,7 +20,7 @@ IsDiskFault (answers.Copy r) = IsErrOf r step_faults.Disk
 IsDiskFault (answers.EndCopy r) = IsErrOf r step_faults.Disk
 IsDiskFault _ = ⊥
 
--- the same, but of a step that reads a view: the device failed
+-- The answer is `Disk` and the step reads no view, so the device failed.
 abbrev pub IsDeviceFault : Answer → Type 0
 IsDeviceFault (answers.Fetch r) = ⊥
 IsDeviceFault (answers.Rebuild r) = ⊥
@@ -28,18 +28,18 @@ IsDeviceFault (answers.Copy r) = ⊥
 IsDeviceFault (answers.EndCopy r) = ⊥
 IsDeviceFault answer = IsDiskFault answer
 
--- The device fails at most once in a step, and then the answer is `Disk`; and that answer of a step that reads no view comes only
--- where the device failed.
-pub record IsTold (before now : ℕ) (answer : Answer) : Type 0 where
+-- The device fails at most once in a step. If it fails, the answer is `Disk`. The answer `Disk` of
+-- a step that reads no view means that it failed.
+pub record AnswerReportsFailure (before now : ℕ) (answer : Answer) : Type 0 where
   pub later : before ≤ now
   pub once : now ≤ before + 1
   pub told : before < now → IsDiskFault answer
   pub failed : IsDeviceFault answer → before < now
 
--- no answer is
+-- No answer is `Disk`.
 abbrev pub NoneIsDiskFault : List Answer → Type 0
 NoneIsDiskFault = All (λ answer. ¬ (IsDiskFault answer))
 
--- the device of no disk of this type has ever failed
+-- The device never fails: the failure count of every disk of this type is 0.
 abbrev pub NeverFails : {D : Type 0} → (D → ℕ) → Type 0
 NeverFails {D} failures = (disk : D) → failures disk ≡ 0

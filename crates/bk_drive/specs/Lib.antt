@@ -1,7 +1,7 @@
-pub mod Plain
+pub mod Abstract
 pub mod Machine
 pub mod Held
-pub mod Leased
+pub mod ReaderLeases
 pub mod Headline
 pub mod Failing
-pub mod Leaving
+pub mod Frame

@@ -1,4 +1,4 @@
-//! Steps and their answers over one store.
+//! A machine over one store: steps, four readers, and the main theorem about lists of steps.
 #![tactic(auto)]
 
 mod readers;
@@ -13,10 +13,9 @@ pub use bk_compact::{
 };
 pub use bk_flush::{FlushFault, PublishAnswer, RollAnswer, WriteAnswer};
 pub use bk_lease::Lease;
-pub use bk_step::StepFault;
 pub use bk_store::{
     AddFault, AddKind, Added, DeleteFault, Fence, FenceFault, LogCause, Mark, OpenFault, Receipt,
-    Settings, Store, SwapAnswer, TakeFault,
+    Settings, StepFault, Store, SwapAnswer, TakeFault,
 };
 pub use readers::{Readers, Reading};
 pub use run::{Ran, apply, drive};

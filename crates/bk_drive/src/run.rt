@@ -1,19 +1,19 @@
-//! The machine: a store and its readers take the steps of a script, one after another.
+//! The machine: a store and its readers take steps, one after another.
 
 ghost use Rattle.std.specs.Prelude.{◌≡◌, ◌↔◌, ◌<◌, ◌≤◌, ℕ, Option, IsTrue, IfOk, IfErr, IsErrOf, IfSome, IfNone, length};
 ghost use Rattle.bk_disk.specs.Disk.{AreSound};
 ghost use Rattle.bk_store.specs.Limits.{IsAllowed};
-ghost use Rattle.bk_store.specs.Turns.{AddTurn};
+ghost use Rattle.bk_store.specs.Transitions.{AddTransition};
 ghost use Rattle.bk_store.specs.Opening.{OpenFails};
-ghost use Rattle.bk_store.specs.Plain.{Plain, MatchesPlain};
-ghost use Rattle.bk_drive.specs.Plain.{PlainDesk, HasAt, after_work};
+ghost use Rattle.bk_store.specs.Abstract.{AbstractState, StoreRefines};
+ghost use Rattle.bk_drive.specs.Abstract.{AbstractMachine, HasAt, abstract_after_work};
 ghost use Rattle.bk_lease.specs.Leases.{IsClosed};
-ghost use Rattle.bk_drive.specs.Machine.{Hold, WorkTurn, Turn, PlainTurn, IsUnread, Closes, LetsGo};
-ghost use Rattle.bk_drive.specs.Headline.{Agrees, Headline};
-ghost use Rattle.bk_drive.specs.Leased.{AreOpenLeases, IsShut};
-ghost use Rattle.bk_drive.specs.Failing.{IsDiskFault, IsTold, NoneIsDiskFault, NeverFails};
-ghost use Rattle.bk_drive.specs.Leaving.{LeavesSlots, LeavesCaches, CountsFailures};
-ghost use Rattle.bk_step.specs.Staying.{Stays};
+ghost use Rattle.bk_drive.specs.Machine.{ReaderLease, WorkTransition, MachineTransition, AbstractTransition, HasNoReader, Closes, ClosesOrRemoves};
+ghost use Rattle.bk_drive.specs.Headline.{MachineRefines, Headline};
+ghost use Rattle.bk_drive.specs.ReaderLeases.{AreOpenLeases, IsClosedOrRemoved};
+ghost use Rattle.bk_drive.specs.Failing.{IsDiskFault, AnswerReportsFailure, NoneIsDiskFault, NeverFails};
+ghost use Rattle.bk_drive.specs.Frame.{SlotsFrame, CachesFrame, FailureCountByAnswer};
+ghost use Rattle.bk_store.specs.Frame.{CoreUnchanged};
 
 use crate::taking::{fetch_by, release, take};
 use crate::{Answer, Readers, Step, Work};
@@ -24,7 +24,8 @@ use bk_flush::{publish, roll, swap, write_one};
 use bk_store::{AddFault, AddKind, Added, OpenFault, Settings, Store};
 use std::alloc::Global;
 
-/// What a run left: the store, the answer of each step, and the readers with the leases that they hold.
+/// Result of `drive`: the store, one answer per step, and the readers with the leases that they
+/// hold.
 #[derive(Drop)]
 pub struct Ran<D: LogDisk> {
     pub store: Store<D>,
@@ -32,31 +33,34 @@ pub struct Ran<D: LogDisk> {
     pub readers: Readers<D::View>,
 }
 
-/// One step of the store alone, and its answer. It changes nothing of the plain map but which pairs are only cached. The
-/// device fails at most once in it, and then the answer is `Disk`.
+/// Performs one step of the store alone and returns its answer.
+///
+/// The logical contents of the store are unchanged. The device fails at most once in a step, and
+/// then the answer is `Disk`. For the state after `Memory`, `Disk` and `Odd`, see the function that
+/// the step calls.
 pub fn apply<D: LogDisk>(store: &mut Store<D>, work: Work) -> Answer
     ensures honest { store.new.honest ≡ store.old.honest }
-    ensures cause { IsTold store.old.failures store.new.failures result }
+    ensures cause { AnswerReportsFailure store.old.failures store.new.failures result }
     ensures sound { AreSound D.View.sound → IsDiskFault result → store.old.failures < store.new.failures }
     ensures settings { store.new.settings ≡ store.old.settings }
-    ensures stays { Stays store.old store.new }
-    ensures slots { LeavesSlots store.old result store.new }
-    ensures turn { WorkTurn store.old work result store.new }
-    ensures plain { IsTrue store.old.honest → (p : Plain) → MatchesPlain store.old p → MatchesPlain store.new (after_work result p) }
+    ensures frame { CoreUnchanged store.old store.new }
+    ensures slots { SlotsFrame store.old result store.new }
+    ensures transition { WorkTransition store.old work result store.new }
+    ensures plain { IsTrue store.old.honest → (p : AbstractState) → StoreRefines store.old p → StoreRefines store.new (abstract_after_work result p) }
 {
-    store.promise();
+    store.reveal_invariant();
     call(store, work)
 }
 
-/// The call that a step of the store alone is, and its answer.
+/// Makes the call of a step and returns its answer.
 fn call<D: LogDisk>(store: &mut Store<D>, work: Work) -> Answer
     ensures honest { store.new.honest ≡ store.old.honest }
-    ensures cause { CountsFailures store.old result store.new }
+    ensures cause { FailureCountByAnswer store.old result store.new }
     ensures sound { AreSound D.View.sound → IsDiskFault result → store.old.failures < store.new.failures }
-    ensures stays { Stays store.old store.new }
-    ensures slots { LeavesSlots store.old result store.new }
-    ensures caches { LeavesCaches store.old result store.new }
-    ensures turn { WorkTurn store.old work result store.new }
+    ensures frame { CoreUnchanged store.old store.new }
+    ensures slots { SlotsFrame store.old result store.new }
+    ensures caches { CachesFrame store.old result store.new }
+    ensures transition { WorkTransition store.old work result store.new }
 {
     match work {
         Work::Swap => Answer::Swap(swap(store)),
@@ -76,11 +80,16 @@ fn call<D: LogDisk>(store: &mut Store<D>, work: Work) -> Answer
     }
 }
 
-/// Opens a store on a disk's logs, and takes the steps one after another. `dead` are the ledgers that were deleted before;
-/// a number past 2^63 - 1, or one that stands there again, means nothing. Room for all answers is made before the first
-/// step.
+/// Opens a store on the logs of a disk and performs the steps, one after another.
 ///
-/// Faults: those of `Store::open`, in its order, and `Memory` where that room can't be had. A refusal lets the disk go.
+/// `dead` lists the ledgers deleted earlier. Duplicates and values above 2^63 - 1 are ignored. Room
+/// for all answers is allocated before the first step. A step that fails is an answer, and the next
+/// step follows.
+///
+/// # Errors
+///
+/// Those of `Store::open`, in its order, then `Memory` if the room for the answers cannot be
+/// allocated. The disk is dropped with every error.
 pub fn drive<D: LogDisk>(
     alloc: Global,
     disk: D,
@@ -97,8 +106,8 @@ pub fn drive<D: LogDisk>(
     ensures one_answer { IfOk result (λ ran. length ran.answers.items ≡ length steps.now) }
 {
     let mut store = Store::open(alloc, disk, settings, dead)?;
-    // It keeps what any store does; so its settings lie in their ranges.
-    store.promise();
+    // Lemma: the settings are in range.
+    store.reveal_invariant();
     let Ok(mut answers) = Vec::with_capacity(alloc, steps.len()) else {
         return Err(OpenFault::Memory);
     };
@@ -108,9 +117,9 @@ pub fn drive<D: LogDisk>(
             .push(turn(alloc, &mut store, &mut readers, step))
             .unwrap();
     }
-    // No two of its logs stand in one slot; so a lease is of no log that is closed.
-    store.promise();
-    // What the store counts are the failures of its disk.
+    // Lemma: no two logs share a slot, so no lease is on a closed log.
+    store.reveal_invariant();
+    // Lemma: the failures that the store counts are those of its disk.
     let _ = store.disk();
     Ok(Ran {
         store,
@@ -119,7 +128,8 @@ pub fn drive<D: LogDisk>(
     })
 }
 
-/// One step of the machine, and its answer: that of the plain machine, which agrees with it as before.
+/// Performs one step of the machine and returns its answer. The abstract machine gives the same
+/// answer.
 fn turn<D: LogDisk>(
     alloc: Global,
     store: &mut Store<D>,
@@ -132,15 +142,15 @@ fn turn<D: LogDisk>(
     ensures later { store.old.failures ≤ store.new.failures }
     ensures disk { AreSound D.View.sound → IsDiskFault result → store.old.failures < store.new.failures }
     ensures leases { AreOpenLeases store.new.keeper readers.new }
-    ensures closes { (log : ℕ) → LetsGo step.now result log → IsShut store.new log }
-    ensures closed { (log : ℕ) → IsShut store.old log → IsShut store.new log }
-    ensures turn { Turn (record { store = store.old; readers = readers.old }) step.now result
+    ensures closes { (log : ℕ) → ClosesOrRemoves step.now result log → IsClosedOrRemoved store.new log }
+    ensures closed { (log : ℕ) → IsClosedOrRemoved store.old log → IsClosedOrRemoved store.new log }
+    ensures transition { MachineTransition (record { store = store.old; readers = readers.old }) step.now result
         (record { store = store.new; readers = readers.new }) }
-    ensures plain { IsTrue store.old.honest → (p : PlainDesk) → Agrees (record { store = store.old; readers = readers.old }) p
-        → (q : PlainDesk) × PlainTurn store.old.settings.cache_limit p step.now result q
-        × Agrees (record { store = store.new; readers = readers.new }) q }
+    ensures plain { IsTrue store.old.honest → (p : AbstractMachine) → MachineRefines (record { store = store.old; readers = readers.old }) p
+        → (q : AbstractMachine) × AbstractTransition store.old.settings.cache_limit p step.now result q
+        × MachineRefines (record { store = store.new; readers = readers.new }) q }
 {
-    store.promise();
+    store.reveal_invariant();
     match step {
         Step::Work(work) => work_on(store, readers, *work),
         Step::Add(payload) => Answer::Add(add(store, AddKind::Ordinary, payload)),
@@ -153,9 +163,9 @@ fn turn<D: LogDisk>(
     }
 }
 
-/// An add of either kind.
+/// Adds an entry, as an ordinary add or as one of a recovery.
 fn add<D: LogDisk>(store: &mut Store<D>, kind: AddKind, payload: &[u8]) -> Result<Added, AddFault>
-    ensures { AddTurn store.old kind payload.now result store.new }
+    ensures { AddTransition store.old kind payload.now result store.new }
 {
     match kind {
         AddKind::Ordinary => store.add(payload),
@@ -163,22 +173,23 @@ fn add<D: LogDisk>(store: &mut Store<D>, kind: AddKind, payload: &[u8]) -> Resul
     }
 }
 
-/// One step of the store alone. Where it closed a log, or removed it, no reader has a lease of that log.
+/// Performs one step of the store alone. If it closed or removed a log, no reader holds a lease on
+/// it.
 fn work_on<D: LogDisk>(store: &mut Store<D>, readers: &mut Readers<D::View>, work: Work) -> Answer
     requires { AreOpenLeases store.old.keeper readers.old }
     ensures honest { store.new.honest ≡ store.old.honest }
-    ensures cause { IsTold store.old.failures store.new.failures result }
+    ensures cause { AnswerReportsFailure store.old.failures store.new.failures result }
     ensures sound { AreSound D.View.sound → IsDiskFault result → store.old.failures < store.new.failures }
     ensures settings { store.new.settings ≡ store.old.settings }
-    ensures turn { WorkTurn store.old work result store.new }
-    ensures plain { IsTrue store.old.honest → (p : Plain) → MatchesPlain store.old p → MatchesPlain store.new (after_work result p) }
+    ensures transition { WorkTransition store.old work result store.new }
+    ensures plain { IsTrue store.old.honest → (p : AbstractState) → StoreRefines store.old p → StoreRefines store.new (abstract_after_work result p) }
     ensures readers { readers.new ≡ readers.old }
     ensures leases { AreOpenLeases store.new.keeper readers.new }
-    ensures unread { (log : ℕ) → LetsGo (Step.Work work) result log → IsUnread readers.old log }
-    ensures closes { (log : ℕ) → LetsGo (Step.Work work) result log → IsShut store.new log }
-    ensures closed { (log : ℕ) → IsShut store.old log → IsShut store.new log }
+    ensures unread { (log : ℕ) → ClosesOrRemoves (Step.Work work) result log → HasNoReader readers.old log }
+    ensures closes { (log : ℕ) → ClosesOrRemoves (Step.Work work) result log → IsClosedOrRemoved store.new log }
+    ensures closed { (log : ℕ) → IsClosedOrRemoved store.old log → IsClosedOrRemoved store.new log }
 {
-    store.promise();
+    store.reveal_invariant();
     let answer = apply(store, work);
     let Some(log) = closed_by(work, &answer) else {
         return answer;
@@ -187,7 +198,7 @@ fn work_on<D: LogDisk>(store: &mut Store<D>, readers: &mut Readers<D::View>, wor
     answer
 }
 
-/// The log that a step asked to close, where it is answered Closed.
+/// Returns the log that the step closed, or `None` if it closed none.
 fn closed_by(work: Work, answer: &Answer) -> Option<u32>
     ensures some { IfSome result (Closes (Step.Work work) answer.now) }
     ensures none { IfNone result ((log : ℕ) → ¬ (Closes (Step.Work work) answer.now log)) }
@@ -198,14 +209,15 @@ fn closed_by(work: Work, answer: &Answer) -> Option<u32>
     }
 }
 
-/// Shows that no reader has a lease of a log that is closed: one that had it would be met here.
+/// Lemma: no reader holds a lease on a closed log. `Store::meet` takes such a lease and cannot
+/// return.
 fn meet_reader<D: LogDisk>(store: &mut Store<D>, readers: &mut Readers<D::View>, log: u32)
-    requires table { (reader : ℕ) (hold : Hold) → HasAt readers.old reader hold → hold.ticket.table ≡ store.old.keeper.table }
-    requires closed { (reader : ℕ) (hold : Hold) → HasAt readers.old reader hold → hold.ticket.log ≡ log
+    requires table { (reader : ℕ) (hold : ReaderLease) → HasAt readers.old reader hold → hold.ticket.table ≡ store.old.keeper.table }
+    requires closed { (reader : ℕ) (hold : ReaderLease) → HasAt readers.old reader hold → hold.ticket.log ≡ log
         → IsClosed store.old.keeper.slots hold.ticket.slot }
     ensures store { store.new ≡ store.old }
     ensures readers { readers.new ≡ readers.old }
-    ensures unread { IsUnread readers.old log }
+    ensures unread { HasNoReader readers.old log }
 {
     let Some(reader) = readers.reader_of(log) else {
         return;

@@ -1,4 +1,4 @@
-//! The steps of a script and their answers.
+//! Steps and their answers.
 
 use bk_collect::{CloseAnswer, CollectFault, RemoveAnswer, RetireAnswer};
 use bk_compact::{
@@ -7,74 +7,74 @@ use bk_compact::{
 use bk_flush::{PublishAnswer, RollAnswer, WriteAnswer};
 use bk_log::FetchFault;
 use bk_record::{Key, Location};
-use bk_step::StepFault;
-use bk_store::{AddFault, Added, DeleteFault, Fence, FenceFault, SwapAnswer, TakeFault};
+use bk_store::{AddFault, Added, DeleteFault, Fence, FenceFault, StepFault, SwapAnswer, TakeFault};
 use std::sync::Arc;
 
 /// A step of the store alone.
 #[derive(Clone, Copy, Debug, PartialEq, Eq)]
 pub enum Work {
-    /// Makes the active cache the flushing one.
+    /// Makes the active cache the flushing cache.
     Swap,
-    /// Writes the flush's next entry.
+    /// Writes the next entry of the flush.
     WriteOne,
-    /// Ends the flush: its entries are read from their logs from now on.
+    /// Publishes the flush: its entries are read from their logs from now on.
     Publish,
-    /// Seals the log that is written, so that the next flush begins another.
+    /// Seals the current log, so that the next flush creates another.
     Roll,
-    /// Retires the log of this id where no key names it: none will again.
+    /// Retires this log if no index entry points into it.
     Retire(u32),
-    /// Makes the index anew from what the logs show.
+    /// Rebuilds the index from the published parts of the logs.
     Rebuild,
-    /// Closes the log of this id, which is retired, where no lease of it is out.
+    /// Closes this log if it is retired and has no lease.
     Close(u32),
-    /// Removes the log of this id, which is closed, with its file.
+    /// Removes this log and its file if it is closed.
     Remove(u32),
-    /// Begins a compaction of this kind: chooses the log, and makes the one that its entries are copied to.
+    /// Begins a compaction of this kind: chooses the source log and creates the target log.
     Begin(Kind),
-    /// Examines so many more entries of the compaction's source, and copies those that the index names there.
+    /// Examines up to N entries of the source log, and copies those that the index references
+    /// there.
     Copy(u64),
-    /// Seals the copy and shows it, when all entries were examined.
+    /// Seals and publishes the target log after all entries have been examined.
     EndCopy,
-    /// Sends so many more of the keys that were copied to their copies.
+    /// Switches the index of up to N copied keys to the target log.
     Switch(u64),
-    /// Retires the compaction's source, when all keys were sent on.
+    /// Retires the source log after all keys have been switched.
     Finish,
-    /// Ends the compaction where it stands.
+    /// Gives up the running compaction.
     GiveUp,
 }
 
-/// One step. Readers are numbered from 0 to 3.
+/// A step of the machine. Readers are numbered from 0 to 3.
 #[derive(Debug, Drop)]
 pub enum Step {
     /// A step of the store alone.
     Work(Work),
-    /// An add of this payload: the ledger id and the entry id, eight bytes each, then the data.
+    /// Adds this entry: ledger id and entry id, eight bytes each, then the data.
     Add(Vec<u8>),
-    /// The same by a recovery of the ledger: a fence does not refuse it.
+    /// The same as part of a recovery: a fence does not refuse it.
     AddRecovery(Vec<u8>),
-    /// A take of this key by a reader, which then holds the lease if it gets one.
+    /// Takes this key for a reader, which then holds the lease if one is granted.
     Take(u32, Key),
-    /// A read of the entry that the reader of this number holds a lease on. It keeps the lease.
+    /// Reads the entry on which this reader holds a lease. The reader keeps the lease.
     Fetch(u32),
-    /// The end of the lease that the reader of this number holds.
+    /// Ends the lease that this reader holds.
     Release(u32),
-    /// A deletion of this ledger.
+    /// Deletes this ledger.
     Delete(u64),
-    /// A fence of this ledger: from then on ordinary adds to it are refused.
+    /// Fences this ledger: later ordinary adds to it are refused.
     Fence(u64),
 }
 
-/// What a take answered.
+/// Answer of a take.
 #[derive(Debug, Drop)]
 pub enum TakeAnswer {
-    /// There is no reader of that number.
+    /// There is no reader with this number.
     NoReader,
-    /// The reader holds a lease already.
+    /// The reader already holds a lease.
     ReaderBusy,
-    /// The entry's ledger was deleted.
+    /// The ledger of the key is deleted.
     Deleted,
-    /// The store has no entry of that key.
+    /// The store has no entry with this key.
     NotHeld,
     /// The payload, from a cache.
     Cached(Arc<Vec<u8>>),
@@ -82,37 +82,37 @@ pub enum TakeAnswer {
     Leased(Location),
 }
 
-/// What a fetch answered.
+/// Answer of a fetch.
 #[derive(Debug, Drop)]
 pub enum FetchAnswer {
-    /// There is no reader of that number.
+    /// There is no reader with this number.
     NoReader,
     /// The reader holds no lease.
     NoLease,
-    /// The payload that the entry had when the lease was taken.
+    /// The payload that the entry had when the lease was granted.
     Bytes(Vec<u8>),
 }
 
-/// What a release answered.
+/// Answer of a release.
 #[derive(Clone, Copy, Debug, PartialEq, Eq)]
 pub enum ReleaseAnswer {
-    /// There is no reader of that number.
+    /// There is no reader with this number.
     NoReader,
     /// The reader holds no lease.
     NoLease,
-    /// The reader holds no lease any more.
+    /// The lease has ended.
     Released,
 }
 
 /// The answer of a step, by the call that it made.
 #[derive(Debug, Drop)]
 pub enum Answer {
-    /// Of an add of either kind.
+    /// Answer of an add of either kind.
     Add(Result<Added, AddFault>),
     Take(Result<TakeAnswer, TakeFault>),
     Fetch(Result<FetchAnswer, FetchFault>),
     Release(ReleaseAnswer),
-    /// How many keys the deleted ledger had, each counted once.
+    /// Number of keys that the deleted ledger had, each counted once.
     Delete(Result<u64, DeleteFault>),
     Fence(Result<Fence, FenceFault>),
     Swap(SwapAnswer),
@@ -120,7 +120,7 @@ pub enum Answer {
     Publish(Result<PublishAnswer, StepFault>),
     Roll(Result<RollAnswer, StepFault>),
     Retire(RetireAnswer),
-    /// How many keys the new index has.
+    /// Number of keys in the new index.
     Rebuild(Result<u64, CollectFault>),
     Close(CloseAnswer),
     Remove(Result<RemoveAnswer, CollectFault>),

@@ -1,8 +1,8 @@
-//! Steps of a reader: it takes a lease of the store, reads by it, and gives it back.
+//! Steps of a reader: it takes a lease from the store, reads with it, and releases it.
 
 ghost use Rattle.std.specs.Prelude.{◌≡◌, IsErrOf};
 ghost use Rattle.bk_disk.specs.Disk.{AreSound};
-ghost use Rattle.bk_drive.specs.Machine.{ReaderFetch, ReaderRelease, ReaderTake};
+ghost use Rattle.bk_drive.specs.Machine.{ReaderFetchAnswer, ReaderReleaseTransition, ReaderTakeTransition};
 
 use crate::{FetchAnswer, Readers, Reading, ReleaseAnswer, TakeAnswer};
 use bk_disk::{LogDisk, LogView};
@@ -11,14 +11,18 @@ use bk_record::Key;
 use bk_store::{Store, TakeFault, Taken};
 use std::alloc::Global;
 
-/// A take by a reader, which then holds the lease if it gets one.
+/// Takes a key for a reader, which then holds the lease if one is granted.
+///
+/// # Errors
+///
+/// Those of `Store::take`. The machine is unchanged.
 pub(crate) fn take<D: LogDisk>(
     store: &mut Store<D>,
     readers: &mut Readers<D::View>,
     reader: u32,
     key: Key,
 ) -> Result<TakeAnswer, TakeFault>
-    ensures { ReaderTake (record { store = store.old; readers = readers.old }) reader key result
+    ensures { ReaderTakeTransition (record { store = store.old; readers = readers.old }) reader key result
         (record { store = store.new; readers = readers.new }) }
 {
     if !readers.has(reader) {
@@ -45,13 +49,19 @@ pub(crate) fn take<D: LogDisk>(
     }
 }
 
-/// A fetch by a reader: the entry on which it holds a lease, read from the view that it holds.
+/// Reads the entry on which a reader holds a lease, from the view of the lease.
+///
+/// # Errors
+///
+/// - `Disk`: the view could not be read. Does not occur if views are sound.
+/// - `Memory`: out of memory.
+/// - `NotThere`, `Odd`: do not occur on an honest disk.
 pub(crate) fn fetch_by<V: LogView>(
     alloc: Global,
     readers: &Readers<V>,
     reader: u32,
 ) -> Result<FetchAnswer, FetchFault>
-    ensures turn { ReaderFetch readers.now reader result }
+    ensures transition { ReaderFetchAnswer readers.now reader result }
     ensures disk { AreSound V.sound → ¬ (IsErrOf result FetchFault.Disk) }
 {
     if !readers.has(reader) {
@@ -68,9 +78,9 @@ pub(crate) fn fetch_by<V: LogView>(
     }
 }
 
-/// A release by a reader, which then holds no lease.
+/// Ends the lease that a reader holds.
 pub(crate) fn release<V: LogView>(readers: &mut Readers<V>, reader: u32) -> ReleaseAnswer
-    ensures { ReaderRelease readers.old reader result readers.new }
+    ensures { ReaderReleaseTransition readers.old reader result readers.new }
 {
     if !readers.has(reader) {
         return ReleaseAnswer::NoReader;

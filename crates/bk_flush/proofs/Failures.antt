@@ -1,23 +1,23 @@
--- How often the device failed in a step of a flush: its turn tells it.
+-- How often the device fails in a step of a flush: the clause `cause` follows from the transition.
 use Rattle.std.proofs.Common.{◌≡◌, inl, inr, ℕ, ◌+◌, List, Option, Some, None, Result, Ok, Err, refl, sym, ap, ◌∙◌, arith}
 use Rattle.bk_record.specs.Key.{EntryKey}
 use Rattle.bk_disk.proofs.Causes.{none_failed}
 use Rattle.bk_log.specs.declared.fault.LogFault.{LogFault}
 use Rattle.bk_log.specs.declared.fault.LogFault.TheVariants as log_faults
 use Rattle.bk_store.specs.State.{State}
-use Rattle.bk_store.specs.Doors.{MakeTurn, WriteTurn, failed_in}
+use Rattle.bk_store.specs.Primitives.{CreateLogTransition, AppendFlushedTransition, failed_in}
 use Rattle.bk_store.specs.declared.answer.MakeFault.{MakeFault}
 use Rattle.bk_store.specs.declared.answer.MakeFault.TheVariants as makes
 use Rattle.bk_store.specs.declared.log.LogState.TheVariants.{Writing}
-use Rattle.bk_step.specs.Faults.{TellsItsCause, step_fault_of, step_fault_of_make}
-use Rattle.bk_flush.specs.Flushing.{FillTurn, IsRefused, LeftBy, NoNewLog, ReadyTurn, StepTurn}
-use Rattle.bk_flush.specs.Showing.{ShowsLogs}
+use Rattle.bk_store.specs.Faults.{ReportsDeviceFault, step_fault_of, step_fault_of_make}
+use Rattle.bk_flush.specs.Flushing.{SealFilledTransition, IsRefused, RestartsOnDeviceFault, NoNewLog, ReadyLogTransition, WriteOneTransition}
+use Rattle.bk_flush.specs.Publishing.{ShowsLogs}
 use Rattle.bk_flush.specs.declared.answer.WriteAnswer.{WriteAnswer}
 use Rattle.bk_flush.specs.declared.answer.WriteAnswer.TheVariants as writes
-use Rattle.bk_step.specs.declared.fault.StepFault.{StepFault}
-use Rattle.bk_step.specs.declared.fault.StepFault.TheVariants as step_faults
+use Rattle.bk_store.specs.declared.step_fault.StepFault.{StepFault}
+use Rattle.bk_store.specs.declared.step_fault.StepFault.TheVariants as step_faults
 
--- how often the device failed in a call that is answered by this fault
+-- how often the device fails in a call that ends with this fault
 abbrev pub failed_of : StepFault → ℕ
 failed_of step_faults.Disk = 1
 failed_of (step_faults.Memory done) = 0
@@ -25,10 +25,10 @@ failed_of step_faults.LogsFull = 0
 failed_of step_faults.NoMoreIds = 0
 failed_of step_faults.Odd = 0
 
-pub caused_ok : {T : Type 0} (s t : State) (x : T) → t.failures ≡ s.failures → TellsItsCause s (Ok x) t
+pub caused_ok : {T : Type 0} (s t : State) (x : T) → t.failures ≡ s.failures → ReportsDeviceFault s (Ok x) t
 caused_ok s t x same = none_failed s.failures t.failures same (λ wrong. cc)
 
-pub caused_err : {T : Type 0} (s t : State) (fault : StepFault) → t.failures ≡ s.failures + failed_of fault → TellsItsCause {T = T} s (Err fault) t
+pub caused_err : {T : Type 0} (s t : State) (fault : StepFault) → t.failures ≡ s.failures + failed_of fault → ReportsDeviceFault {T = T} s (Err fault) t
 caused_err s t step_faults.Disk more =
     record { later = omega (arith, more); once = omega (arith, more); failed = λ _. omega (arith, more); told = λ _. refl }
 caused_err s t (step_faults.Memory done) more = none_failed s.failures t.failures (omega (arith, more)) (λ wrong. cc)
@@ -47,13 +47,13 @@ told_failed log_faults.Odd = refl
 
 -- ---- the log that is made ready
 
-filled_failures : (s mid : State) (filled : Option ℕ) (result : Result (Unit {0}) LogFault) → FillTurn s filled result mid
+filled_failures : (s mid : State) (filled : Option ℕ) (result : Result (Unit {0}) LogFault) → SealFilledTransition s filled result mid
     → mid.failures ≡ s.failures + failed_in result
 filled_failures s mid None (Ok _) same = let is = same_failures s mid same in omega (arith, is)
 filled_failures s mid None (Err fault) never = absurd never
 filled_failures s mid (Some id) result seals = ap (λ (x : State). x.failures) seals.left
 
-made_failures : (s t : State) (cause : MakeFault) → MakeTurn s Writing (Err cause) t → t.failures ≡ s.failures + failed_of (step_fault_of_make cause)
+made_failures : (s t : State) (cause : MakeFault) → CreateLogTransition s Writing (Err cause) t → t.failures ≡ s.failures + failed_of (step_fault_of_make cause)
 made_failures s t makes.LogsFull turn = let is = same_failures s t turn.1 in omega (arith, is)
 made_failures s t makes.NoMoreIds turn = let is = same_failures s t turn.2 in omega (arith, is)
 made_failures s t makes.Memory turn = elim turn.1 [
@@ -63,14 +63,14 @@ made_failures s t makes.Memory turn = elim turn.1 [
 made_failures s t makes.Disk turn = ap (λ (x : State). x.failures) turn.1.left
 made_failures s t makes.Odd turn = let is : t.failures ≡ s.failures = ap (λ (x : State). x.failures) turn.2.left in omega (arith, is)
 
-left_failures : (fault : StepFault) (s t : State) → LeftBy fault s t → t.failures ≡ s.failures
+left_failures : (fault : StepFault) (s t : State) → RestartsOnDeviceFault fault s t → t.failures ≡ s.failures
 left_failures step_faults.Disk s t restarts = ap (λ (x : State). x.failures) restarts.left
 left_failures (step_faults.Memory done) s t same = same_failures s t same
 left_failures step_faults.LogsFull s t same = same_failures s t same
 left_failures step_faults.NoMoreIds s t same = same_failures s t same
 left_failures step_faults.Odd s t restarts = ap (λ (x : State). x.failures) restarts.left
 
-pub ready_failures : (s mid : State) (payload : List ℕ) (id : ℕ) → ReadyTurn s payload (Ok id) mid → mid.failures ≡ s.failures
+pub ready_failures : (s mid : State) (payload : List ℕ) (id : ℕ) → ReadyLogTransition s payload (Ok id) mid → mid.failures ≡ s.failures
 ready_failures s mid payload id (inl found) = same_failures s mid found.1
 ready_failures s mid payload id (inr new) =
     let filled = filled_failures s new.mid new.filled (Ok tt) new.sealed in
@@ -89,25 +89,25 @@ refused_failures s after filled fault (inr unmade) =
 not_ready_failures : (s t : State) (payload : List ℕ) (fault : StepFault) → NoNewLog s payload fault t → t.failures ≡ s.failures + failed_of fault
 not_ready_failures s t payload fault is = left_failures fault is.mid t is.left ∙ refused_failures s is.mid is.filled fault is.refused
 
-unready_failures : (s t : State) (payload : List ℕ) (fault : StepFault) → ReadyTurn s payload (Err fault) t → t.failures ≡ s.failures + failed_of fault
+unready_failures : (s t : State) (payload : List ℕ) (fault : StepFault) → ReadyLogTransition s payload (Err fault) t → t.failures ≡ s.failures + failed_of fault
 unready_failures s t payload step_faults.LogsFull turn = let is = same_failures s t turn.3 in omega (arith, is)
 unready_failures s t payload step_faults.NoMoreIds turn = let is = same_failures s t turn.4 in omega (arith, is)
 unready_failures s t payload step_faults.Disk turn = not_ready_failures s t payload step_faults.Disk turn
 unready_failures s t payload (step_faults.Memory done) turn = not_ready_failures s t payload (step_faults.Memory done) turn
 unready_failures s t payload step_faults.Odd turn = not_ready_failures s t payload step_faults.Odd turn
 
--- ---- the entry that is put
+-- ---- the entry that is appended
 
-unput_failures : (s t : State) (id : ℕ) (key : EntryKey) (payload : List ℕ) (cause : LogFault) → WriteTurn s id key payload (Err cause) t
+unput_failures : (s t : State) (id : ℕ) (key : EntryKey) (payload : List ℕ) (cause : LogFault) → AppendFlushedTransition s id key payload (Err cause) t
     → t.failures ≡ s.failures + failed_of (step_fault_of cause)
 unput_failures s t id key payload log_faults.Memory turn = let is : t.failures ≡ s.failures = ap (λ (x : State). x.failures) turn.1 in omega (arith, is)
 unput_failures s t id key payload log_faults.Disk turn = ap (λ (x : State). x.failures) turn.3
 unput_failures s t id key payload log_faults.Failed never = absurd never
 unput_failures s t id key payload log_faults.Odd turn = let is : t.failures ≡ s.failures = ap (λ (x : State). x.failures) turn.1.2 in omega (arith, is)
 
--- ---- a log that could not be shown
+-- ---- a log that could not be published
 
-pub unshown_caused : {T : Type 0} (s t : State) (fault : StepFault) → ShowsLogs s (Err fault) t → TellsItsCause {T = T} s (Err fault) t
+pub unshown_caused : {T : Type 0} (s t : State) (fault : StepFault) → ShowsLogs s (Err fault) t → ReportsDeviceFault {T = T} s (Err fault) t
 unshown_caused s t step_faults.Disk turn =
     caused_err s t step_faults.Disk (ap (λ (x : State). x.failures) turn.restarts.left ∙ turn.stops.failures)
 unshown_caused s t (step_faults.Memory done) turn = caused_err s t (step_faults.Memory done) turn.1.failures
@@ -116,8 +116,8 @@ unshown_caused s t step_faults.Odd turn =
 unshown_caused s t step_faults.LogsFull turn = absurd turn
 unshown_caused s t step_faults.NoMoreIds turn = absurd turn
 
--- so a step tells a failing device exactly where it failed
-pub step_caused : (s t : State) (result : Result WriteAnswer StepFault) → StepTurn s result t → TellsItsCause s result t
+-- a step returns `Disk` exactly if the device failed in it
+pub step_caused : (s t : State) (result : Result WriteAnswer StepFault) → WriteOneTransition s result t → ReportsDeviceFault s result t
 step_caused s t (Ok writes.NoFlush) turn = caused_ok s t writes.NoFlush (same_failures s t turn.1)
 step_caused s t (Ok writes.AllWritten) turn = caused_ok s t writes.AllWritten (same_failures s t turn.2)
 step_caused s t (Ok (writes.Wrote place)) turn =

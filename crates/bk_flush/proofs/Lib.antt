@@ -1,4 +1,3 @@
-mod Filled
 mod Filling
 mod Failures
 mod Steps
@@ -7,4 +6,4 @@ mod ShownLogs
 mod SameKeys
 mod NamedEntries
 mod Published
-mod Still
+mod WriteFrames

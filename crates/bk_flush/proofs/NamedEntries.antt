@@ -1,6 +1,6 @@
--- The entries of a flush are named one by one, in the order of their keys.
-use Rattle.std.proofs.Common.{◌≡◌, inl, inr, ℕ, zero, suc, ◌+◌, false, cond, IsTrue, List, [], ◌∷◌, ◌++◌}
-use Rattle.std.proofs.Common.{take, drop, Some, None, Ok, slice_get, refl, sym, ap, subst, ◌∙◌}
+-- The entries of a flush are indexed one by one, in key order.
+use Rattle.std.proofs.Common.{◌≡◌, inl, inr, ℕ, zero, suc, ◌+◌, ◌<◌, false, cond, IsTrue, List, [], ◌∷◌, ◌++◌}
+use Rattle.std.proofs.Common.{take, drop, Some, None, Ok, slice_get, refl, sym, ap, subst, ◌∙◌, arith}
 use Rattle.std.specs.Option.{option_or}
 use Rattle.std.specs.Ordering.{eq_by_cmp}
 use Rattle.std.specs.FinMap as finite
@@ -16,18 +16,19 @@ use Rattle.bk_record.proofs.Growth.{take_next}
 use Rattle.bk_cache.specs.Caches.{flush_of}
 use Rattle.bk_cache.specs.Recents.{Recents}
 use Rattle.bk_store.specs.State.{State}
-use Rattle.bk_store.specs.Meaning.{MeansTheSame, KeepsMeaning}
-use Rattle.bk_store.specs.Doors.{IsRecentAfter, MayName, NameTurn}
+use Rattle.bk_store.specs.Contents.{SameContents, PreservesContents}
+use Rattle.bk_store.specs.Primitives.{IsRecentAfter, CanIndexPlaced, IndexEntryTransition, IndexPlacedTransition}
+use Rattle.bk_store.proofs.Cases.{some_or_none}
 use Rattle.bk_store.proofs.KeyMaps.{inserted_here, get-insert_other}
 use Rattle.bk_record.proofs.SortedPairs.{sorted_front}
 use Rattle.bk_flush.specs.Flushing.{NamesFirst, Remembers, first_places}
-use Rattle.bk_flush.specs.Showing.{AllShown}
-use Rattle.bk_flush.proofs.NextLogs.{place_at, places_sorted}
+use Rattle.bk_flush.specs.Publishing.{AllShown}
+use Rattle.bk_flush.proofs.NextLogs.{place_at, places_sorted, past_end}
 
--- so many entries are named
+-- the first n entries are indexed
 pub record IsNaming (s : State) (n : ℕ) (t : State) : Type 0 where
   pub named : NamesFirst n s t
-  pub stays : KeepsMeaning s t
+  pub stays : PreservesContents s t
 
 -- ---- the first pairs of a list
 
@@ -42,7 +43,7 @@ found_else : (q : EntryKey) (es : List (EntryKey × Place)) (e : EntryKey × Pla
 found_else q [] e apart = ap (λ b. cond b (Some e.1) None) apart
 found_else q (x ∷ es) e apart = ap (λ o. cond (eq_by_cmp key_cmp q x.0) (Some x.1) o) (found_else q es e apart)
 
--- the recent entries after one more of a list
+-- the recent entries after one more pair
 remembers_more : (flush : Payloads) (es : List (EntryKey × Place)) (e : EntryKey × Place) (payload : List ℕ) (old mid new : Recents)
     → Remembers flush es old mid
     → finite.get flush e.0 ≡ Some payload → IsRecentAfter mid e.0 payload new → Remembers flush (es ++ e ∷ []) old new
@@ -54,38 +55,47 @@ remembers_more flush (x ∷ es) e payload old mid new so_far at after =
 -- ---- one more entry
 
 module _ (s t : State) (n : ℕ) (is : IsNaming s n t) where
-  pub still_places : t.places ≡ s.places
+  still_places : t.places ≡ s.places
   still_places = ap (λ (x : State). x.places) is.named.left
 
   still_flush : flush_of t.caches ≡ flush_of s.caches
   still_flush = ap (λ (x : State). flush_of x.caches) is.named.left
 
+  -- the next entry can be indexed
+  pub may_name : AllShown s → n < finite.len s.places → CanIndexPlaced t n
+  may_name shown within = elim (some_or_none (slice_get (finite.entries t.places) n)) [
+    | inl none ↦
+        let past = past_end (finite.entries t.places) n none in
+        let long = finite.len-entries t.places in
+        let same = ap finite.len still_places in
+        absurd (omega (arith, past, long, same, within))
+    | inr found ↦
+        let e = found.0 in
+        let all = shown e.0 e.1 (place_at s n e.0 e.1 (ap (λ m. slice_get (finite.entries m) n) (sym still_places) ∙ found.1)) in
+        record {
+          key = e.0;
+          place = e.1;
+          at = found.1;
+          shown = record {
+            log = all.log;
+            view = all.view;
+            held = ap (λ (x : State). finite.get x.logs e.1.log) is.named.left ∙ all.held;
+            opened = all.opened;
+            view_is = all.view_is;
+            whole = λ honest.
+                ap (λ (x : State). finite.get x.files e.1.log) is.named.left ∙ all.whole (sym is.stays.honest ∙ honest);
+          };
+        }
+  ]
+
   module _ (key : EntryKey) (place : Place) (at : slice_get (finite.entries t.places) n ≡ Some (key, place)) where
     at_first : slice_get (finite.entries s.places) n ≡ Some (key, place)
     at_first = ap (λ m. slice_get (finite.entries m) n) (sym still_places) ∙ at
 
-    -- it may be named
-    pub may_name : AllShown s → MayName t key place
-    may_name shown =
-        let there = place_at s n key place at_first in
-        let all = shown key place there in
-        record {
-          placed = ap (λ m. finite.get m key) still_places ∙ there;
-          shown = record {
-            log = all.log;
-            view = all.view;
-            held = ap (λ (x : State). finite.get x.logs place.log) is.named.left ∙ all.held;
-            opened = all.opened;
-            view_is = all.view_is;
-            whole = λ honest.
-                ap (λ (x : State). finite.get x.files place.log) is.named.left ∙ all.whole (sym is.stays.honest ∙ honest);
-          };
-        }
-
     more : first_places (n + 1) s ≡ first_places n s ++ (key, place) ∷ []
     more = take_next (finite.entries s.places) n (key, place) at_first
 
-    -- the key is found among the first pairs then
+    -- the key is then found among the first pairs
     found_last : find key_cmp key (first_places (n + 1) s) ≡ Some place
     found_last =
         let sorted : IsTrue (is_sorted key_cmp (first_places (n + 1) s)) =
@@ -94,8 +104,8 @@ module _ (s t : State) (n : ℕ) (is : IsNaming s n t) where
         find_at key_cmp_total (first_places (n + 1) s) n key place sorted
         (ap (λ es. slice_get es n) more ∙ at_end (finite.entries s.places) n (key, place) at_first)
 
-    pub name_more : (u : State) → NameTurn {E = Unit {0}} t key place (Ok tt) u → (IsTrue t.honest → MeansTheSame t u) → IsNaming s (n + 1) u
-    name_more u turn meaning =
+    named_more : (u : State) → IndexEntryTransition {E = Unit {0}} t key place (Ok tt) u → (IsTrue t.honest → SameContents t u) → IsNaming s (n + 1) u
+    named_more u turn meaning =
         let left = turn.3 in
         record {
           named = record {
@@ -121,3 +131,6 @@ module _ (s t : State) (n : ℕ) (is : IsNaming s n t) where
             meaning = λ honest key. meaning (is.stays.honest ∙ honest) key ∙ is.stays.meaning honest key;
           };
         }
+
+  pub name_more : {E : Type 0} (u : State) → IndexPlacedTransition {E = E} t n (Ok tt) u → (IsTrue t.honest → SameContents t u) → IsNaming s (n + 1) u
+  name_more u turn meaning = named_more turn.key turn.place turn.at u turn.indexed meaning

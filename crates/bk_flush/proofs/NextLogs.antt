@@ -15,19 +15,19 @@ use Rattle.bk_record.specs.Location.{Place}
 use Rattle.bk_record.proofs.Keys.{key_cmp_total}
 use Rattle.bk_record.proofs.SortedPairs.{is_true, keys_rise, Some-same, find_at}
 use Rattle.bk_store.specs.State.{State}
-use Rattle.bk_store.specs.Plain.{IsKept}
+use Rattle.bk_store.specs.Abstract.{SatisfiesInvariant}
 use Rattle.bk_flush.specs.Flushing.{HasPlace}
 
--- the least id from this one on of a log that has a place, none where there is no such log
+-- the least id, from this one on, of a log that has a place; none if there is no such log
 abbrev pub IsNextLog : State → ℕ → Option ℕ → Type 0
 IsNextLog s from None = (id : ℕ) → HasPlace s id → id < from
 IsNextLog s from (Some id) = HasPlace s id × (from ≤ id) × ((other : ℕ) → HasPlace s other → from ≤ other → id ≤ other)
 
--- the logs of the first so many places are below this id
+-- the logs of the first n places are below this id
 abbrev pub ArePast : List (EntryKey × Place) → ℕ → ℕ → Type 0
 ArePast es n from = (i : ℕ) (e : EntryKey × Place) → i < n → slice_get es i ≡ Some e → e.1.log < from
 
--- one place more is passed, whose log is below the id by now
+-- one more place is passed, whose log is below the id by now
 pub one_past : (es : List (EntryKey × Place)) (n from now : ℕ) (e : EntryKey × Place) → ArePast es n from → slice_get es n ≡ Some e → e.1.log < now → from ≤ now
     → ArePast es (n + 1) now
 one_past es n from now e past at below later i other within here = elim (dec_le n i) [
@@ -37,7 +37,7 @@ one_past es n from now e past at below later i other within here = elim (dec_le 
       subst (λ (x : EntryKey × Place). x.1.log < now) (Some-same (sym at ∙ ap (slice_get es) same ∙ here)) below
 ]
 
--- ---- keys that rise
+-- ---- rising keys
 
 each_key : {K X : Type 0} (P : K → Type 0) (es : List (K × X)) (i : ℕ) (e : K × X) → AllByRecursion P (keys_of es) → slice_get es i ≡ Some e → P e.0
 each_key P [] i e all at = cc
@@ -65,7 +65,7 @@ within_list [] n e is = cc
 within_list (x ∷ es) zero e is = omega arith
 within_list (x ∷ es) (suc n) e is = let later = within_list es n e is in omega (arith, later)
 
--- what is found stands somewhere
+-- a pair that is found has a position in the list
 found_at : (q : EntryKey) (es : List (EntryKey × Place)) (place : Place) → find key_cmp q es ≡ Some place
     → (i : ℕ) × (key : EntryKey) × (slice_get es i ≡ Some (key, place))
 found_at q [] place is = cc
@@ -85,7 +85,7 @@ module _ (s : State) where
   pub place_at : (n : ℕ) (key : EntryKey) (place : Place) → slice_get (finite.entries s.places) n ≡ Some (key, place) → finite.get s.places key ≡ Some place
   place_at n key place at = finite.get-entries s.places key ∙ find_at key_cmp_total (finite.entries s.places) n key place places_sorted at
 
-  -- and a place stands in the list
+  -- a place is in the list
   among : (id : ℕ) → HasPlace s id
       → (i : ℕ) × (e : EntryKey × Place) × (i < finite.len s.places) × (slice_get (finite.entries s.places) i ≡ Some e) × (e.1.log ≡ id)
   among id has =
@@ -94,16 +94,16 @@ module _ (s : State) where
       let long = finite.len-entries s.places in
       (there.0, (there.1, has.1.0), omega (arith, within, long), there.2, has.1.2)
 
-  -- of two places the later one's log is not below the earlier one's
-  rising : IsKept s → (i j : ℕ) (e other : EntryKey × Place) → i < j → slice_get (finite.entries s.places) i ≡ Some e
+  -- of two places, the log of the later one is not below that of the earlier one
+  rising : SatisfiesInvariant s → (i j : ℕ) (e other : EntryKey × Place) → i < j → slice_get (finite.entries s.places) i ≡ Some e
       → slice_get (finite.entries s.places) j ≡ Some other → e.1.log ≤ other.1.log
   rising kept i j e other less at there =
       kept.keeps.fits.placed.rising e.0 other.0 e.1 other.1 (ap (λ (x : State). finite.get x.places e.0) kept.seen ∙ place_at i e.0 e.1 at)
       (ap (λ (x : State). finite.get x.places other.0) kept.seen ∙ place_at j other.0 other.1 there)
       (later_key key_cmp (finite.entries s.places) i j e other (keys_rise key_cmp (finite.entries s.places) places_sorted) less at there)
 
-  -- where a place is the first whose log is not below an id, its log is the next one from there on
-  pub next_placed : IsKept s → (n from : ℕ) (e : EntryKey × Place) → ArePast (finite.entries s.places) n from
+  -- the log of the first place whose log is not below an id is the next log from that id on
+  pub next_placed : SatisfiesInvariant s → (n from : ℕ) (e : EntryKey × Place) → ArePast (finite.entries s.places) n from
       → slice_get (finite.entries s.places) n ≡ Some e → from ≤ e.1.log → IsNextLog s from (Some e.1.log)
   next_placed kept n from e past at above = (
     (e.0, (e.1, place_at n e.0 e.1 at, refl)),
@@ -124,7 +124,7 @@ module _ (s : State) where
         ]),
   )
 
-  -- where all places are passed, no log is left
+  -- after the last place, no log is left
   pub none_left : (n from : ℕ) → finite.len s.places ≤ n → ArePast (finite.entries s.places) n from → IsNextLog s from None
   none_left n from all past id has =
       let there = among id has in

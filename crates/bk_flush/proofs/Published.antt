@@ -1,4 +1,4 @@
--- A publish: all logs of the flush are shown, its entries are named, and it is over.
+-- A publish: all logs of the flush are published, its entries are indexed, and it ends.
 use Rattle.std.proofs.Common.{◌≡◌, inr, ℕ, false, IsSome, is_some, List, take, Option, Some}
 use Rattle.std.proofs.Common.{None, option_map, Ok, Err, sym, ap, subst, ◌∙◌, arith}
 use Rattle.std.specs.Option.{option_or}
@@ -8,22 +8,22 @@ use Rattle.std.proofs.Math.Seq.{take-length}
 use Rattle.bk_record.specs.Key.{EntryKey, key_cmp}
 use Rattle.bk_cache.specs.Caches.{flush_of}
 use Rattle.bk_store.specs.State.{State}
-use Rattle.bk_store.specs.Plain.{IsKept}
-use Rattle.bk_store.specs.Doors.{AllNamed, AllPlaced, Ends, IsNextEntry}
+use Rattle.bk_store.specs.Abstract.{SatisfiesInvariant}
+use Rattle.bk_store.specs.Primitives.{AllIndexed, AllPlaced, EndFlushTransition, IsNextEntry}
 use Rattle.bk_store.proofs.Cases.{some_value}
-use Rattle.bk_flush.specs.Flushing.{NamesFirst, PublishTurn, ShowsPlaced, first_places}
-use Rattle.bk_flush.specs.Showing.{NamesEntries}
+use Rattle.bk_flush.specs.Flushing.{NamesFirst, PublishTransition, ShowsPlaced, first_places}
+use Rattle.bk_flush.specs.Publishing.{NamesEntries}
 use Rattle.bk_flush.specs.declared.answer.PublishAnswer.TheVariants as publishes
-use Rattle.bk_step.specs.declared.fault.StepFault.{StepFault}
-use Rattle.bk_step.specs.declared.fault.StepFault.TheVariants as step_faults
+use Rattle.bk_store.specs.declared.step_fault.StepFault.{StepFault}
+use Rattle.bk_store.specs.declared.step_fault.StepFault.TheVariants as step_faults
 use Rattle.bk_flush.proofs.SameKeys.{same_number}
 
--- where there is no next entry, all have a place
+-- if there is no next entry, all entries have a place
 pub none_next : {T : Type 0} (s : State) (f : T → EntryKey × List ℕ) (o : Option T) → is_some o ≡ false → IsNextEntry s (option_map f o) → AllPlaced s
 none_next s f None none next = next
 none_next s f (Some e) none next = cc
 
-module _ (s : State) (kept : IsKept s) (placed : AllPlaced s) where
+module _ (s : State) (kept : SatisfiesInvariant s) (placed : AllPlaced s) where
   -- there are as many places as entries
   pub as_many : finite.len s.places ≡ finite.len (flush_of s.caches)
   as_many = same_number s.places (flush_of s.caches)
@@ -37,8 +37,8 @@ module _ (s : State) (kept : IsKept s) (placed : AllPlaced s) where
     many_shown : finite.len shown.places ≡ finite.len (flush_of s.caches)
     many_shown = ap (λ (x : State). finite.len x.places) shows.all.left ∙ as_many
 
-    -- a refusal leaves some entries named
-    pub names_refused : (t : State) (fault : StepFault) → IsSome s.caches.flush → NamesEntries shown (Err fault) t → PublishTurn s (Err fault) t
+    -- an error leaves the first entries indexed
+    pub names_refused : (t : State) (fault : StepFault) → IsSome s.caches.flush → NamesEntries shown (Err fault) t → PublishTransition s (Err fault) t
     names_refused t step_faults.Disk runs never = absurd never
     names_refused t (step_faults.Memory done) runs named =
         let less = named.0 in
@@ -49,8 +49,8 @@ module _ (s : State) (kept : IsKept s) (placed : AllPlaced s) where
     names_refused t step_faults.NoMoreIds runs never = absurd never
 
     module _ (named : State) (names : NamesFirst (finite.len shown.places) shown named) where
-      -- all entries are named
-      pub all_named : AllNamed named
+      -- all entries are indexed
+      pub all_named : AllIndexed named
       all_named key there =
           let flushing : IsSome (finite.get (flush_of s.caches) key) =
           subst (λ m. IsSome (finite.get m key))
@@ -62,8 +62,8 @@ module _ (s : State) (kept : IsKept s) (placed : AllPlaced s) where
           ap (find key_cmp key) all ∙ sym (finite.get-entries shown.places key) ∙ ap (λ (x : State). finite.get x.places key) shows.all.left ∙ at.1 in
           ap is_some (names.index key ∙ ap (λ o. option_or o (finite.get shown.index key)) found)
 
-      pub published : (t : State) (n : ℕ) → IsSome s.caches.flush → n ≡ finite.len (flush_of s.caches) → Ends named t
-          → PublishTurn s (Ok (publishes.Published n)) t
+      pub published : (t : State) (n : ℕ) → IsSome s.caches.flush → n ≡ finite.len (flush_of s.caches) → EndFlushTransition named t
+          → PublishTransition s (Ok (publishes.Published n)) t
       published t n runs count ends =
           let same : finite.len shown.places ≡ n = many_shown ∙ sym count in (
             record { runs = runs; placed = placed },

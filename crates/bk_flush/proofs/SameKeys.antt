@@ -1,4 +1,4 @@
--- Two maps with the same keys have as many.
+-- Two maps with the same keys have the same size.
 use Rattle.std.proofs.Common.{◌≡◌, Bool, true, false, cond, ◌&&◌, T, IsSome, is_some, List, [], ◌∷◌, map, length}
 use Rattle.std.proofs.Common.{option_map, Option, Some, None, refl, sym, ap, subst, ◌∙◌, arith}
 use Rattle.std.specs.Ordering.{eq_by_cmp, is_lt}

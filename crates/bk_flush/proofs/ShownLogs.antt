@@ -1,4 +1,4 @@
--- The logs of a flush are shown one by one, by rising ids.
+-- The logs of a flush are published one by one, by rising id.
 use Rattle.std.proofs.Common.{◌≡◌, ◌≢◌, ◌⊎◌, inl, inr, ℕ, ◌+◌, ◌<◌, true, IsTrue, Some, None, Ok, Err, slice_get, refl, sym, ap, subst, ◌∙◌, arith}
 use Rattle.std.proofs.Math.Decide.{dec_le}
 use Rattle.std.specs.FinMap as finite
@@ -9,25 +9,25 @@ use Rattle.bk_log.specs.declared.fault.LogFault.TheVariants as log_faults
 use Rattle.bk_record.specs.Keyed.{Places}
 use Rattle.bk_store.specs.Logs.{Log, Logs, IsFlushLog, is_open, with_view}
 use Rattle.bk_store.specs.State.{State}
-use Rattle.bk_store.specs.Plain.{IsKept}
-use Rattle.bk_store.specs.Meaning.{MeansTheSame, KeepsMeaning}
-use Rattle.bk_store.specs.Doors.{MayShow, ShowTurn}
+use Rattle.bk_store.specs.Abstract.{SatisfiesInvariant}
+use Rattle.bk_store.specs.Contents.{SameContents, PreservesContents}
+use Rattle.bk_store.specs.Primitives.{CanPublishLog, PublishLogTransition}
 use Rattle.bk_store.proofs.LogMaps.{log-inserted, log-insert_else}
-use Rattle.bk_store.proofs.KeptJob.{flush_idle}
-use Rattle.bk_store.proofs.SameMeaning.{stays_on}
-use Rattle.bk_step.specs.Faults.{step_fault_of}
-use Rattle.bk_flush.specs.Flushing.{HasPlace, IsShown, LeftBy, ShowsThose, ShowsPlaced, StopsShowing}
-use Rattle.bk_flush.specs.Showing.{AllShown, ShowsLogs}
-use Rattle.bk_step.specs.declared.fault.StepFault.{StepFault}
+use Rattle.bk_store.proofs.InvariantJob.{flush_idle}
+use Rattle.bk_store.proofs.SameContents.{stays_on}
+use Rattle.bk_store.specs.Faults.{step_fault_of}
+use Rattle.bk_flush.specs.Flushing.{HasPlace, IsShown, RestartsOnDeviceFault, ShowsThose, ShowsPlaced, StopsShowing}
+use Rattle.bk_flush.specs.Publishing.{AllShown, ShowsLogs}
+use Rattle.bk_store.specs.declared.step_fault.StepFault.{StepFault}
 use Rattle.bk_flush.proofs.NextLogs.{IsNextLog}
 
--- the logs below this id are shown
+-- the logs below this id are published
 pub record IsShowing (s : State) (from : ℕ) (t : State) : Type 0 where
   pub shown : ShowsThose (λ id. HasPlace s id × (id < from)) s t
   pub failures : t.failures ≡ s.failures
-  pub stays : KeepsMeaning s t
+  pub stays : PreservesContents s t
 
--- a log that a flush wrote is one that keys may be sent to
+-- keys may be sent to a log that a flush wrote
 flush_log_open : (logs : Logs) (id : ℕ) → IsFlushLog logs id → (log : Log) × (finite.get logs id ≡ Some log) × (is_open log.state ≡ true)
 flush_log_open logs id is = (
   is.log,
@@ -38,35 +38,35 @@ flush_log_open logs id is = (
   ]),
 )
 
--- and no compaction has it
-pub may_show : (s : State) (id : ℕ) → IsKept s → IsFlushLog s.logs id → MayShow s id
+-- no compaction has it
+pub may_show : (s : State) (id : ℕ) → SatisfiesInvariant s → IsFlushLog s.logs id → CanPublishLog s id
 may_show s id kept is =
     let log = flush_log_open s.logs id is in
     record { open_is = record { log = log.0; held = log.1; opened = log.2 }; idle = flush_idle s id kept is }
 
--- what a store in which so much is shown says of the places
+-- the places are those at the start
 module _ (s t : State) (from : ℕ) (is : IsShowing s from t) where
   pub same_places : t.places ≡ s.places
   same_places = ap (λ (x : State). x.places) is.shown.left
 
-  -- a pair of the list is that of the start
+  -- a pair of the list is that at the start
   pub same_entry : (n : ℕ) (e : EntryKey × Place) → slice_get (finite.entries t.places) n ≡ Some e → slice_get (finite.entries s.places) n ≡ Some e
   same_entry n e at = ap (λ (m : Places). slice_get (finite.entries m) n) (sym same_places) ∙ at
 
-  -- a log is refused, and what its fault leaves of the flush means what the store meant
-  pub refused_stays : (log : ℕ) (cause : LogFault) (u after : State) → ShowTurn t log (Err cause) u → (IsTrue t.honest → MeansTheSame t u)
-      → KeepsMeaning u after → KeepsMeaning s after
+  -- publishing a log failed; after the handling of its fault the logical contents are unchanged
+  pub refused_stays : (log : ℕ) (cause : LogFault) (u after : State) → PublishLogTransition t log (Err cause) u → (IsTrue t.honest → SameContents t u)
+      → PreservesContents u after → PreservesContents s after
   refused_stays log cause u after turn meaning later =
       stays_on s t after is.stays (stays_on t u after (record { honest = refused_honest cause turn; meaning = meaning }) later)
     where
-      refused_honest : (cause : LogFault) → ShowTurn t log (Err cause) u → u.honest ≡ t.honest
+      refused_honest : (cause : LogFault) → PublishLogTransition t log (Err cause) u → u.honest ≡ t.honest
       refused_honest log_faults.Disk turn = ap (λ (x : State). x.honest) turn.1
       refused_honest log_faults.Memory turn = ap (λ (x : State). x.honest) turn.1
       refused_honest log_faults.Odd turn = ap (λ (x : State). x.honest) turn.1
       refused_honest log_faults.Failed never = absurd never
 
   module _ (log : ℕ) (next : IsNextLog s from (Some log)) where
-    -- those before the next log are shown
+    -- the logs before the next one are published
     before_next : (id : ℕ) → HasPlace s id → id < log → id < from
     before_next id has below = elim (dec_le from id) [
       | no less ↦ omega (arith, less)
@@ -79,7 +79,7 @@ module _ (s t : State) (from : ℕ) (is : IsShowing s from t) where
       | yes above ↦ let least = next.2 id has above in inr (omega (arith, least, below))
     ]
 
-    pub one_more : (u : State) → ShowTurn t log (Ok tt) u → (IsTrue t.honest → MeansTheSame t u) → IsShowing s (log + 1) u
+    pub one_more : (u : State) → PublishLogTransition t log (Ok tt) u → (IsTrue t.honest → SameContents t u) → IsShowing s (log + 1) u
     one_more u turn meaning =
         let held = turn.0 in
         let view = turn.2.0 in
@@ -128,7 +128,7 @@ module _ (s t : State) (from : ℕ) (is : IsShowing s from t) where
           };
         }
 
-    -- the next log is refused: what was shown stays so
+    -- publishing the next log failed; the published ones stay so
     stops : (u : State) (more : ℕ) → (IsTrue t.honest → u.files ≡ t.files) → u ≡ record t { files = u.files; failures = t.failures + more }
         → StopsShowing s more u
     stops u more files left = record {
@@ -160,12 +160,12 @@ module _ (s t : State) (from : ℕ) (is : IsShowing s from t) where
         let none : t.failures ≡ t.failures + 0 = omega arith in
         stops u 0 files (left ∙ ap (λ n. record t { files = u.files; failures = n }) none)
 
-    pub not_shown : (cause : LogFault) (fault : StepFault) (u after : State) → ShowTurn t log (Err cause) u → fault ≡ step_fault_of cause
-        → LeftBy fault u after → ShowsLogs s (Err fault) after
+    pub not_shown : (cause : LogFault) (fault : StepFault) (u after : State) → PublishLogTransition t log (Err cause) u → fault ≡ step_fault_of cause
+        → RestartsOnDeviceFault fault u after → ShowsLogs s (Err fault) after
     not_shown cause fault u after turn is_told left =
-        subst (λ f. ShowsLogs s (Err f) after) (sym is_told) (by_cause cause turn (subst (λ f. LeftBy f u after) is_told left))
+        subst (λ f. ShowsLogs s (Err f) after) (sym is_told) (by_cause cause turn (subst (λ f. RestartsOnDeviceFault f u after) is_told left))
       where
-        by_cause : (cause : LogFault) → ShowTurn t log (Err cause) u → LeftBy (step_fault_of cause) u after
+        by_cause : (cause : LogFault) → PublishLogTransition t log (Err cause) u → RestartsOnDeviceFault (step_fault_of cause) u after
             → ShowsLogs s (Err (step_fault_of cause)) after
         by_cause log_faults.Disk turn left = record { mid = u; stops = stops u 1 turn.0 turn.1; restarts = left }
         by_cause log_faults.Memory turn left = (refl, subst (StopsShowing s 0) (sym left) (stops_even u turn.0 turn.1))
@@ -176,7 +176,7 @@ module _ (s t : State) (from : ℕ) (is : IsShowing s from t) where
             )
         by_cause log_faults.Failed never left = absurd never
 
-  -- no log is left to be shown
+  -- no log is left to publish
   module _ (over : IsNextLog s from None) where
     pub all_shown : ShowsPlaced s t
     all_shown = record {
@@ -189,7 +189,7 @@ module _ (s t : State) (from : ℕ) (is : IsShowing s from t) where
       failures = is.failures;
     }
 
-    pub shows_whole : IsKept s → AllShown t
+    pub shows_whole : SatisfiesInvariant s → AllShown t
     shows_whole kept key place at =
         let there : finite.get s.places key ≡ Some place = ap (λ m. finite.get m key) (sym same_places) ∙ at in
         let one = all_shown.all.shown place.log (key, (place, there, refl)) in

@@ -1,2 +1,2 @@
 pub mod Flushing
-pub mod Showing
+pub mod Publishing

@@ -1,36 +1,36 @@
-//! What the calls of a flush answer: an enum for each call.
+//! Results of the calls of a flush, one enum per call.
 
 use bk_record::Location;
 
-/// What one step of a flush did.
+/// Result of one write of a flush.
 #[derive(Clone, Copy, Debug, PartialEq, Eq)]
 pub enum WriteAnswer {
-    /// No flush runs.
+    /// No flush is running.
     NoFlush,
     /// Every entry of the flush has a place.
     AllWritten,
-    /// The next entry was written here.
+    /// The next entry was written at this location.
     Wrote(Location),
 }
 
-/// What became of a publish.
+/// Result of a publish.
 #[derive(Clone, Copy, Debug, PartialEq, Eq)]
 pub enum PublishAnswer {
-    /// No flush runs.
+    /// No flush is running.
     NoFlush,
     /// An entry of the flush has no place yet.
     NotAllWritten,
-    /// The flush is over; it had this many entries, which are read from their logs from now on.
+    /// The flush ended. It had this many entries, which are read from their logs from now on.
     Published(u64),
 }
 
-/// What became of a roll.
+/// Result of a roll.
 #[derive(Clone, Copy, Debug, PartialEq, Eq)]
 pub enum RollAnswer {
-    /// A flush runs.
+    /// A flush is running.
     FlushRunning,
-    /// No log is written.
+    /// No log is Writing.
     NothingOpen,
-    /// The log of this id was the one that is written. It is sealed now, and written no more.
+    /// The Writing log, of this id, was sealed and is written no more.
     Sealed(u32),
 }

@@ -1,5 +1,6 @@
-//! A flush of a store: its entries are written to logs one by one, then they are published; and the log that flushes
-//! write is rolled. All of it is made of the store's public calls.
+//! Flushes the write cache of a store to entry logs, and rolls the current log.
+//!
+//! Uses only public calls of `Store`, so the store invariant holds whatever these functions do.
 #![tactic(auto)]
 
 mod answer;
@@ -10,7 +11,7 @@ mod sealing;
 mod writing;
 
 pub use answer::{PublishAnswer, RollAnswer, WriteAnswer};
-pub use bk_step::StepFault as FlushFault;
+pub use bk_store::StepFault as FlushFault;
 pub use publication::publish;
 pub use sealing::roll;
 pub use writing::{swap, write_one};

@@ -1,39 +1,43 @@
-//! Publishing: the logs that a flush wrote are shown, and its keys are sent to their places.
+//! Publishing: syncs the logs of a flush, then adds its entries to the index.
 //!
-//! A log that has a place of the flush is synced and gets a view of its whole file; then the index learns the places,
-//! in the order of the keys. Want of memory leaves the flush running, with all its entries in their cache, so a later
-//! publish does the rest. A device that failed makes the flush start again: a system tells of bytes that it lost once, and
-//! answers a second sync as if they were on the device, so what was written to a log whose sync failed is written anew, to
-//! another log.
+//! Out of memory leaves the flush running with all its entries cached, so a later publish can
+//! finish it. An I/O error restarts the flush: after a failed sync the kernel may report success
+//! for data that it dropped, so the entries are written again to another log.
 
 ghost use Rattle.std.specs.Prelude.{◌≡◌, IsTrue, OnOk};
-ghost use Rattle.bk_store.specs.Meaning.{MeansTheSame, KeepsMeaning};
-ghost use Rattle.bk_step.specs.Staying.{Stays, SlotsStay};
-ghost use Rattle.bk_step.specs.Faults.{TellsItsCause};
-ghost use Rattle.bk_flush.specs.Flushing.{PublishCaches, PublishTurn};
-ghost use Rattle.bk_flush.specs.Showing.{AllShown, NamesEntries, ShowsLogs};
+ghost use Rattle.bk_store.specs.Contents.{SameContents, PreservesContents};
+ghost use Rattle.bk_store.specs.Frame.{CoreUnchanged, SlotsUnchanged};
+ghost use Rattle.bk_store.specs.Faults.{ReportsDeviceFault};
+ghost use Rattle.bk_flush.specs.Flushing.{PublishCachesFrame, PublishTransition};
+ghost use Rattle.bk_flush.specs.Publishing.{AllShown, NamesEntries, ShowsLogs};
 
 use crate::PublishAnswer;
 use crate::faults::flush_fault;
 use bk_disk::LogDisk;
-use bk_step::StepFault;
-use bk_store::Store;
+use bk_store::{StepFault, Store};
 
-/// Ends the flush, once every entry of it has a place: its entries are read from their logs from now on.
+/// Publishes the running flush and ends it.
+///
+/// Syncs each log that has a place of the flush once, by rising id, and publishes its whole file.
+/// Then adds each entry to the index, in key order, and remembers it as a recent entry. From then
+/// on the entries are read from their logs.
 ///
 /// # Errors
-/// `Disk` where a log could not be synced or shown, and `Odd` where the disk behaved as no honest one does: the flush starts
-/// again in another log, with all its entries. `Memory` where an allocation was refused, and then `done` says how many
-/// entries the index has learnt: the flush runs on, and a later publish may end it.
+///
+/// - `Disk`: a log could not be synced or viewed. `Odd`: the disk is not honest. The logs with
+///   lower ids are published, and the flush restarts with all its entries.
+/// - `Memory { done }`: an allocation failed. If a log could not be published, `done` is 0 and the
+///   logs with lower ids are published. Otherwise all logs are published, and the first `done`
+///   entries are in the index. The flush continues.
 pub fn publish<D: LogDisk>(store: &mut Store<D>) -> Result<PublishAnswer, StepFault>
-    ensures turn { PublishTurn store.old result store.new }
-    ensures cause { TellsItsCause store.old result store.new }
-    ensures stays { Stays store.old store.new × PublishCaches store.old result store.new
-        × SlotsStay store.old.keeper store.new.keeper }
+    ensures transition { PublishTransition store.old result store.new }
+    ensures cause { ReportsDeviceFault store.old result store.new }
+    ensures frame { CoreUnchanged store.old store.new × PublishCachesFrame store.old result store.new
+        × SlotsUnchanged store.old.keeper store.new.keeper }
     ensures honest { store.new.honest ≡ store.old.honest }
-    ensures meaning { IsTrue store.old.honest → MeansTheSame store.old store.new }
+    ensures contents { IsTrue store.old.honest → SameContents store.old store.new }
 {
-    store.promise();
+    store.reveal_invariant();
     if !store.is_flushing() {
         return Ok(PublishAnswer::NoFlush);
     }
@@ -47,14 +51,16 @@ pub fn publish<D: LogDisk>(store: &mut Store<D>) -> Result<PublishAnswer, StepFa
     Ok(PublishAnswer::Published(entries))
 }
 
-/// Shows each log that has a place of the flush, once, by rising ids: the logs rise with the keys, so one is shown when its
-/// first place comes. Where the device fails the flush starts again.
+/// Publishes each log that has a place of the flush, once, by rising id. Restarts the flush on an
+/// I/O error.
+///
+/// Log ids rise with the keys, so one pass over the places meets each log once.
 fn show_logs<D: LogDisk>(store: &mut Store<D>) -> Result<(), StepFault>
-    ensures turn { ShowsLogs store.old result store.new }
+    ensures transition { ShowsLogs store.old result store.new }
     ensures shown { OnOk result (AllShown store.new) }
-    ensures stays { KeepsMeaning store.old store.new }
+    ensures frame { PreservesContents store.old store.new }
 {
-    store.promise();
+    store.reveal_invariant();
     let mut from = 0;
     for number in 0..store.placed_len() {
         let Some((_, place)) = store.placed(number) else {
@@ -64,8 +70,8 @@ fn show_logs<D: LogDisk>(store: &mut Store<D>) -> Result<(), StepFault>
         if log < from {
             continue;
         }
-        store.promise();
-        if let Err(fault) = store.show(log) {
+        store.reveal_invariant();
+        if let Err(fault) = store.publish_log(log) {
             return Err(flush_fault(store, fault));
         }
         from = log + 1;
@@ -73,17 +79,14 @@ fn show_logs<D: LogDisk>(store: &mut Store<D>) -> Result<(), StepFault>
     Ok(())
 }
 
-/// Names each entry of the flush, in the order of their keys. The only fault is `Memory`.
+/// Adds each entry of the flush to the index, in key order. Fails only with `Memory`.
 fn name_entries<D: LogDisk>(store: &mut Store<D>) -> Result<(), StepFault>
     requires { AllShown store.old }
-    ensures turn { NamesEntries store.old result store.new }
-    ensures stays { KeepsMeaning store.old store.new }
+    ensures transition { NamesEntries store.old result store.new }
+    ensures frame { PreservesContents store.old store.new }
 {
     for number in 0..store.placed_len() {
-        let Some((key, place)) = store.placed(number) else {
-            unreachable!();
-        };
-        let Ok(()) = store.name(key, place) else {
+        let Ok(()) = store.index_placed(number) else {
             return Err(StepFault::Memory {
                 done: number as u64,
             });

@@ -1,27 +1,30 @@
-//! Rolling: the log that flushes write is sealed, so that the next flush begins another.
+//! Rolling: seals the current log between two flushes.
 
 ghost use Rattle.std.specs.Prelude.{◌≡◌, IsTrue};
-ghost use Rattle.bk_store.specs.Meaning.{MeansTheSame};
-ghost use Rattle.bk_step.specs.Staying.{StandsStill};
-ghost use Rattle.bk_step.specs.Faults.{TellsItsCause};
-ghost use Rattle.bk_flush.specs.Flushing.{RollTurn};
+ghost use Rattle.bk_store.specs.Contents.{SameContents};
+ghost use Rattle.bk_store.specs.Frame.{FrameUnchanged};
+ghost use Rattle.bk_store.specs.Faults.{ReportsDeviceFault};
+ghost use Rattle.bk_flush.specs.Flushing.{RollTransition};
 
 use crate::RollAnswer;
 use bk_disk::LogDisk;
-use bk_step::StepFault;
-use bk_store::{LogState, Store};
+use bk_store::{LogState, StepFault, Store};
 
-/// Seals the log that flushes write, so that the next flush begins another.
+/// Seals the Writing log, so that the next flush begins another one.
 ///
 /// # Errors
-/// `Disk` where the device failed, `Memory` where an allocation was refused, and `Odd` where the disk behaved as no
-/// honest one does. After each the log is written no more, and it may have no ledgers map.
+///
+/// - `Disk`: the device failed.
+/// - `Memory { done: 0 }`: an allocation failed.
+/// - `Odd`: the disk is not honest.
+///
+/// After every error the log is Readable and is written no more. It may lack a ledgers map.
 pub fn roll<D: LogDisk>(store: &mut Store<D>) -> Result<RollAnswer, StepFault>
-    ensures turn { RollTurn store.old result store.new }
-    ensures cause { TellsItsCause store.old result store.new }
-    ensures stays { StandsStill store.old store.new }
+    ensures transition { RollTransition store.old result store.new }
+    ensures cause { ReportsDeviceFault store.old result store.new }
+    ensures frame { FrameUnchanged store.old store.new }
     ensures honest { store.new.honest ≡ store.old.honest }
-    ensures meaning { IsTrue store.old.honest → MeansTheSame store.old store.new }
+    ensures contents { IsTrue store.old.honest → SameContents store.old store.new }
 {
     if store.is_flushing() {
         return Ok(RollAnswer::FlushRunning);
@@ -29,8 +32,6 @@ pub fn roll<D: LogDisk>(store: &mut Store<D>) -> Result<RollAnswer, StepFault>
     let Some(log) = store.writing() else {
         return Ok(RollAnswer::NothingOpen);
     };
-    match store.seal(log, LogState::Readable) {
-        Ok(()) => Ok(RollAnswer::Sealed(log)),
-        Err(fault) => Err(StepFault::of_log(fault)),
-    }
+    store.seal(log, LogState::Readable)?;
+    Ok(RollAnswer::Sealed(log))
 }

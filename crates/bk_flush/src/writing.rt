@@ -1,62 +1,79 @@
-//! A flush begins with a swap, and its entries are written one by one, in the order of their keys.
+//! Beginning a flush, and writing its entries one by one in key order.
 //!
-//! A failing device makes the flush start again: nothing is written behind what may be half a record, and no entry
-//! that was accepted is let go.
+//! An I/O error restarts the flush: nothing is written after a partial record, and no accepted
+//! entry is lost.
 
 ghost use Rattle.std.specs.Prelude.{◌≡◌, IsTrue};
-ghost use Rattle.bk_store.specs.Meaning.{MeansTheSame};
-ghost use Rattle.bk_store.specs.Turns.{SwapTurn};
-ghost use Rattle.bk_step.specs.Staying.{Stays, SlotsStay, StandsStill};
-ghost use Rattle.bk_step.specs.Faults.{TellsItsCause};
-ghost use Rattle.bk_flush.specs.Flushing.{StepTurn};
+ghost use Rattle.bk_store.specs.Contents.{SameContents, PreservesContents};
+ghost use Rattle.bk_store.specs.Primitives.{NextNeedsLog};
+ghost use Rattle.bk_store.specs.Transitions.{SwapTransition};
+ghost use Rattle.bk_store.specs.Frame.{CoreUnchanged, SlotsUnchanged, FrameUnchanged};
+ghost use Rattle.bk_store.specs.Faults.{ReportsDeviceFault};
+ghost use Rattle.bk_flush.specs.Flushing.{AppendTransition, WriteOneTransition};
 
 use crate::WriteAnswer;
 use crate::faults::flush_fault;
-use crate::ready::ready;
+use crate::ready::next_log;
 use bk_disk::LogDisk;
-use bk_step::StepFault;
-use bk_store::{Store, SwapAnswer};
+use bk_store::{Appended, StepFault, Store, SwapAnswer};
 
-/// Begins a flush: makes the active cache the flushing one, unless a flush runs or there is nothing to flush.
+/// Begins a flush: makes the active cache the flushing cache. Does nothing if a flush is running or
+/// the active cache is empty.
 pub fn swap<D: LogDisk>(store: &mut Store<D>) -> SwapAnswer
-    ensures turn { SwapTurn store.old result store.new }
-    ensures stays { Stays store.old store.new × SlotsStay store.old.keeper store.new.keeper
+    ensures transition { SwapTransition store.old result store.new }
+    ensures frame { CoreUnchanged store.old store.new × SlotsUnchanged store.old.keeper store.new.keeper
         × (store.new.failures ≡ store.old.failures) }
 {
     store.swap()
 }
 
-/// One step of a flush: writes the first entry without a place. A log is made where none is written, or where the one
-/// that is written has no room for the record and is sealed.
+/// Writes the first entry of the flush that has no place.
+///
+/// If the Writing log has a record and this one would exceed `log_limit`, the log is sealed and
+/// becomes Filled. If no log is Writing, the next one is created.
 ///
 /// # Errors
-/// `LogsFull` where a log is to be made and no slot is free, then `NoMoreIds` where the last id is used up: nothing is
-/// changed. `Memory` where an allocation was refused: the step may be taken again, and a log that was sealed for it, or
-/// made, stays so. `Disk` where the device failed, and `Odd` where it behaved as no honest one does: the flush starts
-/// again in another log.
+///
+/// - `LogsFull`: a new log is needed and every slot is taken. Nothing changes.
+/// - `NoMoreIds`: a new log is needed and the last id is used. Nothing changes.
+/// - `Memory { done: 0 }`: an allocation failed. A log that was sealed or created for this entry
+///   stays so. The call may be repeated.
+/// - `Disk`: the device failed. `Odd`: the disk is not honest. The flush restarts in another log.
 pub fn write_one<D: LogDisk>(store: &mut Store<D>) -> Result<WriteAnswer, StepFault>
-    ensures turn { StepTurn store.old result store.new }
-    ensures cause { TellsItsCause store.old result store.new }
-    ensures stays { StandsStill store.old store.new }
+    ensures transition { WriteOneTransition store.old result store.new }
+    ensures cause { ReportsDeviceFault store.old result store.new }
+    ensures frame { FrameUnchanged store.old store.new }
     ensures honest { store.new.honest ≡ store.old.honest }
-    ensures meaning { IsTrue store.old.honest → MeansTheSame store.old store.new }
+    ensures contents { IsTrue store.old.honest → SameContents store.old store.new }
 {
-    if !store.is_flushing() {
-        return Ok(WriteAnswer::NoFlush);
+    match append(store)? {
+        Appended::AllPlaced if store.is_flushing() => Ok(WriteAnswer::AllWritten),
+        Appended::AllPlaced => Ok(WriteAnswer::NoFlush),
+        Appended::At(location) => Ok(WriteAnswer::Wrote(location)),
+        Appended::NeedsLog => write_to_next_log(store),
     }
-    let Some(next) = store.next_entry() else {
-        return Ok(WriteAnswer::AllWritten);
+}
+
+/// Writes the next entry of the flush, which needs a new log, to the next log.
+fn write_to_next_log<D: LogDisk>(store: &mut Store<D>) -> Result<WriteAnswer, StepFault>
+    requires { NextNeedsLog store.old }
+    ensures transition { WriteOneTransition store.old result store.new }
+    ensures frame { PreservesContents store.old store.new }
+{
+    next_log(store)?;
+    let Appended::At(location) = append(store)? else {
+        unreachable!();
     };
-    let key = next.0;
-    let size = next.1.len();
-    // The entry that was found is held while a log is made ready, so that it is not searched for again.
-    let held: Result<_, _> = next.1.clone();
-    let log = ready(store, size)?;
-    let Ok(payload) = held else {
-        return Err(StepFault::Memory { done: 0 });
-    };
-    match store.write(log, key, &payload) {
-        Ok(location) => Ok(WriteAnswer::Wrote(location)),
+    Ok(WriteAnswer::Wrote(location))
+}
+
+/// Appends the next entry of the flush. Restarts the flush on an I/O error.
+fn append<D: LogDisk>(store: &mut Store<D>) -> Result<Appended, StepFault>
+    ensures transition { AppendTransition store.old result store.new }
+    ensures frame { PreservesContents store.old store.new }
+{
+    match store.append_next() {
+        Ok(appended) => Ok(appended),
         Err(fault) => Err(flush_fault(store, fault)),
     }
 }

@@ -1,4 +1,4 @@
--- Pairs that are added to a map one by one, and the first that can't be.
+-- Adding pairs to a map one by one, and the first that cannot be added.
 use Rattle.std.proofs.Common.{◌≡◌, ℕ, ◌+◌, ◌-◌, ◌*◌, ◌≤◌, List, [], ◌∷◌, ◌++◌, length, take, drop, Option, Some, None}
 use Rattle.std.proofs.Common.{refl, sym, ap, subst, ap₂, ◌∙◌, append_assoc, arith}
 use Rattle.std.specs.Prelude.{IsSome}
@@ -22,7 +22,7 @@ use Rattle.bk_head.proofs.Bytes.{big_number-8, from_be_bytes-take-8}
 use Rattle.bk_head.proofs.Distinct.{AreDistinct-push, ledgers_of-append, In-from_find, find_none}
 use Rattle.bk_head.proofs.Pairs.{IsNumbers, pair_at, pair_at-is, flat_map-append, spelled}
 
--- cut at a place further on
+-- a longer prefix, in two parts
 pub take-more : (n m : ℕ) (bytes : List ℕ) → n + m ≤ length bytes → take (n + m) bytes ≡ take n bytes ++ take m (drop n bytes)
 take-more n m bytes long =
     ap (take (n + m)) (sym (take-append-drop n bytes) ∙ ap (λ (x : List ℕ). take n bytes ++ x) (sym (take-append-drop m (drop n bytes)))
@@ -33,7 +33,7 @@ take-more n m bytes long =
 number_in : (bytes : List ℕ) → from_be_bytes w64 (take 16 bytes) ≡ from_be_bytes w64 bytes
 number_in bytes = sym (from_be_bytes-take-8 (take 16 bytes)) ∙ ap (from_be_bytes w64) (take-take 8 16 bytes (omega arith)) ∙ from_be_bytes-take-8 bytes
 
--- the pair that is read at a place
+-- the pair that the code reads at a position
 pub pair_read : (at : ℕ) (bytes pair : List ℕ) (ledger size : ℕ) → IsBytes bytes → at + 16 ≤ length bytes → pair ≡ take (at + 16 - at) (drop at bytes)
     → ledger ≡ big_number 8 pair → size ≡ big_number 8 (take (length pair - 8) (drop 8 pair)) → (pair_bytes (ledger, size) ≡ take 16 (drop at bytes))
     × IsNumbers (ledger, size)
@@ -60,11 +60,11 @@ pub numbers_of : (ps : List (ℕ × ℕ)) → AllByRecursion IsPair ps → AllBy
 numbers_of [] h = tt
 numbers_of (p ∷ ps) h = ((omega (arith, h.0.0), omega (arith, h.0.1)), numbers_of ps h.1)
 
--- a ledger that the map hasn't isn't among its pairs
+-- a ledger that the map does not have is not among its pairs
 found_in : (pairs : List (ℕ × ℕ)) (m : LedgersMap) (ledger : ℕ) → m ≡ ledgers.from_entries pairs → ledgers.get m ledger ≡ find nat_cmp ledger pairs
 found_in pairs m ledger is = ap (λ (x : LedgersMap). ledgers.get x ledger) is ∙ ledgers.get-from_entries nat_cmp_total pairs ledger
 
--- one more pair, with a new ledger
+-- adding one more pair, with a new ledger
 pub adds_more : (before : List (ℕ × ℕ)) (at : ℕ) (bytes : List ℕ) (m n : LedgersMap) (p : ℕ × ℕ) → at + 16 ≤ length bytes → pair_bytes p
     ≡ take 16 (drop at bytes)
     → AddsPairs before (take at bytes) m → IsPair p → ledgers.get m p.0 ≡ None → n ≡ ledgers.insert m p.0 p.1 → AddsPairs before (take (at + 16) bytes) n
@@ -105,7 +105,7 @@ reaches before at left bytes m p each long is numbers a =
       distinct = a.distinct;
     }
 
--- a pair that can't be added is the first such one
+-- a pair that cannot be added is the first such one
 pub refused : (before : List (ℕ × ℕ)) (at left : ℕ) (bytes : List ℕ) (m : LedgersMap) (p : ℕ × ℕ) (fault : HeadFault) → IsBytes bytes
     → at + 16 + 16 * left ≡ length bytes
     → pair_bytes p ≡ take 16 (drop at bytes) → IsNumbers p → AddsPairs before (take at bytes) m
@@ -126,7 +126,7 @@ refused before at left bytes m p (NotAMap place) each long is numbers a h = h
 refused before at left bytes m p (MapLength place) each long is numbers a h = h
 refused before at left bytes m p (CountDiffers found) each long is numbers a h = h
 
--- more pairs behind those that were added
+-- adding more pairs after those that were added
 pub adds_then : (before : List (ℕ × ℕ)) (bytes piece : List ℕ) (m n : LedgersMap) → (a : AddsPairs before bytes m) → AddsPairs (before ++ a.good) piece n
     → AddsPairs before (bytes ++ piece) n
 adds_then before bytes piece m n a b =

@@ -1,4 +1,4 @@
--- What is written is read again.
+-- A written map is read again, with the same result.
 use Rattle.std.proofs.Common.{◌≡◌, ℕ, zero, suc, ◌+◌, ◌≤◌, ℤ, pos, true, false, List, ◌++◌, length, take, drop, replicate}
 use Rattle.std.proofs.Common.{Option, Some, None, Result, Ok, refl, sym, ap, subst, ◌∙◌, arith, eqb, leb}
 use Rattle.std.specs.Int.{w32, to_be_bytes, from_be_bytes}
@@ -22,7 +22,7 @@ read_again map offset writable low =
     let to : leb offset (offset + length (written_map map)) ≡ true = le-leb offset (offset + length (written_map map)) (omega arith) in
     rw (some, from, to) (written_spells map writable, refl)
 
--- a header of this version, where its positions 8 to 20 were patched
+-- a header of this version after a patch of its bytes 8 to 20
 patched_bytes : (bytes : List ℕ) (header : Header) (offset count version : ℕ) → IsHeader bytes header → header.version ≡ version
     → take 8 (magic ++ to_be_bytes w32 version) ≡ magic ++ to_be_bytes w32 version
     → patched_header bytes offset count ≡ magic ++ to_be_bytes w32 version ++ patch_of offset count ++ drop 20 bytes
@@ -39,7 +39,7 @@ patched_again bytes header offset count is one = record {
   says = refl;
 }
 
--- what a version says of a map, where it is 0, it says of all bytes
+-- in version 0, offset and count do not depend on the bytes
 old_says : (version : ℕ) (fields others : List ℕ) (offset count : ℤ) → version ≡ 0 → SaysOfMap version fields offset count
     → SaysOfMap version others offset count
 old_says zero fields others offset count none says = says
@@ -59,7 +59,7 @@ pub empty_is_header : IsHeader empty_header (record { version = 1; map_offset = 
 unfolding empty_header head_of
 empty_is_header = record { fields = patch_of 0 0; rest = replicate 1004 0; bytes_are = refl; says = refl }
 
--- ---- version 0 has no map
+-- ---- a log of version 0 has no map
 
 says_nothing : (version : ℕ) (fields rest bytes : List ℕ) (offset count : ℤ) → bytes ≡ magic ++ to_be_bytes w32 version ++ fields ++ rest
     → version_field bytes ≡ 0 → SaysOfMap version fields offset count → (offset ≡ pos 0) × (count ≡ pos 0)

@@ -1,4 +1,4 @@
--- From what stands in the bytes to what `read_map` answers.
+-- From the bytes to the result of `read_map`.
 use Rattle.std.proofs.Common.{◌≡◌, ◌≢◌, ℕ, ℤ, pos, negsuc, Bool, true, false, cond, ◌&&◌, nat_le, List, Option, Some, None, Result, Ok, Err}
 use Rattle.std.proofs.Common.{refl, sym, ap, subst, ◌∙◌}
 use Rattle.std.specs.Prelude.{◌==◌}
@@ -16,7 +16,7 @@ use Rattle.bk_head.proofs.Batching.{or_fault, or_memory-map}
 use Rattle.bk_head.proofs.MapViews.{len-map_of}
 use Rattle.bk_head.proofs.OneReading.{one_answer}
 
--- the answer at a place that the header gives
+-- result for the offset and count of the header
 at_place : (place : Result (Option (ℕ × ℕ)) HeadFault) (tail : List ℕ) (long : ℕ) (header : Header) (answer : Result (Option LedgersMap) HeadFault)
     → place ≡ map_place long header.map_offset header.count → AnswerAt place tail answer → MapAnswer tail long header answer
 unfolding MapAnswer
@@ -26,7 +26,7 @@ pub unsealed : (place : Option (ℕ × ℕ)) (tail : List ℕ) (long : ℕ) (hea
     → place ≡ None → MapAnswer tail long header (Ok None)
 unsealed place tail long header is none = at_place (Ok None) tail long header (Ok None) (ap (λ p. Ok p) (sym none) ∙ is) refl
 
--- a header's offset and count ask for no memory
+-- an error of the offset and count is not `Memory`
 place_without_memory : (long : ℕ) (offset count : ℤ) (fault : HeadFault) → Err fault ≡ map_place long offset count → fault ≢ Memory
 place_without_memory long (negsuc n) count fault is e = cc
 place_without_memory long (pos offset) (negsuc n) fault is e = cc
@@ -54,7 +54,7 @@ tail_fault offset count tail (Repeated ledger) h = h
 tail_fault offset count tail (CountDiffers found) h = absurd h.stands.1.1
 tail_fault offset count tail Memory h = h
 
--- an offset and a count that the header gives
+-- offset and count of a header
 abbrev pub IsPlace : Option (ℕ × ℕ) → ℕ → ℕ → ℕ → Header → Type 0
 IsPlace place offset count long header = (Ok place ≡ map_place long header.map_offset header.count) × (place ≡ Some (offset, count))
 
@@ -84,7 +84,7 @@ spelled_map place offset count tail long header map found is spells ordered long
     at_place (Ok (Some (offset, count))) tail long header (Ok (Some (map_of map))) (ap (λ p. Ok p) (sym is.1) ∙ is.0)
     (spells, len-map_of map ordered ∙ sym long-is ∙ same)
 
--- no other answer fits
+-- no other result is possible
 pub only : (tail : List ℕ) (long : ℕ) (header : Header) (fault : HeadFault)
     → UnlessMemory (Err fault) (WantsMemory tail long header) (MapAnswer tail long header (Err fault))
     → (answer : Result (Option LedgersMap) HeadFault) → MapAnswer tail long header answer → UnlessMemory (Err fault) (Unit {0}) (Err fault ≡ answer)

@@ -36,7 +36,7 @@ is_asked payload ids r is asked for_map = (ids_asked payload ids r is asked).1 f
 
 -- ---- the count
 
--- a count that isn't negative is the number that stands there
+-- a count that is not negative is the unsigned number of the same bytes
 count_is : (bytes : List ℕ) (count : ℕ) → from_be_bytes w32 bytes < 2 ^ 32 → signed_field bytes ≡ pos count → from_be_bytes w32 bytes ≡ count
 unfolding signed_field
 count_is bytes count fits e = sym (of_z-to_z w32 (from_be_bytes w32 bytes) fits) ∙ ap (cast_unsigned w32) e

@@ -1,4 +1,4 @@
--- What the first twenty-four bytes say of the batch that begins with them, whatever stands behind.
+-- What the first 24 bytes of a batch determine, whatever follows them.
 use Rattle.std.proofs.Common.{◌≡◌, ◌≢◌, ℕ, ◌+◌, ◌-◌, ◌*◌, ◌<◌, ◌≤◌, ◌^◌, Bool, true, false, eqb, List, length, take, drop, min}
 use Rattle.std.proofs.Common.{refl, sym, ap, ◌∙◌, arith}
 use Rattle.std.specs.List.{starts_with}
@@ -24,22 +24,22 @@ field_shown bytes head n is read =
     read ∙ big_number-4 head ∙ ap (from_be_bytes w32) is ∙ sym (from_be_bytes-take-4 (take 24 bytes))
     ∙ ap (from_be_bytes w32) (take-take 4 24 bytes (omega arith)) ∙ from_be_bytes-take-4 bytes
 
--- a record that begins here has the length that was read
+-- a record here has the length that was read
 pub length_told : (bytes head payload : List ℕ) (left n : ℕ) → IsFrontOf head left bytes → n ≡ big_number 4 head → BeginsWith bytes payload → n ≡ length payload
 length_told bytes head payload left n shown read s = field_shown bytes head n shown.1 read ∙ Begins-field bytes payload s
 
--- fewer bytes than a record's length field and its ids
+-- no record fits in fewer than 20 bytes
 pub no_room : (bytes head payload : List ℕ) (left : ℕ) → IsFrontOf head left bytes → left < 20 → BeginsWith bytes payload → ⊥
 no_room bytes head payload left shown few s = omega (arith, shown.0, Begins-long bytes payload s, s.legal.0)
 
--- more bytes than are left
+-- no record is here if its length exceeds the bytes left
 pub no_end : (bytes head payload : List ℕ) (left n : ℕ) → IsFrontOf head left bytes → n ≡ big_number 4 head → left - 4 < n → BeginsWith bytes payload → ⊥
 no_end bytes head payload left n shown read more s =
     omega (arith, shown.0, Begins-long bytes payload s, length_told bytes head payload left n shown read s)
 
 -- ---- the ids
 
--- the first bytes of the payload are shown
+-- the first bytes of the payload are those after the length field
 front_shown : (bytes payload : List ℕ) → (s : BeginsWith bytes payload) → take (length payload) (drop 4 bytes) ≡ payload
 front_shown bytes payload s =
     ap (λ (x : List ℕ). take (length payload) (drop 4 x)) s.is ∙ ap (take (length payload)) (drop_field payload s.behind)
@@ -74,7 +74,7 @@ batch_begins bytes head ids left n r each many shown enough read low high fits i
 
 -- ---- the count and the pairs
 
--- what stands in a payload from a place on
+-- bytes of a payload from a position
 behind_shown : (bytes payload : List ℕ) (at n : ℕ) → BeginsWith bytes payload → at + n ≡ length payload → take n (drop (4 + at) bytes) ≡ drop at payload
 behind_shown bytes payload at n s long =
     ap (take n) (sym (drop-drop at 4 bytes)) ∙ sym (drop-take at n (drop 4 bytes)) ∙ ap (λ k. drop at (take k (drop 4 bytes))) long
@@ -93,7 +93,7 @@ count_told bytes head payload n is s long read =
     read ∙ big_number-4 (drop 20 head) ∙ sym (from_be_bytes-take-4 (drop 20 head)) ∙ ap (from_be_bytes w32) (count_shown bytes head payload is s long)
     ∙ from_be_bytes-take-4 (drop 16 payload)
 
--- a length that its count does not want
+-- a length that does not fit the count
 pub other_length : (bytes head : List ℕ) (left size n : ℕ) → IsFrontOf head left bytes → (b : IsSizedBatch size bytes) → 20 ≤ size → n < 2 ^ 32
     → n ≡ big_number 4 (drop 20 head) → size - 20 ≢ 16 * n
     → (payload : List ℕ) × (BeginsWith bytes payload × (IsForMap payload × ¬ (IsSized payload)))
@@ -101,7 +101,7 @@ other_length bytes head left size n shown b long fits read other =
     let count = count_told bytes head b.payload n shown.1 b.begins (omega (arith, b.size_is)) read in
     (b.payload, (b.begins, (b.for_map, not_sized b.payload n fits count (λ e. other (omega (arith, e, b.size_is))))))
 
--- the length that its count wants
+-- a length that fits the count
 pub right_length : (bytes head : List ℕ) (left size n : ℕ) → IsBytes head → length head ≡ min 24 left → IsFrontOf head left bytes
     → (b : IsSizedBatch size bytes) → 20 ≤ size → size + 4 ≤ left
     → n ≡ big_number 4 (drop 20 head) → size - 20 ≡ 16 * n → HasPairs bytes (take (16 * n) (drop 24 bytes))

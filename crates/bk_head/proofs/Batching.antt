@@ -1,4 +1,4 @@
--- Batches that are read one after another, up to the first fault.
+-- Batches read one after another, up to the first error.
 use Rattle.std.proofs.Common.{◌≡◌, ◌≢◌, ℕ, ◌+◌, ◌*◌, ◌≤◌, List, [], ◌++◌, length, take, drop, refl, sym, ap, subst, ◌∙◌, append_assoc, arith}
 use Rattle.std.specs.Int.{w32, to_be_bytes}
 use Rattle.std.specs.List.{flat_map}
@@ -15,14 +15,14 @@ use Rattle.bk_head.proofs.BatchBytes.{length-batch_ids}
 use Rattle.bk_head.proofs.Pairs.{length-pairs}
 use Rattle.bk_head.proofs.Adding.{take-more}
 
--- nothing was read yet
+-- no bytes parse as the empty map
 pub spells_nothing : (m : LedgersMap) → m ≡ ledgers.empty → SpellsMap [] m
 spells_nothing m is = record { pairs = []; spelled = Batches.none; distinct = tt; map_is = is }
 
 pub batches_at : (b c : List ℕ) (p q : List (ℕ × ℕ)) → b ≡ c → p ≡ q → Batches b p → Batches c q
 batches_at b c p q same-bytes same-pairs is = subst (λ (x : List ℕ). Batches x q) same-bytes (subst (λ (x : List (ℕ × ℕ)). Batches b x) same-pairs is)
 
--- one more batch behind batches
+-- one more batch after batches
 pub batches_more : (bytes : List ℕ) (pairs others : List (ℕ × ℕ)) → Batches bytes pairs → IsBatch others
     → Batches (bytes ++ batch_of others) (pairs ++ others)
 batches_more _ _ others Batches.none is =
@@ -34,7 +34,7 @@ batches_more _ _ others (Batches.more {pairs = ps} {others = qs} {behind = rest}
 
 -- ---- one batch that was read
 
--- the pairs that have the bytes are as many as the count says
+-- the number of pairs is the count
 many : (count : ℕ) (bytes : List ℕ) (good : List (ℕ × ℕ)) → length bytes ≡ 16 * count → bytes ≡ flat_map pair_bytes good → length good ≡ count
 many count bytes good sized is = omega (arith, ap length is, length-pairs good)
 
@@ -54,7 +54,7 @@ length-payload count bytes = omega (
   length-batch_ids,
 )
 
--- a batch begins with its head, and its pairs follow
+-- a batch is its head, then its pairs
 pub has-front : (tail bytes : List ℕ) (h : HasPairs tail bytes)
     → (take (24 + length bytes) tail ≡ record_of (batch_ids ++ to_be_bytes w32 h.count ++ bytes)) × (24 + length bytes ≤ length tail)
 has-front tail bytes h =
@@ -81,7 +81,7 @@ spells_more tail bytes at m n within s h a =
       map_is = a.map_is;
     }
 
--- ---- the first fault
+-- ---- the first error
 
 pub or_fault : (fault : HeadFault) (M P : Type 0) → fault ≢ Memory → P → OrMemory fault M P
 or_fault Memory M P other p = absurd (other refl)
@@ -93,7 +93,7 @@ or_fault (MapLength at) M P other p = p
 or_fault (Repeated ledger) M P other p = p
 or_fault (CountDiffers found) M P other p = p
 
--- what stands in the bytes is no want of memory
+-- an error in the bytes is not `Memory`
 pub stands_without_memory : (at : ℕ) (before : List (ℕ × ℕ)) (bytes : List ℕ) (fault : HeadFault) → FaultAt at before bytes fault → fault ≢ Memory
 stands_without_memory at before bytes fault stands is = (subst (FaultAt at before bytes) is stands).1.1
 
@@ -135,7 +135,7 @@ or_memory-map (MapLength at) M N P Q g f p = f p
 or_memory-map (Repeated ledger) M N P Q g f p = f p
 or_memory-map (CountDiffers found) M N P Q g f p = f p
 
--- a pair's fault is the fault of its batch
+-- the error of a pair is the error of its batch
 pair_stops : (at : ℕ) (before : List (ℕ × ℕ)) (tail bytes : List ℕ) (fault : HeadFault) → HasPairs tail bytes
     → OrMemory fault (ReachesNew before bytes) (PairFault before bytes fault) → OrMemory fault (ReachesNew before bytes) (FaultAt at before tail fault)
 pair_stops at before tail bytes Memory has h = h

@@ -1,4 +1,4 @@
--- Numbers of four and eight bytes, big-endian: what stands in bytes is spelled again, and what is spelled is read again.
+-- Numbers of four and eight bytes, big-endian: encoding and parsing are inverse.
 use Rattle.std.proofs.Common.{◌≡◌, ℕ, ◌^◌, ◌<◌, ◌≤◌, List, ◌++◌, length, take, refl, sym, arith}
 use Rattle.std.specs.Int.{w32, w64, to_be_bytes, from_be_bytes}
 use Rattle.std.proofs.lemmas.List.{length-take, get_or-take}
@@ -7,7 +7,7 @@ use Rattle.byteorder.specs.Endian.{big_number}
 use Rattle.bk_record.specs.Spelling.{IsBytes}
 use Rattle.bk_record.proofs.Records.{bytes_take}
 
--- what `byteorder` reads is the number that the definitions name
+-- `byteorder` reads the number of the definitions
 pub big_number-4 : (bytes : List ℕ) → big_number 4 bytes ≡ from_be_bytes w32 bytes
 big_number-4 bytes = omega arith
 
@@ -23,7 +23,7 @@ from_be_bytes-take-4 bytes = rw (
   get_or-take 4 bytes 3 0 (omega arith),
 ) refl
 
--- the first four bytes are those of the number that they spell
+-- encoding the number of the first four bytes gives these bytes
 pub front_4 : (bytes : List ℕ) → IsBytes bytes → 4 ≤ length bytes → to_be_bytes w32 (from_be_bytes w32 bytes) ≡ take 4 bytes
 front_4 bytes each long = be_bytes_4 (take 4 bytes) (from_be_bytes w32 bytes) (omega (arith, length-take 4 bytes)) (bytes_take 4 bytes each)
     (sym (from_be_bytes-take-4 bytes))
@@ -53,7 +53,7 @@ pub front_8 : (bytes : List ℕ) → IsBytes bytes → 8 ≤ length bytes → to
 front_8 bytes each long = be_bytes_8 (take 8 bytes) (from_be_bytes w64 bytes) (omega (arith, length-take 8 bytes)) (bytes_take 8 bytes each)
     (sym (from_be_bytes-take-8 bytes))
 
--- a number that is spelled is read again, whatever follows it
+-- parsing an encoded number gives the number, whatever follows it
 pub again_4 : (n : ℕ) (rest : List ℕ) → n < 2 ^ 32 → from_be_bytes w32 (to_be_bytes w32 n ++ rest) ≡ n
 again_4 n rest fits = from_be_bytes-to_be_bytes_4 n fits
 

@@ -1,4 +1,4 @@
--- Lists in which nothing stands twice, and looking a ledger up among pairs.
+-- Lists without repetition, and look-up of a ledger among pairs.
 use Rattle.std.proofs.Common.{◌≡◌, ℕ, true, cond, List, [], ◌∷◌, ◌++◌, Some, None, sym, ap, ◌∙◌, inl, inr}
 use Rattle.std.specs.Ordering.{nat_cmp, eq_by_cmp}
 use Rattle.std.specs.Cmp.{unsigned_tied}
@@ -10,7 +10,7 @@ use Rattle.bk_record.specs.Files.{In}
 use Rattle.bk_record.proofs.Growth.{In-append_left, In-append_right, In-push_cases}
 use Rattle.bk_head.specs.Ledgers.{ledgers_of, AreDistinct}
 
--- one more, which isn't there yet
+-- appending an element that is not in the list
 pub AreDistinct-push : (xs : List ℕ) (y : ℕ) → AreDistinct xs → ¬ (In y xs) → AreDistinct (xs ++ y ∷ [])
 AreDistinct-push [] y d fresh = ((λ h. h), tt)
 AreDistinct-push (x ∷ xs) y d fresh =
@@ -20,7 +20,7 @@ pub AreDistinct-front : (xs ys : List ℕ) → AreDistinct (xs ++ ys) → AreDis
 AreDistinct-front [] ys d = tt
 AreDistinct-front (x ∷ xs) ys d = ((λ h. d.0 (In-append_left x xs ys h)), AreDistinct-front xs ys d.1)
 
--- what stands behind a list without repeats isn't in it
+-- an element after others of a distinct list is not among them
 pub AreDistinct-apart : (xs : List ℕ) (y : ℕ) (ys : List ℕ) → AreDistinct (xs ++ y ∷ ys) → ¬ (In y xs)
 AreDistinct-apart [] y ys d h = h
 AreDistinct-apart (x ∷ xs) y ys d (inl e) = d.0 (In-append_right x xs (y ∷ ys) (inl (sym e)))
@@ -35,7 +35,7 @@ tied q k e = eqb-true q k (sym (unsigned_tied q k) ∙ e)
 pub tied_itself : (q k : ℕ) → k ≡ q → eq_by_cmp nat_cmp q k ≡ true
 tied_itself q k e = unsigned_tied q k ∙ eq-eqb q k (sym e)
 
--- what is found is there, and what is there is found
+-- a ledger is found exactly if it is in the list
 pub In-from_find : (q : ℕ) (ps : List (ℕ × ℕ)) (v : ℕ) → find nat_cmp q ps ≡ Some v → In q (ledgers_of ps)
 In-from_find q [] v e = absurd (none-some v e)
 In-from_find q (p ∷ ps) v e =

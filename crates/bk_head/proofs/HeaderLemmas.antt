@@ -1,4 +1,4 @@
--- What a header's bytes say.
+-- The fields of a header as bytes.
 use Rattle.std.proofs.Common.{◌≡◌, ℕ, ◌+◌, ◌^◌, ◌<◌, ◌≤◌, ℤ, pos, List, ◌++◌, length, take, drop, refl, sym, ap, subst, ◌∙◌, append_assoc, arith}
 use Rattle.std.specs.Int.{w32, w64, to_be_bytes, from_be_bytes, cast_unsigned, cast_signed}
 use Rattle.std.proofs.Common.{Bool, true, eqb}
@@ -14,7 +14,7 @@ use Rattle.bk_head.specs.Header.{IsHeader, SaysOfMap, magic, head_of, patch_of, 
 use Rattle.bk_record.specs.Spelling.{IsBytes}
 use Rattle.bk_head.proofs.Bytes.{big_number-4, big_number-8, front_4, front_8, below_4, below_8}
 
--- cut in two, with the second part counted from the front
+-- a suffix in two parts
 cut : (n m : ℕ) (bytes : List ℕ) → drop n bytes ≡ take m (drop n bytes) ++ drop (n + m) bytes
 cut n m bytes = sym (take-append-drop m (drop n bytes)) ∙ ap (λ (x : List ℕ). take m (drop n bytes) ++ x) (drop-drop m n bytes)
 
@@ -41,16 +41,16 @@ head_is bytes each long magic_is version_is =
 pub magic_is : (bytes : List ℕ) (r : Bool) → r ≡ starts_with eqb bytes magic → r ≡ true → take 4 bytes ≡ magic
 magic_is bytes r is starts = sym ((slice_eq-Decides Decides-eqb magic (take 4 bytes) r is).0 starts)
 
--- what stands behind a place of 1024 bytes
+-- bytes of a header from a position
 pub behind : (at length-behind : ℕ) (bytes : List ℕ) → length bytes ≤ at + length-behind → mid_of at length-behind bytes ≡ drop at bytes
 behind at n bytes long = take_all n (drop at bytes) (omega (arith, length-drop at bytes))
 
--- the numbers as the calls answer them, from what stands at a place
+-- the numbers that the code reads are those at their positions
 pub version_read : (bytes : List ℕ) (version : ℕ) → length bytes ≡ 1024 → version ≡ big_number 4 (mid_of 4 1020 bytes) → version ≡ version_field bytes
 unfolding version_field
 version_read bytes version long is = is ∙ ap (big_number 4) (behind 4 1020 bytes (omega arith)) ∙ big_number-4 (drop 4 bytes)
 
--- a signed number goes back to the bits that it was made of
+-- a signed number converts back to the bits that it was made of
 bits_64 : (n : ℕ) (z : ℤ) → n < 2 ^ 64 → z ≡ cast_signed w64 n → cast_unsigned w64 (cast_signed w64 (cast_unsigned w64 z)) ≡ n
 bits_64 n z fits is =
     let bits : cast_unsigned w64 z ≡ n = ap (cast_unsigned w64) is ∙ of_z-to_z w64 n fits in
@@ -90,7 +90,7 @@ header_read bytes version offset count each long is-magic is-version one is-offs
           (λ (v : ℕ). SaysOfMap v fields (cast_signed w64 (cast_unsigned w64 offset)) (cast_signed w32 (cast_unsigned w32 count))) (sym one) refl;
     }
 
--- a header of version 0 is one whatever its other bytes are
+-- bytes with the magic and version 0 are a header, whatever the other bytes are
 pub old_header_read : (bytes : List ℕ) (version : ℕ) → IsBytes bytes → length bytes ≡ 1024 → take 4 bytes ≡ magic → version ≡ version_field bytes
     → version ≡ 0 → IsHeader bytes (record { version = version; map_offset = pos 0; count = pos 0 })
 unfolding version_field

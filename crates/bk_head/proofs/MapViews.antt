@@ -1,4 +1,4 @@
--- A `BTreeMap` of the program as a finite map.
+-- A `BTreeMap` as a finite map.
 use Rattle.std.proofs.Common.{◌≡◌, ℕ, Bool, true, false, cond, ◌&&◌, T, List, [], ◌∷◌, map, length, Some, Less, refl, sym, ap, ◌∙◌, subst}
 use Rattle.std.specs.Ordering.{nat_cmp, eq_by_cmp, is_lt}
 use Rattle.std.specs.Cmp.{nat_cmp_total, eq_by_cmp_equiv}
@@ -17,7 +17,7 @@ find-lookup : (es : List (ℕ × ℕ)) (q : ℕ) → find nat_cmp q es ≡ looku
 find-lookup [] q = refl
 find-lookup (e ∷ es) q = ap (cond (eq_by_cmp nat_cmp q e.0) (Some e.1)) (find-lookup es q)
 
--- what the finite map has at a ledger is what the program's map finds
+-- look-up in the finite map is look-up in the `BTreeMap`
 pub get-map_of : (m : BTreeMap ℕ ℕ) (q : ℕ) → ledgers.get (map_of m) q ≡ tree.get nat_cmp m q
 get-map_of m q = ledgers.get-from_entries nat_cmp_total m.entries q ∙ find-lookup m.entries q
 
@@ -40,7 +40,7 @@ sorted_is [] h = tt
 sorted_is (e ∷ es) h = both _ _ (below_is e.0 es (sorted_head nat_cmp e.0 (map (λ e. e.0) es) h))
     (sorted_is es (sorted_tail nat_cmp e.0 (map (λ e. e.0) es) h))
 
--- a map's entries are already in their order
+-- the entries of a `BTreeMap` are in the order of the finite map
 pub entries-map_of : (m : BTreeMap ℕ ℕ) → tree.IsOrdered nat_cmp m → ledgers.entries (map_of m) ≡ m.entries
 entries-map_of m o =
     let sorted = sorted_is m.entries o in

@@ -1,4 +1,4 @@
--- At one place of a map's bytes stands one fault at most, and no good batch beside it.
+-- At each place of a map's bytes there is at most one error, and then no correct batch.
 use Rattle.std.proofs.Common.{◌≡◌, ◌≢◌, ℕ, ◌*◌, ◌^◌, ◌<◌, List, [], ◌∷◌, ◌++◌, length, take, drop, refl, sym, ap, subst, ◌∙◌, append_assoc, arith, inl, inr}
 use Rattle.std.specs.Prelude.{◌⊎◌}
 use Rattle.std.specs.Int.{w32, to_be_bytes, from_be_bytes, cast_signed}
@@ -22,7 +22,7 @@ use Rattle.bk_head.proofs.Batching.{length-payload}
 
 -- ---- one pair
 
--- two places in one list: the same one, or one before the other
+-- two positions in a list: equal, or one before the other
 splits : (a : List (ℕ × ℕ)) (p : ℕ × ℕ) (x : List (ℕ × ℕ)) (b : List (ℕ × ℕ)) (q : ℕ × ℕ) (y : List (ℕ × ℕ)) → a ++ p ∷ x ≡ b ++ q ∷ y
     → ((a ≡ b) × (p ≡ q)) ⊎ (((t : List (ℕ × ℕ)) × (b ≡ a ++ p ∷ t)) ⊎ ((t : List (ℕ × ℕ)) × (a ≡ b ++ q ∷ t)))
 splits [] p x [] q y e = let same : p ∷ x ≡ q ∷ y = e in inl (refl, cc)
@@ -46,7 +46,7 @@ splits (d ∷ a) p x (c ∷ b) q y e =
       ]
     ]
 
--- what is wrong with a pair behind good ones
+-- the pair cannot be added after the good ones
 abbrev pub IsWrong : List (ℕ × ℕ) → List (ℕ × ℕ) → ℕ × ℕ → Type 0
 IsWrong before good p = ¬ (IsPair p) ⊎ In p.0 (ledgers_of (before ++ good))
 
@@ -54,7 +54,7 @@ each_at : (P : ℕ × ℕ → Type 0) (a : List (ℕ × ℕ)) (p : ℕ × ℕ) (
 each_at P [] p x h = h.0
 each_at P (q ∷ a) p x h = each_at P a p x h.1
 
--- a wrong pair isn't among good ones
+-- a pair that cannot be added is not among good ones
 no_good : (before a : List (ℕ × ℕ)) (p : ℕ × ℕ) (x : List (ℕ × ℕ)) → IsWrong before a p → AllByRecursion IsPair (a ++ p ∷ x)
     → AreDistinct (ledgers_of (before ++ (a ++ p ∷ x))) → ⊥
 no_good before a p x (inl n) each distinct = n (each_at IsPair a p x each)
@@ -62,7 +62,7 @@ no_good before a p x (inr h) each distinct =
     AreDistinct-apart (ledgers_of (before ++ a)) p.0 (ledgers_of x)
     (subst AreDistinct (ap ledgers_of (sym (append_assoc before a (p ∷ x))) ∙ ledgers_of-append (before ++ a) (p ∷ x)) distinct) h
 
--- the first wrong pair is one
+-- there is one first pair that cannot be added
 same_pair : (before : List (ℕ × ℕ)) (bytes : List ℕ) (a b : List (ℕ × ℕ)) (p q : ℕ × ℕ) → ReachesPair before bytes a p → ReachesPair before bytes b q
     → IsWrong before a p → IsWrong before b q → (a ≡ b) × (p ≡ q)
 same_pair before bytes a b p q r s wrong-p wrong-q =
@@ -77,7 +77,7 @@ same_pair before bytes a b p q r s wrong-p wrong-q =
       ]
     ]
 
--- a pair's fault, told from the pair
+-- the error of a pair, by its cause
 abbrev IsOf : List (ℕ × ℕ) → List (ℕ × ℕ) → ℕ × ℕ → HeadFault → Type 0
 IsOf before good p fault = ((fault ≡ Negative) × ¬ (IsPair p)) ⊎ ((fault ≡ Repeated p.0) × (IsPair p × In p.0 (ledgers_of (before ++ good))))
 
@@ -117,7 +117,7 @@ same_pair_fault before bytes f g h k =
 
 -- ---- one batch
 
--- the payload of a batch with the right length
+-- payload of a batch of fitting length
 for_map_is : (count : ℕ) (bytes : List ℕ) → IsForMap (batch_ids ++ to_be_bytes w32 count ++ bytes)
 for_map_is count bytes = ap (take 16) (append_assoc batch_ids (to_be_bytes w32 count) bytes)
     ∙ take_at batch_ids (to_be_bytes w32 count ++ bytes) 16 length-batch_ids
@@ -138,7 +138,7 @@ sized_is count bytes small long =
 small_count : (tail bytes : List ℕ) (h : HasPairs tail bytes) → h.count < 2 ^ 31
 small_count tail bytes h = omega (arith, h.begins.legal.1, h.sized, length-payload h.count bytes)
 
--- a batch has one count, and so one list of bytes for its pairs
+-- a batch has one count, so its pairs have one list of bytes
 pub same_bytes : (tail a b : List ℕ) → HasPairs tail a → HasPairs tail b → a ≡ b
 same_bytes tail a b h k =
     let same : batch_ids ++ to_be_bytes w32 h.count ++ a ≡ batch_ids ++ to_be_bytes w32 k.count ++ b = same_payload tail _ _ h.begins k.begins in
@@ -146,7 +146,7 @@ same_bytes tail a b h k =
     λ n x. drop_at (batch_ids ++ to_be_bytes w32 n) x 20 (omega (arith, length-append batch_ids (to_be_bytes w32 n), length-batch_ids)) in
     sym (twenty h.count a) ∙ ap (drop 20) same ∙ twenty k.count b
 
--- a fault at a place, told from what stands there
+-- the error at a position, by its cause
 data IsKind (at : ℕ) (before : List (ℕ × ℕ)) (bytes : List ℕ) (fault : HeadFault) : Type 0 where
   foreign : fault ≡ NotAMap at → bytes ≢ [] → ((payload : List ℕ) → BeginsWith bytes payload → IsForMap payload → ⊥) → IsKind at before bytes fault
   unsized : fault ≡ MapLength at → (payload : List ℕ) → BeginsWith bytes payload → IsForMap payload → ¬ (IsSized payload) → IsKind at before bytes fault
@@ -187,7 +187,7 @@ unfolding batch_payload
 has_pairs_of bytes pairs behind is e =
     record { count = length pairs; begins = record { behind = behind; legal = is.fits; is = e }; sized = length-pairs pairs }
 
--- where a fault stands no batch stands with good pairs
+-- at an error there is no batch of good pairs
 pub no_batch : (at : ℕ) (before : List (ℕ × ℕ)) (bytes : List ℕ) (fault : HeadFault) → FaultAt at before bytes fault
     → (pairs : List (ℕ × ℕ)) (behind : List ℕ) → IsBatch pairs → AreDistinct (ledgers_of (before ++ pairs)) → bytes ≡ batch_of pairs ++ behind → ⊥
 no_batch at before bytes fault h pairs behind is distinct e = by_kind (kind_of at before bytes fault h)
@@ -208,7 +208,7 @@ no_batch at before bytes fault h pairs behind is distinct e = by_kind (kind_of a
         (subst (λ (y : List (ℕ × ℕ)). AllByRecursion IsPair y) all is.each)
         (subst (λ (y : List (ℕ × ℕ)). AreDistinct (ledgers_of (before ++ y))) all distinct)
 
--- a fault stands in front of some bytes
+-- at an error there are bytes
 pub no_end : (at : ℕ) (before : List (ℕ × ℕ)) (fault : HeadFault) → FaultAt at before [] fault → ⊥
 no_end at before fault h = by_kind (kind_of at before [] fault h)
   where

@@ -1,4 +1,4 @@
--- The bytes of a map read in one way: they spell one map, or have one first fault.
+-- The bytes of a map have one reading: one map, or one first error.
 use Rattle.std.proofs.Common.{◌≡◌, ◌≢◌, ℕ, ◌+◌, List, [], ◌++◌, length, Option, Some, None, Result, Ok, Err, refl, sym, ap, subst, ◌∙◌, append_assoc, arith}
 use Rattle.std.specs.FinMap as ledgers
 use Rattle.std.proofs.lemmas.List.{append-nil, length-append}
@@ -15,7 +15,7 @@ use Rattle.bk_head.proofs.Adding.{numbers_of}
 use Rattle.bk_head.proofs.RecordBytes.{same_record}
 use Rattle.bk_head.proofs.OneFault.{has_pairs_of, same_bytes, same_fault, no_batch, no_end}
 
--- here no batch stands that could go on: whole, its ledgers new
+-- no correct batch with new ledgers begins here
 abbrev Stops : List (ℕ × ℕ) → List ℕ → Type 0
 Stops before bytes = (pairs : List (ℕ × ℕ)) (behind : List ℕ) → IsBatch pairs → AreDistinct (ledgers_of (before ++ pairs)) → bytes
     ≡ batch_of pairs ++ behind → ⊥
@@ -23,7 +23,7 @@ Stops before bytes = (pairs : List (ℕ × ℕ)) (behind : List ℕ) → IsBatch
 stops_at_end : (before : List (ℕ × ℕ)) → Stops before []
 stops_at_end before pairs behind is distinct e = omega (arith, ap length e, length-append (batch_of pairs) behind, length-record_of (batch_payload pairs))
 
--- the bytes of two batches that begin alike
+-- two batches that begin the same bytes are equal
 same_batch : (p q : List (ℕ × ℕ)) (x y : List ℕ) → IsBatch p → IsBatch q → batch_of p ++ x ≡ batch_of q ++ y → (p ≡ q) × (x ≡ y)
 same_batch p q x y is-p is-q e =
     let both = same_record (batch_payload p) (batch_payload q) x y is-p.fits is-q.fits e in (
@@ -37,7 +37,7 @@ front_distinct before p q d =
     AreDistinct-front (ledgers_of (before ++ p)) (ledgers_of q)
     (subst AreDistinct (ap ledgers_of (sym (append_assoc before p q)) ∙ ledgers_of-append (before ++ p) q) d)
 
--- two readings of the same bytes
+-- two parses of the same bytes are equal
 record IsSame (p q : List (ℕ × ℕ)) (v w x y : List ℕ) : Type 0 where
   pairs : p ≡ q
   whole : v ≡ w
@@ -84,9 +84,9 @@ one_fault from bytes f g s t =
     let here = subst (λ (z : List ℕ). FaultAt (from + length z) s.pairs s.rest g) (sym same.whole) at_pairs in
     same_fault (from + length s.whole) s.pairs s.rest f g s.stands here
 
--- ---- the answer
+-- ---- the result
 
--- what the tail answers, told from what it is
+-- the result for the bytes from the offset, by its cause
 data IsTold (offset count : ℕ) (tail : List ℕ) (answer : Result (Option LedgersMap) HeadFault) : Type 0 where
   found : (map : LedgersMap) → answer ≡ Ok (Some map) → SpellsMap tail map → ledgers.len map ≡ count → IsTold offset count tail answer
   differs : (map : LedgersMap) → answer ≡ Err (CountDiffers (ledgers.len map)) → SpellsMap tail map → ledgers.len map ≢ count
@@ -125,7 +125,7 @@ same_at (Err fault) tail a b h k = h ∙ sym k
 same_at (Ok None) tail a b h k = h ∙ sym k
 same_at (Ok (Some place)) tail a b h k = same_told place.0 place.1 tail a b (told_of place.0 place.1 tail a h) (told_of place.0 place.1 tail b k)
 
--- reading a log's map has one answer
+-- there is one result
 pub one_answer : (tail : List ℕ) (long : ℕ) (header : Header) (a b : Result (Option LedgersMap) HeadFault) → MapAnswer tail long header a
     → MapAnswer tail long header b → a ≡ b
 unfolding MapAnswer

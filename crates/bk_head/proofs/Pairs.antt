@@ -1,4 +1,4 @@
--- The bytes of pairs: they spell one list of pairs, and every sixteen bytes are a pair's.
+-- Bytes of pairs: they parse as one list of pairs, 16 bytes each.
 use Rattle.std.proofs.Common.{◌≡◌, ℕ, zero, suc, ◌*◌, ◌^◌, ◌<◌, ◌≤◌, List, [], ◌∷◌, ◌++◌, length, take, drop, refl, sym, ap, ◌∙◌, append_assoc, arith}
 use Rattle.std.specs.Int.{w64, to_be_bytes, from_be_bytes}
 use Rattle.std.specs.List.{flat_map, AllByRecursion}
@@ -8,7 +8,7 @@ use Rattle.bk_head.specs.Ledgers.{pair_bytes}
 use Rattle.bk_record.specs.Spelling.{IsBytes}
 use Rattle.bk_head.proofs.Bytes.{front_8, below_8, again_8}
 
--- both numbers are unsigned ones of eight bytes
+-- both numbers are below 2 ^ 64
 abbrev pub IsNumbers : ℕ × ℕ → Type 0
 IsNumbers p = (p.0 < 2 ^ 64) × (p.1 < 2 ^ 64)
 
@@ -27,7 +27,7 @@ flat_map-append (p ∷ ps) qs = ap (λ (x : List ℕ). pair_bytes p ++ x) (flat_
 
 -- ---- one pair
 
--- the pair that the first sixteen bytes spell
+-- the pair that the first sixteen bytes encode
 abbrev pub pair_at : List ℕ → ℕ × ℕ
 pair_at bytes = (from_be_bytes w64 bytes, from_be_bytes w64 (drop 8 bytes))
 
@@ -57,7 +57,7 @@ drop-pair_bytes p rest = drop_at (pair_bytes p) rest 16 (length-pair_bytes p)
 
 -- ---- many
 
--- the pairs that so many times sixteen bytes spell
+-- the pairs that 16 n bytes encode
 pub record IsSpelled (bytes : List ℕ) (count : ℕ) : Type 0 where
   pub pairs : List (ℕ × ℕ)
   pub bytes_are : bytes ≡ flat_map pair_bytes pairs
@@ -77,7 +77,7 @@ spelled (suc n) bytes each long =
       many = ap suc rest.many;
     }
 
--- the same bytes spell the same pairs
+-- equal bytes encode equal pairs
 pub same_pairs : (ps qs : List (ℕ × ℕ)) → AllByRecursion IsNumbers ps → AllByRecursion IsNumbers qs → flat_map pair_bytes ps ≡ flat_map pair_bytes qs
     → ps ≡ qs
 same_pairs [] [] fits-p fits-q e = refl

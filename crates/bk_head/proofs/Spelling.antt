@@ -1,4 +1,4 @@
--- The written spelling of a map: how long it is, and that it spells the map.
+-- The written form of a map: its length, and that it parses as the map.
 use Rattle.std.proofs.Common.{◌≡◌, ℕ, zero, suc, ◌+◌, ◌-◌, ◌*◌, ◌<◌, ◌≤◌, min, Bool, true, false, cond, ◌&&◌, T, List, [], ◌∷◌, ◌++◌, length, take, drop}
 use Rattle.std.proofs.Common.{Some, inl, inr, refl, sym, ap, subst, ◌∙◌, arith}
 use Rattle.std.specs.Int.{div_ceil}
@@ -21,7 +21,7 @@ use Rattle.bk_head.proofs.Batching.{length-payload, batches_at}
 
 -- ---- cutting
 
--- more cuts than there are pairs make no difference
+-- any two bounds that are at least the number of pairs give the same batches
 cut_alike : (m n : ℕ) (ps : List (ℕ × ℕ)) → length ps ≤ m → length ps ≤ n → batches_in m ps ≡ batches_in n ps
 cut_alike zero zero ps a b = refl
 cut_alike zero (suc n) [] a b = refl
@@ -60,7 +60,7 @@ ceil_small n some few = omega arith
 ceil_large : (n k : ℕ) → n ≡ 10000 + k → div_ceil n 10000 ≡ 1 + div_ceil k 10000
 ceil_large n k e = omega arith
 
--- 24 bytes for each batch, 16 for each pair
+-- length: 24 bytes per batch, 16 per pair
 length-written_up_to : (m : ℕ) (ps : List (ℕ × ℕ)) → length ps ≤ m → length (written_pairs ps) ≡ 24 * div_ceil (length ps) batch_pairs + 16 * length ps
 length-written_up_to m [] few = ap length written_pairs-nil
 length-written_up_to zero (p ∷ ps) few = absurd (omega arith)
@@ -82,7 +82,7 @@ length-written_up_to (suc m) (p ∷ ps) few =
 pub length-written_pairs : (ps : List (ℕ × ℕ)) → length (written_pairs ps) ≡ 24 * div_ceil (length ps) batch_pairs + 16 * length ps
 length-written_pairs ps = length-written_up_to (length ps) ps (omega arith)
 
--- ---- what is written spells the map
+-- ---- the written form parses as the map
 
 each-take : (n : ℕ) (ps : List (ℕ × ℕ)) → AllByRecursion IsPair ps → AllByRecursion IsPair (take n ps)
 each-take zero ps h = tt
@@ -106,7 +106,7 @@ written_up_to (suc m) (p ∷ ps) few each =
     batches_at _ _ _ _ (sym (written_pairs-cons p ps)) (take-append-drop batch_pairs (p ∷ ps))
     (Batches.more {pairs = front} {others = rest} {behind = written_pairs rest} (record { fits = fits; each = each-take batch_pairs (p ∷ ps) each }) deep)
 
--- ---- a finite map's entries
+-- ---- entries of a finite map
 
 T_both : (a b : Bool) → T (a && b) → T a × T b
 T_both true b h = (tt, h)
@@ -128,7 +128,7 @@ sorted_distinct (e ∷ es) h =
     let parts = T_both (below_all nat_cmp e.0 es) (is_sorted nat_cmp es) h in
     (below_apart e.0 es parts.0, sorted_distinct es parts.1)
 
--- what holds of each ledger that is found holds of each pair
+-- a property of every ledger that is found holds of every pair
 each_found : (es : List (ℕ × ℕ)) → AreDistinct (ledgers_of es) → ((ledger size : ℕ) → find nat_cmp ledger es ≡ Some size → IsPair (ledger, size))
     → AllByRecursion IsPair es
 each_found [] d h = tt

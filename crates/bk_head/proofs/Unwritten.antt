@@ -1,4 +1,4 @@
--- A map that is written pair by pair: what is written and what is still to be written are the whole.
+-- Writing a map pair by pair: the bytes written and those still to be written are the whole.
 use Rattle.std.proofs.Common.{◌≡◌, ℕ, zero, suc, ◌+◌, ◌-◌, ◌*◌, ◌<◌, ◌≤◌, min, List, [], ◌∷◌, ◌++◌, length, take, drop, inl, inr}
 use Rattle.std.proofs.Common.{refl, sym, ap, subst, ◌∙◌, append_assoc, arith}
 use Rattle.std.specs.Int.{w32, to_be_bytes}
@@ -11,7 +11,7 @@ use Rattle.bk_head.specs.Written.{batch_pairs, written_pairs, AreWritten}
 use Rattle.bk_head.specs.Parts.{batch_head}
 use Rattle.bk_head.proofs.Spelling.{written_pairs-cons, written_pairs-nil, length-batch_payload}
 
--- the bytes of these pairs where the batch that was begun still wants so many
+-- bytes of the remaining pairs, while the current batch has room for `room` more
 abbrev pub unwritten : ℕ → List (ℕ × ℕ) → List ℕ
 unwritten room ps = flat_map pair_bytes (take room ps) ++ written_pairs (drop room ps)
 
@@ -21,7 +21,7 @@ batch_of-head ps =
     ap (λ (n : ℕ). to_be_bytes w32 n ++ (batch_ids ++ to_be_bytes w32 (length ps) ++ flat_map pair_bytes ps)) (length-batch_payload ps)
     ∙ sym (append_assoc (to_be_bytes w32 (20 + 16 * length ps)) (batch_ids ++ to_be_bytes w32 (length ps)) (flat_map pair_bytes ps))
 
--- a batch is begun
+-- beginning a batch
 pub unwritten-begin : (p : ℕ × ℕ) (ps : List (ℕ × ℕ)) (n : ℕ) → n ≡ min (length (p ∷ ps)) batch_pairs → unwritten 0 (p ∷ ps)
     ≡ batch_head n ++ unwritten n (p ∷ ps)
 unwritten-begin p ps n is =
@@ -37,11 +37,11 @@ unwritten-begin p ps n is =
     ∙ ap (λ (x : List (ℕ × ℕ)). batch_head n ++ (flat_map pair_bytes x ++ written_pairs rest)) front-is
     ∙ ap (λ (x : List (ℕ × ℕ)). batch_head n ++ (flat_map pair_bytes (take n (p ∷ ps)) ++ written_pairs x)) rest-is
 
--- a pair is written
+-- writing a pair
 pub unwritten-pair : (room : ℕ) (p : ℕ × ℕ) (ps : List (ℕ × ℕ)) → unwritten (suc room) (p ∷ ps) ≡ pair_bytes p ++ unwritten room ps
 unwritten-pair room p ps = append_assoc (pair_bytes p) (flat_map pair_bytes (take room ps)) (written_pairs (drop room ps))
 
--- ---- the spelling as a relation
+-- ---- the written form as a relation
 
 written_as : (ps qs : List (ℕ × ℕ)) (x y : List ℕ) → ps ≡ qs → x ≡ y → AreWritten ps x → AreWritten qs y
 written_as ps qs x y same-pairs same-bytes h = subst (λ (z : List ℕ). AreWritten qs z) same-bytes (subst (λ (z : List (ℕ × ℕ)). AreWritten z x) same-pairs h)
@@ -70,7 +70,7 @@ are_written (suc m) (p ∷ ps) few =
 
 -- ---- the loop
 
--- what is written, and how much of the begun batch and of the pairs is still wanted
+-- loop invariant: the bytes written, the room of the current batch, and the remaining pairs
 pub record Goes (out old : List ℕ) (room left : ℕ) (rest all : List (ℕ × ℕ)) : Type 0 where
   pub whole : out ++ unwritten room rest ≡ old ++ written_pairs all
   pub left_is : left ≡ length rest
@@ -120,7 +120,7 @@ goes_end out old room left rest all is g =
     let nothing : unwritten room rest ≡ [] = ap (λ (k : ℕ). unwritten k rest) none ∙ ap (λ (x : List (ℕ × ℕ)). written_pairs x) is ∙ written_pairs-nil in
     sym (append-nil out) ∙ ap (λ (x : List ℕ). out ++ x) (sym nothing) ∙ g.whole
 
--- the room that a step takes was made
+-- the bytes written and those still to be written have the length of the written form
 whole_length : (out old : List ℕ) (room left : ℕ) (rest all : List (ℕ × ℕ)) → Goes out old room left rest all
     → length out + length (unwritten room rest) ≡ length old + length (written_pairs all)
 whole_length out old room left rest all g = omega (arith, ap length g.whole, length-append out (unwritten room rest), length-append old (written_pairs all))
@@ -138,7 +138,7 @@ room_for_pair out old room left p rest ps all is some g =
     let after = goes_pair out old room left p rest ps all is some g in
     omega (arith, whole_length (out ++ pair_bytes p) old (room - 1) (left - 1) ps all after, length-append out (pair_bytes p))
 
--- the same once a batch is begun, with room for the rest of the map
+-- the same after a batch has begun, with room for the rest of the map
 pub record Wants (out old : List ℕ) (room left : ℕ) (rest all : List (ℕ × ℕ)) (capacity : ℕ) : Type 0 where
   pub goes : Goes out old room left rest all
   pub some : 0 < room

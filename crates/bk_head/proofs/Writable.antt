@@ -1,4 +1,4 @@
--- A map stays one that can be written when a pair is put into it.
+-- A map can still be written after a pair is inserted.
 use Rattle.std.proofs.Common.{◌≡◌, ℕ, ◌+◌, ◌^◌, ◌<◌, ◌≤◌, cond, Some, sym, ap, ◌∙◌, arith, inl, inr}
 use Rattle.std.specs.Ordering.{nat_cmp, eq_by_cmp}
 use Rattle.std.specs.Cmp.{nat_cmp_total}
@@ -9,7 +9,7 @@ use Rattle.bk_head.specs.Ledgers.{LedgersMap, IsPair}
 use Rattle.bk_head.specs.Written.{IsWritable}
 use Rattle.bk_head.proofs.Distinct.{tied}
 
--- at most so many ledgers, no number past 2^63 - 1
+-- at most `most` ledgers, and no number above 2 ^ 63 - 1
 pub record IsSmall (map : LedgersMap) (most : ℕ) : Type 0 where
   pub few : ledgers.len map ≤ most
   pub each : (ledger size : ℕ) → ledgers.get map ledger ≡ Some size → IsPair (ledger, size)

@@ -1,4 +1,4 @@
-//! What a batch of the ledgers map is made of: its head and its pairs.
+//! A batch of the ledgers map: its head and its pairs, as bytes.
 
 ghost use Rattle.std.specs.Prelude.{◌≡◌, ◌+◌, ◌≤◌};
 ghost use Rattle.bk_head.specs.Ledgers as map;
@@ -7,25 +7,25 @@ ghost use Rattle.bk_head.specs.Parts as parts;
 use bk_record::{IDS_LENGTH, LENGTH_FIELD, RECORD_HEAD};
 use byteorder::{BigEndian, ByteOrder};
 
-/// The bytes of a batch's ids and its number of pairs, which stand in its payload before the pairs.
+/// Length in bytes of a batch's ids and its number of pairs, which begin its payload.
 pub const IDS_AND_COUNT: usize = IDS_LENGTH + 4;
 
-/// The bytes of a batch before its pairs, its length field with them.
+/// Length in bytes of a batch before its pairs, with its length field.
 pub const BATCH_HEAD: usize = LENGTH_FIELD + IDS_AND_COUNT;
 
-/// The bytes of a pair.
+/// Length of a pair in bytes.
 pub const PAIR: usize = 16;
 
-/// The most pairs of a batch that is written (this project's rule).
+/// Greatest number of pairs of a written batch (project rule).
 pub const BATCH_PAIRS: usize = 10_000;
 
-/// The ledger id of a batch's record.
+/// Ledger id of a batch's record (BookKeeper entry log format).
 const LEDGER: i64 = -1;
 
-/// The entry id of a batch's record.
+/// Entry id of a batch's record (BookKeeper entry log format).
 const ENTRY: i64 = -2;
 
-/// The first bytes of a batch's payload: its two ids.
+/// Returns the two ids that begin the payload of a batch.
 pub fn batch_ids() -> [u8; IDS_LENGTH]
     ensures { result ≡ map.batch_ids }
 {
@@ -35,7 +35,8 @@ pub fn batch_ids() -> [u8; IDS_LENGTH]
     ids
 }
 
-/// What stands before the pairs of a batch: its length field, its ids and the number of its pairs.
+/// Returns the bytes of a batch before its pairs: length field, ids and number of pairs. The length
+/// field does not count its own four bytes (project rule).
 pub fn batch_head(pairs: usize) -> [u8; BATCH_HEAD]
     requires { pairs ≤ 10000 }
     ensures { result ≡ parts.batch_head pairs }
@@ -47,7 +48,7 @@ pub fn batch_head(pairs: usize) -> [u8; BATCH_HEAD]
     head
 }
 
-/// A pair: the ledger and its size.
+/// Returns the bytes of a pair: ledger id and size, eight bytes each, big-endian.
 pub fn pair_bytes(ledger: u64, size: u64) -> [u8; PAIR]
     ensures { result ≡ map.pair_bytes (ledger, size) }
 {

@@ -1,4 +1,4 @@
-//! Why bytes are no header or no ledgers map.
+//! Errors of headers and ledgers maps.
 
 use thiserror::Error;
 
@@ -8,25 +8,25 @@ pub enum HeadFault {
     /// The first four bytes are not `BKLO`.
     #[error("bad magic")]
     BadMagic,
-    /// The header has this version, which is neither 0 nor 1.
+    /// The header has this version, which is not 0 or 1.
     #[error("version {0}")]
     Version(u32),
-    /// A number that is never negative is, read as a signed one.
+    /// An offset, a count, a ledger id or a size is negative as a signed number.
     #[error("negative number")]
     Negative,
-    /// No batch of a ledgers map stands at this position of the log.
+    /// No batch of a ledgers map is at this position of the log.
     #[error("not a map {0}")]
     NotAMap(u64),
-    /// The length field at this position of the log is not the one that the batch's number of pairs wants.
+    /// The length field at this position of the log does not fit the batch's number of pairs.
     #[error("map length {0}")]
     MapLength(u64),
-    /// This ledger stands in the map a second time.
+    /// The map has this ledger twice.
     #[error("repeated {0}")]
     Repeated(u64),
-    /// The map has this many ledgers, and the header another number.
+    /// The map has this many ledgers, and the header another count.
     #[error("count differs {0}")]
     CountDiffers(u64),
-    /// No memory was to be had.
+    /// Out of memory.
     #[error("memory")]
     Memory,
 }

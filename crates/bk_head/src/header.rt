@@ -1,4 +1,4 @@
-//! The header: the magic, the version, and where the ledgers map stands.
+//! The header of an entry log: magic, version, and the place of the ledgers map.
 
 ghost use Rattle.std.specs.Prelude.{◌≡◌, ◌↔◌, pos, IsOk, IfOk, IfErr};
 ghost use Rattle.bk_head.specs.Header.{IsHeader, HasHeader, HeaderFault, empty_header, patch_of};
@@ -7,33 +7,38 @@ use crate::HeadFault;
 use bk_record::HEADER_LENGTH;
 use byteorder::{BigEndian, ByteOrder};
 
-/// The first four bytes of every entry log.
+/// First four bytes of every entry log.
 const MAGIC: [u8; 4] = *b"BKLO";
 
-/// The version of the form from before there was a ledgers map: its header says nothing of one.
+/// Version without a ledgers map.
 const WITHOUT_MAP: u32 = 0;
 
-/// The version of the header that has a ledgers map, and that new logs have.
+/// Version with a ledgers map: that of new logs.
 const VERSION: u32 = 1;
 
-/// What the header of an entry log says.
+/// The header of an entry log.
 #[derive(Clone, Copy, Debug, PartialEq, Eq)]
 pub struct Header {
-    /// The version of the format, 0 or 1.
+    /// Version of the format, 0 or 1.
     pub version: u32,
-    /// The position of the ledgers map's first byte in the log's file, 0 in a log that is not sealed or is of version 0.
-    /// The format has a signed number there, so a bad file can make it negative.
+    /// Position in bytes of the ledgers map in the log's file; 0 if the log is not sealed or has
+    /// version 0. The format has a signed number there, so a bad file can make it negative.
     pub map_offset: i64,
-    /// The number of ledgers in the map, 0 in a log that is not sealed or is of version 0, signed too.
+    /// Number of ledgers in the map; 0 if the log is not sealed or has version 0. Signed as well.
     pub count: i32,
 }
 
-/// Reads a log's first 1024 bytes (the BookKeeper entry log format). The offset and the count are not judged here,
-/// and the bytes from position 20 on are ignored. Version 0, the form from before there was a ledgers map, has neither:
-/// both are 0 then, whatever stands in their bytes.
+/// Parses the first 1024 bytes of a log (BookKeeper entry log format).
 ///
-/// Faults, tried in this order: `BadMagic` where the first four bytes are not `BKLO`, `Version` with the version
-/// where it is neither 0 nor 1 (this project's rule).
+/// Does not check offset and count, and ignores the bytes from position 20. In a header of version
+/// 0, which has no map, both are 0, whatever their bytes are.
+///
+/// # Errors
+///
+/// In this order:
+///
+/// - `BadMagic` if the first four bytes are not `BKLO`.
+/// - `Version` with the version, if it is not 0 or 1 (project rule).
 pub fn read_header(bytes: &[u8; HEADER_LENGTH]) -> Result<Header, HeadFault>
     ensures ok { IsOk result ↔ HasHeader bytes.now }
     ensures value { IfOk result (λ header. IsHeader bytes.now header) }
@@ -60,7 +65,7 @@ pub fn read_header(bytes: &[u8; HEADER_LENGTH]) -> Result<Header, HeadFault>
     })
 }
 
-/// The header of a log that is not sealed: the magic, the version, and zeros.
+/// Returns the header of a log that is not sealed: magic, version 1, and zeros.
 pub fn new_header() -> [u8; HEADER_LENGTH]
     ensures value { result ≡ empty_header }
     ensures header { IsHeader result (record { version = 1; map_offset = pos 0; count = pos 0 }) }
@@ -71,9 +76,9 @@ pub fn new_header() -> [u8; HEADER_LENGTH]
     header
 }
 
-/// The bytes of the header's positions 8 to 20 for a map at this offset with this number of ledgers, both big-endian
-/// (the BookKeeper entry log format). A reader takes them as signed, so an offset past 2^63 - 1 or a count past
-/// 2^31 - 1 would be read as a negative one.
+/// Returns the bytes at positions 8 to 20 of a header whose map has this offset and this number of
+/// ledgers, both big-endian (BookKeeper entry log format). A reader takes them as signed: an offset
+/// above 2^63 - 1 or a count above 2^31 - 1 reads as negative.
 #[tactic(auto, unfolding(crate::specs::Header::patch_of))]
 pub fn patch_bytes(offset: u64, count: u32) -> [u8; 12]
     ensures { result ≡ patch_of offset count }

@@ -1,4 +1,5 @@
-//! What the definitions say of each other: what is written is read again.
+//! Theorems about the definitions: a written map is read again. Each is a function that does
+//! nothing.
 
 ghost use Rattle.std.specs.Prelude.{◌≡◌, ℕ, ◌+◌, ◌<◌, ◌≤◌, ◌^◌, pos, List, Option, Result, length};
 ghost use Rattle.std.specs.FinMap as ledgers;
@@ -9,8 +10,9 @@ ghost use Rattle.bk_head.specs.Ledgers.{LedgersMap, SpellsMap};
 ghost use Rattle.bk_head.specs.Reading.{MapAnswer};
 ghost use Rattle.bk_head.specs.Written.{written_map, AreWritten, IsWritable};
 
-/// Bytes spell one map at most. The written spelling of a map is cut into full batches and one with what is left, and
-/// it spells the map; so behind a header with its offset and its number of ledgers it is read again.
+/// Bytes parse as at most one map. The written form of a map has full batches and one with the
+/// rest, and it parses as the map. After a header with its offset and its number of ledgers, it is
+/// read again.
 pub fn written_map_is_read()
     ensures one { (bytes : List ℕ) (m n : LedgersMap) → SpellsMap bytes m → SpellsMap bytes n → m ≡ n }
     ensures batches { (map : LedgersMap) → AreWritten (ledgers.entries map) (written_map map) }
@@ -20,8 +22,8 @@ pub fn written_map_is_read()
         (record { version = 1; map_offset = pos offset; count = pos (ledgers.len map) }) (Ok (Some map)) }
 {}
 
-/// A header that is patched stays a header. One of version 1 says what was patched; one of version 0 says what it said,
-/// that there is no map.
+/// A patched header is a header. One of version 1 has the new offset and count; one of version 0
+/// still has no map.
 pub fn patched_header_is_read()
     ensures patched { (bytes : List ℕ) (header : Header) (offset count : ℕ)
         → IsHeader bytes header → header.version ≡ 1 → offset < 2 ^ 63 → count < 2 ^ 31
@@ -31,7 +33,7 @@ pub fn patched_header_is_read()
         → IsHeader bytes header → header.version ≡ 0 → IsHeader (patched_header bytes offset count) header }
 {}
 
-/// Behind a header of version 0 no map is found, whatever the log's bytes are.
+/// A log with a header of version 0 has no map, whatever its bytes are.
 pub fn old_header_has_no_map()
     ensures { (bytes : List ℕ) (header : Header) (tail : List ℕ) (length : ℕ) (answer : Result (Option LedgersMap) Fault)
         → IsHeader bytes header → version_field bytes ≡ 0 → MapAnswer tail length header answer → answer ≡ Ok None }

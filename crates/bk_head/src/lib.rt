@@ -1,4 +1,4 @@
-//! The header of an entry log, and the ledgers map that stands behind its records.
+//! The header of an entry log, and the ledgers map after its records.
 #![tactic(auto)]
 
 mod batch;
@@ -14,6 +14,3 @@ pub use header::{Header, new_header, patch_bytes, read_header};
 pub use laws::{old_header_has_no_map, patched_header_is_read, written_map_is_read};
 pub use reading::{add_pairs, pairs_in_batch, place_of_map, read_map};
 pub use writing::write_map;
-
-#[cfg(test)]
-mod tests;

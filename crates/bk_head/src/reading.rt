@@ -1,4 +1,4 @@
-//! Reading the ledgers map: batch by batch from the left, so that the fault that is told is the first one.
+//! Parsing of the ledgers map: batch by batch from the left, so that the error is the first one.
 
 ghost use Rattle.std.specs.Prelude.{◌≡◌, ◌+◌, ◌*◌, ◌<◌, ◌≤◌, ◌^◌, ℕ, List, Option, Result, length, take, drop, min};
 ghost use Rattle.std.specs.Prelude.{OnOk, IfOk, IfErr, IfSome, MatchOption, MatchResult};
@@ -6,7 +6,7 @@ ghost use Rattle.std.specs.FinMap as ledgers;
 ghost use Rattle.bk_head.specs.declared.fault.HeadFault.{HeadFault as Fault};
 ghost use Rattle.bk_head.specs.Ledgers.{LedgersMap, map_of, SpellsMap, IsPair, ledgers_of, AreDistinct};
 ghost use Rattle.bk_head.specs.Faults.{HasNoBatch, HasPairs, PairFault, FaultAt, FirstFault, ReachesNew, AsksForMemory, OrMemory};
-ghost use Rattle.bk_head.specs.Reading.{MapAnswer, WantsMemory, UnlessMemory, seen, IsTail, map_place};
+ghost use Rattle.bk_head.specs.Reading.{MapAnswer, WantsMemory, UnlessMemory, answer_value, IsTail, map_place};
 ghost use Rattle.bk_head.specs.Parts.{AddsPairs, IsFrontOf, IsSizedBatch, PairRefusal};
 
 use crate::batch::{BATCH_HEAD, IDS_AND_COUNT, PAIR, batch_ids};
@@ -16,18 +16,24 @@ use byteorder::{BigEndian, ByteOrder};
 use std::alloc::Global;
 use std::collections::BTreeMap;
 
-/// Reads the ledgers map of a log of `length` bytes whose header was read. `tail` is the log from the header's offset
-/// on, of which nothing is asked where the offset is not in 1024 to `length`. `None` where the offset and the count
-/// are both 0, as in a log that is not sealed or is of version 0. The pairs may stand in any order and in batches of any
-/// number.
+/// Parses the ledgers map of a log of `length` bytes whose header was read.
 ///
-/// Faults, tried in this order: `Negative` where the offset or the count is negative; `NotAMap` with the offset where
-/// it is not in 1024 to `length`. Then for each batch from the left: `NotAMap` where no whole record with the ids -1
-/// and -2 stands, `MapLength` where it has not the length that its number of pairs wants, both with the position of
-/// its length field in the log, and for each of its pairs `Negative` where the ledger or the size is negative,
-/// `Repeated` where the ledger was there before. At the end `CountDiffers` with the number of ledgers where it is not
-/// the header's count (this project's rules). `Memory` comes only at a pair that is to be added: everything further left is
-/// whole, and the pair itself is neither negative nor repeated.
+/// `tail` is the log from the map's offset to its end; if the offset is not from 1024 to `length`,
+/// it can be anything. Returns `None` if offset and count are both 0. Pairs can be in any order, in
+/// batches of any size (project rule).
+///
+/// # Errors
+///
+/// In this order (project rules):
+///
+/// - `Negative` if offset or count is negative.
+/// - `NotAMap` with the offset, if it is not from 1024 to `length`.
+/// - per batch, with the position of its length field in the log: `NotAMap` if no whole record with
+///   the ids -1 and -2 is there, `MapLength` if its length does not fit its number of pairs.
+/// - per pair of that batch: `Negative` if ledger or size is negative, `Repeated` with the ledger,
+///   if the map has it, `Memory` if the map cannot grow. So `Memory` hides no error further
+///   left.
+/// - `CountDiffers` with the number of ledgers found, if it is not the header's count.
 pub fn read_map(
     alloc: Global,
     tail: &[u8],
@@ -35,10 +41,10 @@ pub fn read_map(
     header: &Header,
 ) -> Result<Option<BTreeMap<u64, u64>>, HeadFault>
     requires { IsTail tail.now length header.now.map_offset }
-    ensures answer { UnlessMemory (seen result) (WantsMemory tail.now length header.now)
-        (MapAnswer tail.now length header.now (seen result)) }
+    ensures answer { UnlessMemory (answer_value result) (WantsMemory tail.now length header.now)
+        (MapAnswer tail.now length header.now (answer_value result)) }
     ensures only { (answer : Result (Option LedgersMap) Fault)
-        → MapAnswer tail.now length header.now answer → UnlessMemory (seen result) (Unit {0}) (seen result ≡ answer) }
+        → MapAnswer tail.now length header.now answer → UnlessMemory (answer_value result) (Unit {0}) (answer_value result ≡ answer) }
 {
     let Some((offset, count)) = place_of_map(length, header)? else {
         return Ok(None);
@@ -51,11 +57,15 @@ pub fn read_map(
     Ok(Some(map))
 }
 
-/// The map's offset in a log of `length` bytes, and the header's count; `None` where both are 0, as in a log that is not
-/// sealed.
+/// Returns offset and number of ledgers of the map in a log of `length` bytes, or `None` if both
+/// are 0, as in a log that is not sealed.
 ///
-/// Faults, tried in this order: `Negative` where one of them is negative; `NotAMap` with the offset where it is not in
-/// 1024 to `length`.
+/// # Errors
+///
+/// In this order:
+///
+/// - `Negative` if one of them is negative.
+/// - `NotAMap` with the offset, if it is not from 1024 to `length`.
 pub fn place_of_map(length: u64, header: &Header) -> Result<Option<(u64, u64)>, HeadFault>
     ensures { result ≡ map_place length header.now.map_offset header.now.count }
 {
@@ -73,7 +83,7 @@ pub fn place_of_map(length: u64, header: &Header) -> Result<Option<(u64, u64)>, 
     Ok(Some((offset, count)))
 }
 
-/// The map that the bytes spell, which stand in the log from the offset on.
+/// Parses the map whose bytes begin at the offset in the log. Errors as for `read_map`.
 fn read_batches(alloc: Global, tail: &[u8], offset: u64) -> Result<BTreeMap<u64, u64>, HeadFault>
     requires { offset + length tail.now < 2 ^ 64 }
     ensures ok { IfOk result (λ map. SpellsMap tail.now (map_of map)) }
@@ -89,7 +99,7 @@ fn read_batches(alloc: Global, tail: &[u8], offset: u64) -> Result<BTreeMap<u64,
     Ok(map)
 }
 
-/// The bytes of the pairs of the batch that begins here, at position `at` of the log.
+/// Returns the bytes of the pairs of the batch at position `at` of the log.
 fn pairs_at(bytes: &[u8], at: u64) -> Result<&[u8], HeadFault>
     requires { 0 < length bytes.now }
     ensures ok { IfOk result (λ pairs. HasPairs bytes.now pairs.now) }
@@ -100,11 +110,18 @@ fn pairs_at(bytes: &[u8], at: u64) -> Result<&[u8], HeadFault>
     Ok(&bytes[BATCH_HEAD..BATCH_HEAD + PAIR * count])
 }
 
-/// How many pairs the batch has that begins at position `at` of a log, where `left` bytes are left. `head` are the first
-/// 24 of these, or all where there are fewer: so a map can be read that is longer than the memory at hand.
+/// Returns the number of pairs of the batch at position `at` of a log, of which `left` bytes are
+/// left.
 ///
-/// Faults, with the position: `NotAMap` where no whole record with the ids -1 and -2 stands there, `MapLength` where it has
-/// not the length that its number of pairs wants.
+/// `head` are the first 24 of these bytes, or all if fewer, so a map can be read that does not fit
+/// in memory.
+///
+/// # Errors
+///
+/// In this order, with the position `at`:
+///
+/// - `NotAMap` if no whole record with the ids -1 and -2 is there.
+/// - `MapLength` if its length does not fit its number of pairs.
 pub fn pairs_in_batch(head: &[u8], at: u64, left: u64) -> Result<u32, HeadFault>
     requires some { 0 < left }
     requires shown { length head.now ≡ min BATCH_HEAD left }
@@ -127,7 +144,8 @@ pub fn pairs_in_batch(head: &[u8], at: u64, left: u64) -> Result<u32, HeadFault>
     Ok(count)
 }
 
-/// The length of the payload of the whole record with a batch's ids that begins here, and `None` where none does.
+/// Returns the payload length of the whole batch record that begins here, or `None` if there is
+/// none.
 fn batch_size(head: &[u8], left: u64) -> Option<usize>
     requires shown { length head.now ≡ min BATCH_HEAD left }
     ensures within { IfSome result (λ size. LENGTH_FIELD + size ≤ left) }
@@ -147,11 +165,16 @@ fn batch_size(head: &[u8], left: u64) -> Option<usize>
     Some(size)
 }
 
-/// Adds the pairs that have these bytes, 16 each, to a map that has the pairs before them. After a fault the map is not to be
-/// used: some of them may have been added.
+/// Adds the pairs of these bytes, 16 each, to a map that has the pairs before them.
 ///
-/// Faults, of the first pair that can't be added: `Negative` where its ledger or its size is negative, `Repeated` where its
-/// ledger was there before, `Memory`.
+/// # Errors
+///
+/// Those of the first pair that cannot be added, in this order; the map may then have some of the
+/// pairs:
+///
+/// - `Negative` if its ledger or its size is negative.
+/// - `Repeated` with the ledger, if the map has it.
+/// - `Memory` if the map cannot grow.
 pub fn add_pairs(bytes: &[u8], map: &mut BTreeMap<u64, u64>) -> Result<(), HeadFault>
     requires { (count : ℕ) × (length bytes.now ≡ 16 * count) }
     ensures { (before : List (ℕ × ℕ))
@@ -170,7 +193,7 @@ pub fn add_pairs(bytes: &[u8], map: &mut BTreeMap<u64, u64>) -> Result<(), HeadF
     Ok(())
 }
 
-/// Adds one pair. After a fault the map is not used again.
+/// Adds one pair. After an error the map is not used again.
 fn add_pair(ledger: u64, size: u64, map: &mut BTreeMap<u64, u64>) -> Result<(), HeadFault>
     ensures pair { OnOk result (IsPair (ledger, size)) }
     ensures new { OnOk result (ledgers.get (map_of map.old) ledger ≡ None) }

@@ -1,4 +1,5 @@
-//! Writing the ledgers map: the room for all of it is made first, so a refusal leaves the bytes as they were.
+//! Writing of the ledgers map. All room is reserved first, so that an error leaves the bytes
+//! unchanged.
 
 ghost use Rattle.std.specs.Prelude.{◌≡◌, ◌+◌, ◌≤◌, ◌++◌, length, OnOk, OnErr, IsOkUnless, vec_len, vec_capacity};
 ghost use Rattle.bk_head.specs.declared.fault.HeadFault.TheVariants.{Memory};
@@ -9,9 +10,15 @@ use crate::HeadFault;
 use crate::batch::{BATCH_HEAD, BATCH_PAIRS, PAIR, batch_head, pair_bytes};
 use std::collections::BTreeMap;
 
-/// Appends the ledgers map: its pairs by rising ledger, in full batches of 10,000 and one with what is left, so an empty
-/// map adds nothing (this project's rule; a batch's form is the BookKeeper entry log format). The map has at most
-/// 2^31 - 1 ledgers, and no number past 2^63 - 1. `Memory`, the only fault, leaves `out` as it was.
+/// Appends the ledgers map: its pairs by rising ledger, in batches of 10,000 and one with the rest.
+/// Appends nothing for an empty map. (Order and size of the batches are project rules; the form of
+/// a batch is the BookKeeper entry log format.)
+///
+/// The map has at most 2^31 - 1 ledgers, and no id or size above 2^63 - 1.
+///
+/// # Errors
+///
+/// - `Memory` if `out` cannot grow; `out` is unchanged.
 pub fn write_map(map: &BTreeMap<u64, u64>, out: &mut Vec<u8>) -> Result<(), HeadFault>
     requires { IsWritable (map_of map.now) }
     ensures ok { OnOk result (out.new.items ≡ out.old.items ++ written_map (map_of map.now)) }
@@ -26,7 +33,7 @@ pub fn write_map(map: &BTreeMap<u64, u64>, out: &mut Vec<u8>) -> Result<(), Head
     {
         return Err(HeadFault::Memory);
     }
-    // How many pairs the batch that was begun still takes.
+    // Number of pairs that the current batch still has room for.
     let mut room = 0;
     for (ledger, size) in map {
         if room == 0 {

@@ -1,4 +1,4 @@
--- Pages in order and the map that they are: what their calls answer is the map's.
+-- Sorted pages and their map: the results of calls on pages are those of the map.
 use Rattle.std.proofs.Common.{◌≡◌, ℕ, ◌+◌, ◌≤◌, Bool, true, false, cond, List, length, map as each, All, Some, None, is_some, sym, ap, subst, ◌∙◌}
 use Rattle.std.specs.Bool.{IsTrue, OnTrue, OnFalse}
 use Rattle.std.specs.FinMap.{FinMap, find, put, is_sorted, from_sorted}
@@ -14,7 +14,7 @@ use Rattle.bk_record.proofs.SortedPairs.{passed, is_sorted_put}
 use Rattle.bk_record.proofs.SortedMaps.{entries-sorted, len-sorted, get-sorted, insert-sorted}
 
 module _ {X : Type 0} (pages : List (List (EntryKey × X))) (sorted : IsTrue (is_sorted key_cmp (all_pairs pages))) (key : EntryKey) where
-  -- a new key makes the pairs one more, another leaves their number
+  -- a new key adds one pair; overwriting a key does not change their number
   pub length_new : (v : X) → find key_cmp key (all_pairs pages) ≡ None → length (put key_cmp key v (all_pairs pages)) ≡ length (all_pairs pages) + 1
   length_new v none = length-put key_cmp key_cmp_total key v (all_pairs pages) (passed _ sorted)
       ∙ ap (λ found. cond (is_some found) (length (all_pairs pages)) (length (all_pairs pages) + 1)) none
@@ -23,7 +23,7 @@ module _ {X : Type 0} (pages : List (List (EntryKey × X))) (sorted : IsTrue (is
   length_held v w held = length-put key_cmp key_cmp_total key v (all_pairs pages) (passed _ sorted)
       ∙ ap (λ found. cond (is_some found) (length (all_pairs pages)) (length (all_pairs pages) + 1)) held
 
-  -- pages in which the key was put are in order, and so many
+  -- the pages after an insertion of the key are sorted, with the new number of pairs
   pub counted_put : (v : X) (left : List (List (EntryKey × X))) (len : ℕ) → all_pairs left ≡ put key_cmp key v (all_pairs pages) → len
       ≡ length (all_pairs left) → AreCounted left len
   counted_put v left len is counted = record { sorted = rw is (is_sorted_put key_cmp_total key v (all_pairs pages) sorted); counted = counted }
@@ -49,7 +49,7 @@ module _ {X : Type 0} (pages : List (List (EntryKey × X))) (sorted : IsTrue (is
       → from_sorted (all_pairs left) ≡ map.insert m key v
   insert_seen key v left is = ap from_sorted is ∙ sym (insert-sorted key_cmp (all_pairs pages) sorted key_cmp_total key v) ∙ ap (λ n. map.insert n key v) seen
 
-  -- the lengths of the pages are some that the map can be cut into
+  -- the page lengths are possible for the number of keys
   pub page_lens : All (λ page. (1 ≤ length page) × (length page ≤ 256)) pages → ArePageLens (each length pages) (map.len m)
   page_lens sizes = record {
     sizes = All-map (λ len. (1 ≤ len) × (len ≤ 256)) length pages sizes;

@@ -1,4 +1,4 @@
--- Pairs in the order of their keys, cut in two: what each part has of the order, and where a key is found or put.
+-- Sorted pairs cut in two: the order of each part, and where a key is found or inserted.
 use Rattle.std.proofs.Common.{◌≡◌, cond, List, [], ◌∷◌, ◌++◌, Some, None, refl, ap, ◌∙◌}
 use Rattle.std.specs.declared.cmp.Ordering.{Ordering}
 use Rattle.std.specs.declared.cmp.Ordering.TheVariants.{Less, Equal, Greater}
@@ -29,7 +29,7 @@ module _ {K X : Type 0} (R : K → K → Ordering) where
   each_above k [] below = tt
   each_above k (e ∷ es) below = let parts = and_parts _ _ below in (less_from_test _ parts.0, each_above k es parts.1)
 
-  -- the first key is below those behind it
+  -- the first key is below all others
   pub head_below : (e : K × X) (es : List (K × X)) → IsTrue (is_sorted R (e ∷ es)) → AllByRecursion (λ d. R e.0 d.0 ≡ Less) es
   head_below e es sorted = each_above e.0 es (and_parts _ _ sorted).0
 
@@ -37,7 +37,7 @@ module _ {K X : Type 0} (R : K → K → Ordering) where
   sorted_back [] ys sorted = sorted
   sorted_back (x ∷ xs) ys sorted = sorted_back xs ys (and_parts _ _ sorted).1
 
-  -- all of the first part is before all of the second
+  -- every key of the first part is below those of the second
   pub front_below : (xs : List (K × X)) (e : K × X) (es : List (K × X)) → IsTrue (is_sorted R (xs ++ e ∷ es)) → AllByRecursion (λ d. R d.0 e.0 ≡ Less) xs
   front_below [] e es sorted = tt
   front_below (x ∷ xs) e es sorted =
@@ -48,7 +48,7 @@ turned : {K : Type 0} {R : K → K → Ordering} (o : IsTotalOrder R) (q k : K) 
 turned o q k less = o.antisymm q k ∙ ap ordering_reverse less
 
 module _ {K X : Type 0} {R : K → K → Ordering} (o : IsTotalOrder R) (q : K) where
-  -- a key is not found among smaller ones, nor among greater ones
+  -- a key is not found among smaller keys, nor among greater ones
   pub find_behind : (xs ys : List (K × X)) → AllByRecursion (λ e. R e.0 q ≡ Less) xs → find R q (xs ++ ys) ≡ find R q ys
   find_behind [] ys below = refl
   find_behind (x ∷ xs) ys below = rw (turned o q x.0 below.0) (find_behind xs ys below.1)
@@ -61,7 +61,7 @@ module _ {K X : Type 0} {R : K → K → Ordering} (o : IsTotalOrder R) (q : K) 
   find_before [] ys above = find_none ys above
   find_before (x ∷ xs) ys above = ap (cond (eq_by_cmp R q x.0) (Some x.1)) (find_before xs ys above)
 
-  -- a key goes behind smaller ones, and before greater ones
+  -- a key is inserted after smaller keys and before greater ones
   pub put_behind : (v : X) (xs ys : List (K × X)) → AllByRecursion (λ e. R e.0 q ≡ Less) xs → put R q v (xs ++ ys) ≡ xs ++ put R q v ys
   put_behind v [] ys below = refl
   put_behind v (x ∷ xs) ys below = rw (turned o q x.0 below.0) (ap (λ rest. x ∷ rest) (put_behind v xs ys below.1))

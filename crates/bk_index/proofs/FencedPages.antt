@@ -1,4 +1,4 @@
--- Fences and pages together: what a write over a page, a page that comes and pages that go leave of them.
+-- Fences and pages after a page is overwritten, added or removed.
 use Rattle.std.proofs.Common.{◌≡◌, ℕ, zero, suc, ◌+◌, ◌-◌, ◌*◌, ◌<◌, ◌≤◌, ◌^◌, Bool, cond, List, [], ◌∷◌, ◌++◌, length, get_or, set, take, drop, map, refl, sym}
 use Rattle.std.proofs.Common.{ap, ◌∙◌, arith, take-append-drop, length-append, length-take, length-drop, length-set}
 use Rattle.std.specs.List.{All, insert, remove, filter, count_by, sum_by}
@@ -53,7 +53,7 @@ module _ {X : Type 0} where
   pub all_split : (n : ℕ) (pages : List (List (EntryKey × X))) → all_pairs pages ≡ all_pairs (take n pages) ++ all_pairs (drop n pages)
   all_split n pages = ap all_pairs (sym (take-append-drop n pages)) ∙ flat_map-append (λ page. page) (take n pages) (drop n pages)
 
-  -- pages that go take their pairs with them
+  -- removing pages removes their pairs
   pub length_cut : (pages : List (List (EntryKey × X))) (from to : ℕ) → from ≤ to
       → length (all_pairs (take from pages ++ drop to pages)) + length (all_pairs (take (to - from) (drop from pages))) ≡ length (all_pairs pages)
   length_cut pages from to order =
@@ -79,7 +79,7 @@ module _ {X : Type 0} (fences : List EntryKey) (pages : List (List (EntryKey × 
   pub few_fences : length fences ≡ length pages
   few_fences = ap length are.fenced ∙ length-map pages first_key
 
-  -- a page with its fence is written over
+  -- overwriting a page and its fence
   pub fenced_set : (at : ℕ) (page : List (EntryKey × X)) → IsSized page → AreFenced (set fences at (first_key page)) (set pages at page)
   fenced_set at page sized = record {
     fenced = ap (λ fs. set fs at (first_key page)) are.fenced ∙ sym (map-set first_key pages at page);
@@ -87,7 +87,7 @@ module _ {X : Type 0} (fences : List EntryKey) (pages : List (List (EntryKey × 
     few = rw length-set are.few;
   }
 
-  -- a page is written over, and its first key stays
+  -- overwriting a page whose first key is unchanged
   pub fenced_over : (at : ℕ) (page : List (EntryKey × X)) → at < length pages → first_key page ≡ first_key (get_or pages at []) → IsSized page
       → AreFenced fences (set pages at page)
   fenced_over at page within same sized =
@@ -99,7 +99,7 @@ module _ {X : Type 0} (fences : List EntryKey) (pages : List (List (EntryKey × 
         few = rw length-set are.few;
       }
 
-  -- a page comes
+  -- inserting a page
   pub fenced_insert : (at : ℕ) (page : List (EntryKey × X)) → at ≤ length pages → length pages < 2 ^ 55 → IsSized page
       → AreFenced (insert fences at (first_key page)) (insert pages at page)
   fenced_insert at page within room sized = record {
@@ -113,7 +113,7 @@ module _ {X : Type 0} (fences : List EntryKey) (pages : List (List (EntryKey × 
     few = omega (arith, length-insert pages at page within);
   }
 
-  -- pages go
+  -- removing a range of pages
   pub fenced_cut : (from to : ℕ) → from ≤ to → AreFenced (take from fences ++ drop to fences) (take from pages ++ drop to pages)
   fenced_cut from to order = record {
     fenced =
@@ -125,15 +125,15 @@ module _ {X : Type 0} (fences : List EntryKey) (pages : List (List (EntryKey × 
     few = omega (arith, length-append (take from pages) (drop to pages), length-take from pages, length-drop to pages, are.few);
   }
 
-  -- a page goes, whatever stands there
+  -- removing a page, whatever it was overwritten with
   pub fenced_remove : (at : ℕ) (page : List (EntryKey × X)) → AreFenced (remove fences at) (remove (set pages at page) at)
   fenced_remove at page = rw remove-set (fenced_cut at (suc at) (omega arith))
 
-  -- all pairs can be counted
+  -- the number of pairs fits in 64 bits
   pub countable : length (all_pairs pages) < 2 ^ 64
   countable = omega (arith, all_le pages are.sizes, are.few)
 
-  -- and so can the pairs that pass a test
+  -- so does the number of pairs that pass a test
   pub few_of : (p : EntryKey × X → Bool) → length (filter p (all_pairs pages)) ≤ 2 ^ 63
   few_of p = omega (arith, length-filter p (all_pairs pages), count_by-le-length p (all_pairs pages), all_le pages are.sizes, are.few)
 

@@ -1,4 +1,4 @@
--- What a look-up, a write and a split in the page of a key are for all pairs.
+-- A look-up, a write and a split in the page of a key, as operations on all pairs.
 use Rattle.std.proofs.Common.{◌≡◌, ℕ, zero, suc, ◌+◌, ◌<◌, List, [], ◌∷◌, ◌++◌, length, get_or, set, refl, sym, ap, ◌∙◌, add-one}
 use Rattle.std.specs.Bool.{IsTrue}
 use Rattle.std.specs.List.{insert}
@@ -10,7 +10,7 @@ use Rattle.bk_record.proofs.SortedPairs.{sorted_front}
 use Rattle.bk_index.proofs.CutPairs.{sorted_back}
 use Rattle.bk_index.proofs.Homes.{find_home, put_home, all_pairs-cut}
 
--- a page of pairs in order is in order
+-- a page of sorted pairs is sorted
 pub sorted_page : {X : Type 0} (pages : List (List (EntryKey × X))) (at : ℕ) → IsTrue (is_sorted key_cmp (all_pairs pages))
     → IsTrue (is_sorted key_cmp (get_or pages at []))
 sorted_page [] at sorted = refl

@@ -1,4 +1,4 @@
--- The page of a key: a key is found there or nowhere, and put there; a page that is cut in two keeps its pairs.
+-- The page of a key: the key is found or inserted only there, and a split page keeps its pairs.
 use Rattle.std.proofs.Common.{◌≡◌, ℕ, zero, suc, ◌<◌, ◌≤◌, true, false, List, [], ◌∷◌, ◌++◌, length, get_or, set, map, refl, sym, ap, ◌∙◌, arith}
 use Rattle.std.proofs.Common.{append_assoc}
 use Rattle.std.specs.declared.cmp.Ordering.{Ordering}
@@ -60,7 +60,7 @@ abbrev pub AreFilled : {X : Type 0} → List (List (EntryKey × X)) → Type 0
 AreFilled pages = AllByRecursion (λ page. 0 < length page) pages
 
 module _ {X : Type 0} (q : EntryKey) where
-  -- fences before this place are not behind the key, those from it on are
+  -- the fences before this place are not greater than the key, those from it on are
   pub record IsFenceFor (pages : List (List (EntryKey × X))) (at : ℕ) : Type 0 where
     pub not_behind : (i : ℕ) (d : EntryKey) → i < at → is_le (key_cmp (get_or (map first_key pages) i d) q) ≡ true
     pub behind : (i : ℕ) (d : EntryKey) → at ≤ i → i < length pages → is_le (key_cmp (get_or (map first_key pages) i d) q) ≡ false
@@ -71,7 +71,7 @@ module _ {X : Type 0} (q : EntryKey) where
   all_above (page ∷ pages) sorted filled fence =
       above_fence q page pages sorted filled.0 (not_le _ (fence.behind 0 q (omega arith) (omega arith)))
 
-  -- the page before the first fence that is behind the key, else the first page
+  -- the home of a key is the page before the first greater fence, else the first page
   pub home_first : (pages : List (List (EntryKey × X))) → IsTrue (is_sorted key_cmp (all_pairs pages)) → AreFilled pages → IsFenceFor pages 0 → IsHome q pages 0
   home_first [] sorted filled fence = tt
   home_first (page ∷ pages) sorted filled fence =
@@ -96,7 +96,7 @@ module _ {X : Type 0} (q : EntryKey) where
   )
 
 module _ {X : Type 0} where
-  -- a page that is cut in two keeps its pairs
+  -- splitting a page does not change the pairs
   pub all_pairs-cut : (pages : List (List (EntryKey × X))) (at : ℕ) (page behind : List (EntryKey × X)) → at < length pages
       → all_pairs (insert (set pages at page) (suc at) behind) ≡ all_pairs (set pages at (page ++ behind))
   all_pairs-cut [] at page behind within = absurd (omega arith)

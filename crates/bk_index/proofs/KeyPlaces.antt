@@ -1,4 +1,5 @@
--- The place of a key among pairs in order: what a search finds, and what a write there does to the map.
+-- Places of keys among sorted pairs: the result of a search, and a write there as a write to the
+-- map.
 use Rattle.std.proofs.Common.{◌≡◌, ℕ, ◌+◌, ◌-◌, ◌<◌, ◌≤◌, nat_lt, true, false, List, length, get_or, Option, Some, None, slice_get, option_map, Result, Ok, Err, IfOk, IfErr, refl, inl, inr}
 use Rattle.std.proofs.Common.{sym, ap, subst, ◌∙◌, arith}
 use Rattle.std.specs.Cmp.{IsTotalOrder}
@@ -21,7 +22,7 @@ use Rattle.bk_record.proofs.Keys.{key_cmp_total, key_cmp_antisymmetric}
 use Rattle.bk_record.proofs.SortedPairs.{Some-same, keys_rise}
 
 module _ {K X : Type 0} {R : K → K → Ordering} (o : IsTotalOrder R) (es : List (K × X)) (sorted : IsTrue (is_sorted R es)) where
-  -- no pair is below the one before it, as a binary search asks
+  -- sorted pairs meet the precondition of a binary search
   in_order : IsSortedBy (λ a b. is_lt (R a.0 b.0)) es
   in_order i d low next =
       let rises = Less-from_sorted R (keys_of es) i (i + 1) d.0 (keys_rise R es sorted) (omega arith) (rw length-keys_of next) in
@@ -29,7 +30,7 @@ module _ {K X : Type 0} {R : K → K → Ordering} (o : IsTotalOrder R) (es : Li
       ≡ Less = rw (get_or-map (λ e. e.0) es i d d.0 (omega arith), get_or-map (λ e. e.0) es (i + 1) d d.0 next) at rises in
       ap is_lt (o.antisymm (get_or es (i + 1) d).0 (get_or es i d).0 ∙ ap ordering_reverse less)
 
--- what an index reads is the pair at the place
+-- an indexed read returns the pair at the place
 pub read_there : {A : Type 0} (es : List A) (i : ℕ) (e held : A) → held ≡ get_or es i held → slice_get es i ≡ Some e → e ≡ held
 read_there es i e held read there = sym (read ∙ get_or_from_slice_get es i e held there)
 
@@ -39,7 +40,7 @@ named None k held has_key read = cc
 named (Some e) k held has_key read = let pair : e ≡ (k, held.1) = λ i. (Some-same has_key i, (read e refl i).1) in ap Some pair
 
 module _ {X : Type 0} (pairs : List (EntryKey × X)) (sorted : IsTrue (is_sorted key_cmp pairs)) where
-  -- a key behind the last one is behind all
+  -- a key greater than the last one is greater than all
   below_last : (key : EntryKey) (n : ℕ) (last : EntryKey × X) → slice_get pairs n ≡ Some last → key_cmp last.0 key ≡ Less → (i : ℕ) (e : EntryKey × X)
       → i ≤ n → slice_get pairs i ≡ Some e → key_cmp e.0 key ≡ Less
   below_last key n last there less i e before has =
@@ -58,7 +59,7 @@ module _ {X : Type 0} (pairs : List (EntryKey × X)) (sorted : IsTrue (is_sorted
             subst (λ (p : EntryKey × X). key_cmp p.0 key ≡ Less) same less
       ] refl
 
-  -- and goes behind them
+  -- its place is at the end
   pub gap_at_end : (key : EntryKey) (last : EntryKey × X) → 0 < length pairs → last ≡ get_or pairs (length pairs - 1) last → key_cmp last.0 key ≡ Less
       → IsGapFor pairs key (length pairs)
   gap_at_end key last some read less =
@@ -74,7 +75,7 @@ module _ {X : Type 0} (pairs : List (EntryKey × X)) (sorted : IsTrue (is_sorted
         | inr (past, none) ↦ absurd (omega arith)
       ]
 
-  -- a binary search by key ends at the key, or at the gap for it
+  -- a binary search by key ends at the key, or at its gap
   pub searched : (key : EntryKey) (r : Result ℕ ℕ) → IsSearchInRange r (length pairs) → IsBinarySearchResult (λ pair. key_cmp pair.0 key) pairs r
       → record { found : IfOk r (IsAt pairs key); absent : IfErr r (IsGapFor pairs key) }
   searched key (Ok at) in_range equal =

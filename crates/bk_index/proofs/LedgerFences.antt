@@ -1,4 +1,4 @@
--- The pages that hold a ledger, by their fences.
+-- The pages that have keys of a ledger, by their fences.
 use Rattle.std.proofs.Common.{◌≡◌, ℕ, ◌+◌, ◌-◌, ◌<◌, ◌≤◌, true, false, ltb, leb, List, [], ◌∷◌, ◌++◌, length, get_or, take, drop, ap, ◌∙◌, inl}
 use Rattle.std.proofs.Common.{inr, arith}
 use Rattle.std.specs.declared.cmp.Ordering.TheVariants.{Less, Greater}
@@ -61,7 +61,7 @@ module _ {X : Type 0} (fences : List EntryKey) (pages : List (List (EntryKey × 
       rw (page_at n within)
       (ledgers_behind (get_or pages n []) (all_pairs (drop (n + 1) pages)) (rw (page_at n within) at behind) (are.sizes n [] within).0)
 
-  -- the fences before the first place are of smaller ledgers, those from the second on of greater ones
+  -- fences before the first place are of smaller ledgers, those from the second on of greater ones
   module _ (ledger smaller upto : ℕ) (smaller_bound : smaller ≤ length pages) (upto_bound : upto ≤ length pages)
       (smaller_point : IsPartitionPoint (λ f. ltb f.ledger ledger ≡ true) (λ f. ltb f.ledger ledger ≡ false) fences smaller)
       (upto_point : IsPartitionPoint (λ f. leb f.ledger ledger ≡ true) (λ f. leb f.ledger ledger ≡ false) fences upto) where

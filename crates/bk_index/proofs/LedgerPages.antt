@@ -1,4 +1,4 @@
--- Pages without a ledger: what is left of all pairs when the ledger's keys are taken out of the pages that hold it.
+-- All pairs after the keys of a ledger are removed from the pages that have them.
 use Rattle.std.proofs.Common.{◌≡◌, ℕ, ◌+◌, ◌-◌, ◌<◌, ◌≤◌, not, List, [], ◌∷◌, ◌++◌, length, get_or, take, drop, refl, sym, ap, ◌∙◌, arith, length-take}
 use Rattle.std.specs.Bool.{◌==◌}
 use Rattle.std.specs.List.{AllByRecursion, filter}
@@ -11,7 +11,7 @@ use Rattle.bk_index.proofs.CutPairs.{each_front, each_back}
 use Rattle.bk_index.proofs.FencedPages.{all_split}
 
 module _ {X : Type 0} (ledger : ℕ) where
-  -- pairs of smaller or of greater ledgers stay, those of the ledger go
+  -- pairs of other ledgers are kept, those of the ledger are removed
   smaller_stay : (xs : List (EntryKey × X)) → AllByRecursion (λ e. e.0.ledger < ledger) xs → filter (λ e. not (e.0.ledger == ledger)) xs ≡ xs
   smaller_stay [] each = refl
   smaller_stay (x ∷ xs) each = rw (ne_eqb x.0.ledger ledger (omega (arith, each.0))) (ap (λ rest. x ∷ rest) (smaller_stay xs each.1))
@@ -32,7 +32,7 @@ module _ {X : Type 0} (pages : List (List (EntryKey × X))) (ledger from to : �
   back_stays : filter (λ e. not (e.0.ledger == ledger)) (all_pairs (drop to pages)) ≡ all_pairs (drop to pages)
   back_stays = greater_stay ledger (all_pairs (drop to pages)) holds.behind
 
-  -- no page holds it
+  -- no page has keys of the ledger
   pub kept_none : from ≡ to → all_pairs pages ≡ filter (λ e. not (e.0.ledger == ledger)) (all_pairs pages)
   kept_none same =
       let back = ap (λ n. all_pairs (drop n pages)) same in
@@ -44,7 +44,8 @@ module _ {X : Type 0} (pages : List (List (EntryKey × X))) (ledger from to : �
   pub from_first : from < to → all_pairs (drop from pages) ≡ get_or pages from [] ++ all_pairs (drop (from + 1) pages)
   from_first some = ap all_pairs (drop_more pages from [] (omega (arith, holds.bound)))
 
-  -- what is left of all pairs: those before the first page, of that page what stays, and of those behind what stays
+  -- The remaining pairs: those before the first page, then those of the first page and of the later
+  -- pages that are kept.
   kept_from : from < to → filter (λ e. not (e.0.ledger == ledger)) (all_pairs pages)
       ≡ all_pairs (take from pages) ++ (filter (λ e. not (e.0.ledger == ledger)) (get_or pages from []) ++ filter (λ e. not (e.0.ledger == ledger))
       (all_pairs (drop (from + 1) pages)))
@@ -54,7 +55,7 @@ module _ {X : Type 0} (pages : List (List (EntryKey × X))) (ledger from to : �
       ∙ (λ i. front_stays i ++ (ap (filter (λ e. not (e.0.ledger == ledger))) (from_first some)
       ∙ filter-append (λ e. not (e.0.ledger == ledger)) (get_or pages from []) (all_pairs (drop (from + 1) pages))) i)
 
-  -- one page holds it, and what stays of that page comes in its place
+  -- one page has keys of the ledger and is replaced by its remaining pairs
   pub kept_one : from + 1 ≡ to → (left : List (List (EntryKey × X))) → take from left ≡ take from pages → all_pairs (drop from left)
       ≡ filter (λ e. not (e.0.ledger == ledger)) (get_or pages from []) ++ all_pairs (drop (from + 1) pages) → all_pairs left
       ≡ filter (λ e. not (e.0.ledger == ledger)) (all_pairs pages)
@@ -82,7 +83,7 @@ module _ {X : Type 0} (pages : List (List (EntryKey × X))) (ledger from to : �
         all_split (to - 1 - (from + 1)) (drop (from + 1) pages)
         ∙ ap (λ rest. all_pairs between ++ rest) (ap all_pairs last_next ∙ from_last)
 
-    -- the pages between have no other ledger's keys
+    -- the pages strictly between have no keys of other ledgers
     pub between_low : AllByRecursion (λ e. ledger ≤ e.0.ledger) (all_pairs between)
     between_low = each_front (λ e. ledger ≤ e.0.ledger) (all_pairs between) (get_or pages (to - 1) [] ++ all_pairs (drop to pages))
         (rw (← after_first) holds.not_after_first)
@@ -95,7 +96,7 @@ module _ {X : Type 0} (pages : List (List (EntryKey × X))) (ledger from to : �
         let upto = all_split (from + 1) (take (to - 1) pages) ∙ ap (λ ps. before ++ all_pairs ps) cut in
         each_back (λ e. e.0.ledger ≤ ledger) before (all_pairs between) (rw (← upto) holds.not_before_last)
 
-    -- of the pages between nothing stays
+    -- no pairs of the pages strictly between are kept
     behind_first : filter (λ e. not (e.0.ledger == ledger)) (all_pairs (drop (from + 1) pages))
         ≡ filter (λ e. not (e.0.ledger == ledger)) (get_or pages (to - 1) []) ++ all_pairs (drop to pages)
     behind_first =
@@ -106,7 +107,7 @@ module _ {X : Type 0} (pages : List (List (EntryKey × X))) (ledger from to : �
         ∙ filter-append (λ e. not (e.0.ledger == ledger)) (get_or pages (to - 1) []) (all_pairs (drop to pages))
         ∙ ap (λ back. filter (λ e. not (e.0.ledger == ledger)) (get_or pages (to - 1) []) ++ back) back_stays
 
-    -- the last page is done first, then those between go, then the first page is done
+    -- the last page is thinned, then the pages between are removed, then the first page is thinned
     pub kept_many : (last cut left : List (List (EntryKey × X))) → take (to - 1) last ≡ take (to - 1) pages → all_pairs (drop (to - 1) last)
         ≡ filter (λ e. not (e.0.ledger == ledger)) (get_or pages (to - 1) []) ++ all_pairs (drop (to - 1 + 1) pages) → cut
         ≡ take (from + 1) last ++ drop (to - 1) last → take from left ≡ take from cut → all_pairs (drop from left)

@@ -1,4 +1,4 @@
--- The pairs of one ledger among pairs in the order of their keys: they stand side by side, in a page and over pages.
+-- The pairs of one ledger are adjacent, in a page and over pages.
 use Rattle.std.proofs.Common.{◌≡◌, ℕ, zero, suc, ◌+◌, ◌-◌, ◌<◌, ◌≤◌, true, false, ltb, leb, List, [], ◌∷◌, ◌++◌, length, get_or, take, drop, refl, ap, ◌∙◌}
 use Rattle.std.proofs.Common.{arith, length-drop}
 use Rattle.std.specs.declared.cmp.Ordering.TheVariants.{Less}
@@ -42,7 +42,7 @@ module _ {X : Type 0} (ledger : ℕ) where
   same_all [] low high = refl
   same_all (x ∷ xs) low high = rw (eq-eqb x.0.ledger ledger (omega (arith, low.0, high.0))) (ap (λ rest. x ∷ rest) (same_all xs low.1 high.1))
 
-  -- pairs of no smaller ledger, of which the first are of no greater one
+  -- if no pair is of a smaller ledger, the first pairs are those of the ledger
   from_on : (xs : List (EntryKey × X)) (n : ℕ) → ((i : ℕ) (d : EntryKey × X) → i < length xs → ltb (get_or xs i d).0.ledger ledger ≡ false)
       → IsPartitionPoint (λ e. leb e.0.ledger ledger ≡ true) (λ e. leb e.0.ledger ledger ≡ false) xs n → take n xs ≡ filter (λ e. e.0.ledger == ledger) xs
   from_on [] zero low point = refl
@@ -61,7 +61,7 @@ module _ {X : Type 0} (ledger : ℕ) where
       (ap (λ rest. x ∷ rest) (from_on xs n (λ i d within. low (suc i) d (omega arith))
       (λ i d from before. point.0 (suc i) d (omega arith) (omega arith), λ i d from within. point.1 (suc i) d (omega arith) (omega arith))))
 
-  -- those of the ledger stand from the first of no smaller ledger up to the first of a greater one
+  -- the pairs of the ledger are adjacent
   pub side_by_side : (xs : List (EntryKey × X)) (from n : ℕ)
       → IsPartitionPoint (λ e. ltb e.0.ledger ledger ≡ true) (λ e. ltb e.0.ledger ledger ≡ false) xs from
       → IsPartitionPoint (λ e. leb e.0.ledger ledger ≡ true) (λ e. leb e.0.ledger ledger ≡ false) (drop from xs) n → take n (drop from xs)
@@ -81,7 +81,7 @@ module _ {X : Type 0} (pages : List (List (EntryKey × X))) (ledger from to : �
   back_none : filter (λ e. e.0.ledger == ledger) (all_pairs (drop to pages)) ≡ []
   back_none = greater_none ledger (all_pairs (drop to pages)) holds.behind
 
-  -- none of them stands before the first page
+  -- no pair of the ledger is before the first page
   held_from : filter (λ e. e.0.ledger == ledger) (all_pairs pages) ≡ filter (λ e. e.0.ledger == ledger) (all_pairs (drop from pages))
   held_from =
       ap (filter (λ e. e.0.ledger == ledger)) (all_split from pages)
@@ -104,7 +104,7 @@ module _ {X : Type 0} (pages : List (List (EntryKey × X))) (ledger from to : �
       ∙ ap (λ back. filter (λ e. e.0.ledger == ledger) (get_or pages from []) ++ back) back_none
 
   module _ (many : from + 1 < to) where
-    -- of the pages between all are the ledger's
+    -- all pairs of the pages strictly between are of the ledger
     held_behind : filter (λ e. e.0.ledger == ledger) (all_pairs (drop (from + 1) pages))
         ≡ all_pairs (between pages ledger from to holds many) ++ (filter (λ e. e.0.ledger == ledger) (get_or pages (to - 1) []) ++ [])
     held_behind =
@@ -126,7 +126,7 @@ module _ {X : Type 0} (pages : List (List (EntryKey × X))) (ledger from to : �
         (held_behind ∙ ap (λ last. all_pairs (between pages ledger from to holds many) ++ last)
         (append-nil (filter (λ e. e.0.ledger == ledger) (get_or pages (to - 1) []))))
 
-  -- the pages that hold it, as a part of the list
+  -- the pages with keys of the ledger, as a part of the list
   module _ (part : List (List (EntryKey × X))) (is : part ≡ take (to - from) (drop from pages)) where
     pub part_length : length part ≡ to - from
     part_length = ap length is ∙ length-take-le (to - from) (drop from pages) (omega (arith, length-drop from pages, holds.bound))

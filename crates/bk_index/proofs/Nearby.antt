@@ -11,20 +11,20 @@ use Rattle.bk_index.specs.Pages.{all_pairs, IsHome}
 use Rattle.bk_index.proofs.CutPairs.{each_front, each_back, head_below, sorted_back}
 
 module _ {X : Type 0} (key : EntryKey) where
-  -- what holds of each key holds of one that has a place
+  -- a property of every key holds of the key at a place
   holds_at : (P : EntryKey → Type 0) (pairs : List (EntryKey × X)) (at : ℕ) → IsAt pairs key at → AllByRecursion (λ pair. P pair.0) pairs → P key
   holds_at P [] at here each = cc
   holds_at P (pair ∷ pairs) zero here each = subst P (Some-same here) each.0
   holds_at P (pair ∷ pairs) (suc at) here each = holds_at P pairs at here each.1
 
-  -- what holds of all pairs holds of those of a page
+  -- a property of every pair holds of the pairs of a page
   in_page : (P : EntryKey × X → Type 0) (pages : List (List (EntryKey × X))) (at : ℕ) → AllByRecursion P (all_pairs pages)
       → AllByRecursion P (get_or pages at [])
   in_page P [] at each = tt
   in_page P (page ∷ pages) zero each = each_front P page (all_pairs pages) each
   in_page P (page ∷ pages) (suc at) each = in_page P pages at (each_back P page (all_pairs pages) each)
 
-  -- behind the page there are greater keys
+  -- the keys after the page are greater
   greater_behind : (page rest : List (EntryKey × X)) (at : ℕ) → IsTrue (is_sorted key_cmp (page ++ rest)) → IsAt page key at
       → AllByRecursion (λ pair. key_cmp key pair.0 ≡ Less) rest
   greater_behind [] rest at sorted here = cc
@@ -33,7 +33,7 @@ module _ {X : Type 0} (key : EntryKey) where
       (each_back (λ pair. key_cmp e.0 pair.0 ≡ Less) es rest (head_below key_cmp e (es ++ rest) sorted))
   greater_behind (e ∷ es) rest (suc at) sorted here = greater_behind es rest at (sorted_back key_cmp (e ∷ []) (es ++ rest) sorted) here
 
-  -- before it there are smaller ones
+  -- the keys before the page are smaller
   smaller_before : (page : List (EntryKey × X)) (pages : List (List (EntryKey × X))) (at place : ℕ) → IsTrue (is_sorted key_cmp (page ++ all_pairs pages))
       → IsAt (get_or pages at []) key place → AllByRecursion (λ pair. key_cmp pair.0 key ≡ Less) page
   smaller_before [] pages at place sorted here = tt

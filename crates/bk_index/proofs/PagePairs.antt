@@ -1,4 +1,4 @@
--- The place of a key among the pairs of a page: what a look-up answers there, and what a write or an insert there does.
+-- Places of keys in a page: look-up, overwrite and insertion there.
 use Rattle.std.proofs.Common.{◌≡◌, ℕ, zero, suc, ◌-◌, ◌≤◌, List, [], ◌∷◌, ◌++◌, length, get_or, set, take, drop, Some, None, refl, sym, ap, ◌∙◌, arith}
 use Rattle.std.proofs.Common.{length-take, take-append-drop}
 use Rattle.std.specs.Bool.{IsTrue}
@@ -13,7 +13,7 @@ use Rattle.bk_record.proofs.SortedPairs.{Some-same, sorted_front, find_at, find_
 use Rattle.bk_index.proofs.CutPairs.{sorted_back}
 use Rattle.bk_index.proofs.KeyPlaces.{read_there, named}
 
--- a write over a key's value leaves the first key
+-- overwriting the value of a key does not change the first key
 pub first_put_held : {X : Type 0} (pairs : List (EntryKey × X)) (key : EntryKey) (at : ℕ) → IsAt pairs key at → (v : X) → first_key (set pairs at (key, v))
     ≡ first_key pairs
 first_put_held [] key at here v = refl
@@ -24,7 +24,7 @@ module _ {X : Type 0} (pairs : List (EntryKey × X)) (sorted : IsTrue (is_sorted
   pub is_sorted_put_page : (v : X) → IsTrue (is_sorted key_cmp (put key_cmp key v pairs))
   is_sorted_put_page v = is_sorted_put key_cmp_total key v pairs sorted
 
-  -- each of two parts that make the pairs with the key is in order
+  -- two parts that together are sorted pairs are each sorted
   is_sorted_parts : (v : X) (front back : List (EntryKey × X)) → front ++ back ≡ put key_cmp key v pairs
       → IsTrue (is_sorted key_cmp front) × IsTrue (is_sorted key_cmp back)
   is_sorted_parts v front back is =
@@ -32,7 +32,7 @@ module _ {X : Type 0} (pairs : List (EntryKey × X)) (sorted : IsTrue (is_sorted
       (sorted_front key_cmp front back all, sorted_back key_cmp front back all)
 
   module _ (at : ℕ) (held : EntryKey × X) (here : IsAt pairs key at) (read : held ≡ get_or pairs at held) where
-    -- a look-up answers what was read there
+    -- a look-up finds the value read there
     pub find_held : find key_cmp key pairs ≡ Some held.1
     find_held = find_at key_cmp_total pairs at key held.1 sorted (named _ key held here (λ e there. read_there pairs at e held read there))
 
@@ -47,13 +47,13 @@ module _ {X : Type 0} (pairs : List (EntryKey × X)) (sorted : IsTrue (is_sorted
     pub put_absent : (v : X) → put key_cmp key v pairs ≡ insert pairs at (key, v)
     put_absent v = put_gap key_cmp_total key v pairs at gap.smaller_before gap.greater_from gap.in_range
 
-    -- cut in the lower half: what is behind goes, and the key comes
+    -- split after the place: the key is inserted in the first part
     pub put_lower : (v : X) (cut : ℕ) → at ≤ cut → cut ≤ length pairs → insert (take cut pairs) at (key, v) ++ drop cut pairs ≡ put key_cmp key v pairs
     put_lower v cut lower within =
         sym (insert-append_left (take cut pairs) (drop cut pairs) at (key, v) (omega (arith, length-take cut pairs)))
         ∙ ap (λ es. insert es at (key, v)) (take-append-drop cut pairs) ∙ sym (put_absent v)
 
-    -- cut in the upper half: the key goes among what is behind
+    -- split before the place: the key is inserted in the second part
     pub put_upper : (v : X) (cut : ℕ) → cut ≤ at → cut ≤ length pairs → take cut pairs ++ insert (drop cut pairs) (at - cut) (key, v) ≡ put key_cmp key v pairs
     put_upper v cut upper within =
         sym (insert-append_right (take cut pairs) (drop cut pairs) cut at (key, v) (omega (arith, length-take cut pairs)) upper)

@@ -1,4 +1,4 @@
--- Places are compared by their log and position.
+-- Places are equal if log and position are.
 use Rattle.std.proofs.Common.{◌≡◌, ◌&&◌, eqb, ap}
 use Rattle.std.specs.Bool.{Decides}
 use Rattle.std.proofs.lemmas.Bool.{and_parts, eq-eqb, eqb-true}

@@ -1,4 +1,4 @@
--- The fences of pages rise, so that a test of keys parts them in two: where the page of a key is.
+-- The fences of pages rise, so a test of keys partitions them: the page of a key.
 use Rattle.std.proofs.Common.{◌≡◌, inl, inr, ℕ, zero, suc, ◌<◌, ◌≤◌, ◌-◌, Bool, true, false, List, [], ◌∷◌, ◌++◌, length, get_or, map, refl, sym, subst, ◌∙◌, arith}
 use Rattle.std.specs.declared.cmp.Ordering.TheVariants.{Less}
 use Rattle.std.specs.Ordering.{is_le}
@@ -18,7 +18,7 @@ each_at P [] i d each within = absurd (omega arith)
 each_at P (f ∷ fs) zero d each within = each.0
 each_at P (f ∷ fs) (suc i) d each within = each_at P fs i d each.1 (omega arith)
 
--- a test that smaller keys pass too
+-- a test that passes for all keys smaller than one for which it passes
 abbrev pub IsDownward : (EntryKey → Bool) → Type 0
 IsDownward p = (a b : EntryKey) → key_cmp a b ≡ Less → p b ≡ true → p a ≡ true
 
@@ -32,7 +32,7 @@ rising_parted p down (f ∷ fs) rise (suc i) zero d order within passes = absurd
 rising_parted p down (f ∷ fs) rise (suc i) (suc j) d order within passes = rising_parted p down fs rise.1 i j d (omega arith) (omega arith) passes
 
 module _ {X : Type 0} where
-  -- what holds of each key holds of each first key
+  -- a property of every key holds of every first key
   each_first : (P : EntryKey → Type 0) (pages : List (List (EntryKey × X))) → AreFilled pages → AllByRecursion (λ pair. P pair.0) (all_pairs pages)
       → AllByRecursion P (map first_key pages)
   each_first P [] filled each = tt
@@ -63,7 +63,7 @@ module _ {X : Type 0} where
     pub fences_parted : (p : EntryKey → Bool) → IsDownward p → IsPartitionedBy p fences
     fences_parted p down = rw are.fenced (rising_parted p down (map first_key pages) (fences_rise pages sorted (all_filled pages are.sizes)))
 
-    -- the last page whose fence is not behind the key, else the first
+    -- the home of a key is the last page whose fence is not greater, else the first page
     pub home_of : (key : EntryKey) (n : ℕ) → n ≤ length pages
         → IsPartitionPoint (λ f. is_le (key_cmp f key) ≡ true) (λ f. is_le (key_cmp f key) ≡ false) fences n → IsHome key pages (n - 1)
     home_of key n bound point =
@@ -78,7 +78,7 @@ module _ {X : Type 0} where
           behind = λ i d from within. at.1 i d from (omega (arith, length-map pages first_key));
         }
 
--- where the last fence is not behind the key, all fences stand before it
+-- if the last fence passes the test, so do all fences
 pub all_before : (p : EntryKey → Bool) (fences : List EntryKey) (last : EntryKey) → IsPartitionedBy p fences → 0 < length fences
     → last ≡ get_or fences (length fences - 1) last → p last ≡ true → IsPartitionPoint (λ f. p f ≡ true) (λ f. p f ≡ false) fences (length fences)
 all_before p fences last parted some read passes = elim (slice_get_cases fences (length fences - 1)).1 [

@@ -1,4 +1,4 @@
--- Pairs in the order of their keys: the place of a key among them.
+-- Places of keys among pairs sorted by key.
 use Rattle.std.specs.Prelude.{◌≡◌, ℕ, ◌<◌, ◌≤◌, List, length, slice_get, Some, option_map}
 use Rattle.std.specs.declared.cmp.Ordering.TheVariants.{Less, Greater}
 use Rattle.bk_record.specs.Key.{EntryKey, key_cmp}
@@ -7,7 +7,7 @@ use Rattle.bk_record.specs.Key.{EntryKey, key_cmp}
 abbrev pub IsAt : {X : Type 0} → List (EntryKey × X) → EntryKey → ℕ → Type 0
 IsAt pairs key at = option_map (λ e. e.0) (slice_get pairs at) ≡ Some key
 
--- the key would go here: smaller keys before this place, greater keys from it on
+-- the key would be inserted here: smaller keys before this place, greater keys from it on
 pub record IsGapFor {X : Type 0} (pairs : List (EntryKey × X)) (key : EntryKey) (at : ℕ) : Type 0 where
   pub in_range : at ≤ length pairs
   pub smaller_before : (i : ℕ) (e : EntryKey × X) → i < at → slice_get pairs i ≡ Some e → key_cmp e.0 key ≡ Less

@@ -1,4 +1,4 @@
-//! From the key of an entry to the place where it stands: a finite map, walked in the order of its keys.
+//! Finite map from keys to locations, walked in key order.
 #![tactic(auto)]
 
 mod index;
@@ -11,6 +11,3 @@ pub use index::Index;
 pub use near::Near;
 pub use pages::Pages;
 pub use walk::Walk;
-
-#[cfg(test)]
-mod tests;

@@ -1,6 +1,7 @@
-//! Where a search for the next of several keys begins.
+//! Search hint for the next of several keys.
 
-/// Where the search for one of several keys ended: the place behind it, in its page. The next key is looked for there first.
+/// Place after the key that the last search found, in its page. The next key is searched there
+/// first.
 #[derive(Clone, Copy, Debug)]
 pub struct Near {
     pub(crate) page: usize,
@@ -8,7 +9,7 @@ pub struct Near {
 }
 
 impl Near {
-    /// Before the first key.
+    /// Returns the hint for the first key.
     pub fn start() -> Near {
         Near { page: 0, place: 0 }
     }

@@ -1,5 +1,4 @@
-//! One page of the index: pairs of a key and a location in the order of their keys, each key once. A look-up is a
-//! binary search; a new key moves what stands behind it by one place.
+//! One page of the index: pairs of a key and a location, sorted by key, each key once.
 
 ghost use Rattle.std.specs.Prelude.{◌≡◌, ◌↔◌, ◌<◌, ◌+◌, [], ◌∷◌, ◌++◌, length, not, ◌==◌, count_by, filter, Some, IsTrue, IfOk, IfErr, OnOk, OnErr};
 ghost use Rattle.std.specs.Bool.{OnTrue, OnFalse};
@@ -13,7 +12,7 @@ use std::alloc::{AllocError, Global};
 use std::cmp::Ordering;
 use std::marker::Model;
 
-/// Pairs of a key and a location, in the order of the keys.
+/// Pairs of a key and a location, sorted by key.
 #[derive(Debug, Drop)]
 pub(crate) struct Page {
     pairs: Vec<(Key, Location)>,
@@ -33,13 +32,13 @@ impl Model for Page {
 }
 
 impl Page {
-    /// The most pairs that a page has.
+    /// Greatest number of pairs of a page.
     pub(crate) const MOST: usize = 256;
 
-    /// How many pairs stay where a full page is split.
+    /// Number of pairs that stay in a page that is split.
     pub(crate) const LOWER: usize = 128;
 
-    /// A page of one pair.
+    /// Returns a page of one pair.
     pub(crate) fn of_pair(alloc: Global, key: Key, location: Location) -> Result<Page, AllocError>
         ensures { IfOk result (λ page. page ≡ (key, location) ∷ []) }
     {
@@ -48,14 +47,14 @@ impl Page {
         Ok(Page { pairs })
     }
 
-    /// How many pairs there are.
+    /// Returns the number of pairs.
     pub(crate) fn len(&self) -> usize
         ensures { result ≡ length self.now }
     {
         self.pairs.len()
     }
 
-    /// The key of the first pair.
+    /// Returns the key of the first pair.
     pub(crate) fn first(&self) -> Key
         requires { 0 < length self.now }
         ensures { result ≡ first_key self.now }
@@ -63,14 +62,14 @@ impl Page {
         self.pairs[0].0
     }
 
-    /// The pairs, in the order of their keys.
+    /// Returns the pairs, sorted by key.
     pub(crate) fn pairs(&self) -> &[(Key, Location)]
         ensures { result.now ≡ self.now }
     {
         &self.pairs
     }
 
-    /// The pairs of a ledger, which stand side by side.
+    /// Returns the pairs of a ledger, which are adjacent.
     pub(crate) fn of_ledger(&self, ledger: u64) -> &[(Key, Location)]
         ensures { result.now ≡ filter (λ pair. pair.0.ledger == ledger) self.now }
     {
@@ -79,7 +78,7 @@ impl Page {
         &behind[..behind.partition_point(|(key, _)| key.ledger() <= ledger)]
     }
 
-    /// The place of a key among the pairs, or the place where it would go.
+    /// Returns the place of a key, or the place where it would be inserted.
     #[inline]
     pub(crate) fn place_of(&self, key: &Key) -> Result<usize, usize>
         ensures found { IfOk result (IsAt self.now key.now) }
@@ -88,7 +87,7 @@ impl Page {
         self.pairs.binary_search_by_key(key, |&(held, _)| held)
     }
 
-    /// The same for a key that is to go in. Keys mostly rise, so the last pair is asked first.
+    /// Same as `place_of`, for a key to be inserted. Keys mostly rise, so it tries the end first.
     pub(crate) fn place_for(&self, key: &Key) -> Result<usize, usize>
         ensures found { IfOk result (IsAt self.now key.now) }
         ensures absent { IfErr result (IsGapFor self.now key.now) }
@@ -100,7 +99,7 @@ impl Page {
         self.place_of(key)
     }
 
-    /// Whether the pair at this place is of the key.
+    /// Whether the pair at this place has the key.
     pub(crate) fn has_at(&self, key: &Key, place: usize) -> bool
         ensures { IsTrue result → IsAt self.now key.now place }
     {
@@ -110,7 +109,7 @@ impl Page {
         matches!(pair.0.cmp(key), Ordering::Equal)
     }
 
-    /// The place of a key among the pairs, or the place where it would go; a place is asked first.
+    /// Same as `place_of`, but tries the place `near` first.
     pub(crate) fn place_near(&self, key: &Key, near: usize) -> Result<usize, usize>
         ensures found { IfOk result (IsAt self.now key.now) }
         ensures absent { IfErr result (IsGapFor self.now key.now) }
@@ -121,8 +120,7 @@ impl Page {
         self.place_of(key)
     }
 
-    /// The location of a key, `None` where the page has none. A place is asked first, and is the one behind the key
-    /// afterwards.
+    /// Same as `get`, but tries the place `near` first, and sets it to the place after the key.
     pub(crate) fn get_near(&self, key: &Key, near: &mut usize) -> Option<Location>
         ensures { result ≡ find key_cmp key.now self.now }
     {
@@ -136,7 +134,7 @@ impl Page {
         }
     }
 
-    /// The location of a key, `None` where the page has none.
+    /// Returns the location of a key, or `None`.
     #[inline]
     pub(crate) fn get(&self, key: &Key) -> Option<Location>
         ensures { result ≡ find key_cmp key.now self.now }
@@ -147,7 +145,7 @@ impl Page {
         }
     }
 
-    /// Sends the key at a place to another location, and answers the one before.
+    /// Sets the location of the key at a place and returns the one before.
     pub(crate) fn replace(&mut self, place: usize, key: Key, to: Location) -> Location
         requires { IsAt self.old key place }
         ensures replaced { self.new ≡ put key_cmp key to self.old }
@@ -160,8 +158,8 @@ impl Page {
         before
     }
 
-    /// Sends a key from one location to another, and answers whether it did: only where the page sends it to `from`. A
-    /// place is asked first, and is the one behind the key afterwards.
+    /// Changes the location of a key if it is `from`, and returns whether it was. Tries the place
+    /// `near` first, and then sets it to the place after the key.
     pub(crate) fn replace_if(
         &mut self,
         key: &Key,
@@ -173,7 +171,7 @@ impl Page {
         ensures replaced { OnTrue result (self.new ≡ put key_cmp key.now to self.old) }
         ensures len { length self.new ≡ length self.old }
         ensures first { first_key self.new ≡ first_key self.old }
-        ensures kept { OnFalse result (self.new ≡ self.old) }
+        ensures unchanged { OnFalse result (self.new ≡ self.old) }
     {
         match self.place_near(key, *near) {
             Ok(place) if self.pairs[place].1 == from => {
@@ -185,7 +183,7 @@ impl Page {
         }
     }
 
-    /// Puts a new key at the place where it goes. Where memory is refused the page is as it was.
+    /// Inserts a new key at its place. If an allocation fails, the page is unchanged.
     pub(crate) fn insert(
         &mut self,
         place: usize,
@@ -201,8 +199,8 @@ impl Page {
         Ok(())
     }
 
-    /// Puts a new key at the place where it goes in a full page, and cuts the page in two: the first 128 pairs stay,
-    /// the other 129 are the answer. Where memory is refused the page is as it was.
+    /// Inserts a new key at its place in a full page and splits the page: the first 128 pairs stay,
+    /// the other 129 are returned. If an allocation fails, the page is unchanged.
     pub(crate) fn split(
         &mut self,
         place: usize,
@@ -220,7 +218,7 @@ impl Page {
         if place < Page::LOWER {
             behind.extend_from_slice(&self.pairs[Page::LOWER - 1..])?;
             self.pairs.truncate(Page::LOWER - 1);
-            // In the room of the pairs that went: this is never refused.
+            // Does not fail: removing the pairs left room.
             self.pairs.insert(place, (key, location))?;
             Ok(Page { pairs: behind })
         } else {
@@ -231,7 +229,7 @@ impl Page {
         }
     }
 
-    /// Takes the keys of a ledger out, and answers how many there were.
+    /// Removes the keys of a ledger and returns their number.
     pub(crate) fn drop_ledger(&mut self, ledger: u64) -> usize
         ensures left { self.new ≡ filter (λ pair. not (pair.0.ledger == ledger)) self.old }
         ensures count { length self.new + result ≡ length self.old }
@@ -241,7 +239,7 @@ impl Page {
         before - self.pairs.len()
     }
 
-    /// How many keys are sent to a log.
+    /// Returns the number of keys whose location is in a log.
     pub(crate) fn count_in(&self, log: u32) -> usize
         ensures { result ≡ count_by (λ pair. pair.1.log == log) self.now }
     {

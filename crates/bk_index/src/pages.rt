@@ -1,5 +1,5 @@
-//! The pages of the index, in the order of their keys, and a fence for each: the first key of the page. A search goes
-//! over the fences first, then over one page.
+//! The pages of the index in key order, with a fence for each: the first key of the page. A search
+//! covers the fences, then one page.
 
 ghost use Rattle.std.specs.Prelude.{◌≡◌, ◌↔◌, ◌<◌, ◌≤◌, ◌+◌, ◌^◌, [], ◌∷◌, ◌++◌, length, take, drop, not, ◌==◌, count_by, filter, slice_get};
 ghost use Rattle.std.specs.Prelude.{slice_index_or, option_map, sum_by, All, Some, IsTrue, IsSome, IsOk, IfOk, IfSome, OnOk, OnErr};
@@ -17,7 +17,7 @@ use std::marker::Model;
 
 mod ledger;
 
-/// The pages of an index: each has from 1 to 256 entries.
+/// The pages of an index. Each has from 1 to 256 entries.
 #[derive(Debug, Drop)]
 pub struct Pages {
     fences: Vec<Key>,
@@ -37,11 +37,12 @@ impl Model for Pages {
     ghost invariant = { λ pages. AreFenced pages.fences.items pages.list.items };
 }
 
-// The most pages: no machine has the memory for them, and all their entries can still be counted.
+// Greatest number of pages: no machine has the memory for them, and all their entries can still be
+// counted.
 const MOST_PAGES: usize = 1 << 55;
 
 impl Pages {
-    /// No page. It takes no memory yet.
+    /// Returns an empty list of pages. Does not allocate.
     pub(crate) fn new(alloc: Global) -> Pages
         ensures { result ≡ [] }
     {
@@ -51,7 +52,7 @@ impl Pages {
         }
     }
 
-    /// How many pages there are.
+    /// Returns the number of pages.
     pub fn len(&self) -> usize
         ensures value { result ≡ length self.now }
         ensures sizes { All (λ page. (1 ≤ length page) × (length page ≤ 256)) self.now }
@@ -59,7 +60,8 @@ impl Pages {
         self.list.len()
     }
 
-    /// How many entries the page of this number has, from 1 to 256; `None` exactly from the number of pages on.
+    /// Returns the number of entries of a page, from 1 to 256, or `None` exactly from the number of
+    /// pages on.
     pub fn page_len(&self, number: usize) -> Option<usize>
         ensures value { result ≡ option_map length (slice_get self.now number) }
         ensures sizes { All (λ page. (1 ≤ length page) × (length page ≤ 256)) self.now }
@@ -68,7 +70,8 @@ impl Pages {
         Some(page.len())
     }
 
-    // The page in which the key is, or would go: the last whose fence is not greater, else the first.
+    // The page that has the key or would have it: the last whose fence is not greater, else the
+    // first.
     #[inline]
     fn home(&self, key: &Key) -> usize
         requires { IsTrue (is_sorted key_cmp (all_pairs self.now)) }
@@ -80,7 +83,7 @@ impl Pages {
             .saturating_sub(1)
     }
 
-    // The same for a key that is to go in. Keys mostly rise, so the last page is asked first.
+    // Same as `home`, for a key to be inserted. Keys mostly rise, so it tries the last page first.
     fn home_for(&self, key: &Key) -> usize
         requires { IsTrue (is_sorted key_cmp (all_pairs self.now)) }
         ensures home { IsHome key.now self.now result }
@@ -93,7 +96,7 @@ impl Pages {
         self.home(key)
     }
 
-    // The same for one of several keys. They mostly rise, so the place behind the one before is asked first.
+    // Same as `home`, but tries the place `near` first.
     fn home_near(&self, key: &Key, near: &Near) -> usize
         requires { IsTrue (is_sorted key_cmp (all_pairs self.now)) }
         ensures home { IsHome key.now self.now result }
@@ -107,8 +110,7 @@ impl Pages {
         self.home(key)
     }
 
-    /// The location of a key, `None` where no page has it. A place is asked first, and is the one behind the key
-    /// afterwards.
+    /// Same as `get`, but tries the place `near` first, and sets it to the place after the key.
     pub(crate) fn get_near(&self, key: &Key, near: &mut Near) -> Option<Location>
         requires { IsTrue (is_sorted key_cmp (all_pairs self.now)) }
         ensures { result ≡ find key_cmp key.now (all_pairs self.now) }
@@ -119,7 +121,7 @@ impl Pages {
         page.get_near(key, &mut near.place)
     }
 
-    /// The location of a key, `None` where no page has it.
+    /// Returns the location of a key, or `None`.
     #[inline]
     pub(crate) fn get(&self, key: &Key) -> Option<Location>
         requires { IsTrue (is_sorted key_cmp (all_pairs self.now)) }
@@ -129,8 +131,8 @@ impl Pages {
         page.get(key)
     }
 
-    /// Sends a key to a location, and answers its location before. Where memory is refused, which happens only for a
-    /// new key, the pages are as they were.
+    /// Sets the location of a key and returns the one before. Fails only for a new key, and then
+    /// leaves the pages unchanged.
     pub(crate) fn insert(
         &mut self,
         key: Key,
@@ -158,7 +160,7 @@ impl Pages {
         }
     }
 
-    // Makes the first page, of one key.
+    // Adds the first page, with one key.
     fn begin(&mut self, key: Key, location: Location) -> Result<(), AllocError>
         requires { self.old ≡ [] }
         ensures ok { OnOk result (all_pairs self.new ≡ (key, location) ∷ []) }
@@ -172,7 +174,7 @@ impl Pages {
         Ok(())
     }
 
-    // Puts a new key into its page, which is split where it is full.
+    // Inserts a new key into its page; splits the page if it is full.
     fn add(
         &mut self,
         at: usize,
@@ -196,7 +198,7 @@ impl Pages {
         Ok(())
     }
 
-    // Puts a new key into its page, which is full: the upper half of the page becomes the next page.
+    // Inserts a new key into its full page: the upper half becomes the next page.
     fn split(
         &mut self,
         at: usize,
@@ -220,14 +222,14 @@ impl Pages {
         let page = &mut self.list[at];
         let behind = page.split(place, key, location)?;
         self.fences[at] = page.first();
-        // There is room for both, so neither is refused.
+        // Does not fail: room for both was reserved.
         self.fences.insert(at + 1, behind.first())?;
         self.list.insert(at + 1, behind)?;
         Ok(())
     }
 
-    /// Sends a key from one location to another, and answers whether it did: only where the pages send it to `from`. A
-    /// place is asked first, and is the one behind the key afterwards.
+    /// Changes the location of a key if it is `from`, and returns whether it was. Tries the place
+    /// `near` first, and then sets it to the place after the key.
     pub(crate) fn replace_if(
         &mut self,
         key: &Key,
@@ -239,7 +241,7 @@ impl Pages {
         ensures condition { IsTrue result ↔ (find key_cmp key.now (all_pairs self.old) ≡ Some from) }
         ensures replaced { OnTrue result (all_pairs self.new ≡ put key_cmp key.now to (all_pairs self.old)) }
         ensures len { length (all_pairs self.new) ≡ length (all_pairs self.old) }
-        ensures kept { OnFalse result (self.new ≡ self.old) }
+        ensures unchanged { OnFalse result (self.new ≡ self.old) }
     {
         let at = self.home_near(key, near);
         if at >= self.list.len() {
@@ -250,14 +252,14 @@ impl Pages {
         page.replace_if(key, from, to, &mut near.place)
     }
 
-    /// How many keys are sent to a log.
+    /// Returns the number of keys whose location is in a log.
     pub(crate) fn count_in(&self, log: u32) -> usize
         ensures { result ≡ count_by (λ pair. pair.1.log == log) (all_pairs self.now) }
     {
         count_log(&self.list, log)
     }
 
-    /// The pages, each of which has a pair.
+    /// Returns the pages, none of which is empty.
     pub(crate) fn list(&self) -> &[Page]
         ensures value { result.now ≡ self.now }
         ensures filled { All (λ page. 0 < length page) result.now }
@@ -266,7 +268,6 @@ impl Pages {
     }
 }
 
-// How many keys of the pages are sent to a log.
 fn count_log(pages: &[Page], log: u32) -> usize
     requires { sum_by (λ page. count_by (λ pair. pair.1.log == log) page) pages.now < 2 ^ 64 }
     ensures { result ≡ sum_by (λ page. count_by (λ pair. pair.1.log == log) page) pages.now }

@@ -1,5 +1,5 @@
-//! A walk over an index, in the order of the keys: what is left of it is the rest of a page, the pages behind it, and
-//! pairs of the page behind those.
+//! Walk over an index in key order. It still has to visit the rest of a page, the pages after it,
+//! and pairs of the page after those.
 
 ghost use Rattle.std.specs.Prelude.{◌≡◌, ◌<◌, ◌++◌, [], length, All};
 ghost use Rattle.std.specs.Iterator.{YieldsFirst, item_count};
@@ -9,8 +9,8 @@ use crate::page::Page;
 use bk_record::{Key, Location};
 use std::marker::Model;
 
-/// Gives each key of an index and its location, in the order of ledger, then entry. `Index::walk` and
-/// `Index::walk_ledger` make one.
+/// Iterator over keys and their locations, by ledger, then entry. `Index::walk` and
+/// `Index::walk_ledger` return it.
 #[derive(Debug, Drop)]
 pub struct Walk<'a> {
     page: &'a [(Key, Location)],
@@ -32,7 +32,7 @@ impl<'a> Model for Walk<'a> {
 }
 
 impl<'a> Walk<'a> {
-    // A walk over pairs, then over pages, none of which is empty, and then over further pairs.
+    // Walk over pairs, then pages, none of which is empty, then further pairs.
     pub(crate) fn over(
         page: &'a [(Key, Location)],
         pages: &'a [Page],

@@ -1,4 +1,4 @@
--- The rule after each step of the keeper, from the rule before it.
+-- The rule after each step of the keeper.
 use Rattle.std.proofs.Common.{◌≡◌, ◌≢◌, ℕ, ◌+◌, ◌^◌, ◌<◌, ◌≤◌, List, [], ◌∷◌, ◌++◌, length, get_or, set, length-set, length-append, sym, refl, ap}
 use Rattle.std.proofs.Common.{◌∙◌, subst, ⊎_elim, arith, get_or-set_same, get_or-set_other, Option, Some, None}
 use mathlib.Core.Logic.{dite}
@@ -19,11 +19,11 @@ use Rattle.bk_lease.proofs.Views.{some_inside, hold_of-here, hold_of-else, pendi
 use Rattle.bk_lease.proofs.Words.{one_more, one_less, counted_none, WordIs-one_less}
 use Rattle.bk_lease.proofs.Ruled.{each_after, SlotRuled-equal, SlotRuled-by}
 
--- the views, where the keeper knows this
+-- the views, if the keeper has this register
 abbrev pub keeping : Register → List Role → List Role
 keeping register views = set views 0 (Keeper register)
 
--- The keeper knew p, and knows q.
+-- The register changes from p to q.
 module _ (p q : Register) (words : List ℕ) (views : List Role) (kept : RuledBy p words views) where
   first_view : get_elem? (keeping q views) 0 ≡ some (Keeper q)
   first_view = set_here views 0 (Keeper q) (some_inside views 0 (Keeper p) kept.keeper)
@@ -34,7 +34,7 @@ module _ (p q : Register) (words : List ℕ) (views : List Role) (kept : RuledBy
   held_on-keeping : (slot : ℕ) → held_on slot views ≡ held_on slot (keeping q views)
   held_on-keeping slot = let change = held_on-set slot views 0 (Keeper p) (Keeper q) kept.keeper in omega arith
 
-  -- with it the word i was written
+  -- the rule after word i is written
   RuledBy-set : (i word : ℕ) → i < length p.slots → length q.slots ≡ length p.slots → q.most ≡ p.most → q.given ≡ p.given → SlotRuled q i word (held_on i views)
       → ((slot : ℕ) → slot ≢ i → SlotRuled q slot (get_or words slot 0) (held_on slot views)) → RuledBy q (set words i word) (keeping q views)
   RuledBy-set i word inside sized most given here others = record {
@@ -48,7 +48,7 @@ module _ (p q : Register) (words : List ℕ) (views : List Role) (kept : RuledBy
         (λ slot other. SlotRuled-equal q slot _ _ _ _ refl (held_on-keeping slot) (others slot other));
   }
 
--- One slot is about to change.
+-- One slot changes.
 module _ (p : Register) (words : List ℕ) (views : List Role) (kept : RuledBy p words views) (i : ℕ) where
   abbrev count : ℕ
   count = held_on i views + pending_on i p.pending
@@ -56,7 +56,7 @@ module _ (p : Register) (words : List ℕ) (views : List Role) (kept : RuledBy p
   its_word : (state : Slot) → state_at p.slots i ≡ state → WordIs state count (get_or words i 0)
   its_word state is = subst (λ (s : Slot). WordIs s count (get_or words i 0)) is (kept.each_slot i).word_is
 
-  -- it gets another state, and a word for it
+  -- the rule after the slot gets another state and word
   RuledBy-with_slot : (state : Slot) (word : ℕ) → i < length p.slots → WordIs state count word
       → let q : Register = with_slot p i state in RuledBy q (set words i word) (keeping q views)
   RuledBy-with_slot state word inside is = let q : Register = with_slot p i state in let ok = kept.each_slot i in
@@ -83,7 +83,7 @@ module _ (p : Register) (words : List ℕ) (views : List Role) (kept : RuledBy p
       → let q : Register = with_slot p i Free in RuledBy q (set words i 0) (keeping q views)
   RuledBy-freed log is = RuledBy-with_slot Free 0 (inside_slots p.slots i (Closed log) is (λ e. cc)) ((its_word (Closed log) is).1, refl)
 
-  -- the word of an open slot, where no pin is under way: its log, and the seats that hold it
+  -- the word of an open slot, if no pin is under way: its log, and the number of seats that hold it
   pub word-open : (log : ℕ) → state_at p.slots i ≡ Open log → p.pending ≡ None → get_or words i 0 ≡ open_word log (held_on i views)
   word-open log is idle = let word : get_or words i 0 ≡ open_word log count = (its_word (Open log) is).1 in
       let none : pending_on i p.pending ≡ 0 = ap (pending_on i) idle in omega arith
@@ -112,7 +112,7 @@ module _ (p : Register) (words : List ℕ) (views : List Role) (kept : RuledBy p
   none_else : (slot : ℕ) → slot ≢ i → pending_on slot p.pending ≡ 0
   none_else slot other = ap (pending_on slot) on ∙ pending_on-else slot i met other
 
-  -- it counts like a seat more
+  -- the pin counts as one more seat
   counts : WordIs (state_at p.slots i) (held_on i views + 1) (get_or words i 0)
   counts = let one : pending_on i p.pending ≡ 1 = ap (pending_on i) on ∙ pending_on-here i met in
       subst (λ (n : ℕ). WordIs (state_at p.slots i) (held_on i views + n) (get_or words i 0)) one (kept.each_slot i).word_is
@@ -127,7 +127,7 @@ module _ (p : Register) (words : List ℕ) (views : List Role) (kept : RuledBy p
       }
       (λ slot other. SlotRuled-by p q slot _ _ refl (none_else slot other) refl tt (kept.each_slot slot))
 
-  -- the pin becomes a seat, which comes last
+  -- the pin becomes a seat, the last one
   abbrev g : Register
   g = with_granted p
 

@@ -1,4 +1,4 @@
--- From what a keeper keeps of its fields, and what a clause says of it, to what its steps ask.
+-- From a keeper's invariant and its clauses to the requirements of its steps.
 use Rattle.std.proofs.Common.{◌≡◌, ◌≢◌, ℕ, ◌+◌, ◌%◌, ◌^◌, ◌<◌, ◌≤◌, List, [], length, get_or, set, length-set, sym, refl, ap, ◌∙◌, subst, arith}
 use Rattle.std.proofs.Common.{get_or-set_same, get_or-set_other}
 use Rattle.std.specs.Arc.{arc_value}
@@ -13,19 +13,19 @@ use Rattle.bk_lease.specs.declared.rule.Register.{Register}
 use Rattle.bk_lease.specs.declared.rule.Role.{Role}
 use Rattle.bk_lease.specs.declared.rule.Role.TheVariants.{Keeper}
 use Rattle.bk_lease.specs.Leases.{state_at, log_of, log_at, MayOpen, IsOpen}
-use Rattle.bk_lease.specs.Steps.{Sitter, with_slot, Meets, CountsSeats}
-use Rattle.bk_lease.specs.Values.{SlotTable, with_state, with_given, resting, given_in, MayMeet, IsAtRest}
+use Rattle.bk_lease.specs.Steps.{SeatView, with_slot, Meets, CountsSeats}
+use Rattle.bk_lease.specs.Values.{SlotTable, with_state, with_given, register_at_rest, given_in, AllowsLeaseCount, IsAtRest}
 use Rattle.bk_lease.proofs.Slots.{inside_slots}
 
--- what a keeper knows between two calls
+-- register of the keeper between two calls
 abbrev pub its_register : Inside → Register
-its_register k = resting k.slots.items k.most (given_in k.seat.me.0)
+its_register k = register_at_rest k.slots.items k.most (given_in k.seat.me.0)
 
--- what a clause sees of it when its seat and its slots have changed
+-- its specification value after its seat and its slots have changed
 abbrev pub seen_at : Inside → Seat (Unit {0}) Role → List Slot → SlotTable
 seen_at k seat slots = record { table = seat.table_id; slots = slots; most = k.most; given = given_in seat.me.0 }
 
--- a keeper with the fields k, which a clause sees as `keeper`
+-- a keeper with the fields `k` has this specification value
 pub record SeenAs (k : Inside) (keeper : SlotTable) : Type 0 where
   pub is : the_view k ≡ keeper
   pub rest : the_invariant k
@@ -35,7 +35,7 @@ seen_as k keeper is rest = record { is = is; rest = rest }
 
 module _ {k : Inside} {keeper : SlotTable} (d : SeenAs k keeper) where
   pub knows : k.seat.me.0 ≡ Keeper (its_register k)
-  knows = ap (λ (m : Sitter). m.0) d.rest.knows
+  knows = ap (λ (m : SeatView). m.0) d.rest.knows
 
   pub state_inside : (slot : ℕ) (state : Slot) → state_at keeper.slots slot ≡ state → state_at k.slots.items slot ≡ state
   state_inside slot state there = ap (λ (t : SlotTable). state_at t.slots slot) d.is ∙ there
@@ -43,7 +43,7 @@ module _ {k : Inside} {keeper : SlotTable} (d : SeenAs k keeper) where
   pub open_inside : (slot log : ℕ) → IsOpen keeper.slots slot → log ≡ log_at keeper.slots slot → state_at k.slots.items slot ≡ Open log
   open_inside slot log open_there its_log = state_inside slot (Open log) (open_there ∙ ap (λ (n : ℕ). Open n) (sym its_log))
 
-  -- the log of an open slot has an id that fits
+  -- the id of an open slot's log is below 2 ^ 31
   pub open_fits : (slot log : ℕ) → state_at k.slots.items slot ≡ Open log → log < 2 ^ 31
   open_fits slot log is = subst (λ (s : Slot). log_of s < 2 ^ 31) is (d.rest.logs_fit slot)
 
@@ -56,41 +56,41 @@ module _ {k : Inside} {keeper : SlotTable} (d : SeenAs k keeper) where
   pub taken_inside : (slot : ℕ) (state : Slot) → state_at keeper.slots slot ≡ state → state ≢ Free → slot < length k.slots.items
   taken_inside slot state there taken = inside_slots k.slots.items slot state (state_inside slot state there) taken
 
-  pub meets_seen : (slot met : ℕ) → Meets (its_register k) slot met → MayMeet keeper slot met
-  meets_seen slot met meets = subst (λ (t : SlotTable). MayMeet t slot met) d.is meets
+  pub meets_seen : (slot met : ℕ) → Meets (its_register k) slot met → AllowsLeaseCount keeper slot met
+  meets_seen slot met meets = subst (λ (t : SlotTable). AllowsLeaseCount t slot met) d.is meets
 
   most_inside : k.most ≡ keeper.most
   most_inside = ap (λ (t : SlotTable). t.most) d.is
 
-  -- A step found a word that counts some seats, and the count was read out of it.
+  -- A step found a word that counts seats, and the count was read from it.
   module _ (slot log met found count : ℕ) (counts : CountsSeats (its_register k) slot log found met) (read : count ≡ found % 2 ^ 32) where
     pub count_read : count ≡ met
     count_read = let word = counts.0 in let within = counts.1 in let bounded : k.most < 2 ^ 16 = counts.2.2.bounded in omega arith
 
-    pub met_seen : MayMeet keeper slot count
-    met_seen = subst (λ (n : ℕ). MayMeet keeper slot n) (sym count_read) (meets_seen slot met counts.2)
+    pub met_seen : AllowsLeaseCount keeper slot count
+    met_seen = subst (λ (n : ℕ). AllowsLeaseCount keeper slot n) (sym count_read) (meets_seen slot met counts.2)
 
     pub leased_seen : 0 < met → (0 < count) × (count ≤ keeper.most)
     leased_seen some_met = let same = count_read in let within = counts.1 in let most = most_inside in (omega arith, omega arith)
 
-    pub room_seen : count < k.most → (met : ℕ) × (met < keeper.most) × MayMeet keeper slot met
+    pub room_seen : count < k.most → (met : ℕ) × (met < keeper.most) × AllowsLeaseCount keeper slot met
     room_seen below = let most = most_inside in (count, omega arith, met_seen)
 
-    pub full_seen : k.most ≤ count → MayMeet keeper slot keeper.most
+    pub full_seen : k.most ≤ count → AllowsLeaseCount keeper slot keeper.most
     full_seen full = let same = count_read in let within = counts.1 in let most = most_inside in let all : count ≡ keeper.most = omega arith in
-        subst (λ (n : ℕ). MayMeet keeper slot n) all met_seen
+        subst (λ (n : ℕ). AllowsLeaseCount keeper slot n) all met_seen
 
-  -- a seat that goes on with these slots, and with so many seats given out
-  module _ (seat : Seat (Unit {0}) Role) (slots : List Slot) (given : ℕ) (me : seat.me ≡ (Keeper (resting slots k.most given), k.seat.me.1)) where
+  -- a seat with these slots, and this number of seats created
+  module _ (seat : Seat (Unit {0}) Role) (slots : List Slot) (given : ℕ) (me : seat.me ≡ (Keeper (register_at_rest slots k.most given), k.seat.me.1)) where
     pub given_after : given_in seat.me.0 ≡ given
-    given_after = ap (λ (m : Sitter). given_in m.0) me
+    given_after = ap (λ (m : SeatView). given_in m.0) me
 
     at_rest_after : seat.table_id ≡ k.seat.table_id → seat.id ≡ k.seat.id → length slots ≡ length k.slots.items → ((slot : ℕ) → log_at slots slot < 2 ^ 31)
         → IsAtRest seat (arc_value k.table).shared.table_id slots k.most
-    at_rest_after table id as_long fit = let keeper_now : ℕ → Role = λ n. Keeper (resting slots k.most n) in record {
+    at_rest_after table id as_long fit = let keeper_now : ℕ → Role = λ n. Keeper (register_at_rest slots k.most n) in record {
       seated = table ∙ d.rest.seated;
       first = id ∙ d.rest.first;
-      knows = subst (λ (n : ℕ). seat.me ≡ (keeper_now n, [])) (sym given_after) (me ∙ ap (λ (m : Sitter). (keeper_now given, m.1)) d.rest.knows);
+      knows = subst (λ (n : ℕ). seat.me ≡ (keeper_now n, [])) (sym given_after) (me ∙ ap (λ (m : SeatView). (keeper_now given, m.1)) d.rest.knows);
       sized = as_long ∙ d.rest.sized;
       logs_fit = fit;
     }
@@ -107,9 +107,9 @@ module _ {k : Inside} {keeper : SlotTable} (d : SeenAs k keeper) where
   given_seen : given_in k.seat.me.0 ≡ keeper.given
   given_seen = ap (λ (t : SlotTable). t.given) d.is
 
-  -- a seat that goes on with the same slots
+  -- a seat with the same slots
   pub still_at_rest : (seat : Seat (Unit {0}) Role) (given : ℕ)
-      → seat.table_id ≡ k.seat.table_id → seat.id ≡ k.seat.id → seat.me ≡ (Keeper (resting k.slots.items k.most given), k.seat.me.1)
+      → seat.table_id ≡ k.seat.table_id → seat.id ≡ k.seat.id → seat.me ≡ (Keeper (register_at_rest k.slots.items k.most given), k.seat.me.1)
       → IsAtRest seat (arc_value k.table).shared.table_id k.slots.items k.most
   still_at_rest seat given table id me = at_rest_after seat k.slots.items given me table id refl d.rest.logs_fit
 
@@ -118,11 +118,11 @@ module _ {k : Inside} {keeper : SlotTable} (d : SeenAs k keeper) where
   seen_still seat table me = seen_after seat k.slots.items (given_in k.seat.me.0) me keeper.slots keeper.given table slots_seen given_seen
 
   pub seen_given : (seat : Seat (Unit {0}) Role) → seat.table_id ≡ k.seat.table_id
-      → seat.me ≡ (Keeper (resting k.slots.items k.most (given_in k.seat.me.0 + 1)), k.seat.me.1) → seen_at k seat k.slots.items ≡ with_given keeper
+      → seat.me ≡ (Keeper (register_at_rest k.slots.items k.most (given_in k.seat.me.0 + 1)), k.seat.me.1) → seen_at k seat k.slots.items ≡ with_given keeper
   seen_given seat table me = seen_after seat k.slots.items (given_in k.seat.me.0 + 1) me keeper.slots (keeper.given + 1) table slots_seen
       (ap (λ (n : ℕ). n + 1) given_seen)
 
-  -- a seat that goes on with one slot in another state
+  -- a seat with one slot in another state
   pub at_rest_with : (seat : Seat (Unit {0}) Role) (slot : ℕ) (state : Slot) → slot < length k.slots.items → log_of state < 2 ^ 31
       → seat.table_id ≡ k.seat.table_id → seat.id ≡ k.seat.id → seat.me ≡ (Keeper (with_slot (its_register k) slot state), k.seat.me.1)
       → IsAtRest seat (arc_value k.table).shared.table_id (set k.slots.items slot state) k.most

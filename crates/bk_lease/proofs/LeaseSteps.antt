@@ -1,4 +1,5 @@
--- The steps of a lease keep the rule: a release, and the meeting with a keeper that never comes.
+-- The steps of a lease preserve the rule: a release, and joining it with a keeper, which does not
+-- occur.
 use Rattle.std.proofs.Common.{◌≡◌, ◌≢◌, ℕ, ◌+◌, ◌^◌, ◌<◌, List, length, set, get_or, length-set, sym, refl, ap, ◌∙◌, subst, ⊎_elim, arith}
 use mathlib.Core.Option.{none, some, some-injective}
 use lib.ListN.{get_elem?}
@@ -9,16 +10,16 @@ use Rattle.bk_lease.specs.declared.rule.Register.{Register}
 use Rattle.bk_lease.specs.declared.rule.Role.{Role}
 use Rattle.bk_lease.specs.declared.rule.Role.TheVariants.{Keeper, Held, Spent}
 use Rattle.bk_lease.specs.Leases.{state_at, pending_on, WordIs, held_on, RuledBy, SlotRuled}
-use Rattle.bk_lease.specs.Steps.{Sitter, released}
+use Rattle.bk_lease.specs.Steps.{SeatView, release_step}
 use Rattle.bk_lease.proofs.Slots.{inside_slots}
 use Rattle.bk_lease.proofs.Views.{hold_of-here, hold_of-else, held_on-set}
 use Rattle.bk_lease.proofs.Words.{one_less, counted_open}
 use Rattle.bk_lease.proofs.Ruled.{Rule, the_keeper, each_after, SlotRuled-equal, SlotRuled-one_less}
 
--- The seat id holds the slot i.
+-- The seat `id` holds the slot i.
 module _ (register : Register) (words : List ℕ) (views : List Role) (kept : RuledBy register words views) (id i : ℕ)
     (at : get_elem? views id ≡ some (Held i)) where
-  -- the views once it is spent
+  -- the views after it is spent
   abbrev after : List Role
   after = set views id Spent
 
@@ -63,11 +64,12 @@ module _ (register : Register) (words : List ℕ) (views : List Role) (kept : Ru
   none_closed : (log : ℕ) → state_at register.slots i ≡ Closed log → ⊥
   none_closed log closed = let same : Open the_open.0 ≡ Closed log = sym the_open.1 ∙ closed in absurd cc
 
-pub releases : (slots id i : ℕ) (me : Sitter) → me.0 ≡ Held i → Allows Rule slots id me i one_less (released (step slots i 1 0 none) me)
+pub releases : (slots id i : ℕ) (me : SeatView) → me.0 ≡ Held i → Allows Rule slots id me i one_less (release_step (step slots i 1 0 none) me)
 releases slots id i me holds s ruled _ at small =
     (Spent, keeps, tt, (ruled.0, RuledBy-released ruled.0 s.words s.views ruled.1 id i (at ∙ ap some holds) small), refl)
 
--- a keeper that has closed a slot, and a seat that holds it: whatever they become, as there are none
+-- joining a keeper that has closed a slot with a seat that holds it: any effect, since the case
+-- does not exist
 pub meets : (id other i log : ℕ) (v w both left : Role) (register : Register) → v ≡ Keeper register → state_at register.slots i ≡ Closed log → w ≡ Held i
     → Joins Rule id v other w both left
 meets id other i log v w both left register knows closed holds s ruled at apart there =

@@ -1,4 +1,4 @@
--- What follows from the rule as it stands, and how one slot's part of it carries over a step.
+-- Consequences of the rule, and the rule of one slot after a step.
 use Rattle.std.proofs.Common.{◌≡◌, ◌≢◌, ℕ, ◌+◌, ◌^◌, ◌<◌, ◌≤◌, List, length, get_or, set, sym, refl, ap, ◌∙◌, subst, arith, get_or-set_same}
 use Rattle.std.proofs.Common.{get_or-set_other, Option, Some, None}
 use mathlib.Core.Logic.{dite}
@@ -18,7 +18,7 @@ use Rattle.bk_lease.proofs.Words.{one_less, WordIs-one_less}
 abbrev pub Rule : State (Unit {0}) Role → Type 0
 Rule s = IsRuled s.words s.views
 
--- a seat that knows a register is the first one, and the rule goes by its register
+-- a seat with a register is the first one, and the rule uses its register
 pub the_keeper : (words : List ℕ) (views : List Role) (id : ℕ) (v : Role) (register : Register)
     → IsRuled words views → get_elem? views id ≡ some v → v ≡ Keeper register → (id ≡ 0) × RuledBy register words views
 the_keeper words views id v register ruled at knows = let kept = ruled.1 in
@@ -29,17 +29,18 @@ the_keeper words views id v register ruled at knows = let kept = ruled.1 in
     let equal : ruled.0 ≡ register = cc in
     (first, subst (λ (r : Register). RuledBy r words views) equal kept)
 
--- fewer seats are within what a pin met
+-- a smaller number of seats is within the bound of the pin
 pub IsWithinMet-le : (slot : ℕ) (pending : Option Pin) (few held : ℕ) → few ≤ held → IsWithinMet slot pending held → IsWithinMet slot pending few
 IsWithinMet-le slot None few held le met = tt
 IsWithinMet-le slot (Some pin) few held le met = λ on. let all = met on in omega arith
 
--- one slot's part, where its word and the number of its seats are told in other terms
+-- the rule of one slot, with equal word and number
 pub SlotRuled-equal : (register : Register) (slot word word' held held' : ℕ) → word ≡ word' → held ≡ held'
     → SlotRuled register slot word held → SlotRuled register slot word' held'
 SlotRuled-equal register slot word word' held held' e f ok = subst (λ (z : ℕ × ℕ). SlotRuled register slot z.0 z.1) (λ i. (e i, f i)) ok
 
--- one slot's part, by another register that says the same of the slot, and has no pin on it that met fewer
+-- The rule of one slot, for another register with the same state of the slot, and without a pin on
+-- it that found fewer seats.
 pub SlotRuled-by : (p q : Register) (slot word held : ℕ) → state_at p.slots slot ≡ state_at q.slots slot → pending_on slot p.pending ≡ pending_on slot q.pending
     → p.most ≡ q.most → IsWithinMet slot q.pending held → SlotRuled p slot word held → SlotRuled q slot word held
 SlotRuled-by p q slot word held state pending most met ok = record {
@@ -48,7 +49,7 @@ SlotRuled-by p q slot word held state pending most met ok = record {
   met = met;
 }
 
--- one slot's part after one of its leases is given back
+-- the rule of one slot after one of its leases is released
 pub SlotRuled-one_less : (register : Register) (slot word held : ℕ) → SlotRuled register slot word (held + 1) → word < 2 ^ 64
     → SlotRuled register slot (one_less word) held
 SlotRuled-one_less register slot word held ok small = let state : Slot = state_at register.slots slot in let pending : ℕ = pending_on slot register.pending in
@@ -59,7 +60,8 @@ SlotRuled-one_less register slot word held ok small = let state : Slot = state_a
       met = IsWithinMet-le slot register.pending held (held + 1) (omega arith) ok.met;
     }
 
--- one word is written: each slot keeps its part, if this one does by its new word, and each other by its own
+-- After one word is written, the rule holds of each slot: of this one by its new word, of the
+-- others as before.
 pub each_after : (register : Register) (words : List ℕ) (views : List Role) (i word : ℕ) → i < length words → SlotRuled register i word (held_on i views)
     → ((slot : ℕ) → slot ≢ i → SlotRuled register slot (get_or words slot 0) (held_on slot views))
     → (slot : ℕ) → SlotRuled register slot (get_or (set words i word) slot 0) (held_on slot views)

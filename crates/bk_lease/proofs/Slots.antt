@@ -1,4 +1,5 @@
--- What a change of one slot does to the states of all, and to the count of those that are taken: for whoever keeps beside a keeper what stands in its slots.
+-- The states of all slots and the number of taken ones after a change of one slot, for the proofs
+-- of callers.
 use Rattle.std.proofs.Common.{◌≡◌, ◌≢◌, ℕ, zero, suc, ◌+◌, ◌<◌, List, [], ◌∷◌, length, set, replicate, sym, refl, ap, ◌∙◌, arith, lt_of_not-le}
 use Rattle.std.proofs.Common.{get_or-set_same, get_or-set_other}
 use Rattle.std.proofs.lemmas.List.{set-set, set-get_or}
@@ -20,7 +21,7 @@ pub taken_count-replicate : (n : ℕ) → taken_count (replicate n Free) ≡ 0
 taken_count-replicate zero = refl
 taken_count-replicate (suc n) = let rest = taken_count-replicate n in omega arith
 
--- one slot changes, and the count by the difference
+-- changing one slot changes the count by the difference
 pub taken_count-set : (slots : List Slot) (i : ℕ) (state : Slot) → i < length slots
     → taken_count (set slots i state) + taken_of (state_at slots i) ≡ taken_count slots + taken_of state
 taken_count-set [] i state inside = absurd (omega arith)
@@ -32,7 +33,7 @@ taken_of-one Free taken = absurd (taken refl)
 taken_of-one (Open log) taken = refl
 taken_of-one (Closed log) taken = refl
 
--- where none is free, all are taken
+-- if no slot is free, all are taken
 pub taken_count-all : (slots : List Slot) → ((i : ℕ) → i < length slots → state_at slots i ≢ Free) → taken_count slots ≡ length slots
 taken_count-all [] taken = refl
 taken_count-all (s ∷ states) taken = let first = taken_of-one s (taken 0 (omega arith)) in
@@ -44,11 +45,11 @@ state_at-set_here slots i state inside = get_or-set_same slots i state Free insi
 pub state_at-set_else : (slots : List Slot) (i j : ℕ) (state : Slot) → j ≢ i → state_at (set slots i state) j ≡ state_at slots j
 state_at-set_else slots i j state other = get_or-set_other slots i j state Free other
 
--- two logs never stand in one slot
+-- two logs are not in the same slot
 pub other_slot : (slots : List Slot) (i j : ℕ) (a b : ℕ) → a ≢ b → log_at slots i ≡ a → log_at slots j ≡ b → i ≢ j
 other_slot slots i j a b apart first second same = apart (sym first ∙ ap (log_at slots) same ∙ second)
 
--- a slot that is closed and opened again is as it was
+-- closing a slot and opening it again for the same log restores it
 pub with_closed-opened : (keeper : SlotTable) (slot : ℕ) → IsOpen keeper.slots slot
     → with_state (with_closed keeper slot) slot (Open (log_at keeper.slots slot)) ≡ keeper
 with_closed-opened keeper slot is = let log : ℕ = log_at keeper.slots slot in

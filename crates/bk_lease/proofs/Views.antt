@@ -8,7 +8,7 @@ use Rattle.bk_lease.specs.declared.rule.Role.TheVariants.{Held}
 use Rattle.bk_lease.specs.Leases.{hold_of, held_on, pending_on}
 use Rattle.bk_lease.specs.Steps.{pin_on}
 
--- where there is a seat, there is a place
+-- an element is at a position in the list
 pub some_inside : {A : Type 0} (l : List A) (i : ℕ) (a : A) → get_elem? l i ≡ some a → i < length l
 some_inside [] i a e = absurd (some-ne-none a (sym e))
 some_inside (x ∷ xs) zero a e = omega arith
@@ -26,14 +26,14 @@ pending_on-here slot met = hold_of-here slot
 pub pending_on-else : (slot other met : ℕ) → slot ≢ other → pending_on slot (Some (pin_on other met)) ≡ 0
 pending_on-else slot other met ne = hold_of-else slot other ne
 
--- one seat's view changes, and the count by the difference
+-- changing one seat's view changes the count by the difference
 pub held_on-set : (slot : ℕ) (views : List Role) (i : ℕ) (v w : Role) → get_elem? views i ≡ some v
     → held_on slot (set views i w) + hold_of slot v ≡ held_on slot views + hold_of slot w
 held_on-set slot [] i v w e = absurd (some-ne-none v (sym e))
 held_on-set slot (x ∷ xs) zero v w e = let same : hold_of slot x ≡ hold_of slot v = ap (hold_of slot) (some-injective x v e) in omega arith
 held_on-set slot (x ∷ xs) (suc i) v w e = let rest = held_on-set slot xs i v w e in omega arith
 
--- a seat more
+-- one more seat
 pub held_on-snoc : (slot : ℕ) (views : List Role) (v : Role) → held_on slot (views ++ v ∷ []) ≡ held_on slot views + hold_of slot v
 held_on-snoc slot [] v = omega arith
 held_on-snoc slot (x ∷ xs) v = let rest = held_on-snoc slot xs v in omega arith

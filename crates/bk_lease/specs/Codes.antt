@@ -1,4 +1,4 @@
--- How models hold what contracts see of a keeper and of a seat: for the model of whatever keeps one.
+-- Encodings of the specification values of a keeper and of a seat, for the models of callers.
 use Rattle.std.specs.Prelude.{◌≡◌, ℕ, Bool, List, ◌⊎◌}
 use Rattle.std.proofs.Common.{refl, inl, inr}
 use Rattle.std.specs.Coded.{Coded, code_by, coded×, coded⊎, coded_ℕ, coded_bool, coded_list}
@@ -8,7 +8,7 @@ use Rattle.bk_lease.specs.declared.slot.Slot.{Slot}
 use Rattle.bk_lease.specs.declared.slot.Slot.TheVariants.{Free, Open, Closed}
 use Rattle.bk_lease.specs.Values.{SlotTable, Ticket}
 
--- a slot's state as one of three: nothing, an open log, a closed one
+-- state of a slot as a sum: free, open with a log, or closed with a log
 abbrev slot_case : Slot → Unit {0} ⊎ (ℕ ⊎ ℕ)
 slot_case Free = inl tt
 slot_case (Open log) = inr (inl log)

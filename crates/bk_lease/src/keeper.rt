@@ -1,8 +1,7 @@
-//! The keeper of a lease table: from it logs get their slots, and readers their seats.
+//! The keeper of a lease table: it opens slots for logs and creates seats for readers.
 //!
-//! A keeper has the state of each slot at hand, and the lease rule says that the words agree with
-//! it: so no call has to ask a word for its log, and a count that a step finds is the count of that
-//! log.
+//! A keeper has the state of each slot, and by the lease rule the words agree with it. So no call
+//! reads a word to learn its log, and a count that a step finds is the count of that log.
 ghost use Rattle.std.specs.Prelude.{◌≡◌, ◌≢◌, ℕ, ◌^◌, ◌<◌, ◌≤◌, length, IfSome, IfNone};
 ghost use Rattle.std.specs.Prelude.{IfOk, IfErr, OnOk, OnErr, IsErrOf};
 ghost use Rattle.bk_lease.specs.declared.slot.Slot.TheVariants.{Free, Open};
@@ -20,15 +19,15 @@ use atomic_table::Seat;
 use std::marker::Model;
 use std::sync::Arc;
 
-/// Whoever has it gives logs their slots and readers their seats, and closes slots that nobody
-/// holds. A table has one. None of its calls waits.
+/// The lease manager: opens, closes and frees slots, and grants leases to readers. A table has one.
+/// No call waits.
 #[derive(Drop)]
 pub struct Keeper {
     table: Arc<Board>,
     seat: Seat<(), Role>,
     slots: Vec<Slot>,
     most: u64,
-    /// Where a search for a free slot begins: the last slot that was opened or freed.
+    /// Start of the search for a free slot: the last slot that was opened or freed.
     last: usize,
 }
 
@@ -57,7 +56,7 @@ impl Model for Keeper {
 impl Keeper {
     ghost use Rattle.std.specs.Arc.{arc_value};
     ghost use Rattle.bk_lease.specs.Values.{SlotTable, IsAtRest, given_in, with_state, with_closed};
-    ghost use Rattle.bk_lease.specs.Values.{with_given, new_ticket, MayMeet};
+    ghost use Rattle.bk_lease.specs.Values.{with_given, new_ticket, AllowsLeaseCount};
 
     pub(crate) fn new(
         table: Arc<Board>,
@@ -82,15 +81,17 @@ impl Keeper {
         }
     }
 
-    /// The state of each slot, by which a caller tests whether one is open.
+    /// Returns the state of each slot.
     pub fn slots(&self) -> &[Slot]
         ensures { result.now ≡ self.now.slots }
     {
         &self.slots
     }
 
-    /// A slot that is free, `None` where a log stands in each. It is near the last one that was
-    /// opened or freed, so that opening slots one after another looks at each slot once.
+    /// Returns a free slot, or `None` if there is none.
+    ///
+    /// The search starts at the last slot that was opened or freed, so opening slots one after
+    /// another visits each slot once.
     pub fn free_slot(&self) -> Option<usize>
         ensures free { IfSome result (λ slot. IsFree self.now.slots slot) }
         ensures full { IfNone result (taken_count self.now.slots ≡ length self.now.slots) }
@@ -101,7 +102,8 @@ impl Keeper {
         first_free(&self.slots, 0)
     }
 
-    /// Opens a slot, which is free or closed, for this log.
+    /// Opens a slot for a log. Requires a slot that is free or closed, and a log id of at most 2^31
+    /// - 1.
     pub fn open(&mut self, slot: usize, log: u32)
         requires slot { slot < length self.old.slots }
         requires log { log < 2 ^ 31 }
@@ -114,17 +116,21 @@ impl Keeper {
         self.last = slot;
     }
 
-    /// A seat that holds this slot, which is open: a lease of its log.
+    /// Returns a seat that holds an open slot: a lease of its log.
     ///
-    /// The faults are `NoSeat`, before anything is done, and `TooMany`, where as many leases as the
-    /// table allows were out: the step that found them is then taken back by a second one.
+    /// # Errors
+    ///
+    /// In this order; the keeper is unchanged:
+    ///
+    /// - `NoSeat` if the table can have no further owner.
+    /// - `TooMany` if the log has as many outstanding leases as the table allows.
     pub fn pin(&mut self, slot: usize) -> Result<LeaseSeat, PinFault>
         requires { IsOpen self.old.slots slot }
         ensures ok { IfOk result (λ seat. seat ≡ new_ticket self.old slot seat.seat) }
         ensures given { OnOk result (self.new ≡ with_given self.old) }
         ensures err { OnErr result (self.new ≡ self.old) }
-        ensures room { OnOk result ((met : ℕ) × (met < self.old.most) × MayMeet self.old slot met) }
-        ensures too_many { IsErrOf result PinFault.TooMany → MayMeet self.old slot self.old.most }
+        ensures room { OnOk result ((met : ℕ) × (met < self.old.most) × AllowsLeaseCount self.old slot met) }
+        ensures too_many { IsErrOf result PinFault.TooMany → AllowsLeaseCount self.old slot self.old.most }
     {
         let Ok(table) = Arc::try_clone(&self.table) else {
             return Err(PinFault::NoSeat);
@@ -140,14 +146,19 @@ impl Keeper {
         Ok(LeaseSeat::new(table, seat, slot, log))
     }
 
-    /// Closes an open slot if no lease of its log is out, and else says how many were, at one step.
+    /// Closes an open slot if its log has no outstanding lease.
+    ///
+    /// # Errors
+    ///
+    /// - `Leased` with the number of leases that were outstanding at that step; the keeper is
+    ///   unchanged.
     pub fn close(&mut self, slot: usize) -> Result<Closed, Leased>
         requires { IsOpen self.old.slots slot }
         ensures ok { IfOk result (λ c. (c.slot ≡ slot) × (c.log ≡ log_at self.old.slots slot)) }
         ensures closed { OnOk result (self.new ≡ with_closed self.old slot) }
-        ensures unleased { OnOk result (MayMeet self.old slot 0) }
+        ensures unleased { OnOk result (AllowsLeaseCount self.old slot 0) }
         ensures leased { IfErr result (λ e. (0 < e.count) × (e.count ≤ self.old.most)) }
-        ensures met { IfErr result (λ e. MayMeet self.old slot e.count) }
+        ensures met { IfErr result (λ e. AllowsLeaseCount self.old slot e.count) }
         ensures err { OnErr result (self.new ≡ self.old) }
     {
         let log = self.log_at(slot);
@@ -163,7 +174,7 @@ impl Keeper {
         Ok(Closed { slot, log })
     }
 
-    /// Frees a slot that was closed and still is.
+    /// Frees a closed slot.
     pub fn free(&mut self, closed: Closed)
         requires { state_at self.old.slots closed.slot ≡ Slot.Closed closed.log }
         ensures { self.new ≡ with_state self.old closed.slot Free }
@@ -174,8 +185,8 @@ impl Keeper {
         self.last = closed.slot;
     }
 
-    /// Shows that no lease is of a slot which this keeper has closed, by putting the two together:
-    /// a caller that has both calls it in an arm that is never reached.
+    /// Theorem: no lease holds a slot that this keeper has closed. A caller that has both calls
+    /// this function in a branch that is never reached.
     pub fn meet<V: Drop>(&mut self, lease: Lease<V>)
         requires table { lease.ticket.table ≡ self.old.table }
         requires closed { IsClosed self.old.slots lease.ticket.slot }
@@ -186,7 +197,7 @@ impl Keeper {
         shared.load::<NeverStep>(&mut self.seat, 0);
     }
 
-    /// The log of an open slot.
+    /// Returns the log of an open slot.
     fn log_at(&self, slot: usize) -> u32
         requires { IsOpen self.now.slots slot }
         ensures { result ≡ log_at self.now.slots slot }
@@ -198,7 +209,7 @@ impl Keeper {
     }
 }
 
-/// The first slot from this one on that is free.
+/// The first free slot from `from` on.
 fn first_free(slots: &[Slot], from: usize) -> Option<usize>
     ensures free { IfSome result (λ slot. IsFree slots.now slot) }
     ensures taken { IfNone result ((slot : ℕ) → from ≤ slot → slot < length slots.now

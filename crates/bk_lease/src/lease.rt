@@ -1,18 +1,18 @@
-//! A lease of an entry log: a seat that holds the log's slot, and what the lease shows of the log.
+//! A lease of an entry log: a seat that holds the log's slot, and the value that the lease shows.
 //!
-//! A lease keeps its seat in place from the pin until it is given back, in whatever thread and on
-//! whatever path: the drop does what `release` does, one atomic step.
+//! The seat is in the lease from the pin until the release, in any thread and on any path: dropping
+//! a lease releases it.
 ghost use Rattle.std.specs.Prelude.{◌≡◌, true, false};
 ghost use Rattle.std.specs.Option.{ForSome, option_map};
-ghost use Rattle.bk_lease.specs.Values.{spent};
+ghost use Rattle.bk_lease.specs.Values.{spent_ticket};
 
 use crate::seat::LeaseSeat;
 use std::marker::Model;
 use std::sync::Arc;
 
-/// A lease of an entry log, which shows `V`. While it lives the log is not closed.
+/// A lease of an entry log, which shows a `V`. While it exists, the log is not closed.
 ///
-/// Dropping it gives the lease back, as `release` does: one atomic step, with no lock and no wait.
+/// Dropping it releases it, as `release` does: one atomic step, without a lock or a wait.
 pub struct Lease<V: Drop> {
     seat: Option<LeaseSeat>,
     view: Arc<V>,
@@ -35,7 +35,7 @@ impl<V: Drop> Lease<V> {
     ghost use Rattle.std.specs.Arc.{arc_value};
     ghost use Rattle.bk_lease.specs.Values.{Ticket, LeasedView};
 
-    /// A lease by a seat that holds its slot, which shows this.
+    /// Returns a lease that shows `view`. Requires a seat that holds its slot.
     pub fn of(seat: LeaseSeat, view: Arc<V>) -> Lease<V>
         requires { seat.is_held ≡ true }
         ensures { result ≡ record { ticket = seat; view = arc_value view } }
@@ -46,37 +46,37 @@ impl<V: Drop> Lease<V> {
         }
     }
 
-    /// What the lease shows: the value that it was made with, for as long as it lives.
+    /// Returns the value that the lease was made with.
     pub fn view(&self) -> &V
         ensures { result.now ≡ self.now.view }
     {
         &self.view
     }
 
-    /// The id of the log that is leased.
+    /// Returns the id of the log that is leased.
     pub fn log(&self) -> u32
         ensures { result ≡ self.now.ticket.log }
     {
         self.seat().log()
     }
 
-    /// The slot in which that log stands.
+    /// Returns the slot of that log.
     pub fn slot(&self) -> usize
         ensures { result ≡ self.now.ticket.slot }
     {
         self.seat().slot()
     }
 
-    /// Gives the lease back, by one atomic step, and hands out its seat, which is spent: end it.
+    /// Releases the lease by one atomic step and returns its spent seat, which the caller ends.
     pub fn release(self) -> LeaseSeat
-        ensures { result ≡ spent self.ticket }
+        ensures { result ≡ spent_ticket self.ticket }
     {
         let mut seat = self.into_seat();
         seat.spend();
         seat
     }
 
-    /// The seat, which still holds its slot.
+    /// Returns the seat, which still holds its slot.
     pub(crate) fn into_seat(self) -> LeaseSeat
         ensures seat { result ≡ self.ticket }
         ensures held { result.is_held ≡ true }
@@ -96,17 +96,17 @@ impl<V: Drop> Lease<V> {
     }
 }
 
-/// What the drop does to the seat of a lease: the seat stays in its place, and is spent.
+/// Effect of a drop on the seat: it stays in its place and is spent.
 fn spend_in_place(seat: &mut Option<LeaseSeat>)
     requires { ForSome seat.old (λ s. s.is_held ≡ true) }
-    ensures { seat.new ≡ option_map spent seat.old }
+    ensures { seat.new ≡ option_map spent_ticket seat.old }
 {
     if let Some(kept) = seat {
         kept.spend();
     }
 }
 
-/// Lets a seat go that is spent.
+/// Ends a spent seat.
 fn let_go(seat: Option<LeaseSeat>)
     requires { ForSome seat (λ s. s.is_held ≡ false) }
 {
@@ -115,8 +115,8 @@ fn let_go(seat: Option<LeaseSeat>)
     }
 }
 
-// No clause here can name the seat as the body leaves it: `spend_in_place` says what becomes of it,
-// and the seat, which has no `Drop`, can only go to `let_go`, which asks that it is spent.
+// No clause can name the seat after this body. By the clause of `spend_in_place` the seat is spent.
+// It has no `Drop`, so it can only be passed to `let_go`, which requires a spent seat.
 impl<V: Drop> Drop for Lease<V> {
     fn drop(mut self) {
         spend_in_place(&mut self.seat);

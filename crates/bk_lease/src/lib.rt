@@ -1,12 +1,9 @@
 #![tactic(auto)]
-//! Leases on entry logs: who reads a log holds a lease of it, and a log that is leased is not
-//! closed, so it is never removed under its reader.
+//! Leases on entry logs: a log that is leased is not closed, so it is not removed while it is read.
 //!
-//! A log that is held stands in a slot, and each slot has one word: is it closed, which log is it,
-//! and how many leases of it are out. Logs get their slots, and readers their leases, from one
-//! keeper. A lease is given back by one atomic step on its slot's word, in any thread, with no lock
-//! and no wait: so the keeper learns at the step that closes a slot, and by that step alone, that
-//! nobody reads its log.
+//! Each held log has a slot, and each slot has one word: its state, its log, and its number of
+//! leases. A lease is released by one atomic step on this word, in any thread, without a lock or a
+//! wait. A slot is closed by an atomic step that finds it without leases.
 
 mod answers;
 mod keeper;
@@ -16,8 +13,6 @@ mod seat;
 mod slot;
 mod steps;
 mod table;
-#[cfg(test)]
-mod tests;
 mod word;
 
 pub use answers::{Closed, Leased, PinFault};

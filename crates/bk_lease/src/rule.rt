@@ -1,41 +1,39 @@
-//! The lease rule, as the rule of a table that has one word for each slot.
+//! The lease rule as the rule of a table with one word for each slot.
 //!
-//! What a seat at the table knows is a view, which proofs alone see. The keeper knows the state of
-//! each slot, which pin is under way and how many seats it gave out; any other seat knows that it
-//! holds its slot, or that it is spent. The rule says which words go with which views, and each
-//! step, in whatever thread, leaves it true: `specs/Leases.antt` has it on one page.
+//! Each seat has a view, a ghost value. The keeper's view has the state of each slot, the pin under
+//! way and the number of seats created; any other seat holds its slot or is spent. The rule relates
+//! words and views, and each step of any thread preserves it (`specs/Leases.antt`).
 
 use crate::slot::Slot;
 use atomic_table::{Table, TableRule};
 use std::alloc::Global;
 use std::collections::LinkedList;
 
-/// A pin that is under way: its slot, and how many seats held the slot at its step. No value of it
-/// is made.
+/// A pin under way: its slot, and the number of seats that held the slot at its step. Ghost.
 pub(crate) struct Pin {
     pub(crate) slot: u64,
     pub(crate) met: u64,
 }
 
-/// What the keeper knows. No value of it is made.
+/// View of the keeper. Ghost.
 pub(crate) struct Register {
     pub(crate) slots: LinkedList<Slot>,
     pub(crate) pending: Option<Pin>,
-    /// How many seats may hold one slot.
+    /// Greatest number of seats that hold one slot.
     pub(crate) most: u64,
-    /// How many seats were given out, one a pin.
+    /// Number of seats created, one per pin.
     pub(crate) given: u64,
 }
 
-/// What a seat at the table knows. No value of it is made.
+/// View of a seat. Ghost.
 pub(crate) enum Role {
     Keeper(Register),
-    /// The seat holds this slot: a lease of its log is out.
+    /// The seat holds this slot.
     Held(u64),
     Spent,
 }
 
-/// What a table is told when it is made.
+/// Arguments of a new table.
 #[derive(Clone, Copy)]
 pub(crate) struct Room {
     pub(crate) slots: usize,

@@ -1,4 +1,4 @@
-//! The seat of a lease at the table: it holds one slot until it is spent, by one atomic step.
+//! The seat of a lease: it holds one slot until it is spent by one atomic step.
 ghost use Rattle.std.specs.Prelude.{◌≡◌, ◌<◌, true, false, []};
 
 use crate::rule::{Board, Role};
@@ -7,11 +7,11 @@ use atomic_table::Seat;
 use std::marker::Model;
 use std::sync::Arc;
 
-/// A seat, which holds one slot until it is spent. While it holds the slot the slot's log is
-/// leased.
+/// Lease handle: holds one slot, whose log is leased, until it is spent.
 ///
-/// The seat is an owner of its table, so it may outlive the keeper and go to any thread. It has no
-/// `Drop`: code that loses a seat does not compile. Put it into a `Lease`, or spend it and end it.
+/// The seat is an owner of its table, so it can outlive the keeper and move to any thread. It has
+/// no `Drop`: code that loses a seat does not compile. Put it into a `Lease`, or spend it and end
+/// it.
 pub struct LeaseSeat {
     table: Arc<Board>,
     seat: Seat<(), Role>,
@@ -44,9 +44,9 @@ impl Model for LeaseSeat {
 impl LeaseSeat {
     ghost use Rattle.std.specs.Arc.{arc_value};
     ghost use Rattle.bk_lease.specs.declared.rule.Role.TheVariants.{Held, Spent};
-    ghost use Rattle.bk_lease.specs.Values.{Ticket, HasClosed, IsSameSeat, held_ticket, spent};
+    ghost use Rattle.bk_lease.specs.Values.{Ticket, HasClosed, IsSameSeat, held_ticket, spent_ticket};
 
-    /// The seat of a pin that was granted.
+    /// Returns the seat of a granted pin.
     pub(crate) fn new(table: Arc<Board>, seat: Seat<(), Role>, slot: usize, log: u32) -> LeaseSeat
         requires seated { seat.table_id ≡ (arc_value table).shared.table_id }
         requires inside { slot < seat.table_id.words }
@@ -73,16 +73,17 @@ impl LeaseSeat {
         self.log
     }
 
-    /// Gives the lease back, by one atomic step on the slot's word. The seat has to hold its slot.
+    /// Releases the lease by one atomic step on the slot's word. Requires a seat that holds its
+    /// slot.
     pub fn spend(&mut self)
         requires { self.old.is_held ≡ true }
-        ensures { self.new ≡ spent self.old }
+        ensures { self.new ≡ spent_ticket self.old }
     {
         let shared = &self.table.shared;
         shared.fetch_sub::<ReleaseStep>(&mut self.seat, self.slot, 1);
     }
 
-    /// Lets a seat go that is spent.
+    /// Ends a spent seat.
     pub fn end(self)
         requires { self.is_held ≡ false }
     {
@@ -94,7 +95,7 @@ impl LeaseSeat {
         } = self;
     }
 
-    /// Puts a seat that holds its slot together with that of a keeper which has closed the slot.
+    /// Joins a seat that holds its slot with that of a keeper that has closed the slot.
     pub(crate) fn meet(self, keeper: &mut Seat<(), Role>)
         requires table { keeper.old.table_id ≡ self.table }
         requires closed { HasClosed keeper.old.me self.slot }

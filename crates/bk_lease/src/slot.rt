@@ -1,12 +1,12 @@
-//! What a keeper knows of a slot.
+//! State of a slot.
 
-/// The state of a slot, as its keeper knows it. Log ids are from 0 to 2^31 - 1.
+/// State of a slot, as the keeper has it. Log ids are from 0 to 2^31 - 1.
 #[derive(Clone, Copy, Debug, PartialEq, Eq)]
 pub enum Slot {
-    /// No log stands in the slot.
+    /// The slot has no log.
     Free,
-    /// This log stands in the slot, and leases of it may be given.
+    /// The slot has this log, and leases of it can be granted.
     Open(u32),
-    /// This log stands in the slot, and no lease of it is out or given.
+    /// The slot has this log, which has no outstanding lease, and none can be granted.
     Closed(u32),
 }

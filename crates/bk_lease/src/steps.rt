@@ -1,7 +1,6 @@
-//! The atomic steps on a slot's word, and what each tells the seat that makes it:
-//! `specs/Steps.antt`.
-ghost use Rattle.bk_lease.specs.Steps.{opened, pinned, settled, granted, undone, released};
-ghost use Rattle.bk_lease.specs.Steps.{closed, freed, met, never};
+//! The atomic steps on a slot's word. `specs/Steps.antt` states the effect of each.
+ghost use Rattle.bk_lease.specs.Steps.{open_step, pin_step, split_keeper_step, split_seat_step, undo_step, release_step};
+ghost use Rattle.bk_lease.specs.Steps.{close_step, free_step, met, no_step};
 
 use crate::rule::Role;
 use atomic_table::{Join, Play, Split};
@@ -9,51 +8,51 @@ use atomic_table::{Join, Play, Split};
 pub(crate) struct OpenStep;
 
 impl Play<(), Role> for OpenStep {
-    ghost then = { opened };
+    ghost then = { open_step };
 }
 
 pub(crate) struct PinStep;
 
 impl Play<(), Role> for PinStep {
-    ghost then = { pinned };
+    ghost then = { pin_step };
 }
 
-/// The pin that is under way becomes a seat that holds its slot.
+/// The pin under way becomes a seat that holds its slot.
 pub(crate) struct GrantStep;
 
 impl Split<Role> for GrantStep {
-    ghost left = { settled };
+    ghost left = { split_keeper_step };
 
-    ghost right = { granted };
+    ghost right = { split_seat_step };
 }
 
-/// The pin that is under way is taken back.
+/// The pin under way is undone.
 pub(crate) struct UndoStep;
 
 impl Play<(), Role> for UndoStep {
-    ghost then = { undone };
+    ghost then = { undo_step };
 }
 
 pub(crate) struct ReleaseStep;
 
 impl Play<(), Role> for ReleaseStep {
-    ghost then = { released };
+    ghost then = { release_step };
 }
 
 pub(crate) struct CloseStep;
 
 impl Play<(), Role> for CloseStep {
-    ghost then = { closed };
+    ghost then = { close_step };
 }
 
 pub(crate) struct FreeStep;
 
 impl Play<(), Role> for FreeStep {
-    ghost then = { freed };
+    ghost then = { free_step };
 }
 
-/// A keeper that has closed a slot and a seat that holds it are put together, and both are spent.
-/// The rule says that there are no such two.
+/// A keeper that has closed a slot is joined with a seat that holds it, and both are spent. The
+/// rule excludes this case.
 pub(crate) struct MeetStep;
 
 impl Join<Role> for MeetStep {
@@ -62,9 +61,9 @@ impl Join<Role> for MeetStep {
     ghost spent = { met };
 }
 
-/// A step of a keeper that is spent, which the rule excludes: whatever is to be shown follows.
+/// A step of a spent keeper, which the rule excludes.
 pub(crate) struct NeverStep;
 
 impl Play<(), Role> for NeverStep {
-    ghost then = { never };
+    ghost then = { no_step };
 }

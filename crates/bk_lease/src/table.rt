@@ -1,4 +1,4 @@
-//! Making a table of lease words.
+//! Creation of a lease table.
 ghost use Rattle.std.specs.Prelude.{◌≡◌, ◌^◌, ◌<◌, ◌≤◌, IfOk, replicate};
 ghost use Rattle.bk_lease.specs.declared.slot.Slot.TheVariants.{Free};
 
@@ -12,10 +12,14 @@ use std::sync::Arc;
 pub struct LeaseTable;
 
 impl LeaseTable {
-    /// The keeper of a new table, all of whose slots are free. The table has 1 to 65,536 slots, and
-    /// allows `most` leases of one slot at once, of 1 to 65,535.
+    /// Returns the keeper of a new table whose slots are all free.
     ///
-    /// The only error is want of memory. No later call on the keeper, a seat or a lease takes any.
+    /// The table has `slots` slots, 1 to 65,536, and allows `most` leases of one slot at once, 1 to
+    /// 65,535. No later call on the keeper, a seat or a lease allocates.
+    ///
+    /// # Errors
+    ///
+    /// - `AllocError` if an allocation fails.
     pub fn new(alloc: Global, slots: usize, most: u64) -> Result<Keeper, AllocError>
         requires slots { (0 < slots) × (slots ≤ 65536) }
         requires most { (0 < most) × (most < 2 ^ 16) }

@@ -1,7 +1,6 @@
-//! A slot's word, by this project's rule: bit 63 says that the slot is closed, the 31 bits from bit
-//! 32 on are the log's id, and the 32 bits below count the leases that are out. It is 0 where the
-//! slot is free. The word of log 0, open and not leased, is 0 too: the keeper's state tells which
-//! it is.
+//! The word of a slot (project rule). Bit 63 is set if the slot is closed, the 31 bits from bit 32
+//! are the log's id, and the lower 32 bits count the leases. The word is 0 if the slot is free, and
+//! also for log 0, open and without leases: the keeper's state distinguishes the two.
 ghost use Rattle.std.specs.Prelude.{◌≡◌, ◌%◌, ◌^◌, ◌<◌};
 ghost use Rattle.bk_lease.specs.Leases.{open_word, closed_word};
 
@@ -9,7 +8,7 @@ const ONE_LOG: u64 = 1 << 32;
 
 const CLOSED: u64 = 1 << 63;
 
-/// The word of an open slot of which no lease is out.
+/// Returns the word of an open slot without leases.
 pub(crate) fn unleased(log: u32) -> u64
     ensures { result ≡ open_word log 0 }
 {

@@ -1,4 +1,4 @@
--- What it says that no entry is unknown.
+-- Consequence of `unknown` being 0: every entry has a receipt.
 use Rattle.std.proofs.Common.{◌≡◌, ℕ, ◌+◌, ◌≤◌, Bool, true, false, not, ◌&&◌, cond, nat_lt, List, [], ◌∷◌, refl, arith}
 use Rattle.std.specs.List.{All, Contains, count_by}
 use Rattle.std.specs.BTreeSet.{BTreeSet, IsFromIterResult, contains}
@@ -17,7 +17,7 @@ unset : (b : Bool) (n : ℕ) → cond b 1 0 + n ≡ 0 → b ≡ false
 unset true n none = absurd (omega (arith, none))
 unset false n none = refl
 
--- where none is counted, none passes
+-- If the count is 0, no element passes the test.
 none_counted : {X : Type 0} (p : X → Bool) (P : X → Type 0) → ((x : X) → p x ≡ false → P x) → (xs : List X) → count_by p xs ≡ 0 → All P xs
 none_counted p P holds [] none = All-nil P
 none_counted p P holds (x ∷ xs) none =

@@ -1,10 +1,10 @@
--- When a load went well.
+-- When a load succeeded.
 use Rattle.std.specs.Prelude.{◌≡◌, ◌<◌}
 use Rattle.bk_load.specs.declared.report.Report.{Report}
 
--- Something was added, and each accepted add has its receipt; no add found an entry there; no entry that was taken back had
--- other bytes; no work was answered by a fault; and the files have all that was accepted, all that they had before, and nothing
--- else.
+-- At least one add was accepted, and each has its receipt. No add found its entry already there. No
+-- entry that was taken had other bytes. No step of a worker failed. The files have every accepted
+-- entry, every earlier entry, and no other.
 pub record IsGood (r : Report) : Type 0 where
   pub some : 0 < r.adds
   pub counted : r.adds ≡ r.receipts

@@ -14,14 +14,14 @@ use std::alloc::Global;
 pub(crate) struct Before {
     pub logs: u64,
     pub entries: u64,
-    /// From this ledger on it has no entry.
+    /// The disk has no entry of this ledger or a later one.
     pub first: u64,
 }
 
-/// A load may begin at this ledger at most, so that there are enough behind it.
+/// Largest first ledger of a load, so that enough ledgers follow it.
 const LAST_FIRST: u64 = 1 << 62;
 
-/// How many logs a disk has.
+/// Returns the number of logs of a disk.
 pub(crate) fn logs_on<D: LogDisk>(alloc: Global, disk: &mut D) -> Result<u64, LoadFault> {
     match disk.list(alloc) {
         Ok(logs) => Ok(logs.len() as u64),
@@ -29,7 +29,7 @@ pub(crate) fn logs_on<D: LogDisk>(alloc: Global, disk: &mut D) -> Result<u64, Lo
     }
 }
 
-/// The disk of a store of which no lease is out.
+/// Returns the disk of a store that has no lease.
 pub(crate) fn disk_of<D: LogDisk>(store: Store<D>) -> Result<D, LoadFault> {
     match store.into_disk() {
         Ok(disk) => Ok(disk),
@@ -37,7 +37,7 @@ pub(crate) fn disk_of<D: LogDisk>(store: Store<D>) -> Result<D, LoadFault> {
     }
 }
 
-/// A ledger that is not below this one, and past the other.
+/// Returns the larger of `free` and the ledger after this one.
 fn past(free: u64, ledger: u64) -> u64
     requires { ledger < 2 ^ 63 }
     ensures above { free ≤ result }
@@ -46,7 +46,7 @@ fn past(free: u64, ledger: u64) -> u64
     free.max(ledger + 1)
 }
 
-/// A ledger from which on an index has no entry.
+/// Returns a ledger such that the index has no entry of it or a later one.
 fn free_ledger(index: &Index) -> u64
     ensures { All (λ e. e.0.ledger < result) (map.entries index.now) }
 {
@@ -57,7 +57,7 @@ fn free_ledger(index: &Index) -> u64
     free
 }
 
-/// What a disk has of so many logs, whose entries these are.
+/// Returns what a disk with these logs and entries has.
 fn before_of(logs: u64, index: &Index) -> Before {
     Before {
         logs,
@@ -66,7 +66,7 @@ fn before_of(logs: u64, index: &Index) -> Before {
     }
 }
 
-/// Looks at what a disk has, and hands it back.
+/// Opens a store on a disk to see what it has, and returns the disk.
 pub(crate) fn survey<D: LogDisk>(
     alloc: Global,
     mut disk: D,

@@ -1,5 +1,5 @@
-//! A caller of a load: it adds an entry in each round, takes an earlier one back in every fourth, and now and then deletes a
-//! ledger.
+//! A caller of a load. It adds an entry in each round, takes an earlier one in every fourth, and
+//! deletes a ledger from time to time.
 
 ghost use Rattle.std.specs.Prelude.{◌≡◌, false, vec_len};
 ghost use Rattle.bk_store.specs.declared.answer.Taken.TheVariants.{NotHeld};
@@ -19,20 +19,20 @@ use std::sync::atomic::{AtomicBool, AtomicU64, Ordering};
 use std::thread;
 use std::time::Instant;
 
-/// What the callers of a load share.
+/// State that the callers share.
 #[derive(Drop)]
 pub(crate) struct Shared {
     pub start: Instant,
     pub load: Load,
-    /// The first of the ledgers that are written to.
+    /// The first ledger of the load.
     pub first: u64,
-    /// How many adds were accepted so far.
+    /// Number of adds accepted so far.
     pub adds: AtomicU64,
     /// Whether all callers have ended.
     pub is_over: AtomicBool,
 }
 
-/// A caller, and what it has done: it has a receipt for each add that its pass counts.
+/// A caller and what it has done. It has a receipt for each add that its pass counts.
 #[derive(Drop)]
 pub(crate) struct Caller<L: AddLedger> {
     pub pass: Pass<L>,
@@ -41,24 +41,24 @@ pub(crate) struct Caller<L: AddLedger> {
     ghost counted: { vec_len done.receipts ≡ pass.adds },
 }
 
-/// What came of one add.
+/// Result of one add.
 enum Answered {
     Accepted,
     Held,
-    /// The ledger was deleted.
+    /// The ledger is deleted.
     Refused,
     Full,
 }
 
-/// For so many seconds a caller waits for room in the cache.
+/// Number of seconds that a caller waits for room in the cache.
 const PATIENCE: u64 = 60;
 
-/// The time that it is.
+/// Returns the current time.
 fn now<R: Clock>(rt: &R) -> Result<Instant, LoadFault> {
     Instant::now(rt).map_err(|_| LoadFault::Clock)
 }
 
-/// How many seconds have passed.
+/// Returns the number of seconds since `start`.
 fn seconds_since<R: Clock>(rt: &R, start: Instant) -> Result<u64, LoadFault> {
     match start.elapsed(rt) {
         Ok(elapsed) => Ok(elapsed.as_secs()),
@@ -66,7 +66,7 @@ fn seconds_since<R: Clock>(rt: &R, start: Instant) -> Result<u64, LoadFault> {
     }
 }
 
-/// How many nanoseconds have passed; 2^32 - 1 where they are more, or the clock can't be read.
+/// Returns the number of nanoseconds since `start`, at most 2^32 - 1, also if the clock fails.
 fn nanoseconds_since<R: Clock>(rt: &R, start: Instant) -> u32 {
     match start.elapsed(rt) {
         Ok(elapsed) => u32::try_from(elapsed.as_nanos()).unwrap_or(u32::MAX),
@@ -74,12 +74,13 @@ fn nanoseconds_since<R: Clock>(rt: &R, start: Instant) -> u32 {
     }
 }
 
-/// Whether a payload has a receipt's digest.
+/// Returns whether a payload has the digest of a receipt.
 fn is_of(payload: &[u8], receipt: &Receipt) -> bool {
     Sha256::digest(payload) == receipt.digest
 }
 
-/// Whether what was taken has the receipt's digest, or is of a ledger that is deleted sooner or later.
+/// Returns whether the result of a take has the digest of the receipt, or is of a ledger that the
+/// load deletes.
 pub(crate) fn is_right<V: LogView>(
     alloc: Global,
     first: u64,
@@ -102,7 +103,7 @@ pub(crate) fn is_right<V: LogView>(
 }
 
 impl Shared {
-    /// What the callers of this load share, from now on. `Clock` where the clock can't be read.
+    /// Returns the shared state of a load that starts now.
     pub fn new<R: Clock>(rt: &R, load: Load, first: u64) -> Result<Shared, LoadFault> {
         Ok(Shared {
             start: now(rt)?,
@@ -113,7 +114,7 @@ impl Shared {
         })
     }
 
-    /// How many milliseconds have passed since the start.
+    /// Returns the number of milliseconds since the start.
     pub fn milliseconds<R: Clock>(&self, rt: &R) -> Result<u64, LoadFault> {
         match self.start.elapsed(rt) {
             Ok(elapsed) => Ok(u64::try_from(elapsed.as_millis()).unwrap_or(u64::MAX)),
@@ -121,7 +122,7 @@ impl Shared {
         }
     }
 
-    /// Whether a caller of this number that has made so many rounds is at its end.
+    /// Returns whether the caller with this number ends after these rounds.
     fn is_over_for<R: Clock>(&self, rt: &R, number: u64, rounds: u64) -> Result<bool, LoadFault> {
         match self.load.until {
             Until::Adds(adds) => Ok(rounds >= share_of(adds, self.load.callers, number)),
@@ -130,7 +131,8 @@ impl Shared {
     }
 }
 
-/// How many of the adds a caller of this number makes: the first callers make one more where they can't be shared evenly.
+/// Returns the number of adds of the caller with this number. The first callers make one more if
+/// the adds cannot be shared evenly.
 fn share_of(adds: u64, callers: u32, number: u64) -> u64 {
     let callers = u64::from(callers.max(1));
     let more = u64::from(number < adds % callers);
@@ -138,7 +140,7 @@ fn share_of(adds: u64, callers: u32, number: u64) -> u64 {
 }
 
 impl<L: AddLedger> Caller<L> {
-    /// A caller of this number, with a pass that counts no add yet.
+    /// Returns a caller with a pass that counts no add.
     pub fn new(alloc: Global, pass: Pass<L>, number: u64) -> Caller<L>
         requires { pass.adds ≡ 0 }
     {
@@ -149,7 +151,7 @@ impl<L: AddLedger> Caller<L> {
         }
     }
 
-    /// All its rounds.
+    /// Performs all rounds.
     pub fn run<R: Wait + Clock, D: LogDisk>(
         &mut self,
         rt: &R,
@@ -172,8 +174,8 @@ impl<L: AddLedger> Caller<L> {
         Ok(())
     }
 
-    /// Adds the entry of this round, again where the cache is full until a flush has made room. Where none has for
-    /// `PATIENCE` seconds the load is stuck.
+    /// Adds the entry of this round. If the cache is full, tries again until a flush has made room,
+    /// or fails with `Stuck` after `PATIENCE` seconds.
     fn add<R: Wait + Clock, D: LogDisk>(
         &mut self,
         rt: &R,
@@ -211,7 +213,7 @@ impl<L: AddLedger> Caller<L> {
         Ok(())
     }
 
-    /// One add. Where it is accepted its receipt and its time are kept.
+    /// Adds once. If the entry is accepted, keeps its receipt and its time.
     fn add_once<R: Wait + Clock, D: LogDisk>(
         &mut self,
         rt: &R,
@@ -238,7 +240,7 @@ impl<L: AddLedger> Caller<L> {
         }
     }
 
-    /// Takes an earlier entry back.
+    /// Takes an earlier entry.
     fn take<R: Wait, D: LogDisk>(
         &mut self,
         rt: &R,

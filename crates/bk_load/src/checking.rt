@@ -1,5 +1,5 @@
-//! What stands in the files at the end: each entry that was accepted is looked for in a store that is opened on them, and
-//! each entry that the store has is looked for among those that were accepted.
+//! The final check. Looks up each accepted entry in a store opened on the files, and each entry of
+//! that store among the receipts.
 
 ghost use Rattle.std.specs.Prelude.{◌≡◌, ◌≤◌, ◌+◌, IfOk, length, nat_lt, not, ◌&&◌, count_by};
 ghost use Rattle.std.specs.BTreeSet.{IsFromIterResult, contains};
@@ -17,7 +17,7 @@ use bk_store::{Receipt, Store, Taken};
 use std::alloc::{AllocError, Global};
 use std::collections::BTreeSet;
 
-/// How many entries of these receipts a store has: found, deleted, lost. What it no longer has is lost.
+/// Returns how many entries of the receipts a store has: found, deleted, lost.
 fn look_up<D: LogDisk>(
     alloc: Global,
     store: &mut Store<D>,
@@ -41,14 +41,14 @@ fn look_up<D: LogDisk>(
     (found, deleted, lost)
 }
 
-/// The keys of these receipts.
+/// Returns the keys of the receipts.
 fn keys(alloc: Global, receipts: &[Receipt]) -> Result<BTreeSet<Key>, AllocError>
     ensures { IfOk result (IsFromIterResult key_cmp (keys_of receipts.now)) }
 {
     receipts.iter().map(|receipt| receipt.key).collect(alloc)
 }
 
-/// How many entries of ledgers below this one an index has.
+/// Returns the number of entries of ledgers below this one.
 fn earlier_entries(index: &Index, first: u64) -> u64
     ensures { result ≡ earlier_count first index.now }
 {
@@ -56,7 +56,7 @@ fn earlier_entries(index: &Index, first: u64) -> u64
     index.walk().filter(|(key, _)| key.ledger() < first).count() as u64
 }
 
-/// How many entries of the other ledgers it has that are not of these keys.
+/// Returns the number of entries of the other ledgers that do not have one of these keys.
 fn unknown_entries(index: &Index, first: u64, keys: &BTreeSet<Key>) -> u64
     ensures { result ≡ count_by (λ e. not (nat_lt e.0.ledger first) && not (contains key_cmp keys.now e.0))
         (map.entries index.now) }
@@ -68,7 +68,11 @@ fn unknown_entries(index: &Index, first: u64, keys: &BTreeSet<Key>) -> u64
         .count() as u64
 }
 
-/// What a store has of the entries of these receipts, and beside them, where the load began at the ledger `first`. `Memory`.
+/// Compares a store with the receipts of a load whose first ledger is `first`.
+///
+/// # Errors
+///
+/// `Memory`: out of memory.
 pub(crate) fn check<D: LogDisk>(
     alloc: Global,
     store: &mut Store<D>,

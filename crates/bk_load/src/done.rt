@@ -1,23 +1,23 @@
-//! What callers have done.
+//! Results of callers.
 
 ghost use Rattle.std.specs.Prelude.{◌≡◌, ◌+◌, OnOk, OnErr, vec_len};
 
 use bk_store::Receipt;
 use std::alloc::{AllocError, Global};
 
-/// What a caller has done, or some together.
+/// What one or several callers have done.
 #[derive(Drop)]
 pub(crate) struct Done {
-    /// The receipts of the adds that were accepted, and how many nanoseconds each took.
+    /// The receipts of the accepted adds, and the nanoseconds that each add took.
     pub receipts: Vec<Receipt>,
     pub times: Vec<u32>,
-    /// The bytes of their payloads.
+    /// Total bytes of their payloads.
     pub bytes: u64,
-    /// How many adds found their entry there.
+    /// Number of adds that found their entry already there.
     pub held: u64,
-    /// How many adds came to a ledger that was deleted.
+    /// Number of adds to a deleted ledger.
     pub refused: u64,
-    /// How many entries were taken back, and how many of these were not as they had been added.
+    /// Number of entries taken, and number of these that differ from what was added.
     pub takes: u64,
     pub wrong: u64,
     /// The ledgers that were deleted.
@@ -25,7 +25,7 @@ pub(crate) struct Done {
 }
 
 impl Done {
-    /// Nothing yet.
+    /// Returns the results of no caller.
     pub fn new(alloc: Global) -> Done
         ensures { vec_len result.receipts ≡ 0 }
     {
@@ -41,7 +41,7 @@ impl Done {
         }
     }
 
-    /// Takes in what another caller has done. The only error is want of memory.
+    /// Adds the results of another caller. Fails only if out of memory.
     pub fn take_in(&mut self, other: &Done) -> Result<(), AllocError>
         ensures ok { OnOk result (vec_len self.new.receipts ≡ vec_len self.old.receipts + vec_len other.now.receipts) }
         ensures err { OnErr result (vec_len self.new.receipts ≡ vec_len self.old.receipts) }

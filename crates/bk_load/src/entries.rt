@@ -1,15 +1,15 @@
-//! The entries of a load: which ledger each has, and what its payload is.
+//! The entries of a load: their ledgers and payloads.
 
-/// The bytes of the longest payload.
+/// Size of the longest payload.
 pub(crate) const LONGEST: usize = 16 + 240;
 
-/// How many ledgers are written to at a time.
+/// Number of ledgers written at a time.
 pub(crate) const OPEN_LEDGERS: u64 = 8;
 
-/// After so many rounds of a caller the next ledgers are written to.
+/// Number of rounds of a caller after which the next ledgers are written.
 pub(crate) const ROUNDS: u64 = 1000;
 
-/// A number that looks chosen at random, and is always the same for the same seed.
+/// Returns a pseudorandom number, the same for the same seed.
 pub(crate) fn mixed(seed: u64) -> u64 {
     let mut word = seed.wrapping_mul(0x9e37_79b9_7f4a_7c15);
     word = (word ^ (word >> 30)).wrapping_mul(0xbf58_476d_1ce4_e5b9);
@@ -17,29 +17,29 @@ pub(crate) fn mixed(seed: u64) -> u64 {
     word ^ (word >> 31)
 }
 
-/// The first of the ledgers that are written to in this round, where `first` is the first of all.
+/// Returns the first of the ledgers written in this round. `first` is the first of the load.
 fn ledgers_of(first: u64, round: u64) -> u64 {
     (round / ROUNDS)
         .saturating_mul(OPEN_LEDGERS)
         .saturating_add(first)
 }
 
-/// The ledger of the entry that a caller adds in this round.
+/// Returns the ledger of the entry that a caller adds in this round.
 pub(crate) fn ledger_of(first: u64, round: u64, seed: u64) -> u64 {
     ledgers_of(first, round).saturating_add(mixed(seed) % OPEN_LEDGERS)
 }
 
-/// The ledger that is deleted in this round: the last of those that are written to.
+/// Returns the ledger that is deleted in this round: the last of those written.
 pub(crate) fn doomed_ledger(first: u64, round: u64) -> u64 {
     ledgers_of(first, round).saturating_add(OPEN_LEDGERS - 1)
 }
 
-/// Whether a ledger is one of those that are deleted sooner or later.
+/// Returns whether the load deletes this ledger.
 pub(crate) fn is_doomed(first: u64, ledger: u64) -> bool {
     ledger.saturating_sub(first) % OPEN_LEDGERS == OPEN_LEDGERS - 1
 }
 
-/// The payload of an entry: its ids, and 1 to 240 bytes of data.
+/// Returns the payload of an entry: its ids and 1 to 240 bytes of data.
 pub(crate) fn payload(frame: &mut [u8; LONGEST], ledger: u64, entry: u64) -> &[u8] {
     let word = mixed(entry ^ ledger.rotate_left(32));
     let length = 17 + (word % 240) as usize;

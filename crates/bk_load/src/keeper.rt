@@ -1,4 +1,4 @@
-//! The keeper of a load: it asks the workers for flushes, compacts the logs, and removes those that nobody reads.
+//! The keeper of a load: it requests flushes, compacts logs and removes those that are unused.
 
 use crate::caller::Shared;
 use bk_bookie::{AddLedger, Bookie};
@@ -13,23 +13,27 @@ use std::rt::Clock;
 use std::sync::Wait;
 use std::sync::atomic::Ordering;
 use std::thread;
+use std::time::Duration;
 
-/// How many entries one step of a compaction looks at.
+/// Number of entries that one step of a compaction examines.
 const STRIDE: u64 = 64;
 
-/// A flush is asked to write so many entries at most, beside a few.
+/// Largest number of writes requested for one flush.
 const MOST_WRITES: u64 = 100_000;
 
-/// Behind so many adds the logs are looked at again.
+/// Number of adds between two checks of the logs.
 const PAUSE: u64 = 2000;
 
-/// So many flushes are brought to their ends before a log is sealed.
+/// Number of flushes completed before a log is sealed.
 const PATIENCE: u32 = 8;
 
-/// Of so many rounds in which no add came in, one asks for a flush.
+/// One in this many idle rounds requests a flush.
 const IDLE: u64 = 64;
 
-/// What a keeper has done, and between which logs those are that may be there.
+/// Number of milliseconds to wait after a write that failed.
+const REST: u64 = 100;
+
+/// What a keeper has done, and the range of log ids that may exist.
 #[derive(Drop)]
 pub(crate) struct Keeper {
     pub compacted: u64,
@@ -39,7 +43,7 @@ pub(crate) struct Keeper {
 }
 
 impl Keeper {
-    /// One that has done nothing yet.
+    /// Returns a keeper that has done nothing.
     pub fn new() -> Keeper {
         Keeper {
             compacted: 0,
@@ -49,8 +53,8 @@ impl Keeper {
         }
     }
 
-    /// Keeps the logs until all callers have ended: asks for a flush where something came in, and now and then compacts a log
-    /// and removes those that nobody reads.
+    /// Keeps the logs until all callers have ended. Requests a flush if entries were added; from
+    /// time to time compacts a log and removes unused ones.
     pub fn run<R: Wait + Clock, L: AddLedger, D: LogDisk, W: Write>(
         &mut self,
         rt: &R,
@@ -66,8 +70,9 @@ impl Keeper {
             let is_over = shared.is_over.load(Ordering::SeqCst);
             let adds = shared.adds.load(Ordering::SeqCst);
             if is_over || adds != written || round % IDLE == 0 {
-                ask_flush(rt, works, adds.saturating_sub(written));
-                written = adds;
+                if flush(rt, bookie, works, adds.saturating_sub(written)) {
+                    written = adds;
+                }
             }
             if adds.saturating_sub(looked) >= PAUSE {
                 looked = adds;
@@ -83,7 +88,7 @@ impl Keeper {
         end_telling(told, progress);
     }
 
-    /// Compacts and removes what is left to be, once nobody calls any more.
+    /// Compacts and removes what remains after the callers have ended.
     pub fn settle<R: Wait, L: AddLedger, D: LogDisk>(&mut self, rt: &R, bookie: &Bookie<L, D>) {
         for _ in 0..u32::MAX {
             let before = self.compacted;
@@ -95,7 +100,7 @@ impl Keeper {
         self.remove_all(rt, bookie);
     }
 
-    /// Begins a new log, and compacts one where there is one to be compacted.
+    /// Seals the current log and compacts one log, if one qualifies.
     fn compact<R: Wait, L: AddLedger, D: LogDisk>(
         &mut self,
         rt: &R,
@@ -116,7 +121,7 @@ impl Keeper {
         }
     }
 
-    /// Removes each log that no key names, and that nobody reads.
+    /// Removes each log that no index entry references and no reader leases.
     fn remove_all<R: Wait, L: AddLedger, D: LogDisk>(&mut self, rt: &R, bookie: &Bookie<L, D>) {
         for log in self.lowest..=self.highest {
             let _ = bookie.step(rt, Work::Retire(log));
@@ -136,7 +141,7 @@ impl Keeper {
     }
 }
 
-/// Brings a flush that runs to its end.
+/// Completes a running flush.
 pub(crate) fn end_flush<R: Wait, L: AddLedger, D: LogDisk>(rt: &R, bookie: &Bookie<L, D>) {
     for _ in 0..u64::MAX {
         match bookie.step(rt, Work::WriteOne) {
@@ -147,7 +152,7 @@ pub(crate) fn end_flush<R: Wait, L: AddLedger, D: LogDisk>(rt: &R, bookie: &Book
     let _ = bookie.step(rt, Work::Publish);
 }
 
-/// Copies what the index names in the log that is compacted, and ends the copy.
+/// Copies the referenced entries of the source log and ends the copy.
 fn copy_all<R: Wait, L: AddLedger, D: LogDisk>(rt: &R, bookie: &Bookie<L, D>) {
     for _ in 0..u32::MAX {
         match bookie.step(rt, Work::Copy(STRIDE)) {
@@ -158,7 +163,7 @@ fn copy_all<R: Wait, L: AddLedger, D: LogDisk>(rt: &R, bookie: &Bookie<L, D>) {
     let _ = bookie.step(rt, Work::EndCopy);
 }
 
-/// Sends the keys of what was copied to the copy.
+/// Switches the index to the copies.
 fn switch_all<R: Wait, L: AddLedger, D: LogDisk>(rt: &R, bookie: &Bookie<L, D>) {
     for _ in 0..u32::MAX {
         match bookie.step(rt, Work::Switch(STRIDE)) {
@@ -168,7 +173,7 @@ fn switch_all<R: Wait, L: AddLedger, D: LogDisk>(rt: &R, bookie: &Bookie<L, D>) 
     }
 }
 
-/// Ends a compaction, or gives it up. Whether the log is named by no key any more.
+/// Finishes a compaction or gives it up. Returns whether the source log is unreferenced.
 fn is_finished<R: Wait, L: AddLedger, D: LogDisk>(rt: &R, bookie: &Bookie<L, D>) -> bool {
     match bookie.step(rt, Work::Finish) {
         Answer::Finish(FinishAnswer::Retired(_)) => true,
@@ -179,7 +184,7 @@ fn is_finished<R: Wait, L: AddLedger, D: LogDisk>(rt: &R, bookie: &Bookie<L, D>)
     }
 }
 
-/// Seals the log that is written; `None` where there is none, or one flush after another runs.
+/// Seals the current log. Returns `None` if there is none or flushes keep running.
 fn roll<R: Wait, L: AddLedger, D: LogDisk>(rt: &R, bookie: &Bookie<L, D>) -> Option<u32> {
     for _ in 0..PATIENCE {
         match bookie.step(rt, Work::Roll) {
@@ -191,7 +196,7 @@ fn roll<R: Wait, L: AddLedger, D: LogDisk>(rt: &R, bookie: &Bookie<L, D>) -> Opt
     None
 }
 
-/// Minor and major compactions come in turn.
+/// Returns minor and major compactions alternately.
 fn kind_of(turn: u64) -> Kind {
     if turn % 2 == 0 {
         Kind::Minor
@@ -200,21 +205,33 @@ fn kind_of(turn: u64) -> Kind {
     }
 }
 
-/// Asks the workers for a work. Where there are none any more nothing comes of it.
+/// Sends a step to the workers. Does nothing if the channel is closed.
 fn ask<R: Wait>(rt: &R, works: &Sender<Work>, work: Work) {
     let _ = works.send(rt, work);
 }
 
-/// Asks for a flush of so many entries and some more.
-fn ask_flush<R: Wait>(rt: &R, works: &Sender<Work>, entries: u64) {
-    ask(rt, works, Work::Swap);
+/// Begins a flush, writes its first entry, and requests the writes of this many entries and some
+/// more. If the first write fails, waits, so that a full disk is not tried over and over. Returns
+/// whether the writes are requested.
+fn flush<R: Wait + Clock, L: AddLedger, D: LogDisk>(
+    rt: &R,
+    bookie: &Bookie<L, D>,
+    works: &Sender<Work>,
+    entries: u64,
+) -> bool {
+    let _ = bookie.step(rt, Work::Swap);
+    if let Answer::Write(Err(_)) = bookie.step(rt, Work::WriteOne) {
+        thread::sleep(rt, Duration::from_millis(REST));
+        return false;
+    }
     for _ in 0..entries.min(MOST_WRITES) + 16 {
         ask(rt, works, Work::WriteOne);
     }
     ask(rt, works, Work::Publish);
+    true
 }
 
-/// Takes the line away that tells how far a load is.
+/// Clears the progress line.
 fn end_telling<W: Write>(told: u64, progress: &mut Option<W>) {
     if let Some(writer) = progress
         && told > 0
@@ -224,7 +241,7 @@ fn end_telling<W: Write>(told: u64, progress: &mut Option<W>) {
     }
 }
 
-/// Tells how far a load is, once a second: the second that was told last.
+/// Prints the progress once a second. Returns the second printed last.
 fn tell<R: Clock, W: Write>(
     rt: &R,
     shared: &Shared,

@@ -1,12 +1,12 @@
-//! How long calls took.
+//! Latency percentiles of calls.
 
 ghost use Rattle.std.specs.Prelude.{◌≡◌, ◌<◌, length};
 ghost use Rattle.bk_load.specs.Ranks.{IsRank, AreRanks};
 
 use std::alloc::AllocError;
 
-/// Times in nanoseconds. At most one call in two took longer than `at_500`, one in a hundred longer than `at_990`, and one in
-/// a thousand longer than `at_999`. Each is 0 where there was no call.
+/// Percentiles in nanoseconds: one call in two took longer than `at_500`, one in a hundred longer
+/// than `at_990`, one in a thousand longer than `at_999`. Each is 0 if there was no call.
 #[derive(Clone, Copy, Debug, PartialEq, Eq)]
 pub struct Latencies {
     pub at_500: u32,
@@ -14,7 +14,7 @@ pub struct Latencies {
     pub at_999: u32,
 }
 
-/// The time behind which one of `part` times stands, among times that rise; 0 where there is none.
+/// Returns the time that one in `part` of the sorted times exceeds in rank, or 0 if there are none.
 fn ranked(sorted: &[u32], part: usize) -> u32
     requires { 0 < part }
     ensures { IsRank sorted.now part result }
@@ -25,7 +25,7 @@ fn ranked(sorted: &[u32], part: usize) -> u32
     sorted[sorted.len() - 1 - (sorted.len() - 1) / part]
 }
 
-/// The latencies of times that rise.
+/// Returns the percentiles of sorted times.
 fn ranks(sorted: &[u32]) -> Latencies
     ensures { AreRanks sorted.now result }
 {
@@ -36,7 +36,7 @@ fn ranks(sorted: &[u32]) -> Latencies
     }
 }
 
-/// The latencies of some times.
+/// Returns the percentiles of times.
 pub(crate) fn ranks_of(mut times: Vec<u32>) -> Result<Latencies, AllocError> {
     times.sort()?;
     Ok(ranks(&times))

@@ -1,5 +1,5 @@
-//! A load on a bookie: callers that add, take and delete, workers that flush, and a keeper that compacts and removes logs; and
-//! what came of it.
+//! Load test of a bookie: callers that add, take and delete, workers that flush, a keeper that
+//! compacts and removes logs, and a check of the files at the end.
 #![tactic(auto)]
 
 mod before;

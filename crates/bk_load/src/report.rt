@@ -1,4 +1,4 @@
-//! What a load is asked for, and what came of it.
+//! The parameters and the report of a load.
 
 ghost use Rattle.std.specs.Prelude.{◌↔◌, IsTrue};
 ghost use Rattle.bk_load.specs.Verdict.{IsGood};
@@ -13,20 +13,20 @@ use thiserror::Error;
 /// When a load ends.
 #[derive(Clone, Copy, Debug, PartialEq, Eq)]
 pub enum Until {
-    /// After so many seconds.
+    /// After N seconds.
     Seconds(u64),
-    /// When so many adds were made, by all callers together.
+    /// After N adds of all callers together.
     Adds(u64),
 }
 
-/// A load: how many callers there are at once, and when it ends.
+/// A load: the number of concurrent callers, and when it ends.
 #[derive(Clone, Copy, Debug, PartialEq, Eq)]
 pub struct Load {
     pub callers: u32,
     pub until: Until,
 }
 
-/// What became of the logs.
+/// What happened to the logs.
 #[derive(Clone, Copy, Debug, PartialEq, Eq)]
 pub struct Logs {
     pub made: u64,
@@ -34,53 +34,50 @@ pub struct Logs {
     pub removed: u64,
 }
 
-/// What was found when the files were opened again.
+/// Result of the final check.
 #[derive(Clone, Copy, Debug, PartialEq, Eq)]
 pub struct Checked {
-    /// So many of the accepted entries have the bytes that were added.
+    /// Accepted entries that have the bytes that were added.
     pub found: u64,
-    /// The ledgers of so many were deleted.
+    /// Accepted entries of deleted ledgers.
     pub deleted: u64,
-    /// So many are missing, or have other bytes.
+    /// Accepted entries that are missing or have other bytes.
     pub lost: u64,
-    /// So many entries of the load's ledgers, of those that live, were accepted from nobody.
+    /// Entries of live ledgers of the load that have no receipt.
     pub unknown: u64,
-    /// So many entries are of ledgers that stood there before.
+    /// Entries of earlier ledgers.
     pub kept: u64,
 }
 
-/// What came of a load.
+/// The report of a load.
 #[derive(Clone, Copy, Debug, PartialEq, Eq)]
 pub struct Report {
-    /// How many adds the passes count together, as the end of the bookie tells; and how many receipts the callers hold, each
-    /// of which stands in the trail.
+    /// Number of adds that the passes count, and number of receipts, each of which is in the trail.
     pub adds: u64,
     pub receipts: u64,
-    /// How many bytes their payloads have.
+    /// Total bytes of their payloads.
     pub bytes: u64,
-    /// How many adds found their entry there, and how many came to a ledger that was deleted.
+    /// Adds that found their entry already there, and adds to a deleted ledger.
     pub held: u64,
     pub refused: u64,
-    /// How many entries were taken back, and how many of these were not as they had been added.
+    /// Entries taken, and those of them that differ from what was added.
     pub takes: u64,
     pub wrong: u64,
-    /// How many ledgers were deleted.
+    /// Number of ledgers deleted.
     pub deletes: u64,
     pub works: WorkReport,
     pub logs: Logs,
     /// How long the callers ran.
     pub milliseconds: u64,
-    /// The times of all adds that were accepted.
+    /// Latencies of all accepted adds.
     pub latencies: Latencies,
-    /// How many entries the files had before.
+    /// Number of entries that the files had before.
     pub earlier: u64,
     pub checked: Checked,
 }
 
 impl Report {
-    /// Whether all went well: something was added, and each accepted add has its receipt; no add found an entry there; no
-    /// entry that was taken back had other bytes; no work was answered by a fault; and the files have what was accepted, what
-    /// they had before, and nothing else.
+    /// Returns whether the load succeeded (`IsGood`).
     pub fn is_good(&self) -> bool
         ensures { IsTrue result ↔ IsGood self.now }
     {
@@ -150,34 +147,34 @@ impl Display for Checked {
 /// Why there is no report.
 #[derive(Clone, Copy, Debug, PartialEq, Eq, Error)]
 pub enum LoadFault {
-    /// The store was not opened, at first or at the end.
+    /// The store was not opened, at the start or for the check.
     #[error("{0}")]
     Open(OpenFault),
     /// The workers did not run.
     #[error("{0}")]
     Workers(WorkersFault),
-    /// The bookie was not ended: a pass is out, or a receipt does not stand in the trail.
+    /// The bookie was not ended: a pass was not handed in, or a receipt is not in the trail.
     #[error("{0}")]
     Finish(FinishFault),
-    /// The disk has an entry of a ledger behind which there are too few for a load.
+    /// The disk has an entry of a ledger that too few ledgers follow.
     #[error("no ledger")]
     NoLedger,
-    /// No pass was to be had.
+    /// All passes have been created.
     #[error("no pass")]
     NoPass,
-    /// An add was refused for another reason than that its ledger was deleted or the cache is full.
+    /// An add failed with another fault than `Deleted` or `Full`.
     #[error("add {0:?}")]
     Add(CallFault<AddFault>),
     /// The cache was full for a minute.
     #[error("stuck")]
     Stuck,
-    /// No memory was to be had.
+    /// Out of memory.
     #[error("memory")]
     Memory,
     /// The clock could not be read.
     #[error("clock")]
     Clock,
-    /// A lease was still out at the end.
+    /// A lease was not released at the end.
     #[error("leased")]
     Leased,
     /// The disk failed when its logs were listed.

@@ -1,4 +1,4 @@
-//! The load itself.
+//! Runs a load.
 
 ghost use Rattle.std.specs.Prelude.{◌≡◌, ◌+◌, ◌<◌, IfOk, vec_len};
 
@@ -19,7 +19,7 @@ use std::sync::Wait;
 use std::sync::ledger::Blank;
 use std::thread::Threads;
 
-/// Opens the files that a load leaves, and looks for what these receipts are of; how many logs there are, and what was found.
+/// Opens the files that a load leaves. Returns the number of logs and the result of the check.
 fn look_at<D: LogDisk>(
     alloc: Global,
     settings: Settings,
@@ -36,7 +36,7 @@ fn look_at<D: LogDisk>(
     Ok((logs, checked))
 }
 
-/// What became of the logs, of which there were so many before and so many are there now.
+/// Returns what happened to the logs, from their number before and now.
 fn logs_of(before: u64, now: u64, keeper: &Keeper) -> Logs {
     Logs {
         made: now.saturating_add(keeper.removed).saturating_sub(before),
@@ -45,7 +45,7 @@ fn logs_of(before: u64, now: u64, keeper: &Keeper) -> Logs {
     }
 }
 
-/// What came of a load.
+/// Returns the report of a load.
 fn report_on<D: LogDisk>(
     alloc: Global,
     settings: Settings,
@@ -86,14 +86,16 @@ fn report_on<D: LogDisk>(
     })
 }
 
-/// Puts a load on a bookie over this disk, on whose logs its store is opened: so many callers at once add entries of ledgers
-/// that they share, take some of them back, and delete a ledger now and then. Two workers flush, and a keeper compacts the
-/// logs and removes those that no key names. Once a second the progress is told, where a writer for it is given.
+/// Runs a load on a bookie over the logs of this disk.
 ///
-/// The ledgers are those behind the last one of which the disk has an entry. Of `Until::Adds(n)` the callers make n adds
-/// together.
+/// The callers add entries to shared ledgers, take some of them, and delete a ledger from time to
+/// time. Two workers flush, and a keeper compacts and removes logs. The ledgers follow the last one
+/// on the disk. With `Until::Adds(n)` the callers make n adds together. Progress is written to
+/// `progress` once a second.
 ///
-/// Faults: see `LoadFault`. A fault lets the disk go.
+/// # Errors
+///
+/// See `LoadFault`. The disk is dropped with every error.
 pub fn run_load<D: LogDisk, R: Threads + Wait + Clock + Sync, W: Write + Send + Drop>(
     rt: &R,
     alloc: Global,

@@ -1,4 +1,4 @@
-//! A load while it runs: a bookie over one ledger, with its callers, workers and keeper.
+//! A running load: a bookie over one ledger, with its callers, workers and keeper.
 
 ghost use Rattle.std.specs.Prelude.{◌≡◌, ◌+◌, ◌<◌, IfOk, sum_by, vec_len};
 ghost use Rattle.bk_bookie.specs.Receipts.{AllStand};
@@ -21,13 +21,13 @@ use std::sync::ledger::Blank;
 use std::thread;
 use std::thread::Threads;
 
-/// How many workers flush.
+/// Number of workers.
 const WORKERS: u32 = 2;
 
-/// So many works wait at most.
+/// Capacity of the channel of steps.
 const WAITING: usize = 256;
 
-/// A gate that is always open.
+/// A gate that never waits.
 #[derive(Drop)]
 struct OpenGate;
 
@@ -37,14 +37,14 @@ impl Gate for OpenGate {
     fn leave(&self, _worker: u32) {}
 }
 
-/// A caller that has ended, and why where it did so before its time.
+/// A caller that has ended, and its fault if it ended early.
 #[derive(Drop)]
 struct Ended<L: AddLedger> {
     caller: Caller<L>,
     ran: Result<(), LoadFault>,
 }
 
-/// Lets a caller run.
+/// Runs one caller.
 fn run_caller<L: AddLedger, D: LogDisk, R: Wait + Clock>(
     rt: &R,
     alloc: Global,
@@ -56,7 +56,7 @@ fn run_caller<L: AddLedger, D: LogDisk, R: Wait + Clock>(
     Ended { caller, ran }
 }
 
-/// The callers of a load, with a pass each.
+/// Returns the callers of a load, each with a pass.
 fn callers<L: AddLedger, D: LogDisk, R: Wait>(
     rt: &R,
     alloc: Global,
@@ -72,14 +72,14 @@ fn callers<L: AddLedger, D: LogDisk, R: Wait>(
     Ok(callers)
 }
 
-/// What the callers and the keeper of a load leave.
+/// Results of the callers and the keeper.
 #[derive(Drop)]
 struct Ran<L: AddLedger> {
     ended: Vec<Ended<L>>,
     keeper: Keeper,
 }
 
-/// Lets all callers run at once.
+/// Runs all callers at once.
 fn run_callers<L: AddLedger + Send + Sync, D: LogDisk, R: Threads + Wait + Clock + Sync>(
     rt: &R,
     alloc: Global,
@@ -96,7 +96,7 @@ fn run_callers<L: AddLedger + Send + Sync, D: LogDisk, R: Threads + Wait + Clock
     ended.map_err(|_| LoadFault::Memory)
 }
 
-/// Lets all callers and the keeper run, and closes the channel of works behind them.
+/// Runs all callers and the keeper, then closes the channel of steps.
 fn run_all<
     L: AddLedger + Send + Sync,
     D: LogDisk,
@@ -126,7 +126,7 @@ fn run_all<
     })
 }
 
-/// Lets the workers work meanwhile.
+/// Runs the workers meanwhile.
 fn run_with_workers<
     L: AddLedger + Send + Sync,
     D: LogDisk,
@@ -153,14 +153,15 @@ fn run_with_workers<
     Ok((report, ran?))
 }
 
-/// Brings what is in memory to the logs: a flush that runs, and another one.
+/// Flushes what is in memory: completes a running flush, then another one.
 fn flush<L: AddLedger, D: LogDisk, R: Wait>(rt: &R, bookie: &Bookie<L, D>) {
     end_flush(rt, bookie);
     let _ = bookie.step(rt, Work::Swap);
     end_flush(rt, bookie);
 }
 
-/// What callers did together, and their passes: there is a receipt for each add that these count.
+/// The results of all callers, and their passes. There is a receipt for each add that the passes
+/// count.
 #[derive(Drop)]
 struct Sums<L: AddLedger> {
     passes: Vec<Pass<L>>,
@@ -169,7 +170,7 @@ struct Sums<L: AddLedger> {
 }
 
 impl<L: AddLedger> Sums<L> {
-    /// Of no caller.
+    /// Returns the results of no caller.
     fn new(alloc: Global) -> Sums<L> {
         Sums {
             passes: Vec::new(alloc),
@@ -177,7 +178,7 @@ impl<L: AddLedger> Sums<L> {
         }
     }
 
-    /// Takes a caller in. The only error is want of memory.
+    /// Adds a caller. Fails only if out of memory.
     fn take_in(&mut self, caller: Caller<L>) -> Result<(), AllocError> {
         let Caller {
             pass,
@@ -190,7 +191,7 @@ impl<L: AddLedger> Sums<L> {
         Ok(())
     }
 
-    /// Takes all callers in; the fault of the first that ended before its time.
+    /// Adds all callers. Returns the fault of the first that ended early.
     fn take_in_all(&mut self, ended: Vec<Ended<L>>) -> Result<(), LoadFault> {
         for one in ended {
             let Ended { caller, ran } = one;
@@ -201,7 +202,7 @@ impl<L: AddLedger> Sums<L> {
     }
 }
 
-/// Ends a bookie: its store, with the sum of what the passes count, where each receipt stands in the trail.
+/// Ends a bookie. Returns its store and the sum of the counts of the passes.
 fn end<L: AddLedger, D: LogDisk>(
     bookie: Bookie<L, D>,
     passes: Vec<Pass<L>>,
@@ -216,7 +217,7 @@ fn end<L: AddLedger, D: LogDisk>(
     }
 }
 
-/// What a load leaves: the store of its bookie, how many adds its passes count, and what was done meanwhile.
+/// What a load leaves: the store, the number of accepted adds, and the results.
 #[derive(Drop)]
 pub(crate) struct Served<D: LogDisk> {
     pub store: Store<D>,
@@ -227,7 +228,7 @@ pub(crate) struct Served<D: LogDisk> {
     pub milliseconds: u64,
 }
 
-/// Opens a bookie over this ledger, and lets a load run on it, from the ledger `first` on.
+/// Opens a bookie over this ledger and runs a load on it, from the ledger `first` on.
 pub(crate) fn serve<
     L: AddLedger + Send + Sync,
     D: LogDisk,

@@ -1,4 +1,4 @@
-//! The tests of `bk_load`, in a crate of their own: a crate with tests is proved twice.
+//! Tests of `bk_load`.
 #![tactic(auto)]
 
 #[cfg(test)]

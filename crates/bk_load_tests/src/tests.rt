@@ -1,4 +1,4 @@
-//! A small load, over a disk in memory, and the text of a report.
+//! A small load on a disk in memory, and the text of a report.
 
 use bk_bookie::WorkReport;
 use bk_disk::MemDisk;
@@ -10,7 +10,7 @@ use std::rt::Clock;
 use std::sync::Wait;
 use std::thread::Threads;
 
-/// The limits of the store of the small load: short logs.
+/// Settings of the small load, with short logs.
 const SETTINGS: Settings = Settings {
     log_limit: 65_536,
     cache_limit: 65_536,
@@ -21,16 +21,17 @@ const SETTINGS: Settings = Settings {
     major: 1000,
 };
 
-/// How many adds the small load makes.
+/// Number of adds of the small load.
 const ADDS: u64 = 16_001;
 
-/// What the small load asks for.
+/// The small load.
 const SMALL: Load = Load {
     callers: 8,
     until: Until::Adds(ADDS),
 };
 
-/// Whether a report is good, with compactions and two deletions, and tells of each add of the small load.
+/// Returns whether a report is good, with compactions, two deletions, and each add of the small
+/// load.
 fn is_whole(report: &Report) -> bool {
     report.is_good()
         && report.logs.compacted > 0
@@ -38,7 +39,7 @@ fn is_whole(report: &Report) -> bool {
         && report.adds.saturating_add(report.refused) == ADDS
 }
 
-/// What came of the small load.
+/// Runs the small load.
 fn report<R: Threads + Wait + Clock + Abort + Sync>(rt: &R, alloc: Global) -> Report {
     let progress: Option<Vec<u8>> = None;
     match run_load(rt, alloc, MemDisk::new(alloc), SETTINGS, SMALL, progress) {
@@ -53,7 +54,7 @@ fn a_small_load_is_found_whole(rt: HostRuntime) {
     assert!(rt; is_whole(&report), "{report}");
 }
 
-/// What came of a load of three adds, one of them to a ledger that was deleted since, beside four entries that were there.
+/// A report of three adds, one of them to a ledger deleted later, with four earlier entries.
 const GOOD: Report = Report {
     adds: 3,
     receipts: 3,

@@ -1,4 +1,4 @@
--- Reading ahead: the bytes at hand after a step, and the head of what is left.
+-- Reading ahead: the bytes ready after a step, and the head of what is left.
 use Rattle.std.proofs.Common.{◌≡◌, ℕ, ◌+◌, ◌-◌, ◌≤◌, min, Bool, List, length, take, drop, IsTrue, Option, sym, ap, ◌∙◌, subst, arith, length-drop}
 use Rattle.std.proofs.Math.Decide.{dec_le}
 use Rattle.std.proofs.lemmas.List.{drop-drop, drop-take, take-take, length-take-le, drop_all, take_all, length-take}
@@ -10,7 +10,7 @@ use Rattle.bk_log.specs.declared.front.Front.TheVariants.{Record}
 use Rattle.bk_log.specs.Fronts.{IsFront}
 use Rattle.bk_log.specs.Ahead.{Ahead, ShowsAhead, ShowsWindow, AheadFails}
 
--- a step within the bytes at hand
+-- an advance within the bytes that were read
 skipped_within : (bytes read : List ℕ) (at offset size : ℕ) → size ≤ length read - offset → drop offset read ≡ take (length read - offset) (drop at bytes)
     → drop (offset + size) read ≡ take (length read - (offset + size)) (drop (at + size) bytes)
 skipped_within bytes read at offset size enough shown =
@@ -18,7 +18,7 @@ skipped_within bytes read at offset size enough shown =
     sym (drop-drop size offset read) ∙ ap (drop size) (shown ∙ ap (λ n. take n (drop at bytes)) left)
     ∙ drop-take size (length read - (offset + size)) (drop at bytes) ∙ ap (take (length read - (offset + size))) (drop-drop size at bytes)
 
--- a step past them
+-- an advance to the end of the bytes that were read
 skipped_past : (bytes read : List ℕ) (at offset : ℕ) → offset ≤ length read → drop (offset + (length read - offset)) read ≡ take
     (length read - (offset + (length read - offset))) (drop at bytes)
 skipped_past bytes read at offset within =
@@ -40,7 +40,7 @@ shows_skip honest bytes read at offset size step taken shows same least = record
   ];
 }
 
--- bytes among those that were read are the view's
+-- bytes lent from the window are the view's
 pub lent : (bytes read : List ℕ) (since start before count from : ℕ) → drop start read ≡ take (length read - start) (drop since bytes)
     → before + count ≤ length read - start → from ≡ since + before → take count (drop (start + before) read) ≡ take count (drop from bytes)
 lent bytes read since start before count from shown enough place =
@@ -56,11 +56,11 @@ pub shows_window : (honest : Bool) (bytes read : List ℕ) (at offset since star
 shows_window honest bytes read at offset since start size step taken shows same least =
     record { ahead = shows_skip honest bytes read at offset size step taken shows.ahead same least; begun = shows.begun }
 
--- as many bytes as are said to be left
+-- number of bytes left, for a range in the view
 pub length-left : (bytes : List ℕ) (at left : ℕ) → IsInView bytes at left → left ≡ length (take left (drop at bytes))
 length-left bytes at left view = sym (length-take-le left (drop at bytes) (omega (arith, view.0, view.1, length-drop at bytes)))
 
--- the first twenty of the bytes that are left, or all where there are fewer
+-- head of the bytes left: the first twenty, or all if fewer
 pub head_left : (bytes head : List ℕ) (at wanted left : ℕ) → wanted ≡ min left 20 → head ≡ take wanted (drop at bytes)
     → head ≡ take 20 (take left (drop at bytes))
 head_left bytes head at wanted left least cut =
@@ -70,7 +70,7 @@ head_left bytes head at wanted left least cut =
           take_all 20 (take left (drop at bytes)) (omega (arith, length-take left (drop at bytes))) ∙ ap (λ n. take n (drop at bytes)) all
     ])
 
--- the first bytes at hand are the first of those that are left
+-- the head is in the window
 pub window_head : (w old : Ahead) (read bytes head : List ℕ) (offset wanted left : ℕ) → w ≡ old → ShowsAhead w.honest w.bytes w.at offset read
     → IsTrue old.honest → wanted ≡ min left 20 → wanted ≤ length read - offset → bytes ≡ read → head ≡ take (offset + wanted - offset) (drop offset bytes)
     → head ≡ take 20 (take left (drop old.at old.bytes))
@@ -83,7 +83,7 @@ window_head w old read bytes head offset wanted left is shows honest least enoug
     (cut ∙ ap (λ b. take (offset + wanted - offset) (drop offset b)) same ∙ ap (λ n. take n (drop offset read)) count ∙ ap (take wanted) here
     ∙ take-take wanted (length read - offset) (drop old.at old.bytes) enough)
 
--- the same of bytes that were read alone, over so many of twenty
+-- the head was read without a window
 pub head_read : (w old : Ahead) (over head : List ℕ) (wanted left : ℕ) → length over ≡ 20 → w ≡ old → wanted ≡ min left 20
     → head ≡ take (length (take wanted over)) (drop w.at w.bytes) → head ≡ take 20 (take left (drop old.at old.bytes))
 head_read w old over head wanted left size is least cut =
@@ -91,7 +91,7 @@ head_read w old over head wanted left size is least cut =
     head_left old.bytes head old.at wanted left least
     (cut ∙ ap (λ n. take n (drop w.at w.bytes)) count ∙ ap (λ (a : Ahead). take wanted (drop a.at a.bytes)) is)
 
--- a record stands there, and no buffer for it was to be had
+-- `Memory` occurs only at a record, and only without a buffer
 pub no_room : (room size : ℕ) (here : List ℕ) (key : Option EntryKey) (fault : ScanFault) → (fault ≡ Memory) × (room ≡ 0) → IsFront here (Record size key)
     → AheadFails room here fault
 no_room room size here key fault (memory, none) stands = subst (AheadFails room here) (sym memory) (none, (stands.0, stands.1.0))

@@ -1,4 +1,4 @@
--- The key of a payload, told from its first bytes.
+-- The key of a payload from its first bytes.
 use Rattle.std.proofs.Common.{◌≡◌, ℕ, ◌≤◌, List, length, take, drop, refl, ap, ◌∙◌, arith}
 use Rattle.std.proofs.lemmas.List.{take-take, drop-take}
 use Rattle.std.specs.Int.{w64, from_be_bytes}

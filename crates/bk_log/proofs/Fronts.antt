@@ -1,4 +1,4 @@
--- What stands at the front of bytes, told from what the first of them say.
+-- The start of bytes, from the first 20.
 use Rattle.std.proofs.Common.{◌≡◌, ◌⊎◌, inl, inr, ℕ, ◌+◌, ◌<◌, ◌≤◌, ◌^◌, ℤ, pos, ◌<ℤ◌, List, [], ◌∷◌, length, take, drop, min}
 use Rattle.std.proofs.Common.{Option, refl, sym, ap, ◌∙◌, subst, arith, length-drop}
 use Rattle.std.proofs.Math.Decide.{dec_le}
@@ -14,16 +14,16 @@ use Rattle.bk_record.proofs.Records.{length_field-take}
 use Rattle.bk_record.proofs.Pieces.{signed_below, length-payload, begins_with_field}
 use Rattle.bk_log.proofs.Begins.{key_of-take}
 
--- fewer bytes than a length field
+-- fewer bytes than a length field are torn, or none
 pub rest_short : (bytes : List ℕ) → length bytes < 4 → IsTorn bytes ⊎ (bytes ≡ [])
 rest_short [] less = inr refl
 rest_short (b ∷ bytes) less = inl (short (omega arith) less)
 
--- the length field, told from the first bytes
+-- the length field is in the head
 pub field_shown : (bytes head : List ℕ) (n : ℕ) → head ≡ take 20 bytes → 4 ≤ length bytes → n ≡ length_field head → n ≡ length_field bytes
 field_shown bytes head n is four read = read ∙ ap length_field is ∙ length_field-take 20 bytes (omega arith) four
 
--- fewer bytes than the record needs
+-- fewer bytes than the record needs are torn, or none
 pub rest_cut : (bytes head : List ℕ) (n : ℕ) → head ≡ take 20 bytes → 4 ≤ length bytes → n ≡ length_field head → 16 ≤ n → n < 2 ^ 31 → length bytes < 4 + n
     → IsTorn bytes ⊎ (bytes ≡ [])
 rest_cut bytes head n is four read low high less =
@@ -36,7 +36,7 @@ bad_number n bad = elim (dec_le 16 n) [
   | no few ↦ inl (omega arith)
 ]
 
--- a length that no record has
+-- a bad length in the head is the one of the bytes
 pub bad_shown : (bytes head : List ℕ) (n : ℕ) (value : ℤ) → head ≡ take 20 bytes → 4 ≤ length bytes → n ≡ length_field head → n < 2 ^ 32
     → ¬ ((16 ≤ n) × (n < 2 ^ 31)) → value ≡ cast_signed w32 n
     → (4 ≤ length bytes) × ((cast_signed w32 (cast_unsigned w32 value) ≡ signed_field bytes)
@@ -56,7 +56,7 @@ bad_shown bytes head n value is four read fits bad said =
       ),
     )
 
--- a whole record, and its key from the ids that are shown
+-- a whole record, with its key from the two ids
 pub record_shown : (bytes head ids : List ℕ) (n : ℕ) (key : Option EntryKey) → head ≡ take 20 bytes → to_be_bytes w32 n ≡ take 4 head → 16 ≤ n → n < 2 ^ 31
     → 4 + n ≤ length bytes → ids ≡ take 16 (drop 4 head) → key ≡ key_of ids
     → (payload : List ℕ) × (BeginsWith bytes payload × ((4 + n ≡ 4 + length payload) × (key ≡ key_of payload)))
@@ -69,6 +69,6 @@ record_shown bytes head ids n key is written low high enough shown found =
     ∙ sym (take-take 16 n (drop 4 bytes) low) in
     (payload, (begins_with_field bytes n front low high enough, (ap (λ k. 4 + k) (sym size), found ∙ ap key_of same ∙ key_of-take payload (omega arith))))
 
--- the two ids are all there
+-- the head has both ids
 pub ids_are_long : (head : List ℕ) (left : ℕ) → length head ≡ min 20 left → 20 ≤ left → 16 ≤ length (take 16 (drop 4 head))
 ids_are_long head left is enough = omega (arith, length-take 16 (drop 4 head), length-drop 4 head)

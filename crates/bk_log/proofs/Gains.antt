@@ -1,4 +1,4 @@
--- Calls that write a log leave the other logs, and put records only behind those of the log.
+-- Writing a log changes no other log, and adds records only after those of the log.
 use Rattle.std.proofs.Common.{◌≡◌, ◌⊎◌, inl, inr, ℕ, zero, suc, ◌+◌, ◌-◌, ◌≤◌, Bool, true, false, cond, List}
 use Rattle.std.proofs.Common.{[], ◌∷◌, ◌++◌, length, take, drop, Option, Some, None}
 use Rattle.std.proofs.Common.{IsNone, is_some, Result, Ok, Err, nat_cmp, unwrap_or, refl, sym, ap, ◌∙◌, subst, arith, length-append, append_assoc}
@@ -23,13 +23,13 @@ use Rattle.bk_record.proofs.Spellings.{never_both}
 use Rattle.bk_record.proofs.Bodies.{body_record, prefix_is_torn}
 use Rattle.bk_record.proofs.Records.{length-record_of}
 use Rattle.bk_record.proofs.NumberMaps.{get-insert_same}
-use Rattle.bk_disk.specs.Disk.{IsFile, grown, patched_file}
+use Rattle.bk_disk.specs.Disk.{IsFile, files_after_append, patched_file}
 use Rattle.bk_head.specs.Header.{empty_header}
 use Rattle.bk_log.specs.declared.fault.LogFault.{LogFault}
 use Rattle.bk_log.specs.declared.fault.LogFault.TheVariants.{Disk, Failed, Memory, Odd}
 use Rattle.bk_log.specs.declared.fault.CreateFault.{CreateFault}
 use Rattle.bk_log.specs.Places.{HasRecordAt}
-use Rattle.bk_log.specs.Writing.{Writing, Writes, CreateTurn, CreateFails, AppendTurn}
+use Rattle.bk_log.specs.Writing.{Writing, Writes, WriterCreateTransition, CreateFails, WriterPutTransition}
 use Rattle.bk_log.specs.Growing.{Gains, HasNoBadLength, PutGains, put_record}
 use Rattle.bk_log.proofs.Fetches.{record_fits}
 use Rattle.bk_log.proofs.Files.{grown-stands}
@@ -38,7 +38,7 @@ use Rattle.bk_log.proofs.Sealed.{whole_of}
 
 -- ---- one file
 
--- a record that stands at a position stands there in the longer log
+-- a record of a log is at the same position in the longer log
 pub longer_stays : (front whole : List ℕ) (at : ℕ) (payload : List ℕ) → IsLonger front whole → HasRecordAt front at payload → HasRecordAt whole at payload
 longer_stays front whole at payload longer here =
     let skip = at - 4 - 1024 in
@@ -55,7 +55,7 @@ longer_stays front whole at payload longer here =
       };
     }
 
--- a file that is spelled
+-- a file that parses to its end has no bad length
 spelled_file : (file rest : List ℕ) (records : List (ℕ × List ℕ)) → Body header_length (drop header_length file) records rest → HasNoBadLength file
 spelled_file file rest records body at value bad = never_both header_length (drop header_length file) records rest at value body bad
 
@@ -68,7 +68,7 @@ pub spelled_short : (file : List ℕ) → length file ≤ header_length → HasN
 spelled_short file short =
     spelled_file file [] [] (subst (λ (b : List ℕ). Body header_length b [] []) (sym (drop_all header_length file short)) done)
 
--- a prefix of a record behind a whole file
+-- a prefix of a record after a whole file leaves no bad length
 spelled_prefix : (file payload : List ℕ) (n : ℕ) → IsWhole file → IsPayload payload → HasNoBadLength (file ++ take n (record_of payload))
 spelled_prefix file payload zero whole legal = spelled_behind file whole [] [] [] done
 spelled_prefix file payload (suc n) whole legal = elim (dec_le (4 + length payload) (suc n)) [
@@ -78,7 +78,7 @@ spelled_prefix file payload (suc n) whole legal = elim (dec_le (4 + length paylo
       (torn (prefix_is_torn payload (suc n) legal (omega arith) (omega arith)))
 ]
 
--- a log under another header
+-- a patch of the header leaves the bytes after it unchanged
 same_behind_header : (file left : List ℕ) → length left ≡ 12 → 20 ≤ length file → drop 1024 (patched_file file left) ≡ drop 1024 file
 same_behind_header file left twelve long =
     let front = take 8 file ++ left in
@@ -98,7 +98,7 @@ spelled_patch file left twelve long spelled at value bad =
 
 -- ---- the files
 
--- nothing changed
+-- unchanged files
 pub gains_same : (files files' : Files) (log : ℕ) → files' ≡ files → Gains files log [] files'
 gains_same files files' log is = record {
   only = λ id apart. ap (λ m. get m id) is;
@@ -112,7 +112,7 @@ gains_same files files' log is = record {
 pub file_at : (files : Files) (log : ℕ) (file : List ℕ) → IsFile files log file → file_of files log ≡ file
 file_at files log file is = ap (λ o. unwrap_or o []) is
 
--- one log's file changed
+-- one log's file has changed
 pub gains_file : (files files' : Files) (log : ℕ) (file file' : List ℕ) (others : List (ℕ × List ℕ)) → file_of files log ≡ file
     → files' ≡ insert files log file'
     → records_of file' ≡ records_of file ++ others → IsLonger file file' → (HasNoBadLength file → HasNoBadLength file') → Gains files log others files'
@@ -134,7 +134,7 @@ gains_file files files' log file file' others was is records longer spelled =
       stays = λ at payload here. longer_stays (file_of files log) (file_of files' log) at payload grown_file here;
     }
 
--- ---- making a log
+-- ---- creating a log
 
 none_value : {X : Type 0} (o : Option X) → IsNone o → o ≡ None
 none_value None is = refl
@@ -158,14 +158,14 @@ create_fault files files' log false Memory is = gains_same files files' log is.1
 create_fault files files' log false Odd is = gains_same files files' log is.1
 create_fault files files' log false Failed never = absurd never
 
-pub create_gains : {W : Type 0} (files files' : Files) (log : ℕ) (result : Result W CreateFault) → CreateTurn files log result files'
+pub create_gains : {W : Type 0} (files files' : Files) (log : ℕ) (result : Result W CreateFault) → WriterCreateTransition files log result files'
     → Gains files log [] files'
 create_gains files files' log (Ok w) (none, is) = gains_made files files' log empty_header none is (omega (arith, length-empty_header))
 create_gains files files' log (Err f) fails = create_fault files files' log f.made f.fault fails
 
 -- ---- writing a record
 
-put_whole : (files files' : Files) (w : Writing) (payload : List ℕ) → Writes files w → IsPayload payload → files' ≡ grown files w.log (record_of payload)
+put_whole : (files files' : Files) (w : Writing) (payload : List ℕ) → Writes files w → IsPayload payload → files' ≡ files_after_append files w.log (record_of payload)
     → Gains files w.log (put_record w payload) files'
 put_whole files files' w payload writes legal is =
     gains_file files files' w.log writes.file (writes.file ++ record_of payload) (put_record w payload) (file_at files w.log writes.file writes.stands)
@@ -175,7 +175,7 @@ put_whole files files' w payload writes legal is =
     (λ _. spelled_behind writes.file (whole_of files w writes) (record_of payload) [] _ (body_record (length writes.file) payload legal))
 
 put_part : (files files' : Files) (w : Writing) (payload : List ℕ) (n : ℕ) → Writes files w → IsPayload payload
-    → files' ≡ grown files w.log (take n (record_of payload))
+    → files' ≡ files_after_append files w.log (take n (record_of payload))
     → Gains files w.log (put_record w payload) files' ⊎ Gains files w.log [] files'
 put_part files files' w payload n writes legal is =
     let piece = take n (record_of payload) in
@@ -190,7 +190,7 @@ put_part files files' w payload n writes legal is =
     ]
 
 pub put_gains : (files files' : Files) (w : Writing) (payload : List ℕ) (result : Result Place LogFault) → Writes files w → IsPayload payload
-    → AppendTurn files w payload result files' → PutGains files w payload result files'
+    → WriterPutTransition files w payload result files' → PutGains files w payload result files'
 put_gains files files' w payload (Ok place) writes legal is = put_whole files files' w payload writes legal is
 put_gains files files' w payload (Err Disk) writes legal (n, is) = put_part files files' w payload n writes legal is
 put_gains files files' w payload (Err Failed) writes legal is = gains_same files files' w.log is

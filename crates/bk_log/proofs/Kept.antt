@@ -1,4 +1,4 @@
--- What a scanner keeps, step by step.
+-- The invariant of a scanner, step by step.
 use Rattle.std.proofs.Common.{◌≡◌, ℕ, ◌+◌, ◌-◌, ◌<◌, ◌≤◌, ◌^◌, ◌*◌, ℤ, Bool, true, false, cond, not, List, ◌++◌, length, take, drop, append_assoc, Option, Some}
 use Rattle.std.proofs.Common.{None, IsTrue, is_none, is_some, refl, sym, ap, ◌∙◌, subst, arith}
 use Rattle.std.proofs.lemmas.Bool.{false≢true, and_parts}
@@ -37,19 +37,19 @@ bad_is_not_disk at value is = cc
 abbrev pub here : Ahead → ℕ → List ℕ
 here window end = take (end - window.at) (drop window.at window.bytes)
 
--- what is left lies in the view
+-- the bytes left are in the view
 pub left_in_view : (window : Ahead) (from end given foreign torn : ℕ) (ended : Bool) (fault : Option ScanFault)
     → KeepsScan window from end given foreign torn ended fault → IsTrue window.honest → IsInView window.bytes window.at (end - window.at)
 left_in_view window from end given foreign torn ended fault kept honest =
     (omega (arith, kept.headed, kept.placed.begun), omega (arith, kept.in_view honest, kept.placed.within))
 
--- a window that looked, and moved on
+-- a window that read its front, and advanced
 pub skipped_window : (window looked moved : Ahead) (size : ℕ) → looked ≡ record window { ready = looked.ready; room = looked.room }
     → moved ≡ record looked { at = looked.at + size; ready = looked.ready - size }
     → moved ≡ record window { at = window.at + size; ready = looked.ready - size; room = looked.room }
 skipped_window window looked moved size kept step = step ∙ ap (λ (w : Ahead). record w { at = w.at + size; ready = looked.ready - size }) kept
 
--- a scan that goes on has neither ended nor met a fault
+-- a scan that is going on has neither ended nor met an error
 pub going_on : (window : Ahead) (s : Scan) (from end given foreign torn : ℕ) (ended : Bool) (fault : Option ScanFault)
     → window_scan window from end given foreign torn ended fault ≡ s → IsTrue (is_going s) → (ended ≡ false) × (fault ≡ None)
 going_on window s from end given foreign torn ended fault is going =
@@ -58,7 +58,7 @@ going_on window s from end given foreign torn ended fault is going =
       elim fault as (λ o. is_none o ≡ true → o ≡ None) [ None ↦ λ e. refl | Some f ↦ λ e. absurd (false≢true e) ] both.1,
     )
 
--- a scan that begins
+-- invariant of a new scan
 pub kept_new : (bytes : List ℕ) (honest sound : Bool) (window : Ahead) (from end : ℕ)
     → window ≡ record { at = from; bytes = bytes; honest = honest; sound = sound; ready = 0; room = 0 } → header_length ≤ from → from ≤ end → end < 2 ^ 64
     → (IsTrue honest → end ≤ view_end bytes) → KeepsScan window from end 0 0 0 false None
@@ -76,7 +76,7 @@ kept_new bytes honest sound window from end is headed ordered fits within =
       };
     })
 
--- what is left behind a record
+-- bytes left after a record
 behind_record : (bytes payload : List ℕ) (at end : ℕ) → (b : BeginsWith (take (end - at) (drop at bytes)) payload) → 4 + length payload ≤ end - at
     → take (end - (at + (4 + length payload))) (drop (at + (4 + length payload)) bytes) ≡ b.behind
 behind_record bytes payload at end b within =
@@ -91,7 +91,7 @@ foreign_none payload is = ap (λ o. not (is_some o)) (sym is)
 foreign_some : (payload : List ℕ) (key : EntryKey) → Some key ≡ key_of payload → is_foreign payload ≡ false
 foreign_some payload key is = ap (λ o. not (is_some o)) (sym is)
 
--- a record was passed: an entry, or a foreign one
+-- invariant after a record was passed: an entry, or a foreign record
 kept_record : (window : Ahead) (from end given foreign torn size ready room : ℕ) (ended other : Bool) (fault : Option ScanFault)
     → KeepsScan window from end given foreign torn ended fault → 0 < room → ended ≡ false → fault ≡ None → 20 ≤ size → size ≤ end - window.at
     → (IsTrue window.honest → (payload : List ℕ) × (BeginsWith (here window end) payload × ((size ≡ 4 + length payload) × (is_foreign payload ≡ other))))
@@ -124,7 +124,7 @@ kept_record window from end given foreign torn size ready room ended other fault
       };
 }
 
--- the two kinds of records, as the front tells them
+-- invariant after each kind of record
 pub kept_foreign : (window : Ahead) (from end given foreign torn size ready room : ℕ) (ended : Bool) (fault : Option ScanFault)
     → KeepsScan window from end given foreign torn ended fault → 0 < room → ended ≡ false → fault ≡ None → 20 ≤ size → size ≤ end - window.at
     → (IsTrue window.honest → IsFront (here window end) (Record size None))
@@ -145,7 +145,7 @@ kept_entry window from end given foreign torn size ready room ended fault key ke
     (kept_record window from end given foreign torn size ready room ended false fault kept made going calm least within
     (λ h. let (payload, (begins, (sized, is))) = front h in (payload, (begins, (sized, foreign_some payload key is)))))
 
--- a record that begins in the part begins in the log
+-- a record that begins in the part is a record of the log
 record_stands : (bytes payload : List ℕ) (at end : ℕ) → header_length ≤ at → BeginsWith (take (end - at) (drop at bytes)) payload
     → HasRecordAt bytes (at + 4) payload
 record_stands bytes payload at end headed b =
@@ -160,7 +160,7 @@ record_stands bytes payload at end headed b =
       };
     }
 
--- the entry that was found is the part's next
+-- the entry found is the next one of the part
 pub given_next : (window : Ahead) (from end given foreign torn size : ℕ) (ended : Bool) (fault : Option ScanFault) (key : EntryKey)
     → KeepsScan window from end given foreign torn ended fault → IsTrue window.honest → size ≤ end - window.at
     → IsFront (here window end) (Record size (Some key))
@@ -182,7 +182,7 @@ given_next window from end given foreign torn size ended fault key kept h within
           passed);
     }
 
--- the end was reached
+-- invariant at the end of the part
 pub kept_rest : (window : Ahead) (from end given foreign torn ready room : ℕ) (ended : Bool) (fault : Option ScanFault)
     → KeepsScan window from end given foreign torn ended fault → fault ≡ None → (IsTrue window.honest → IsFront (here window end) Rest)
     → KeepsScan (record window { ready = ready; room = room }) from end given foreign (end - window.at) true fault
@@ -210,13 +210,13 @@ kept_rest window from end given foreign torn ready room ended fault kept calm fr
       };
 }
 
--- a length that was read as a signed number, written and read again
+-- a signed length survives the conversion to an unsigned number and back
 back_again : (left : List ℕ) (value : ℤ) → value ≡ signed_field left → length_field left < 2 ^ 32 → cast_signed w32 (cast_unsigned w32 value) ≡ value
 unfolding signed_field length_field
 back_again left value is fits =
     ap (λ v. cast_signed w32 (cast_unsigned w32 v)) is ∙ ap (cast_signed w32) (of_z-to_z w32 (from_be_bytes w32 left) fits) ∙ sym is
 
--- a bad length was met
+-- invariant after a bad length
 pub kept_bad : (window : Ahead) (from end given foreign torn ready room : ℕ) (value : ℤ) (ended : Bool) (fault : Option ScanFault)
     → KeepsScan window from end given foreign torn ended fault → ended ≡ false → (IsTrue window.honest → IsFront (here window end) (Bad value))
     → KeepsScan (record window { ready = ready; room = room }) from end given foreign torn ended
@@ -247,7 +247,7 @@ kept_bad window from end given foreign torn ready room value ended fault kept go
       };
 }
 
--- what the window said, of the position as it is
+-- the front that the window parsed is that of the position
 pub front_here : (window : Ahead) (end at : ℕ) (front shown : Front) → at ≡ window.at → front ≡ shown
     → (IsTrue window.honest → IsFront (take (end - at) (drop window.at window.bytes)) front) → IsTrue window.honest → IsFront (here window end) shown
 front_here window end at front shown place is said h =

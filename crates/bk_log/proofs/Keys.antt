@@ -1,9 +1,9 @@
--- Keys of payloads that are compared.
+-- Comparison of the keys of payloads.
 use Rattle.std.proofs.Common.{◌≡◌, true, ◌&&◌, eqb, eq-eqb, ap}
 use Rattle.std.proofs.lemmas.Bool.{and_parts, and_from, eqb-true}
 use Rattle.bk_record.specs.Key.{EntryKey}
 
--- two keys are equal exactly where both ids are
+-- two keys are equal if both their ids are
 pub same_key : (a b : EntryKey) → (eqb a.ledger b.ledger && eqb a.entry b.entry) ≡ true → a ≡ b
 same_key a b is =
     let parts = and_parts _ _ is in

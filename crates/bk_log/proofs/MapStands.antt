@@ -1,4 +1,4 @@
--- A sealed log has its map: the header says where, and there stands what the entries' sizes add up to.
+-- A sealed log has its map: at the header's offset, with the sums of the entries' sizes.
 use Rattle.std.proofs.Common.{◌≡◌, ℕ, pos, true, false, cond, not, List, [], ◌∷◌, ◌++◌, length, take, drop, IsSome, OnOk, Result, Ok, Err, unwrap_or, refl, sym}
 use Rattle.std.proofs.Common.{ap, ◌∙◌, subst, arith, length-append, length-drop, append_assoc}
 use Rattle.std.proofs.lemmas.Bool.{le-leb}
@@ -12,7 +12,7 @@ use Rattle.bk_record.specs.Scan.{entries_of}
 use Rattle.bk_record.proofs.Growth.{records_of-body}
 use Rattle.bk_record.proofs.EntryLists.{is_entry}
 use Rattle.bk_record.proofs.NumberMaps.{get-insert_same}
-use Rattle.bk_disk.specs.Disk.{patched, patched_file}
+use Rattle.bk_disk.specs.Disk.{files_after_patch, patched_file}
 use Rattle.bk_head.specs.Header.{IsHeader, empty_header, patch_of}
 use Rattle.bk_head.specs.declared.header.Header.{Header}
 use Rattle.bk_head.specs.Ledgers.{SpellsMap}
@@ -21,26 +21,26 @@ use Rattle.bk_head.proofs.Again.{patched_again, empty_is_header}
 use Rattle.bk_head.proofs.Spelling.{written_spells}
 use Rattle.bk_log.specs.Sizes.{sizes_of}
 use Rattle.bk_log.specs.Writing.{Writing, Writes}
-use Rattle.bk_log.specs.Sealing.{map_bytes, map_fits, mapped, sealed, SealTurn, HasMap}
+use Rattle.bk_log.specs.Sealing.{map_bytes, map_fits, files_with_map, files_after_seal, WriterSealTransition, HasMap}
 use Rattle.bk_log.specs.declared.fault.LogFault.{LogFault}
 use Rattle.bk_log.proofs.Writes.{text_is_long}
 use Rattle.bk_log.proofs.Others.{keeps_patch}
 use Rattle.bk_log.proofs.Sealed.{all_entries, patched-mapped, long_enough, length-patch_of}
 
--- records with keys are entries, all of them
+-- records that all have keys are all entries
 all_kept : (records : List (ℕ × List ℕ)) → AllByRecursion (λ r. IsSome (key_of r.1)) records → filter is_entry records ≡ records
 all_kept [] keyed = refl
 all_kept (r ∷ records) keyed =
     let is : is_foreign r.1 ≡ false = ap not keyed.0 in
     ap (λ b. cond (not b) (r ∷ filter is_entry records) (filter is_entry records)) is ∙ ap (λ l. r ∷ l) (all_kept records keyed.1)
 
--- the writer's records are its log's entries
+-- the records of the writer are the entries of its log
 entries_put : (files : Files) (w : Writing) (writes : Writes files w) → entries_of writes.file ≡ writes.records
 unfolding entries_of
 entries_put files w writes =
     ap (filter is_entry) (records_of-body writes.file writes.text.spelled) ∙ all_kept writes.records writes.keyed
 
--- a header stays one, whatever is behind it
+-- an append keeps the header
 header-append : (bytes behind : List ℕ) (header : Header) → IsHeader bytes header → IsHeader (bytes ++ behind) header
 header-append bytes behind header is = record {
   fields = is.fields;
@@ -57,7 +57,7 @@ header_put files w writes =
     subst (λ b. IsHeader b unsealed) (ap (λ b. b ++ drop 1024 writes.file) (sym writes.text.headed) ∙ take-append-drop 1024 writes.file)
     (header-append empty_header (drop 1024 writes.file) unsealed empty_is_header)
 
--- a whole file whose header was patched
+-- a whole file with its map appended and its header patched
 map_stands : (files : Files) (w : Writing) (file : List ℕ) (writes : Writes files w) → IsWritable w.sizes
     → file ≡ patched_file (writes.file ++ map_bytes w) (patch_of w.end (len w.sizes)) → HasMap file
 map_stands files w file writes writable is =
@@ -99,8 +99,8 @@ map_stands files w file writes writable is =
       spelled = subst (λ s. SpellsMap (drop w.end file) s) (sym sizes) (subst (λ b. SpellsMap b w.sizes) (sym behind) (written_spells w.sizes writable));
     }
 
--- the log that was sealed, where its map fits
-pub sealed_has_map : (files files' : Files) (w now : Writing) → w ≡ now → Writes files now → IsWritable w.sizes → files' ≡ sealed files now
+-- a sealed log whose map fits has its map
+pub sealed_has_map : (files files' : Files) (w now : Writing) → w ≡ now → Writes files now → IsWritable w.sizes → files' ≡ files_after_seal files now
     → map_fits now ≡ true
     → HasMap (file_of files' now.log)
 sealed_has_map files files' w now same writes writable is fits =
@@ -108,11 +108,11 @@ sealed_has_map files files' w now same writes writable is fits =
     let put = patch_of now.end (len now.sizes) in
     let file = patched_file (writes.file ++ map_bytes now) put in
     let stands : files' ≡ insert files now.log file =
-    is ∙ ap (λ b. cond b (patched (mapped files now) now.log put) files) fits ∙ patched-mapped files now put writes in
+    is ∙ ap (λ b. cond b (files_after_patch (files_with_map files now) now.log put) files) fits ∙ patched-mapped files now put writes in
     map_stands files now (file_of files' now.log) writes writable'
     (ap (λ m. unwrap_or (get m now.log) []) stands ∙ ap (λ o. unwrap_or o []) (get-insert_same files now.log file))
 
 pub seal_map : (files files' : Files) (w now : Writing) (result : Result (Unit {0}) LogFault) → w ≡ now → Writes files now → IsWritable w.sizes
-    → SealTurn files now result files' → map_fits now ≡ true → OnOk result (HasMap (file_of files' now.log))
+    → WriterSealTransition files now result files' → map_fits now ≡ true → OnOk result (HasMap (file_of files' now.log))
 seal_map files files' w now (Ok done) same writes writable turn fits = sealed_has_map files files' w now same writes writable turn fits
 seal_map files files' w now (Err fault) same writes writable turn fits = tt

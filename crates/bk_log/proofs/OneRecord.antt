@@ -1,4 +1,4 @@
--- At a place of a log stands one record at most.
+-- At most one record is at a place of a log.
 use Rattle.std.proofs.Common.{◌≡◌, inl, inr, ℕ, zero, suc, ◌+◌, ◌-◌, ◌≤◌, cond, List, [], ◌∷◌, ◌++◌, length, take}
 use Rattle.std.proofs.Common.{drop, true, false, refl, sym, ap, ◌∙◌, subst, arith, length-drop}
 use Rattle.std.proofs.lemmas.List.{drop-drop, length-take}
@@ -18,7 +18,7 @@ one_here file payload other at here there =
     let long : length payload ≡ length other = sym (field_of file payload field at here refl) ∙ field_of file other field at there refl in
     sym (payload_of file payload at here) ∙ ap (λ n. take n (drop at file)) long ∙ payload_of file other at there
 
--- a record of a body stands where its place says
+-- a record of a parsed body is at its position
 body_at : {from : ℕ} {bytes rest : List ℕ} {records : List (ℕ × List ℕ)} (at : ℕ) (payload : List ℕ) → Body from bytes records rest → In (at, payload) records
     → (from + 4 ≤ at) × BeginsWith (drop (at - (from + 4)) bytes) payload
 body_at at payload (done) is = absurd is
@@ -50,7 +50,7 @@ listed_at file payload rest at records body is =
       begins = subst (λ b. BeginsWith b payload) (drop-drop (at - (1024 + 4)) 1024 file ∙ ap (λ n. drop n file) count) found.1;
     }
 
--- a record of the computed list stands where its place says
+-- a record of the computed list is at its position
 begins_there : (bytes : List ℕ) → IsBytes bytes → Starts bytes → BeginsWith bytes (take (length_field bytes) (drop 4 bytes))
 begins_there bytes each starts =
     let size : length (take (length_field bytes) (drop 4 bytes)) ≡ length_field bytes =
@@ -61,7 +61,7 @@ begins_there bytes each starts =
       is = record_in_front bytes each starts;
     }
 
--- the record in front, or one behind it
+-- a record of the list is the first one or one after it
 started : (from : ℕ) (bytes : List ℕ) (at : ℕ) (payload : List ℕ) (behind : List (ℕ × List ℕ)) → IsBytes bytes → Starts bytes
     → (let size = 4 + length_field bytes in
     In (at, payload) behind → (from + size + 4 ≤ at) × BeginsWith (drop (at - (from + size + 4)) (drop size bytes)) payload)

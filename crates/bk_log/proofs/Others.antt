@@ -1,4 +1,4 @@
--- What sealing writes behind a log's records is foreign or torn, so the log's entries stay.
+-- What sealing writes after a log's records is foreign or torn, so the log's entries are unchanged.
 use Rattle.std.proofs.Common.{◌≡◌, ℕ, zero, suc, ◌+◌, ◌-◌, ◌<◌, ◌≤◌, true, false, cond, not, List, [], ◌∷◌, ◌++◌, length, take, drop, Some, nat_cmp}
 use Rattle.std.proofs.Common.{unwrap_or, refl, sym, ap, ◌∙◌, subst, arith, length-append, length-drop}
 use Rattle.std.proofs.Math.Decide.{dec_le}
@@ -26,14 +26,14 @@ use Rattle.bk_disk.specs.Disk.{IsFile, patched_file}
 use Rattle.bk_head.specs.Ledgers.{batch_ids, batch_payload, Batches}
 use Rattle.bk_log.specs.Sealing.{KeepsEntries}
 
--- bytes that spell foreign records and a rest
+-- bytes that parse as foreign records and a rest
 pub record Others (from : ℕ) (bytes : List ℕ) : Type 0 where
   pub records : List (ℕ × List ℕ)
   pub rest : List ℕ
   pub spelled : Body from bytes records rest
   pub foreign : filter is_entry records ≡ []
 
--- a batch has no key
+-- a batch of a ledgers map has no key, so it is foreign
 pub batch_foreign : (pairs : List (ℕ × ℕ)) → is_foreign (batch_payload pairs) ≡ true
 unfolding batch_payload batch_ids key_of ledger_field
 batch_foreign pairs = refl
@@ -47,7 +47,7 @@ others_more from payload bytes legal is others = record {
   foreign = ap (λ b. cond (not b) ((from + 4, payload) ∷ filter is_entry others.records) (filter is_entry others.records)) is ∙ others.foreign;
 }
 
--- a prefix of a record
+-- a proper prefix of a record is a rest
 others_cut : (from n : ℕ) (payload : List ℕ) → IsPayload payload → n < 4 + length payload → Others from (take n (record_of payload))
 others_cut from zero payload legal less = record { records = []; rest = []; spelled = done; foreign = refl }
 others_cut from (suc n) payload legal less = record {
@@ -57,7 +57,7 @@ others_cut from (suc n) payload legal less = record {
   foreign = refl;
 }
 
--- a prefix of batches
+-- a prefix of batches is foreign records and a rest
 pub batches_prefix : (from n : ℕ) {bytes : List ℕ} {pairs : List (ℕ × ℕ)} → Batches bytes pairs → Others from (take n bytes)
 batches_prefix from zero batches = record { records = []; rest = []; spelled = done; foreign = refl }
 batches_prefix from (suc n) (Batches.none) = record { records = []; rest = []; spelled = done; foreign = refl }
@@ -76,7 +76,7 @@ batches_prefix from (suc n) (Batches.more {pairs = pairs} {behind = behind} batc
           subst (Others from) (sym (take-append-le (suc n) (record_of payload) behind (omega arith))) (others_cut from (suc n) payload batch.fits (omega arith))
     ]
 
--- a file with foreign records and a rest behind it
+-- foreign records and a rest after a whole file leave its entries unchanged
 pub keeps_append : (file bytes : List ℕ) → IsWhole file → Others (length file) bytes → entries_of (file ++ bytes) ≡ entries_of file
 unfolding entries_of
 keeps_append file bytes whole others =
@@ -84,7 +84,7 @@ keeps_append file bytes whole others =
     ∙ filter-append is_entry (records_of file) others.records ∙ ap (λ l. filter is_entry (records_of file) ++ l) others.foreign
     ∙ append-nil (filter is_entry (records_of file))
 
--- a file with another header
+-- a patch of the header leaves the records unchanged
 pub records_of-patch : (file left : List ℕ) → length left ≡ 12 → 20 ≤ length file → records_of (patched_file file left) ≡ records_of file
 unfolding records_of
 records_of-patch file left twelve long =
@@ -99,7 +99,7 @@ pub keeps_patch : (file left : List ℕ) → length left ≡ 12 → 20 ≤ lengt
 unfolding entries_of
 keeps_patch file left twelve long = ap (filter is_entry) (records_of-patch file left twelve long)
 
--- files with one log changed so
+-- files in which one log changed, but not its entries
 pub keeps_insert : (files : Files) (log : ℕ) (file file' : List ℕ) → IsFile files log file → entries_of file' ≡ entries_of file
     → KeepsEntries files (insert files log file')
 keeps_insert files log file file' stands same other =

@@ -1,4 +1,4 @@
--- A scan's position: the records before it, and what the piece that stands there means for the whole part.
+-- The position of a scan: the records before it, and the bytes after it as the rest of the part.
 use Rattle.std.proofs.Common.{◌≡◌, ◌⊎◌, inl, inr, ℕ, ◌+◌, ◌≤◌, ℤ, pos, ◌<ℤ◌, Bool, true, false, cond, not, List, [], ◌∷◌, ◌++◌, length, take, drop, Some}
 use Rattle.std.proofs.Common.{slice_get, refl, sym, ap, ◌∙◌, subst, arith, length-append, append_assoc}
 use Rattle.std.proofs.lemmas.List.{append-nil, length-take-le, take-append-drop, drop_at}
@@ -22,7 +22,7 @@ use Rattle.bk_log.proofs.Ranges.{all_pieces-behind, all_leftover-behind, all_pie
 abbrev is_other : ℕ × List ℕ → Bool
 is_other r = is_foreign r.1
 
--- how many pass a test, with one more
+-- the number of records that pass a test, with one record more
 count_more : (p : ℕ × List ℕ → Bool) (records : List (ℕ × List ℕ)) (r : ℕ × List ℕ) (b : Bool) → p r ≡ b
     → length (filter p (records ++ r ∷ [])) ≡ length (filter p records) + cond b 1 0
 count_more p records r b is =
@@ -34,11 +34,11 @@ seam : {X : Type 0} (xs : List X) (y : X) (ys : List X) → slice_get (xs ++ y �
 seam [] y ys = refl
 seam (x ∷ xs) y ys = seam xs y ys
 
--- nothing is passed where the part begins
+-- at the start of the part no record is passed
 pub passed_none : (from : ℕ) (bytes : List ℕ) → IsPassed from bytes from bytes 0 0
 passed_none from bytes = record { front = []; records = []; split = refl; place = omega arith; whole = done; entries = refl; others = refl }
 
--- what is behind the position is a part's rest
+-- the pieces after the position are the rest of those of the part
 all_pieces-passed : (from at given foreign : ℕ) (bytes left : List ℕ) (p : IsPassed from bytes at left given foreign)
     → all_pieces from bytes ≡ p.records ++ all_pieces at left
 all_pieces-passed from at given foreign bytes left p =
@@ -66,7 +66,7 @@ passed_more from at given foreign bytes left behind payload other p b same is =
       others = ap (λ n. n + cond other 1 0) p.others ∙ sym (count_more is_other p.records (at + 4, payload) other is);
     }
 
--- an entry that stands at the position is the next of the part's
+-- an entry at the position is the next one of the part
 pub entry_at : (from at given foreign : ℕ) (bytes left payload : List ℕ) → IsPassed from bytes at left given foreign → BeginsWith left payload
     → is_foreign payload ≡ false → slice_get (entries_in from bytes) given ≡ Some (at + 4, payload)
 unfolding entries_in
@@ -81,7 +81,7 @@ entry_at from at given foreign bytes left payload p b is =
     (filter is_entry (all_pieces (at + 4 + length payload) b.behind))) is in
     ap (λ l. slice_get l given) kept ∙ ap (slice_get _) p.entries ∙ seam (filter is_entry p.records) (at + 4, payload) _
 
--- a scan that begins at the position goes on with the part's
+-- a scan that begins at the position continues that of the part
 pub goes_on : (file : List ℕ) (from end at given foreign : ℕ) → IsPassed from (part file from end) at (part file at end) given foreign
     → GoesOn file from end at given foreign
 unfolding entries_in foreign_in
@@ -100,7 +100,7 @@ goes_on file from end at given foreign p =
           (bad_append left place value p.whole (subst (λ n. IsBadAt n left place value) p.place is));
     }
 
--- where no record stands at the position, all of the part's were passed
+-- if no record is at the position, all records of the part were passed
 records_all : (from at given foreign : ℕ) (bytes left : List ℕ) (p : IsPassed from bytes at left given foreign) → starts_with_record left ≡ false
     → all_pieces from bytes ≡ p.records
 records_all from at given foreign bytes left p is =
@@ -128,7 +128,7 @@ rest_body : (at : ℕ) (left : List ℕ) → IsTorn left ⊎ (left ≡ []) → B
 rest_body at left (inl is) = torn is
 rest_body at left (inr is) = subst (λ l. Body at l [] l) (sym is) done
 
--- the part is spelled to its end
+-- if torn bytes or none are left, the part parses to its end
 pub all_spelled : (from at given foreign : ℕ) (bytes left : List ℕ) → IsPassed from bytes at left given foreign → IsTorn left ⊎ (left ≡ [])
     → Body from bytes (all_pieces from bytes) (all_leftover bytes)
 all_spelled from at given foreign bytes left p end =
@@ -138,7 +138,7 @@ all_spelled from at given foreign bytes left p end =
     (subst (λ r. Body from (p.front ++ left) (all_pieces from bytes) r) (sym (rest_all from at given foreign bytes left p stops))
     (subst (λ l. Body from (p.front ++ left) l left) (append-nil p.records ∙ sym (records_all from at given foreign bytes left p stops)) whole))
 
--- a length below 16, as a signed number, is no record's
+-- no record has a length below 16, as a signed number
 pub bad_stops : (left : List ℕ) (value : ℤ) → value ≡ signed_field left → value <ℤ pos 16 → starts_with_record left ≡ false
 unfolding signed_field length_field
 bad_stops left value is below = false_from_ne_true (starts_with_record left) (λ yes.
@@ -147,7 +147,7 @@ bad_stops left value is below = false_from_ne_true (starts_with_record left) (λ
     let low : pos (length_field left) <ℤ pos 16 = subst (λ (v : ℤ). v <ℤ pos 16) number below in
     omega (arith, ints, starts.least, low))
 
--- and the part is bad there
+-- a bad length at the position is the bad length of the part
 pub bad_at : (from at given foreign : ℕ) (bytes left : List ℕ) (value : ℤ) → IsPassed from bytes at left given foreign → 4 ≤ length left
     → value ≡ signed_field left → value <ℤ pos 16 → IsBadAt from bytes at value
 unfolding signed_field length_field

@@ -1,4 +1,5 @@
--- The records of a part of a log: how many are looked for makes no difference, and those behind whole records follow them.
+-- The records of a part of a log: any sufficient bound of the search gives them, and those after
+-- whole records follow them.
 use Rattle.std.proofs.Common.{◌≡◌, ℕ, zero, suc, ◌+◌, ◌≤◌, Bool, true, false, cond, not, List, [], ◌∷◌, ◌++◌, length, take, drop, refl, sym, ap, ◌∙◌, arith}
 use Rattle.std.proofs.Common.{◌-◌, length-append, append_assoc, length-drop}
 use Rattle.std.proofs.lemmas.List.{take_all, take_at}
@@ -16,7 +17,7 @@ use Rattle.bk_record.specs.Spelling.{all_pieces, all_leftover}
 use Rattle.bk_disk.specs.Disk.{view_end}
 use Rattle.bk_log.specs.Ranges.{entries_in, foreign_in, IsWholePart, part}
 
--- what is found in bytes, by whether they begin with a record
+-- records of bytes, by whether they begin with one
 pieces_by : Bool → ℕ → ℕ → List ℕ → List (ℕ × List ℕ)
 pieces_by starts most from bytes =
     cond starts ((from + 4, take (length_field bytes) (drop 4 bytes)) ∷ pieces most (from + 4 + length_field bytes) (drop (4 + length_field bytes) bytes)) []
@@ -28,7 +29,7 @@ no_bytes : (bytes : List ℕ) → length bytes ≤ 0 → bytes ≡ []
 no_bytes [] none = refl
 no_bytes (b ∷ bytes) none = absurd (omega arith)
 
--- as many as there are bytes are enough
+-- any bound that is at least the number of bytes gives the same rest
 pub leftover-enough : (most other : ℕ) (bytes : List ℕ) → length bytes ≤ most → length bytes ≤ other → leftover most bytes ≡ leftover other bytes
 unfolding leftover_by
 leftover-enough zero other bytes few also =
@@ -39,7 +40,7 @@ leftover-enough (suc most) (suc other) bytes few also =
     (omega (arith, length-drop (4 + length_field bytes) bytes)) (omega (arith, length-drop (4 + length_field bytes) bytes)) in
     elim (starts_with_record bytes) as (λ b. leftover_by b most bytes ≡ leftover_by b other bytes) [ true ↦ next | false ↦ refl ]
 
--- a record in front
+-- the first record, then those of the other bytes
 pub all_pieces-record : (from : ℕ) (payload behind : List ℕ) → IsPayload payload
     → all_pieces from (record_of payload ++ behind) ≡ (from + 4, payload) ∷ all_pieces (from + 4 + length payload) behind
 unfolding pieces_by
@@ -69,7 +70,7 @@ all_leftover-record payload behind legal =
     ∙ ap (leftover most) (drop_record payload behind)
     ∙ leftover-enough most (length behind) behind (omega (arith, length-append (record_of payload) behind)) (omega arith)
 
--- whole records in front
+-- whole records, then those of the other bytes
 pub all_pieces-behind : {from : ℕ} {front left : List ℕ} {records : List (ℕ × List ℕ)} (behind : List ℕ) → Body from front records left → left ≡ []
     → all_pieces from (front ++ behind) ≡ records ++ all_pieces (from + length front) behind
 all_pieces-behind behind (done {from = from}) none = let e : from ≡ from + 0 = omega arith in ap (λ n. all_pieces n behind) e
@@ -89,14 +90,14 @@ all_leftover-behind behind (torn (cut four least most less)) none = absurd (omeg
 all_leftover-behind behind (more {payload = payload} {behind = inner} legal body) none =
     ap all_leftover (append_assoc (record_of payload) inner behind) ∙ all_leftover-record payload (inner ++ behind) legal ∙ all_leftover-behind behind body none
 
--- bytes that don't begin with a record have none
+-- bytes that do not begin with a record have none
 pub all_pieces-stop : (from : ℕ) (bytes : List ℕ) → starts_with_record bytes ≡ false → all_pieces from bytes ≡ []
 all_pieces-stop from bytes is = pieces-stop (length bytes) from bytes is
 
 pub all_leftover-stop : (bytes : List ℕ) → starts_with_record bytes ≡ false → all_leftover bytes ≡ bytes
 all_leftover-stop bytes is = leftover-stop (length bytes) bytes is
 
--- a whole file's part is that behind its header
+-- the part of a whole file begins after its header
 pub all_pieces-file : (file : List ℕ) → all_pieces header_length (drop header_length file) ≡ records_of file
 unfolding records_of
 all_pieces-file file =
@@ -119,6 +120,6 @@ foreign_in-file file = ap (λ l. length (filter (λ r. is_foreign r.1) l)) (all_
 pub whole_part : (file : List ℕ) → IsWholePart file
 whole_part file = record { entries = entries_in-file file; foreign = foreign_in-file file; rest = all_leftover-file file }
 
--- the part of a log that a view has is all behind the header
+-- the part of a log in a view is all bytes after the header
 pub whole_view : (file : List ℕ) (end : ℕ) → end ≡ view_end file → part file header_length end ≡ drop header_length file
 whole_view file end is = take_all (end - header_length) (drop header_length file) (omega (arith, is, length-drop header_length file))

@@ -30,14 +30,14 @@ same_test q l =
           true≢false (sym (ap is_eq (tied_itself nat_cmp_total l)) ∙ ap (λ n. eq_by_cmp nat_cmp n l) (eqb-true l q is) ∙ apart)))
     ] refl
 
--- what one record more does at a ledger
+-- size of a ledger after one more record
 get-with_record : (sizes : Sizes) (payload : List ℕ) (q : ℕ)
     → get (with_record sizes payload) q ≡ cond (eqb (ledger_field payload) q) (Some (size_in sizes (ledger_field payload) + (4 + length payload))) (get sizes q)
 get-with_record sizes payload q =
     get-insert nat_cmp_total sizes (ledger_field payload) (size_in sizes (ledger_field payload) + (4 + length payload)) q
     ∙ ap (λ b. cond b (Some (size_in sizes (ledger_field payload) + (4 + length payload))) (get sizes q)) (same_test q (ledger_field payload))
 
--- the sizes of records behind others
+-- sizes of records, added to earlier sizes
 sums_from : (sizes : Sizes) (records : List (ℕ × List ℕ)) (q : ℕ)
     → size_in (fold (λ s r. with_record s r.1) sizes records) q ≡ size_in sizes q + sum_by (λ r. 4 + length r.1) (filter (is_of q) records)
 sums_from sizes [] q = omega arith

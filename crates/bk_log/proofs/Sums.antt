@@ -1,4 +1,4 @@
--- The sizes by ledger, after a record more.
+-- The sizes by ledger after one more record.
 use Rattle.std.proofs.Common.{◌≡◌, ℕ, ◌+◌, ◌<◌, ◌≤◌, ◌^◌, true, false, cond, List, [], ◌∷◌, ◌++◌, Some, IsSome, nat_cmp, refl, sym, ap, subst, ◌∙◌, arith}
 use Rattle.std.proofs.Common.{is_some, unwrap_or}
 use Rattle.std.specs.Cmp.{nat_cmp_total}
@@ -12,7 +12,7 @@ use Rattle.bk_head.specs.Written.{IsWritable}
 use Rattle.bk_log.specs.Sizes.{Sizes, size_in, with_bytes, with_record, sizes_of}
 use Rattle.bk_log.specs.Writing.{IsCounted}
 
--- no ledger has more than before and the new bytes
+-- no ledger exceeds its bytes before plus the new ones
 pub size_in-with_bytes : (sizes : Sizes) (ledger size most other : ℕ) → ((q : ℕ) → size_in sizes q ≤ most)
     → size_in (with_bytes sizes ledger size) other ≤ most + size
 size_in-with_bytes sizes ledger size most other within =
@@ -21,13 +21,13 @@ size_in-with_bytes sizes ledger size most other within =
       | false ↦ λ apart. rw (get-insert nat_cmp_total sizes ledger (size_in sizes ledger + size) other, apart) (omega (arith, within other))
     ] refl
 
--- no more ledgers than records
+-- there are at most as many ledgers as records
 few_more : (sizes : Sizes) (ledger size count : ℕ) → len sizes ≤ count → len (with_bytes sizes ledger size) ≤ count + 1
 few_more sizes ledger size count few =
     rw (len-insert nat_cmp_total sizes ledger (size_in sizes ledger + size))
     (elim (contains_key sizes ledger) as (λ b. cond b (len sizes) (len sizes + 1) ≤ count + 1) [ true ↦ omega arith | false ↦ omega arith ])
 
--- each with a key's id
+-- every ledger id is below 2 ^ 63
 keyed_more : (sizes : Sizes) (ledger size other : ℕ) → ledger < 2 ^ 63 → ((q : ℕ) → IsSome (get sizes q) → q < 2 ^ 63)
     → IsSome (get (with_bytes sizes ledger size) other) → other < 2 ^ 63
 keyed_more sizes ledger size other low keyed =
@@ -37,7 +37,7 @@ keyed_more sizes ledger size other low keyed =
           ∙ ap (λ b. cond b (Some (size_in sizes ledger + size)) (get sizes other)) apart)) ∙ some)
     ] refl
 
--- a writer's numbers, after a record more
+-- invariant of a writer's numbers after one more record
 pub counted_put : (log end count size ledger : ℕ) (sizes sizes' : Sizes) → IsCounted log end count sizes → 20 ≤ size → ledger < 2 ^ 63
     → sizes' ≡ with_bytes sizes ledger size → IsCounted log (end + size) (count + 1) sizes'
 counted_put log end count size ledger sizes sizes' counted least low is = record {
@@ -48,7 +48,7 @@ counted_put log end count size ledger sizes sizes' counted least low is = record
   keyed = λ q. rw is (keyed_more sizes ledger size q low counted.keyed);
 }
 
--- the numbers of a log without records
+-- invariant of the numbers of a log without records
 pub counted_none : (log end : ℕ) (sizes : Sizes) → log < 2 ^ 31 → 1024 ≤ end → sizes ≡ empty → IsCounted log end 0 sizes
 counted_none log end sizes named headed is = record {
   named = named;
@@ -65,7 +65,7 @@ counted_is_writable log end count sizes counted fits = record {
   each = λ ledger size is. (counted.keyed ledger (ap is_some is), omega (arith, counted.within ledger, ap (λ o. unwrap_or o 0) is));
 }
 
--- the sizes of the records with one record more
+-- the sizes of a list with one record more
 pub sizes_of-push : (records : List (ℕ × List ℕ)) (at : ℕ) (payload : List ℕ)
     → sizes_of (records ++ (at, payload) ∷ []) ≡ with_record (sizes_of records) payload
 unfolding sizes_of

@@ -1,4 +1,4 @@
--- A record that is put at the end of a log: what its writer keeps.
+-- A record appended to a log: the invariant of its writer.
 use Rattle.std.proofs.Common.{◌≡◌, ℕ, ◌+◌, ◌<◌, ◌≤◌, ◌^◌, Bool, false, List, [], ◌∷◌, ◌++◌, length, drop, IsSome, Err, refl, sym, ap, ◌∙◌, subst, arith}
 use Rattle.std.proofs.Common.{length-append, true≢false}
 use Rattle.std.proofs.lemmas.List.{take-append-le, drop-append-le, length-take, length-drop}
@@ -10,23 +10,23 @@ use Rattle.bk_record.specs.Body.{Body}
 use Rattle.bk_record.proofs.Records.{length-record_of}
 use Rattle.bk_record.proofs.Bodies.{body_append, body_record}
 use Rattle.bk_record.proofs.NumberMaps.{get-insert_same}
-use Rattle.bk_disk.specs.Disk.{grown}
+use Rattle.bk_disk.specs.Disk.{files_after_append}
 use Rattle.bk_log.specs.declared.fault.LogFault.{LogFault}
 use Rattle.bk_log.specs.declared.fault.LogFault.TheVariants.{Disk, Failed, Memory, Odd}
 use Rattle.bk_log.specs.Faults.{is_lasting}
 use Rattle.bk_log.specs.Text.{IsLogText}
 use Rattle.bk_log.specs.Sizes.{Sizes, with_bytes, with_record}
 use Rattle.bk_log.specs.Calls.{HasRoom, Adds}
-use Rattle.bk_log.specs.Writing.{Writing, with_put, Puts, AppendTurn, Writes}
+use Rattle.bk_log.specs.Writing.{Writing, with_put, Puts, WriterPutTransition, Writes}
 use Rattle.bk_log.proofs.Files.{grown-stands}
 use Rattle.bk_log.proofs.Sums.{sizes_of-push}
 use Rattle.bk_log.proofs.Makes.{length-empty_header}
 
--- a log's text is at least its header
+-- the text of a log has at least its header
 pub text_is_long : (file : List ℕ) (records : List (ℕ × List ℕ)) → IsLogText file records → 1024 ≤ length file
 text_is_long file records text = omega (arith, length-take 1024 file, ap length text.headed, length-empty_header)
 
--- with one record more
+-- text of a log with one record more
 pub text_push : (file payload : List ℕ) (records : List (ℕ × List ℕ)) → IsLogText file records → IsPayload payload
     → IsLogText (file ++ record_of payload) (records ++ (length file + 4, payload) ∷ [])
 text_push file payload records text legal =
@@ -43,7 +43,7 @@ all_push : {X : Type 0} (P : X → Type 0) (xs : List X) (x : X) → AllByRecurs
 all_push P [] x all p = (p, tt)
 all_push P (y ∷ ys) x all p = (all.0, all_push P ys x all.1 p)
 
--- the writer's file has room for a record that fits
+-- a record that fits has room in the log
 pub room_put : (files : Files) (w now : Writing) (payload bytes : List ℕ) → w ≡ now → Writes files now → now.end + 4 + length payload < 2 ^ 32
     → bytes ≡ record_of payload → HasRoom files w.log (length bytes)
 room_put files w now payload bytes same writes fits is =
@@ -54,9 +54,9 @@ room_put files w now payload bytes same writes fits is =
           (arith, writes.long, ap length is, length-record_of payload);
     }
 
--- the writer after a record was written
+-- writer invariant after a record was written
 pub writes_put : (files files' : Files) (w : Writing) (payload : List ℕ) → Writes files w → IsPayload payload → IsSome (key_of payload)
-    → files' ≡ grown files w.log (record_of payload) → Writes files' (with_put w payload)
+    → files' ≡ files_after_append files w.log (record_of payload) → Writes files' (with_put w payload)
 writes_put files files' w payload writes legal keyed grew =
     let is : files' ≡ insert files w.log (writes.file ++ record_of payload) = grew ∙ grown-stands files w.log writes.file (record_of payload) writes.stands in
     record {
@@ -70,7 +70,7 @@ writes_put files files' w payload writes legal keyed grew =
       keyed = all_push (λ r. IsSome (key_of r.1)) writes.records _ writes.keyed keyed;
     }
 
--- the writer's numbers and sizes, as the calls said
+-- the writer's numbers after a record, from the calls' results
 pub after_put : (w now : Writing) (payload : List ℕ) (ledger size : ℕ) (sizes : Sizes) → w ≡ now → ledger ≡ ledger_field payload → size ≡ length payload + 4
     → sizes ≡ with_bytes w.sizes ledger size
     → record w { end = w.end + (length payload + 4); count = w.count + 1; sizes = sizes } ≡ with_put now payload
@@ -82,15 +82,15 @@ after_put w now payload ledger size sizes same named sized counted =
     subst (λ (v : Writing). record w { end = w.end + (length payload + 4); count = w.count + 1; sizes = sizes } ≡ with_put v payload) same
     (λ i. record w { end = end i; count = w.count + 1; sizes = is i })
 
--- the same of what the calls said
+-- writer invariant after a record, from the calls' results
 pub writes_ok : (files files' : Files) (w now after : Writing) (payload bytes : List ℕ) → w ≡ now → Writes files now → IsPayload payload
     → IsSome (key_of payload)
-    → bytes ≡ record_of payload → files' ≡ grown files w.log bytes → after ≡ with_put now payload → Writes files' after
+    → bytes ≡ record_of payload → files' ≡ files_after_append files w.log bytes → after ≡ with_put now payload → Writes files' after
 writes_ok files files' w now after payload bytes same writes legal keyed is grew put =
     subst (λ (v : Writing). Writes files' v) (sym put)
-    (writes_put files files' now payload writes legal keyed (grew ∙ ap (λ v. grown files v.log bytes) same ∙ ap (grown files now.log) is))
+    (writes_put files files' now payload writes legal keyed (grew ∙ ap (λ v. files_after_append files v.log bytes) same ∙ ap (files_after_append files now.log) is))
 
--- a refused write leaves the writer as it was, or failed
+-- after an error the writer is unchanged or failed
 puts_at : (w : Writing) (payload : List ℕ) (fault : LogFault) → w.failed ≡ false → (fault ≡ Failed → ⊥)
     → Puts w payload (Err fault) (record w { failed = is_lasting fault })
 puts_at w payload Disk whole never = (whole, refl)
@@ -104,23 +104,23 @@ puts_refused w now payload back lasting fault is same told whole never =
     subst (λ (v : Writing). Puts v payload (Err fault) (record w { sizes = back; failed = lasting })) is
     (rw (same, told) (puts_at w payload fault whole never))
 
--- and the files as the disk left them
+-- after an error the files are those that the disk left
 turn_at : (files files' : Files) (w : Writing) (payload : List ℕ) (fault : LogFault)
-    → Adds files w.log (record_of payload) (Err fault) files' → AppendTurn files w payload (Err fault) files'
+    → Adds files w.log (record_of payload) (Err fault) files' → WriterPutTransition files w payload (Err fault) files'
 turn_at files files' w payload Disk adds = adds
 turn_at files files' w payload Failed adds = absurd adds
 turn_at files files' w payload Memory adds = adds
 turn_at files files' w payload Odd adds = adds
 
 pub turn_refused : (files files' : Files) (w now : Writing) (payload bytes : List ℕ) (fault : LogFault) → w ≡ now → bytes ≡ record_of payload
-    → Adds files w.log bytes (Err fault) files' → AppendTurn files now payload (Err fault) files'
+    → Adds files w.log bytes (Err fault) files' → WriterPutTransition files now payload (Err fault) files'
 turn_refused files files' w now payload bytes fault is same adds =
     turn_at files files' now payload fault
     (subst (λ (b : List ℕ). Adds files now.log b (Err fault) files') same (subst (λ (v : Writing). Adds files v.log bytes (Err fault) files') is adds))
 
--- a writer that may go on is that of the same log
+-- a writer that can continue has the invariant for its log
 pub writes_refused : (files files' : Files) (w w' : Writing) (payload : List ℕ) (fault : LogFault) → Writes files w
-    → Puts w payload (Err fault) w' → AppendTurn files w payload (Err fault) files' → w'.failed ≡ false → Writes files' w'
+    → Puts w payload (Err fault) w' → WriterPutTransition files w payload (Err fault) files' → w'.failed ≡ false → Writes files' w'
 writes_refused files files' w w' payload Disk writes puts turn whole = absurd (true≢false (sym (ap (λ v. v.failed) puts.1) ∙ whole))
 writes_refused files files' w w' payload Failed writes puts turn whole = absurd (true≢false (sym puts.0 ∙ sym (ap (λ v. v.failed) puts.1) ∙ whole))
 writes_refused files files' w w' payload Memory writes puts turn whole = rw (puts.1, turn) writes

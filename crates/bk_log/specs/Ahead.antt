@@ -1,4 +1,5 @@
--- Reading ahead in a view: a position, and how many bytes from there on are at hand.
+-- Reading ahead in a view: a position, and the number of bytes from there that are read.
+-- `ShowsWindow` is the type invariant of `Window`.
 use Rattle.std.specs.Prelude.{◌≡◌, ℕ, ◌-◌, ◌≤◌, ◌<◌, Bool, IsTrue, List, length, take, drop, Result, Ok, Err}
 use Rattle.std.proofs.Common.{refl}
 use Rattle.std.specs.Coded.{Coded, code_by, coded×, coded_ℕ, coded_bool, coded_list}
@@ -9,8 +10,8 @@ use Rattle.bk_log.specs.declared.front.Front.{Front}
 use Rattle.bk_log.specs.declared.front.Front.TheVariants.{Record, Rest, Bad}
 use Rattle.bk_log.specs.Fronts.{IsFront}
 
--- a position in a view, the bytes of the view's log, whether the view is honest and sound, how many bytes are at hand, and
--- how long the buffer is that windows are read into, 0 before it is made
+-- position in a view, bytes of the view's log, whether the view is honest and sound, number of
+-- bytes ready, and length of the buffer, 0 before it is allocated
 pub record Ahead : Type 0 where
   pub at : ℕ
   pub bytes : List ℕ
@@ -19,7 +20,7 @@ pub record Ahead : Type 0 where
   pub ready : ℕ
   pub room : ℕ
 
--- it is stored as the tuple of its fields
+-- encoding as the tuple of the fields
 abbrev pub ahead_code : Coded Ahead
 ahead_code =
     code_by (ℕ × (List ℕ × (Bool × (Bool × (ℕ × ℕ)))))
@@ -27,35 +28,35 @@ ahead_code =
     (λ a. (a.at, (a.bytes, (a.honest, (a.sound, (a.ready, a.room))))))
     (λ p. record { at = p.0; bytes = p.1.0; honest = p.1.1.0; sound = p.1.1.1.0; ready = p.1.1.1.1.0; room = p.1.1.1.1.1 }) (λ _. refl)
 
--- the bytes behind an offset are those of an honest view from a position on
+-- on an honest view, the bytes after an offset are those from a position on
 pub record ShowsAhead (honest : Bool) (bytes : List ℕ) (at offset : ℕ) (read : List ℕ) : Type 0 where
   pub within : offset ≤ length read
   pub shown : IsTrue honest → drop offset read ≡ take (length read - offset) (drop at bytes)
 
--- the bytes behind an offset are those from the position on, and those behind a start are those from an earlier one on
+-- this holds of `offset` with the position, and of `start` with an earlier one
 pub record ShowsWindow (honest : Bool) (bytes : List ℕ) (at offset since start : ℕ) (read : List ℕ) : Type 0 where
   pub ahead : ShowsAhead honest bytes at offset read
   pub begun : ShowsAhead honest bytes since start read
 
--- a read of so many bytes that lie in an honest view
+-- read of `n` bytes that are in an honest view
 abbrev pub ReadsLeft : {T : Type 0} → List ℕ → ℕ → ℕ → Result T ScanFault → List ℕ → Type 0
 ReadsLeft bytes at n (Ok _) out = out ≡ take n (drop at bytes)
 ReadsLeft bytes at n (Err fault) out = fault ≡ Disk
 
--- a refused look at the position, where these bytes are left: an honest view shows what lies in it, and memory is wanted
--- once, for the buffer, where a whole record stands
+-- Errors at a position with these bytes left: an honest view has what is in it, and `Memory` occurs
+-- only without a buffer, at a whole record.
 abbrev pub AheadFails : ℕ → List ℕ → ScanFault → Type 0
 AheadFails room here (BadLength at length) = ⊥
 AheadFails room here Disk = Unit {0}
 AheadFails room here Memory = (room ≡ 0) × ((payload : List ℕ) × BeginsWith here payload)
 AheadFails room here Odd = ⊥
 
--- what stands at the position, where these bytes are left
+-- result of parsing at the position, with these bytes left
 abbrev pub ShowsFront : ℕ → List ℕ → Result Front ScanFault → Type 0
 ShowsFront room here (Ok front) = IsFront here front
 ShowsFront room here (Err fault) = AheadFails room here fault
 
--- where a record was met, the buffer is made
+-- after a record the buffer is allocated
 abbrev pub HasRoomFor : ℕ → Front → Type 0
 HasRoomFor room (Record size key) = 0 < room
 HasRoomFor room Rest = Unit {0}

@@ -1,20 +1,20 @@
--- What a fault of the disk means for a log, and why a fault may be told.
+-- Errors of the disk as errors of a log.
 use Rattle.std.specs.Prelude.{Bool, true, false}
 use Rattle.bk_disk.specs.declared.fault.DiskFault.{DiskFault}
 use Rattle.bk_disk.specs.declared.fault.DiskFault.TheVariants as disks
 use Rattle.bk_log.specs.declared.fault.LogFault.{LogFault}
 use Rattle.bk_log.specs.declared.fault.LogFault.TheVariants.{Disk, Failed, Memory, Odd}
 
--- want of memory and a failing device are told as they are; an honest disk has no other fault for a log
-abbrev pub told : DiskFault → LogFault
-told disks.Disk = Disk
-told disks.Memory = Memory
-told disks.Exists = Odd
-told disks.NoLog = Odd
-told disks.PastEnd = Odd
-told disks.TooLong = Odd
+-- `Memory` and `Disk` stay; an honest disk has no other error for a log that exists
+abbrev pub log_fault_of : DiskFault → LogFault
+log_fault_of disks.Disk = Disk
+log_fault_of disks.Memory = Memory
+log_fault_of disks.Exists = Odd
+log_fault_of disks.NoLog = Odd
+log_fault_of disks.PastEnd = Odd
+log_fault_of disks.TooLong = Odd
 
--- whether nothing is written behind a record whose write ended so
+-- whether nothing is appended after a write with this error
 abbrev pub is_lasting : LogFault → Bool
 is_lasting Disk = true
 is_lasting Failed = true

@@ -1,4 +1,5 @@
--- What stands at the front of bytes: a record, fewer bytes than one needs, or a bad length.
+-- The start of bytes: a record, fewer bytes than one needs, or a bad length. The contract of
+-- `front_of`.
 use Rattle.std.specs.Prelude.{◌≡◌, ℕ, ◌+◌, ◌≤◌, ◌<◌, ◌^◌, pos, ◌<ℤ◌, List, [], length, ◌⊎◌}
 use Rattle.bk_record.specs.Record.{key_of, length_field, signed_field}
 use Rattle.bk_record.specs.Body.{IsTorn}
@@ -6,13 +7,13 @@ use Rattle.bk_record.specs.Piece.{BeginsWith}
 use Rattle.bk_log.specs.declared.front.Front.{Front}
 use Rattle.bk_log.specs.declared.front.Front.TheVariants.{Record, Rest, Bad}
 
--- the front is one of three, by the form of a body
+-- one of three cases, for any bytes
 abbrev pub IsFront : List ℕ → Front → Type 0
 IsFront bytes (Record size key) = (payload : List ℕ) × (BeginsWith bytes payload × ((size ≡ 4 + length payload) × (key ≡ key_of payload)))
 IsFront bytes Rest = IsTorn bytes ⊎ (bytes ≡ [])
 IsFront bytes (Bad value) = (4 ≤ length bytes) × ((value ≡ signed_field bytes) × ((value <ℤ pos 16) × (length_field bytes < 2 ^ 32)))
 
--- a record is within so many bytes, and has a length field and two ids
+-- a record is within `left` bytes, and has a length field and two ids
 abbrev pub FitsIn : ℕ → Front → Type 0
 FitsIn left (Record size key) = (20 ≤ size) × (size ≤ left)
 FitsIn left Rest = Unit {0}

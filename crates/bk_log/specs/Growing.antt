@@ -1,4 +1,5 @@
--- What calls that write a log leave of the files: the other logs stay, and records come only behind those of the log.
+-- Effect of writing a log on the files: other logs are unchanged, and records are added only after
+-- those of the log. Read `Gains` first.
 use Rattle.std.specs.Prelude.{◌≡◌, ◌≢◌, ℕ, ◌+◌, ℤ, List, [], ◌∷◌, ◌++◌, drop, not, IsSome, Result, Ok, Err, ◌⊎◌}
 use Rattle.std.specs.List.{filter}
 use Rattle.std.specs.FinMap as map
@@ -12,12 +13,12 @@ use Rattle.bk_log.specs.declared.fault.LogFault.TheVariants.{Disk, Failed, Memor
 use Rattle.bk_log.specs.Places.{HasRecordAt}
 use Rattle.bk_log.specs.Writing.{Writing}
 
--- no length below 16 stands where a record of the file should begin
+-- the file has no record position with a length below 16
 abbrev pub HasNoBadLength : List ℕ → Type 0
 HasNoBadLength file = (at : ℕ) (value : ℤ) → ¬ (IsBadAt header_length (drop header_length file) at value)
 
--- The other logs are as they were, and the log stands where it stood and goes on behind its old end. Each of its records
--- stays at its place, and behind them are these; where no bad length stood, none stands.
+-- The other logs are unchanged. The log still exists and grows after its header; its records keep
+-- their places, and `others` follow them. If it had no bad length, it has none.
 pub record Gains (files : Files) (log : ℕ) (others : List (ℕ × List ℕ)) (files' : Files) : Type 0 where
   pub only : (id : ℕ) → id ≢ log → map.get files' id ≡ map.get files id
   pub stands : IsSome (map.get files log) → IsSome (map.get files' log)
@@ -26,11 +27,11 @@ pub record Gains (files : Files) (log : ℕ) (others : List (ℕ × List ℕ)) (
   pub spelled : HasNoBadLength (file_of files log) → HasNoBadLength (file_of files' log)
   pub stays : (at : ℕ) (payload : List ℕ) → HasRecordAt (file_of files log) at payload → HasRecordAt (file_of files' log) at payload
 
--- the record of a payload that is put, with its place
+-- record of an appended payload, with its position
 abbrev pub put_record : Writing → List ℕ → List (ℕ × List ℕ)
 put_record w payload = (w.end + 4, payload) ∷ []
 
--- `put`: one record more, with its place; where the device failed, that or none; else none
+-- `put`: one record more, with its place; if the device failed, that or none; otherwise none
 abbrev pub PutGains : Files → Writing → List ℕ → Result Place LogFault → Files → Type 0
 PutGains files w payload (Ok place) files' = Gains files w.log (put_record w payload) files'
 PutGains files w payload (Err Disk) files' = Gains files w.log (put_record w payload) files' ⊎ Gains files w.log [] files'
@@ -38,7 +39,7 @@ PutGains files w payload (Err Failed) files' = Gains files w.log [] files'
 PutGains files w payload (Err Memory) files' = Gains files w.log [] files'
 PutGains files w payload (Err Odd) files' = ⊥
 
--- `seal`, whatever it answers: foreign records, possibly none
+-- `seal`, with any result: foreign records are added, possibly none
 pub record SealGains (files : Files) (w : Writing) (files' : Files) : Type 0 where
   pub others : List (ℕ × List ℕ)
   pub foreign : filter (λ r. not (is_foreign r.1)) others ≡ []

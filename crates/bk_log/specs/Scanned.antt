@@ -1,4 +1,4 @@
--- What a scanner's fields show, and what they keep.
+-- The fields of a scanner: the scan that they represent, and the type invariant (`KeepsScan`).
 use Rattle.std.specs.Prelude.{◌≡◌, ℕ, ◌-◌, ◌≤◌, Bool, false, IsTrue, List, take, drop, Option, Some, None}
 use Rattle.bk_record.specs.Files.{header_length}
 use Rattle.bk_disk.specs.Disk.{view_end}
@@ -7,7 +7,7 @@ use Rattle.bk_log.specs.declared.fault.ScanFault.TheVariants.{Disk}
 use Rattle.bk_log.specs.Ahead.{Ahead}
 use Rattle.bk_log.specs.Scanning.{Scan, IsInPart, HasComeTo}
 
--- the scan of a window's log
+-- scan of a window's log
 abbrev pub window_scan : Ahead → ℕ → ℕ → ℕ → ℕ → ℕ → Bool → Option ScanFault → Scan
 window_scan window from end given foreign torn ended fault = record {
   from = from;
@@ -23,13 +23,14 @@ window_scan window from end given foreign torn ended fault = record {
   fault = fault;
 }
 
--- a scan that begins
+-- scan at its start
 abbrev pub new_scan : List ℕ → Bool → Bool → ℕ → ℕ → Scan
 new_scan bytes honest sound from end =
     window_scan (record { at = from; bytes = bytes; honest = honest; sound = sound; ready = 0; room = 0 }) from end 0 0 0 false None
 
--- The position is in the part; `Disk` was told of a view that isn't sound; a scan that goes on has passed nothing while it
--- has no buffer. Of an honest view: the part lies in it, and the scan is that of its bytes.
+-- Invariant of the scanner's fields. The position is in the part. `Disk` was reported only if the
+-- view is not sound. A scan that is going on has passed no record if it has no buffer. On an honest
+-- view the part is in it, and the scan is that of its bytes.
 pub record KeepsScan (window : Ahead) (from end given foreign torn : ℕ) (ended : Bool) (fault : Option ScanFault) : Type 0 where
   pub placed : IsInPart from end window.at given foreign
   pub told : fault ≡ Some Disk → window.sound ≡ false

@@ -1,4 +1,4 @@
--- The bytes of a log's records by ledger.
+-- Bytes of a log's records by ledger, as in a ledgers map. Read `sizes_of` first.
 use Rattle.std.specs.Prelude.{◌≡◌, ◌==◌, ℕ, zero, suc, ◌+◌, ◌≤◌, Bool, List, length, take, Some, fold, filter, sum_by, slice_get}
 use Rattle.std.proofs.Common.{refl}
 use Rattle.std.specs.List.{list_any}
@@ -9,24 +9,24 @@ use Rattle.std.specs.FinMap as map
 use Rattle.bk_record.specs.Record.{key_of, ledger_field}
 use Rattle.bk_log.specs.declared.found.Found.{Found}
 
--- a number of bytes for each of finitely many ledgers
+-- number of bytes of each ledger
 abbrev pub Sizes : Type 0
 Sizes = map.FinMap nat_cmp ℕ
 
--- sizes are stored as their entries
+-- encoding as the entries
 abbrev pub sizes_code : Coded Sizes
 sizes_code = map.code coded_ℕ coded_ℕ
 
--- sizes that are being added up, and the ledger that was counted last
+-- sizes so far, and the ledger counted last
 pub record Tally : Type 0 where
   pub sizes : Sizes
   pub ledger : ℕ
 
--- they are stored as a pair
+-- encoding as a pair
 abbrev pub tally_code : Coded Tally
 tally_code = code_by (Sizes × ℕ) (coded× sizes_code coded_ℕ) (λ t. (t.sizes, t.ledger)) (λ p. record { sizes = p.0; ledger = p.1 }) (λ _. refl)
 
--- the bytes of a ledger, 0 where it has none
+-- bytes of a ledger, 0 if it has none
 abbrev pub size_in : Sizes → ℕ → ℕ
 size_in sizes ledger = unwrap_or (map.get sizes ledger) 0
 
@@ -38,20 +38,20 @@ with_bytes sizes ledger size = map.insert sizes ledger (size_in sizes ledger + s
 abbrev pub with_record : Sizes → List ℕ → Sizes
 with_record sizes payload = with_bytes sizes (ledger_field payload) (4 + length payload)
 
--- The sizes where the last ledger's stand beside the others: the number is that ledger's, and 0 where it has none.
+-- sizes with the bytes of the last ledger, which are counted separately; 0 if it has none
 abbrev pub with_last : Sizes → ℕ → ℕ → Sizes
 with_last others ledger zero = others
 with_last others ledger (suc n) = map.insert others ledger (suc n)
 
--- where the last ledger has none beside the others, it has none among them
+-- if no bytes of the last ledger are counted separately, it has none among the others
 abbrev pub IsLast : Sizes → ℕ → ℕ → Type 0
 IsLast others ledger size = size ≡ 0 → size_in others ledger ≡ 0
 
--- no ledger has more than all had before, and these bytes
+-- no ledger has more than the greatest before plus these bytes
 abbrev pub AreWithin : Sizes → ℕ → Sizes → Type 0
 AreWithin before size now = (most : ℕ) → ((ledger : ℕ) → size_in before ledger ≤ most) → (ledger : ℕ) → size_in now ledger ≤ most + size
 
--- the sum of the sizes of the records by ledger (the BookKeeper ledgers map)
+-- sum of the sizes of the records by ledger (BookKeeper ledgers map)
 unfoldable pub sizes_of : List (ℕ × List ℕ) → Sizes
 sizes_of records = fold (λ sizes r. with_record sizes r.1) map.empty records
 
@@ -59,12 +59,13 @@ sizes_of records = fold (λ sizes r. with_record sizes r.1) map.empty records
 abbrev pub is_of : ℕ → ℕ × List ℕ → Bool
 is_of ledger r = ledger_field r.1 == ledger
 
--- Each ledger that has a record has an entry, the sum of the sizes of its records, and no other has one.
+-- A ledger has an entry exactly if it has a record: the sum of the sizes of its records.
 pub record AddsUp (records : List (ℕ × List ℕ)) (ledger : ℕ) : Type 0 where
   pub sum_is : size_in (sizes_of records) ledger ≡ sum_by (λ r. 4 + length r.1) (filter (is_of ledger) records)
   pub present : map.contains_key (sizes_of records) ledger ≡ list_any (is_of ledger) records
 
--- Where the sizes were those of the first entries of a list, and this is the next one, they are those of one entry more.
+-- If the sizes were those of the first n entries of a list, and this is the next one, they are
+-- those of n + 1 entries.
 abbrev pub CountsNext : Sizes → Found → Sizes → Type 0
 CountsNext before found now = (entries : List (ℕ × List ℕ)) (n : ℕ) (payload : List ℕ) → slice_get entries n ≡ Some (found.at, payload)
     → key_of payload ≡ Some found.key → found.size ≡ 4 + length payload → before ≡ sizes_of (take n entries) → now ≡ sizes_of (take (n + 1) entries)

@@ -1,17 +1,17 @@
-//! One call on the disk that changes a log, its faults told as a log's.
+//! Single calls of the disk that change a log, with errors of a log.
 
 ghost use Rattle.std.specs.Prelude.{◌≡◌, IsTrue, IsErrOf, length};
-ghost use Rattle.bk_disk.specs.Disk.{IsCaused};
-ghost use Rattle.bk_disk.specs.Durable.{KeepsMore};
-ghost use Rattle.bk_log.specs.Calls.{HasRoom, Adds, HasHeader, Overwrites};
+ghost use Rattle.bk_disk.specs.Disk.{FailsExactlyIf};
+ghost use Rattle.bk_disk.specs.Durable.{DurableGrows};
+ghost use Rattle.bk_log.specs.Calls.{HasRoom, Adds, HasPatchableHeader, Overwrites};
 
 use crate::LogFault;
 use crate::fault::log_fault;
 use bk_disk::LogDisk;
 use std::alloc::Global;
 
-/// Writes bytes at the end of a log that has room for them.
-#[tactic(auto, using(bk_disk::proofs::KeepsMore::kept_rules))]
+/// Appends bytes to a log that has room for them.
+#[tactic(auto, using(bk_disk::proofs::DurableGrows::kept_rules))]
 pub(crate) fn append<D: LogDisk>(
     disk: &mut D,
     alloc: Global,
@@ -20,10 +20,10 @@ pub(crate) fn append<D: LogDisk>(
 ) -> Result<(), LogFault>
     requires { IsTrue (D.honest disk.old) → HasRoom (D.files disk.old) log (length bytes.now) }
     ensures honest { D.honest disk.new ≡ D.honest disk.old }
-    ensures kept { IsTrue (D.honest disk.old) → KeepsMore (D.synced disk.old) (D.gone disk.old) (D.synced disk.new) (D.gone disk.new) }
-    ensures cause { IsCaused (D.failures disk.old) (D.failures disk.new) (IsErrOf result LogFault.Disk) }
+    ensures durable { IsTrue (D.honest disk.old) → DurableGrows (D.synced disk.old) (D.gone disk.old) (D.synced disk.new) (D.gone disk.new) }
+    ensures cause { FailsExactlyIf (D.failures disk.old) (D.failures disk.new) (IsErrOf result LogFault.Disk) }
     ensures never { ¬ (IsErrOf result LogFault.Failed) }
-    ensures turn { IsTrue (D.honest disk.old) → Adds (D.files disk.old) log bytes.now result (D.files disk.new) }
+    ensures transition { IsTrue (D.honest disk.old) → Adds (D.files disk.old) log bytes.now result (D.files disk.new) }
 {
     match disk.append(alloc, log, bytes) {
         Ok(()) => Ok(()),
@@ -31,8 +31,8 @@ pub(crate) fn append<D: LogDisk>(
     }
 }
 
-/// The same, without a call on the disk where there are no bytes.
-#[tactic(auto, using(bk_disk::proofs::KeepsMore::kept_rules))]
+/// Same as `append`, without a call of the disk if there are no bytes.
+#[tactic(auto, using(bk_disk::proofs::DurableGrows::kept_rules))]
 pub(crate) fn append_any<D: LogDisk>(
     disk: &mut D,
     alloc: Global,
@@ -41,10 +41,10 @@ pub(crate) fn append_any<D: LogDisk>(
 ) -> Result<(), LogFault>
     requires { IsTrue (D.honest disk.old) → HasRoom (D.files disk.old) log (length bytes.now) }
     ensures honest { D.honest disk.new ≡ D.honest disk.old }
-    ensures kept { IsTrue (D.honest disk.old) → KeepsMore (D.synced disk.old) (D.gone disk.old) (D.synced disk.new) (D.gone disk.new) }
-    ensures cause { IsCaused (D.failures disk.old) (D.failures disk.new) (IsErrOf result LogFault.Disk) }
+    ensures durable { IsTrue (D.honest disk.old) → DurableGrows (D.synced disk.old) (D.gone disk.old) (D.synced disk.new) (D.gone disk.new) }
+    ensures cause { FailsExactlyIf (D.failures disk.old) (D.failures disk.new) (IsErrOf result LogFault.Disk) }
     ensures never { ¬ (IsErrOf result LogFault.Failed) }
-    ensures turn { IsTrue (D.honest disk.old) → Adds (D.files disk.old) log bytes.now result (D.files disk.new) }
+    ensures transition { IsTrue (D.honest disk.old) → Adds (D.files disk.old) log bytes.now result (D.files disk.new) }
 {
     if bytes.is_empty() {
         return Ok(());
@@ -52,20 +52,20 @@ pub(crate) fn append_any<D: LogDisk>(
     append(disk, alloc, log, bytes)
 }
 
-/// Writes twelve bytes over those at position 8 of a log that has its header.
-#[tactic(auto, using(bk_disk::proofs::KeepsMore::kept_rules))]
+/// Overwrites the twelve bytes at position 8 of a log that has its header.
+#[tactic(auto, using(bk_disk::proofs::DurableGrows::kept_rules))]
 pub(crate) fn patch<D: LogDisk>(
     disk: &mut D,
     alloc: Global,
     log: u32,
     bytes: &[u8; 12],
 ) -> Result<(), LogFault>
-    requires { IsTrue (D.honest disk.old) → HasHeader (D.files disk.old) log }
+    requires { IsTrue (D.honest disk.old) → HasPatchableHeader (D.files disk.old) log }
     ensures honest { D.honest disk.new ≡ D.honest disk.old }
-    ensures kept { IsTrue (D.honest disk.old) → KeepsMore (D.synced disk.old) (D.gone disk.old) (D.synced disk.new) (D.gone disk.new) }
-    ensures cause { IsCaused (D.failures disk.old) (D.failures disk.new) (IsErrOf result LogFault.Disk) }
+    ensures durable { IsTrue (D.honest disk.old) → DurableGrows (D.synced disk.old) (D.gone disk.old) (D.synced disk.new) (D.gone disk.new) }
+    ensures cause { FailsExactlyIf (D.failures disk.old) (D.failures disk.new) (IsErrOf result LogFault.Disk) }
     ensures never { ¬ (IsErrOf result LogFault.Failed) }
-    ensures turn { IsTrue (D.honest disk.old)
+    ensures transition { IsTrue (D.honest disk.old)
         → Overwrites (D.files disk.old) log bytes.now result (D.files disk.new) }
 {
     match disk.patch(alloc, log, bytes) {

@@ -1,25 +1,25 @@
-//! Why a call on a log is refused.
+//! Errors of calls on a log.
 
 ghost use Rattle.std.specs.Prelude.{◌≡◌};
-ghost use Rattle.bk_log.specs.Faults.{told};
+ghost use Rattle.bk_log.specs.Faults.{log_fault_of};
 
 use bk_disk::DiskFault;
 use thiserror::Error;
 
-/// Why a log could not be made, written or sealed.
+/// Why a log could not be created, written or sealed.
 #[derive(Clone, Copy, Debug, PartialEq, Eq, Error)]
 pub enum LogFault {
     /// The device failed.
     #[error("disk")]
     Disk,
-    /// A record could not be written before: the log takes no further one.
+    /// An earlier write failed: the log takes no further record.
     #[error("failed")]
     Failed,
-    /// No memory was to be had.
+    /// Out of memory.
     #[error("memory")]
     Memory,
-    /// The disk answered what an honest disk can't: a new log is there already, a log that was made is gone, or a
-    /// short one is full.
+    /// A log to be created exists already; or a result that no honest disk gives: a log that was
+    /// created is missing, or a short log is full.
     #[error("odd disk")]
     Odd,
 }
@@ -27,7 +27,8 @@ pub enum LogFault {
 impl LogFault {
     ghost use Rattle.bk_log.specs.Faults.{is_lasting};
 
-    /// Whether a write that ended so may have left a part of a record, so that nothing is written behind it.
+    /// Returns whether a write with this error may have left a part of a record, so that nothing is
+    /// appended after it.
     pub(crate) fn is_lasting(self) -> bool
         ensures { result ≡ is_lasting self }
     {
@@ -35,54 +36,53 @@ impl LogFault {
     }
 }
 
-/// Why a log could not be made, and whether its file was made nevertheless.
+/// Why a log could not be created, and whether its file was created nevertheless.
 #[derive(Clone, Copy, Debug, PartialEq, Eq)]
 pub struct CreateFault {
-    /// Whether the call made the log's file, which stands then with a part of the header or none of it. Otherwise the
-    /// call changed no file: there may have been one of the id before, and where the fault is `Odd` there was.
+    /// Whether the call created the log's file, which then has a part of the header or none of it.
+    /// Otherwise the call changed no file; if the error is `Odd`, a file of this id exists.
     pub made: bool,
-    /// What went wrong.
+    /// The cause.
     pub fault: LogFault,
 }
 
 /// Why an entry could not be read.
 #[derive(Clone, Copy, Debug, PartialEq, Eq, Error)]
 pub enum FetchFault {
-    /// The view isn't sound: its device failed.
+    /// The view is not sound: its device failed.
     #[error("disk")]
     Disk,
-    /// No whole record of the key has its payload at the place.
+    /// No whole record of the key has its payload at the position.
     #[error("not there")]
     NotThere,
-    /// No memory was to be had.
+    /// Out of memory.
     #[error("memory")]
     Memory,
-    /// The view answered what an honest view can't.
+    /// A result that no honest view gives.
     #[error("odd disk")]
     Odd,
 }
 
-/// Why a log's bytes can't be scanned further.
+/// Why a scan of a log's bytes stopped.
 #[derive(Clone, Copy, Debug, PartialEq, Eq, Error)]
 pub enum ScanFault {
-    /// At this position stands this length, read as a signed number, which is below 16.
+    /// The length field at position `at` has a value below 16, as a signed number.
     #[error("bad length {at} {length}")]
     BadLength { at: u64, length: i32 },
-    /// The view isn't sound: its device failed.
+    /// The view is not sound: its device failed.
     #[error("disk")]
     Disk,
-    /// No memory was to be had.
+    /// Out of memory.
     #[error("memory")]
     Memory,
-    /// The view answered what an honest view can't.
+    /// A result that no honest view gives.
     #[error("odd disk")]
     Odd,
 }
 
-/// What a refused call on the disk means for a log: want of memory and a failing device are told as they are, all
-/// else is odd.
+/// Converts an error of the disk: `Memory` and `Disk` are unchanged, all others become `Odd`.
 pub(crate) fn log_fault(fault: DiskFault) -> LogFault
-    ensures { result ≡ told fault }
+    ensures { result ≡ log_fault_of fault }
 {
     match fault {
         DiskFault::Disk => LogFault::Disk,

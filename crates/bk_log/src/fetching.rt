@@ -1,9 +1,9 @@
-//! One entry, by its place: the first bytes of the record that stands there are read and its key compared, then what its
-//! payload has more.
+//! Reading one entry by its place: first the start of its record and its key, then the rest of its
+//! payload.
 
 ghost use Rattle.std.specs.Prelude.{◌≡◌, ◌≤◌, ◌↔◌, false, IsTrue, IsErrOf, length};
 ghost use Rattle.bk_record.specs.Record.{key_of as payload_key};
-ghost use Rattle.bk_log.specs.Places.{Fetches, missed};
+ghost use Rattle.bk_log.specs.Places.{Fetches, fetch_fault_of_read};
 
 use crate::FetchFault;
 use crate::length::{is_payload_length, length_in};
@@ -12,17 +12,23 @@ use bk_disk::LogView;
 use bk_record::{Key, LENGTH_FIELD, Location, RECORD_HEAD, key_of};
 use std::alloc::Global;
 
-/// The length of a record's length field in bytes.
+/// Length of a record's length field in bytes.
 const FIELD: u64 = LENGTH_FIELD as u64;
 
-/// How many bytes are read at once, of a record that may have fewer: so a short one is read by one read.
+/// Number of bytes of the first read, so that a short record needs only one.
 const FRAME: usize = 256;
 
-/// The payload of the whole record of this key whose payload begins at the location's position in the view, its ids
-/// among its bytes. The location's log is not looked at: it is the caller's to bring the log's view.
+/// Returns the payload of the whole record of this key whose payload begins at the location's
+/// position in the view.
 ///
-/// Faults: `NotThere` exactly where no whole record of the key has its payload there, `Disk` where the view isn't
-/// sound, `Memory` only where such a record stands there, `Odd`.
+/// The location's log is not used: the caller passes that log's view.
+///
+/// # Errors
+///
+/// - `Disk` if the view is not sound.
+/// - `NotThere` exactly if no whole record of the key has its payload at the position.
+/// - `Memory`, only if such a record is there.
+/// - `Odd`, not on an honest view.
 pub fn fetch<V: LogView>(
     view: &V,
     alloc: Global,
@@ -30,7 +36,7 @@ pub fn fetch<V: LogView>(
     key: Key,
 ) -> Result<Vec<u8>, FetchFault>
     ensures cause { IsErrOf result FetchFault.Disk → V.sound view.now ≡ false }
-    ensures turn { IsTrue (V.honest view.now)
+    ensures transition { IsTrue (V.honest view.now)
         → Fetches (λ v. v.items) (V.bytes view.now) location.at key result }
 {
     let at = u64::from(location.at());
@@ -67,9 +73,10 @@ fn is_of_key(payload: &[u8], key: Key) -> bool
     }
 }
 
-/// Where bytes that a record would have don't lie in the view, there is no such record.
+/// Converts an error of a read: if bytes of a record would be outside the view, there is no such
+/// record.
 fn fetch_fault(fault: ReadFault) -> FetchFault
-    ensures { result ≡ missed fault }
+    ensures { result ≡ fetch_fault_of_read fault }
 {
     match fault {
         ReadFault::Disk => FetchFault::Disk,

@@ -2,8 +2,8 @@
 
 use bk_record::Key;
 
-/// An entry of a log: its key, the position of its payload, and the size of its record in bytes, the four of its
-/// length field included.
+/// An entry of a log: its key, the position of its payload in bytes, and the size of its record in
+/// bytes, with its length field.
 #[derive(Clone, Copy, Debug, PartialEq, Eq)]
 pub struct Found {
     pub key: Key,

@@ -1,4 +1,5 @@
-//! What stands at the front of a log's bytes, told from the first twenty: the length field and the two ids.
+//! The start of a log's remaining bytes, parsed from the first 20: the length field and the two
+//! ids.
 
 ghost use Rattle.std.specs.Prelude.{◌≡◌, ℕ, List, length, take, min};
 ghost use Rattle.bk_log.specs.Fronts.{IsFront, FitsIn};
@@ -6,13 +7,13 @@ ghost use Rattle.bk_log.specs.Fronts.{IsFront, FitsIn};
 use crate::length::{is_payload_length, length_in};
 use bk_record::{Key, RECORD_HEAD, key_of};
 
-/// How many bytes at most tell what stands there.
+/// Greatest number of bytes that are parsed.
 pub(crate) const HEAD: u64 = RECORD_HEAD as u64;
 
-/// What stands at the front of bytes.
+/// The start of bytes.
 #[derive(Clone, Copy)]
 pub(crate) enum Front {
-    /// A whole record of this size, its length field included; its key where it is no foreign one.
+    /// A whole record of this size in bytes, with its length field; its key, if it has one.
     Record { size: u32, key: Option<Key> },
     /// Fewer bytes than the length field or the record needs, or none.
     Rest,
@@ -20,7 +21,7 @@ pub(crate) enum Front {
     Bad(i32),
 }
 
-/// What stands at the front of `left` bytes, of which these are the first twenty, or all where there are fewer.
+/// Parses the start of `left` bytes. `head` are the first 20 of these, or all if fewer.
 pub(crate) fn front_of(head: &[u8], left: u64) -> Front
     requires { length head.now ≡ min HEAD left }
     ensures fits { FitsIn left result }

@@ -1,10 +1,10 @@
-//! The length field of a record: four bytes, big-endian (the BookKeeper entry log format).
+//! The length field of a record: four bytes, big-endian (BookKeeper entry log format).
 
 ghost use Rattle.std.specs.Prelude.{◌≡◌, ◌≤◌, ◌<◌, ◌^◌, ◌↔◌, IsTrue, length, take};
 ghost use Rattle.std.specs.Int.{w32, to_be_bytes};
 ghost use Rattle.bk_record.specs.Record.{length_field};
 
-/// The number in the first four bytes, which are that number's.
+/// Returns the number in the first four bytes.
 pub(crate) fn length_in(bytes: &[u8]) -> u32
     requires { 4 ≤ length bytes.now }
     ensures value { result ≡ length_field bytes.now }
@@ -13,7 +13,7 @@ pub(crate) fn length_in(bytes: &[u8]) -> u32
     u32::from_be_bytes([bytes[0], bytes[1], bytes[2], bytes[3]])
 }
 
-/// Whether a record may have a payload of this length: 16 bytes, those of its ids, to 2^31 - 1.
+/// Returns whether a record can have a payload of this length: 16 to 2^31 - 1 bytes.
 pub(crate) fn is_payload_length(length: u32) -> bool
     ensures { IsTrue result ↔ ((16 ≤ length) × (length < 2 ^ 31)) }
 {

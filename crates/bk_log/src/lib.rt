@@ -1,4 +1,4 @@
-//! One entry log: written record by record, and read again whole or in one place.
+//! One entry log: written record by record, and read as a whole or at one place.
 #![tactic(auto)]
 
 mod calls;
@@ -11,8 +11,6 @@ mod length;
 mod reading;
 mod scanner;
 mod sizes;
-#[cfg(test)]
-mod tests;
 mod window;
 mod writer;
 

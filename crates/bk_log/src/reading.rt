@@ -1,4 +1,4 @@
-//! Bytes of a view: as many as were asked for, or why not.
+//! Reads of a view that return exactly the requested bytes, or an error.
 
 ghost use Rattle.std.specs.Prelude.{◌≡◌, ◌≤◌, false, IsTrue, IsErrOf, IfOk, length};
 ghost use Rattle.bk_log.specs.Reads.{GivesBytes, Fills, FillsFront};
@@ -10,17 +10,17 @@ use std::alloc::Global;
 /// Why bytes of a view could not be read.
 #[derive(Clone, Copy)]
 pub(crate) enum ReadFault {
-    /// The view isn't sound.
+    /// The view is not sound.
     Disk,
-    /// The bytes don't lie in the view.
+    /// The bytes are not in the view.
     PastEnd,
-    /// No memory was to be had.
+    /// Out of memory.
     Memory,
-    /// The view answered what an honest view can't.
+    /// A result that no honest view gives.
     Odd,
 }
 
-/// The `n` bytes of a view from a position on.
+/// Returns the `n` bytes of a view from a position.
 pub(crate) fn read<V: LogView>(
     view: &V,
     alloc: Global,
@@ -29,7 +29,7 @@ pub(crate) fn read<V: LogView>(
 ) -> Result<Vec<u8>, ReadFault>
     ensures cause { IsErrOf result ReadFault.Disk → V.sound view.now ≡ false }
     ensures long { IfOk result (λ v. length v.items ≡ n) }
-    ensures turn { IsTrue (V.honest view.now) → GivesBytes (λ v. v.items) (V.bytes view.now) at n result }
+    ensures transition { IsTrue (V.honest view.now) → GivesBytes (λ v. v.items) (V.bytes view.now) at n result }
 {
     match view.read_at(alloc, at, n) {
         Ok(bytes) if bytes.len() as u64 == n => Ok(bytes),
@@ -41,10 +41,10 @@ pub(crate) fn read<V: LogView>(
     }
 }
 
-/// The bytes of a view from a position on, written over those of `out`.
+/// Reads the bytes of a view from a position into `out`.
 pub(crate) fn read_into<V: LogView>(view: &V, at: u64, out: &mut [u8]) -> Result<(), ReadFault>
     ensures cause { IsErrOf result ReadFault.Disk → V.sound view.now ≡ false }
-    ensures turn { IsTrue (V.honest view.now) → Fills (V.bytes view.now) at (length out.old) result out.new }
+    ensures transition { IsTrue (V.honest view.now) → Fills (V.bytes view.now) at (length out.old) result out.new }
 {
     match view.read_into(at, out) {
         Ok(()) => Ok(()),
@@ -54,13 +54,13 @@ pub(crate) fn read_into<V: LogView>(view: &V, at: u64, out: &mut [u8]) -> Result
     }
 }
 
-/// The bytes of a view from a position on, written over the first ones of `out`: as many as it has, or as the view has from
-/// there on. Answers how many, which are twenty or more.
+/// Reads the bytes of a view from a position into the front of `out`: as many as `out` has, or as
+/// the view has from there. Returns their number, at least 20.
 pub(crate) fn read_front<V: LogView>(view: &V, at: u64, out: &mut [u8]) -> Result<usize, ReadFault>
     requires { RECORD_HEAD ≤ length out.old }
     ensures cause { IsErrOf result ReadFault.Disk → V.sound view.now ≡ false }
     ensures fits { IfOk result (λ n. (RECORD_HEAD ≤ n) × (n ≤ length out.new)) }
-    ensures turn { IsTrue (V.honest view.now) → FillsFront (V.bytes view.now) at result out.new }
+    ensures transition { IsTrue (V.honest view.now) → FillsFront (V.bytes view.now) at result out.new }
 {
     let left = view.end().saturating_sub(at).min(out.len() as u64) as usize;
     if left < RECORD_HEAD {

@@ -1,5 +1,5 @@
-//! A scan of a part of a log, entry by entry. Everything before the position was given or passed over as foreign; a
-//! fault, once met, and the end, once reached, stay.
+//! Scan of a part of a log, entry by entry. Each record before the position was returned or passed
+//! as foreign; an error and the end are final.
 
 ghost use Rattle.std.specs.Prelude.{◌≡◌, ◌+◌, ◌≤◌, ℕ, List, length, false, IsTrue, IsErrOf, IfSome};
 ghost use Rattle.bk_disk.specs.Disk.{view_end};
@@ -14,8 +14,8 @@ use bk_disk::LogView;
 use std::alloc::Global;
 use std::marker::Model;
 
-/// Scans the bytes of a log's view from one position to another. A contract sees the part's bytes and how far the scan
-/// has come: `specs/Scanning.antt`.
+/// Scans the bytes of a log's view from one position to another. Contracts see the part and the
+/// progress of the scan (`specs/Scanning.antt`).
 #[derive(Drop)]
 pub struct Scanner<'a, V: LogView> {
     window: Window<'a, V>,
@@ -41,13 +41,13 @@ impl<'a, V: LogView> Model for Scanner<'a, V> {
 }
 
 impl<'a, V: LogView> Scanner<'a, V> {
-    ghost use Rattle.bk_log.specs.Scanning.{is_going, NextMoves, NextTurn};
+    ghost use Rattle.bk_log.specs.Scanning.{is_going, NextMoves, ScanNextTransition};
     ghost use Rattle.bk_log.specs.Scanned.{new_scan};
 
-    /// A scan of the view's bytes from position `from` to position `end`. It takes no memory.
+    /// Returns a scan of the view's bytes from position `from` up to `end`. Does not allocate.
     ///
-    /// The caller gives a record's position, 1024 or more, as the first, and an end that is not before it and, where the
-    /// view is honest, not behind the view's.
+    /// Requires that `from` is at least 1024 and `end` at least `from`; on an honest view `end` is
+    /// at most the view's end. `from` should be the position of a record.
     pub fn new(view: &'a V, alloc: Global, from: u64, end: u64) -> Scanner<'a, V>
         requires headed { header_length ≤ from }
         requires ordered { from ≤ end }
@@ -66,18 +66,25 @@ impl<'a, V: LogView> Scanner<'a, V> {
         }
     }
 
-    /// The next entry, in the order of the file. Records whose ledger or entry id is negative, such as the batches of a
-    /// ledgers map, are passed over and counted as foreign. `None` at the end and for good: what is left there has fewer
-    /// bytes than a record needs, and is counted as torn (this project's rules).
+    /// Returns the next entry in the order of the file, or `None` at the end.
     ///
-    /// Faults: `BadLength` where a length below 16, as a signed number, stands behind the last entry, `Disk` where the
-    /// view isn't sound, `Memory` only at the part's first record, `Odd`. After a fault every further call answers it
-    /// again.
+    /// Records with a negative ledger or entry id, such as the batches of a ledgers map, are passed
+    /// and counted as foreign. At the end, fewer bytes are left than a record needs; they are
+    /// counted as torn (project rules).
+    ///
+    /// # Errors
+    ///
+    /// Final: every further call returns the same error.
+    ///
+    /// - `BadLength` if the length after the last entry is below 16, as a signed number.
+    /// - `Disk` if the view is not sound.
+    /// - `Memory`, only at the part's first record.
+    /// - `Odd`, not on an honest view.
     pub fn next(&mut self) -> Result<Option<Found>, ScanFault>
         ensures moves { NextMoves self.old result self.new }
         ensures again { ¬ (IsTrue (is_going self.old)) → self.new ≡ self.old }
         ensures cause { IsErrOf result ScanFault.Disk → self.old.sound ≡ false }
-        ensures turn { IsTrue self.old.honest → NextTurn self.old result self.new }
+        ensures transition { IsTrue self.old.honest → ScanNextTransition self.old result self.new }
     {
         while self.is_going() {
             if let Some(found) = self.step() {
@@ -90,9 +97,11 @@ impl<'a, V: LogView> Scanner<'a, V> {
         }
     }
 
-    /// The payload of an entry that this scan found, where its window still has it: of the entry that was found last, but
-    /// for one that is longer than a window or cut by its end. It reads nothing; where it is `None`, `fetch` reads the
-    /// entry by its place.
+    /// Returns the payload of an entry that this scan found, if its window has it; else `None`, and
+    /// `fetch` reads it.
+    ///
+    /// The window has the entry found last, unless it is longer than a window or cut by the
+    /// window's end. Reads nothing.
     pub fn payload(&self, found: &Found) -> Option<&[u8]>
         requires { 4 ≤ found.now.size }
         ensures long { IfSome result (λ payload. length payload.now + 4 ≡ found.now.size) }
@@ -102,14 +111,14 @@ impl<'a, V: LogView> Scanner<'a, V> {
         self.window.lend(found.at, found.size as usize - 4)
     }
 
-    /// How many foreign records were passed over.
+    /// Returns the number of foreign records passed.
     pub fn foreign(&self) -> u64
         ensures { result ≡ self.now.foreign }
     {
         self.foreign
     }
 
-    /// How many bytes were found torn at the end, 0 before.
+    /// Returns the number of torn bytes at the end, 0 before it is reached.
     pub fn torn(&self) -> u64
         ensures { result ≡ self.now.torn }
     {

@@ -1,4 +1,4 @@
-//! The sizes of a log's records by ledger, as its map tells them.
+//! Sizes of a log's records by ledger, as its ledgers map has them.
 
 ghost use Rattle.std.specs.Prelude.{◌≡◌, ◌+◌, ◌<◌, ◌^◌, IfOk, OnOk, OnErr};
 ghost use Rattle.std.specs.FinMap as map;
@@ -10,11 +10,11 @@ use std::alloc::{AllocError, Global};
 use std::collections::BTreeMap;
 use std::marker::Model;
 
-/// For each ledger that has a record among those counted, the bytes of its records, the four of each length field
-/// included (the BookKeeper ledgers map). A contract sees a finite map and the ledger that was counted last:
-/// `specs/Sizes.antt`.
+/// For each ledger, the bytes of its counted records, with their length fields (BookKeeper ledgers
+/// map). Contracts see a finite map and the ledger counted last (`specs/Sizes.antt`).
 ///
-/// The last ledger's bytes stand beside the map, so that a record of the same ledger as the one before costs no look-up.
+/// The bytes of the last ledger are kept apart from the map, so that the next record of the same
+/// ledger needs no look-up.
 #[derive(Drop)]
 pub struct LedgerSizes {
     others: BTreeMap<u64, u64>,
@@ -38,7 +38,7 @@ impl Model for LedgerSizes {
 impl LedgerSizes {
     ghost use Rattle.bk_log.specs.Sizes.{CountsNext, AreWithin};
 
-    /// No ledger. It takes no memory.
+    /// Returns sizes without a ledger. Does not allocate.
     pub fn new(alloc: Global) -> LedgerSizes
         ensures { result ≡ record { sizes = map.empty; ledger = 0 } }
     {
@@ -49,8 +49,12 @@ impl LedgerSizes {
         }
     }
 
-    /// Counts an entry that a scan found. The caller keeps a ledger's bytes below 2^64, as they are where the entries are
-    /// those of one log (`within`). The only fault is want of memory, which changes nothing.
+    /// Counts an entry that a scan found. Requires that the ledger's bytes stay below 2^64, as
+    /// those of one log do (`within`).
+    ///
+    /// # Errors
+    ///
+    /// - `AllocError` if an allocation fails; the sizes are unchanged.
     pub fn count(&mut self, found: Found) -> Result<(), AllocError>
         requires sized { 0 < found.size }
         requires room { size_in self.old.sizes found.key.ledger + found.size < 2 ^ 64 }
@@ -67,7 +71,7 @@ impl LedgerSizes {
         Ok(())
     }
 
-    /// Makes ready for bytes of a ledger, so that adding them takes no memory. No ledger's bytes change.
+    /// Prepares for bytes of a ledger, so that `add` does not allocate. The sizes do not change.
     pub(crate) fn turn_to(&mut self, ledger: u64) -> Result<(), AllocError>
         ensures ok { OnOk result (self.new ≡ record self.old { ledger = ledger }) }
         ensures err { OnErr result (self.new ≡ self.old) }
@@ -83,7 +87,7 @@ impl LedgerSizes {
         Ok(())
     }
 
-    /// Adds to the bytes of the ledger that was turned to.
+    /// Adds bytes to the ledger of the last `turn_to`.
     pub(crate) fn add(&mut self, size: u64)
         requires some { 0 < size }
         requires room { size_in self.old.sizes self.old.ledger + size < 2 ^ 64 }
@@ -92,7 +96,11 @@ impl LedgerSizes {
         self.size += size;
     }
 
-    /// The sizes as a map. The only fault is want of memory.
+    /// Returns the sizes as a map.
+    ///
+    /// # Errors
+    ///
+    /// - `AllocError` if an allocation fails.
     pub fn into_map(self) -> Result<BTreeMap<u64, u64>, AllocError>
         ensures { IfOk result (λ tree. map_of tree ≡ self.sizes) }
     {

@@ -1,4 +1,4 @@
-//! Reading ahead in a view: bytes are read in windows, and looked at record by record.
+//! Reading ahead in a view: bytes are read in windows and parsed record by record.
 
 ghost use Rattle.std.specs.Prelude.{◌≡◌, ◌+◌, ◌-◌, ◌≤◌, ◌<◌, ◌^◌, false, IsTrue, IsErrOf, IfOk, IfErr, IfSome, OnOk, OnErr, IsOkUnless, length, take, drop};
 ghost use Rattle.bk_disk.specs.Disk.{IsInView};
@@ -12,16 +12,18 @@ use bk_record::RECORD_HEAD;
 use std::alloc::Global;
 use std::marker::Model;
 
-/// How many bytes are read at once at most.
+/// Greatest size of a window in bytes.
 const WINDOW: u64 = 65_536;
 
-/// How many bytes are read at once at first, where the first record has no more. Each window then has twice as many as the
-/// one before, so that who looks at few records reads few bytes.
+/// Size of the first window in bytes, if the first record is not longer. Each window is twice as
+/// long as the one before, so that a scan of few records reads few bytes.
 const FIRST: u64 = 512;
 
-/// A position in a view that moves on. The bytes behind `offset` in `read` are those of the view from the position on, and
-/// those behind `start` the view's from `since` on, where the window was read. `read` is made where the first record is met,
-/// and is no longer than what is left then; where memory for a longer one is refused, it stays as it is.
+/// A position in a view that advances.
+///
+/// The bytes of `read` from `offset` are those of the view from the position; those from `start`
+/// are the view's from `since`. `read` is allocated at the first record and is no longer than the
+/// bytes left then. If a longer buffer cannot be allocated, the old one is used.
 #[derive(Drop)]
 pub(crate) struct Window<'a, V: LogView> {
     view: &'a V,
@@ -56,7 +58,7 @@ impl<'a, V: LogView> Model for Window<'a, V> {
 impl<'a, V: LogView> Window<'a, V> {
     ghost use Rattle.bk_log.specs.Ahead.{ShowsFront};
 
-    /// At a position of a view, with nothing read yet.
+    /// Returns a window at a position of a view, with nothing read.
     pub(crate) fn new(view: &'a V, alloc: Global, at: u64) -> Window<'a, V>
         ensures { result ≡ record {
           at = at;
@@ -78,23 +80,23 @@ impl<'a, V: LogView> Window<'a, V> {
         }
     }
 
-    /// The position.
+    /// Returns the position.
     pub(crate) fn at(&self) -> u64
         ensures { result ≡ self.now.at }
     {
         self.at
     }
 
-    /// What stands at the position, where `left` bytes are left from there on. Where its head isn't at hand it is read
-    /// alone, and a window only for a record. Faults: `Disk` where the view isn't sound, `Memory` at the first record,
-    /// `Odd`.
+    /// Parses the start of the `left` bytes from the position. If its head is not in the window,
+    /// reads the head alone, and a window only for a record. Errors: `Disk` if the view is not
+    /// sound, `Memory` at the first record, `Odd`.
     pub(crate) fn front(&mut self, left: u64) -> Result<Front, ScanFault>
         requires { IsTrue self.old.honest → IsInView self.old.bytes self.old.at left }
         ensures same { self.new ≡ record self.old { ready = self.new.ready; room = self.new.room } }
         ensures cause { IsErrOf result ScanFault.Disk → self.old.sound ≡ false }
         ensures fits { IfOk result (FitsIn left) }
         ensures room { IfOk result (HasRoomFor self.new.room) }
-        ensures turn { IsTrue self.old.honest
+        ensures transition { IsTrue self.old.honest
             → ShowsFront self.old.room (take left (drop self.old.at self.old.bytes)) result }
     {
         let wanted = left.min(HEAD) as usize;
@@ -117,7 +119,7 @@ impl<'a, V: LogView> Window<'a, V> {
         Ok(front)
     }
 
-    /// Makes the buffer of the windows, where there is none yet; else a longer one, where memory is to be had.
+    /// Allocates the buffer if there is none; else a longer one, if memory is available.
     fn make(&mut self, left: u64, needed: u32) -> Result<(), ScanFault>
         requires { 0 < left }
         ensures same { self.new ≡ record self.old { ready = self.new.ready; room = self.new.room } }
@@ -134,7 +136,7 @@ impl<'a, V: LogView> Window<'a, V> {
         Ok(())
     }
 
-    /// Makes a buffer of so many bytes, none of which is at hand.
+    /// Allocates a buffer of `size` bytes, none of which is read yet.
     fn take_room(&mut self, size: u64) -> Result<(), ScanFault>
         requires { 0 < size }
         ensures same { self.new ≡ record self.old { ready = self.new.ready; room = self.new.room } }
@@ -161,7 +163,7 @@ impl<'a, V: LogView> Window<'a, V> {
         ensures same { self.new ≡ record self.old { ready = self.new.ready; room = self.new.room } }
         ensures cause { IsErrOf result ScanFault.Disk → self.old.sound ≡ false }
         ensures room { 0 < self.new.room }
-        ensures turn { IsTrue self.old.honest → IfErr result (λ fault. fault ≡ ScanFault.Disk) }
+        ensures transition { IsTrue self.old.honest → IfErr result (λ fault. fault ≡ ScanFault.Disk) }
     {
         let size = left.min(self.read.len() as u64) as usize;
         self.read.truncate(size);
@@ -174,7 +176,7 @@ impl<'a, V: LogView> Window<'a, V> {
         Ok(())
     }
 
-    /// Moves on by so many bytes.
+    /// Advances by `size` bytes.
     pub(crate) fn skip(&mut self, size: u32)
         requires { self.old.at + size < 2 ^ 64 }
         ensures { self.new ≡ record self.old { at = self.old.at + size; ready = self.old.ready - size } }
@@ -183,7 +185,8 @@ impl<'a, V: LogView> Window<'a, V> {
         self.offset += (size as usize).min(self.read.len() - self.offset);
     }
 
-    /// So many bytes of the view from a position on, where the window has them all. It reads nothing.
+    /// Returns the `count` bytes of the view from a position, if the window has them all. Reads
+    /// nothing.
     pub(crate) fn lend(&self, from: u64, count: usize) -> Option<&[u8]>
         ensures long { IfSome result (λ bytes. length bytes.now ≡ count) }
         ensures value { IsTrue self.now.honest → IfSome result (λ bytes. bytes.now ≡ take count (drop from self.now.bytes)) }
@@ -198,11 +201,11 @@ impl<'a, V: LogView> Window<'a, V> {
     }
 }
 
-/// Reads bytes that are left into `out`. Where they don't lie in the view, the view is odd.
+/// Reads remaining bytes into `out`. Fails with `Odd` if they are not in the view.
 fn read_left<V: LogView>(view: &V, at: u64, out: &mut [u8]) -> Result<(), ScanFault>
     requires { IsTrue (V.honest view.now) → IsInView (V.bytes view.now) at (length out.old) }
     ensures cause { IsErrOf result ScanFault.Disk → V.sound view.now ≡ false }
-    ensures turn { IsTrue (V.honest view.now) → ReadsLeft (V.bytes view.now) at (length out.old) result out.new }
+    ensures transition { IsTrue (V.honest view.now) → ReadsLeft (V.bytes view.now) at (length out.old) result out.new }
 {
     match view.read_into(at, out) {
         Ok(()) => Ok(()),

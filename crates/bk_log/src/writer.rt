@@ -1,10 +1,10 @@
-//! A log that is being written. Records are only ever put at its end, so its length is known without asking the
-//! disk; a write that failed may have left part of a record, so nothing is written behind it.
+//! Writer of a log. Records are only appended, so the writer knows the length without a call of the
+//! disk. A failed write may have left a part of a record, so nothing is appended after it.
 
 ghost use Rattle.std.specs.Prelude.{◌≡◌, ◌<◌, ◌^◌, IsTrue, IfOk, IsErrAnd};
 ghost use Rattle.bk_head.specs.Header.{empty_header};
-ghost use Rattle.bk_disk.specs.Disk.{IsCaused};
-ghost use Rattle.bk_disk.specs.Durable.{KeepsMore};
+ghost use Rattle.bk_disk.specs.Disk.{FailsExactlyIf};
+ghost use Rattle.bk_disk.specs.Durable.{DurableGrows};
 
 mod put;
 mod seal;
@@ -19,12 +19,12 @@ use bk_record::HEADER_LENGTH;
 use std::alloc::Global;
 use std::marker::Model;
 
-/// The length of a log's header in bytes.
+/// Length of a log's header in bytes.
 const HEADER: u32 = HEADER_LENGTH as u32;
 
-/// The writer of one log. A contract sees its id, its length, the number of records put and their sizes by ledger,
-/// and whether a write failed: `specs/Writing.antt`. `buffer` has memory for one record, so that a `put` takes none of its
-/// own where the records are alike.
+/// Writer of one log. Contracts see its id, its length, the number and the sizes of its records,
+/// and whether a write failed (`specs/Writing.antt`). `buffer` has room for one record, so that a
+/// `put` of a record of the same size does not allocate.
 #[derive(Drop)]
 pub struct LogWriter {
     log: u32,
@@ -48,14 +48,20 @@ impl Model for LogWriter {
 }
 
 impl LogWriter {
-    ghost use Rattle.bk_log.specs.Writing.{new_writing, CreateTurn, Writes};
+    ghost use Rattle.bk_log.specs.Writing.{new_writing, WriterCreateTransition, Writes};
 
-    /// Makes the log's file and writes its header.
+    /// Creates the log's file and writes its header. Requires an id of at most 2^31 - 1.
     ///
-    /// The caller gives an id of at most 2^31 - 1. Faults: `Disk`, `Memory`, and `Odd` where a file of that id is
-    /// there already; each with `made`, whether this call made the file. It then stands, and has a part of the header,
-    /// or none of it; otherwise the files are as they were.
-    #[tactic(auto, using(bk_disk::proofs::KeepsMore::kept_rules))]
+    /// # Errors
+    ///
+    /// Each with `made`, whether this call created the file. If so, it has a part of the header or
+    /// none of it; otherwise the files are unchanged. `Disk` can occur at any point, the others in
+    /// this order:
+    ///
+    /// - `Odd` if a file of this id exists.
+    /// - `Memory`, only if none exists.
+    /// - `Disk` if the device failed.
+    #[tactic(auto, using(bk_disk::proofs::DurableGrows::kept_rules))]
     pub fn create<D: LogDisk>(
         disk: &mut D,
         alloc: Global,
@@ -63,11 +69,11 @@ impl LogWriter {
     ) -> Result<LogWriter, CreateFault>
         requires { log < 2 ^ 31 }
         ensures honest { D.honest disk.new ≡ D.honest disk.old }
-        ensures kept { IsTrue (D.honest disk.old) → KeepsMore (D.synced disk.old) (D.gone disk.old) (D.synced disk.new) (D.gone disk.new) }
-        ensures cause { IsCaused (D.failures disk.old) (D.failures disk.new)
+        ensures durable { IsTrue (D.honest disk.old) → DurableGrows (D.synced disk.old) (D.gone disk.old) (D.synced disk.new) (D.gone disk.new) }
+        ensures cause { FailsExactlyIf (D.failures disk.old) (D.failures disk.new)
             (IsErrAnd result (λ f. f.fault ≡ LogFault.Disk)) }
         ensures ok { IfOk result (λ w. w ≡ new_writing log) }
-        ensures turn { IsTrue (D.honest disk.old) → CreateTurn (D.files disk.old) log result (D.files disk.new) }
+        ensures transition { IsTrue (D.honest disk.old) → WriterCreateTransition (D.files disk.old) log result (D.files disk.new) }
         ensures writes { IsTrue (D.honest disk.old) → IfOk result (λ w. Writes (D.files disk.new) w) }
     {
         if let Err(fault) = disk.create(alloc, log) {
@@ -89,7 +95,7 @@ impl LogWriter {
         })
     }
 
-    /// The log's id.
+    /// Returns the log's id.
     pub fn log(&self) -> u32
         ensures value { result ≡ self.now.log }
         ensures bound { result < 2 ^ 31 }
@@ -97,7 +103,7 @@ impl LogWriter {
         self.log
     }
 
-    /// The log's length in bytes, as far as records were written: at most 2^32 - 1.
+    /// Returns the log's length in bytes, as far as records were written: at most 2^32 - 1.
     pub fn length(&self) -> u64
         ensures value { result ≡ self.now.end }
         ensures bound { result < 2 ^ 32 }
@@ -105,14 +111,14 @@ impl LogWriter {
         u64::from(self.end)
     }
 
-    /// How many records were put.
+    /// Returns the number of records written.
     pub fn records(&self) -> u32
         ensures { result ≡ self.now.count }
     {
         self.count
     }
 
-    /// Whether a write failed, so that the log takes no further record.
+    /// Returns whether a write failed, so that the log takes no further record.
     pub fn failed(&self) -> bool
         ensures { result ≡ self.now.failed }
     {
@@ -120,7 +126,7 @@ impl LogWriter {
     }
 }
 
-/// What a new log begins with.
+/// Returns the header of a new log.
 fn header_bytes() -> [u8; HEADER_LENGTH]
     ensures { result ≡ empty_header }
 {

@@ -1,4 +1,4 @@
--- Bodies: the relation and the computed list agree, and bodies are put together.
+-- Bodies: the relation and the computed list agree, and bodies are concatenated.
 use Rattle.std.proofs.Common.{◌≡◌, ℕ, zero, suc, ◌+◌, ◌<◌, ◌≤◌, cond, List, [], ◌∷◌, ◌++◌, length, take, drop, Bool, true, false}
 use Rattle.std.proofs.Common.{refl, sym, ap, ◌∙◌, subst, arith, length-append, append_assoc}
 use Rattle.std.proofs.Math.Decide.{dec_le}
@@ -41,7 +41,7 @@ leftover-step most payload behind legal =
     ∙ ap (rest true) (length_field-record_of payload behind (omega (arith, legal.1)))
     ∙ ap (leftover most) (drop_record payload behind)
 
--- what is spelled is what is computed
+-- the records of a body are the computed ones
 pub pieces-body : (most : ℕ) {from : ℕ} {bytes rest : List ℕ} {records : List (ℕ × List ℕ)} → Body from bytes records rest
     → length bytes ≤ most → pieces most from bytes ≡ records
 pieces-body most (done {from = from}) enough = pieces-stop most from [] starts-nil
@@ -68,7 +68,7 @@ pub body_record : (from : ℕ) (payload : List ℕ) → IsPayload payload → Bo
 body_record from payload legal =
     subst (λ (b : List ℕ). Body from b ((from + 4, payload) ∷ []) []) (append-nil (record_of payload)) (more legal done)
 
--- whole records, and a body behind them
+-- whole records, then a body
 pub body_append : {from : ℕ} {front behind left rest : List ℕ} {records others : List (ℕ × List ℕ)} → Body from front records left → left ≡ []
     → Body (from + length front) behind others rest → Body from (front ++ behind) (records ++ others) rest
 body_append {behind = behind} {rest = rest} {others = others} (done {from = from}) nothing next =

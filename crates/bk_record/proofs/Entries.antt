@@ -1,4 +1,4 @@
--- What stands in a finite map, as elements of its list of entries.
+-- Entries of a finite map as elements of its list.
 use Rattle.std.proofs.Common.{◌≡◌, ◌⊎◌, inl, inr, cond, Option, Some, None, List, [], ◌∷◌, Bool, true, false, refl, sym, ap, ◌∙◌, subst, reverse, map, T, ◌&&◌}
 use Rattle.std.specs.declared.cmp.Ordering.{Ordering}
 use Rattle.std.specs.Cmp.{IsTotalOrder}
@@ -22,7 +22,7 @@ and_right true b h = h
 and_right false b h = absurd h
 
 module _ {K X : Type 0} {R : K → K → Ordering} (total : IsTotalOrder R) (same : IsAntisymmetric R) where
-  -- what is found stands in the list
+  -- a pair that is found is in the list
   pub find-In : (q : K) (es : List (K × X)) (x : X) → find R q es ≡ Some x → In (q, x) es
   find-In q [] x is = cc
   find-In q (e ∷ es) x is =
@@ -31,7 +31,7 @@ module _ {K X : Type 0} {R : K → K → Ordering} (total : IsTotalOrder R) (sam
         | false ↦ λ _ found. inr (find-In q es x found)
       ] refl is
 
-  -- where a key is not found, it does not stand in the list
+  -- a key that is not found is not in the list
   pub find-none : (q : K) (es : List (K × X)) (x : X) → find R q es ≡ None → In (q, x) es → ⊥
   find-none q [] x is there = absurd there
   find-none q (e ∷ es) x is there =
@@ -48,7 +48,7 @@ module _ {K X : Type 0} {R : K → K → Ordering} (total : IsTotalOrder R) (sam
   below-In k q x (e ∷ es) below (inl here) = subst (λ (p : K × X). T (is_lt (R k p.0))) here (and_left _ _ below)
   below-In k q x (e ∷ es) below (inr later) = below-In k q x es (and_right _ _ below) later
 
-  -- in a sorted list each entry is found
+  -- in a sorted list each pair is found
   pub In-find : (q : K) (es : List (K × X)) (x : X) → T (is_sorted R es) → In (q, x) es → find R q es ≡ Some x
   In-find q [] x sorted there = absurd there
   In-find q (e ∷ es) x sorted (inl here) =
@@ -61,14 +61,14 @@ module _ {K X : Type 0} {R : K → K → Ordering} (total : IsTotalOrder R) (sam
         | false ↦ λ _. In-find q es x (and_right _ _ sorted) later
       ] refl
 
-  -- what a map has stands in its entries, and what stands there it has
+  -- a pair that a map has is one of its entries, and conversely
   pub get-In : (m : finite.FinMap R X) (q : K) (x : X) → finite.get m q ≡ Some x → In (q, x) (finite.entries m)
   get-In m q x is = find-In q (finite.entries m) x (sym (finite.get-entries m q) ∙ is)
 
   pub In-get : (m : finite.FinMap R X) (q : K) (x : X) → In (q, x) (finite.entries m) → finite.get m q ≡ Some x
   In-get m q x there = finite.get-entries m q ∙ In-find q (finite.entries m) x (finite.entries_sorted m) there
 
--- ---- lists that are made from lists
+-- ---- lists made from lists
 
 pub In-reverse : {X : Type 0} (x : X) (xs : List X) → In x (reverse xs) → In x xs
 In-reverse {X = X} x [] there = there

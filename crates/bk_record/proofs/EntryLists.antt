@@ -1,4 +1,4 @@
--- The entries of a log as a list, and the pieces of bytes, however many are looked for.
+-- The entries of a log as a list, for any sufficient bound of the search.
 use Rattle.std.proofs.Common.{◌≡◌, ℕ, Bool, zero, suc, ◌+◌, ◌≤◌, cond, List, [], ◌∷◌, length, take, drop, true, false}
 use Rattle.std.proofs.Common.{not, refl, sym, ap, arith, length-drop}
 use Rattle.std.specs.List.{filter}
@@ -10,7 +10,7 @@ use Rattle.bk_record.proofs.Records.{starts_only, starts-nil}
 use Rattle.bk_record.proofs.Bodies.{pieces-stop}
 use Rattle.bk_record.proofs.Growth.{records_of-short}
 
--- as many pieces are looked for as bytes are there, or more
+-- any two bounds that are at least the number of bytes give the same records
 pub pieces-enough : (most other from : ℕ) (bytes : List ℕ) → length bytes ≤ most → length bytes ≤ other → pieces most from bytes ≡ pieces other from bytes
 pieces-enough zero zero from bytes m n = refl
 pieces-enough zero (suc other) from [] m n = sym (pieces-stop (suc other) from [] starts-nil)
@@ -32,7 +32,7 @@ pieces-enough (suc most) (suc other) from bytes m n =
 
 -- ---- the list of entries
 
--- a record with a key, and its place
+-- whether a record has a key
 abbrev pub is_entry : ℕ × List ℕ → Bool
 is_entry r = not (is_foreign r.1)
 

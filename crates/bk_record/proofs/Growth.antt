@@ -1,4 +1,4 @@
--- A log's records as its file grows.
+-- Records of a log as its file grows.
 use Rattle.std.proofs.Common.{◌≡◌, ◌⊎◌, inl, inr, ℕ, zero, suc, ◌+◌, ◌≤◌, List, [], ◌∷◌, ◌++◌, length, take, drop}
 use Rattle.std.proofs.Common.{Some, slice_get, refl, sym, ap, ◌∙◌, subst, arith, length-drop}
 use Rattle.std.proofs.Math.Decide.{dec_le}
@@ -11,7 +11,7 @@ use Rattle.bk_record.specs.Files.{header_length, records_of, IsWhole, In}
 use Rattle.bk_record.proofs.Records.{length-record_of}
 use Rattle.bk_record.proofs.Bodies.{pieces-body, body_append, body_record, prefix_is_torn}
 
--- the records of a file are those that its body spells
+-- the records of a file are those of its body
 pub records_of-body : (file : List ℕ) {rest : List ℕ} {records : List (ℕ × List ℕ)} → Body header_length (drop header_length file) records rest
     → records_of file ≡ records
 unfolding records_of
@@ -24,7 +24,7 @@ records_of-short file short =
 pub records_of-whole : (file : List ℕ) (w : IsWhole file) → records_of file ≡ w.records
 records_of-whole file w = records_of-body file w.spelled
 
--- a body behind a whole file
+-- a whole file, then a body
 pub grown_body : (file : List ℕ) (w : IsWhole file) (behind rest : List ℕ) (others : List (ℕ × List ℕ)) → Body (length file) behind others rest
     → Body header_length (drop header_length (file ++ behind)) (w.records ++ others) rest
 grown_body file w behind rest others next =
@@ -38,12 +38,12 @@ records_of-behind file w behind rest others next =
     records_of-body (file ++ behind) (grown_body file w behind rest others next)
     ∙ ap (λ (l : List (ℕ × List ℕ)). l ++ others) (sym (records_of-whole file w))
 
--- one more record
+-- records of a whole file after one more record
 pub records_of-record : (file payload : List ℕ) → IsWhole file → IsPayload payload
     → records_of (file ++ record_of payload) ≡ records_of file ++ (length file + 4, payload) ∷ []
 records_of-record file payload w legal = records_of-behind file w (record_of payload) [] _ (body_record (length file) payload legal)
 
--- a prefix of a record adds the record where it is all of it, and else nothing
+-- records of a whole file after a prefix of a record: one more if the prefix is all of it
 pub records_of-prefix : (file payload : List ℕ) (n : ℕ) → IsWhole file → IsPayload payload
     → (records_of (file ++ take n (record_of payload)) ≡ records_of file)
     ⊎ (records_of (file ++ take n (record_of payload)) ≡ records_of file ++ (length file + 4, payload) ∷ [])
@@ -77,7 +77,7 @@ In-push_cases x y xs is = elim (In-append_cases x xs (y ∷ []) is) [
   | inr last ↦ elim last [ inl here ↦ inr here | inr none ↦ absurd none ]
 ]
 
--- one more of the first elements
+-- the first n + 1 elements
 pub take_next : {X : Type 0} (xs : List X) (n : ℕ) (x : X) → slice_get xs n ≡ Some x → take (n + 1) xs ≡ take n xs ++ x ∷ []
 take_next [] n x is = cc
 take_next (y ∷ ys) zero x is = let same : y ≡ x = same_Some y x is in ap (λ z. z ∷ []) same

@@ -1,4 +1,4 @@
--- How many keys of a map are sent to a log, and how many are of a ledger, as keys come, move and go.
+-- Number of keys of a log and of a ledger after insertions, relocations and removals.
 use Rattle.std.proofs.Common.{◌≡◌, ◌≢◌, ℕ, ◌+◌, ◌<◌, ◌≤◌, cond, eqb, Option, Some, None, IsSome, Bool, true, false, not, refl, ap, ◌∙◌, arith}
 use Rattle.std.specs.Option.{option_or}
 use Rattle.std.specs.FinMap as finite
@@ -10,7 +10,7 @@ use Rattle.bk_record.specs.Keyed.{Keyed, Places, without_ledger, of_ledger, ledg
 use Rattle.bk_record.proofs.Keys.{key_cmp_total, key_cmp_antisymmetric}
 use Rattle.bk_record.proofs.Weights.{weight_at, weight-insert, weight-remove, weight-retain_keys, weight-union, weight-none, weight-empty, weight-le}
 
--- ---- the keys that a log has
+-- ---- keys of a log
 
 abbrev pub one_if : Bool → ℕ
 one_if b = cond b 1 0
@@ -31,23 +31,23 @@ counted_in-apart place log apart = elim (eqb place.log log) as (λ b. eqb place.
 counted_in-here : (place : Place) (log : ℕ) → place.log ≡ log → counted_in (Some place) log ≡ 1
 counted_in-here place log same = ap (λ (b : Bool). cond b 1 0) (eq-eqb place.log log same)
 
--- a key that is sent to a place, whatever place it had
+-- inserting a key with a place; the key may have had another place
 pub log_count-insert : (m : Places) (key : EntryKey) (place : Place) (log : ℕ)
     → log_count (finite.insert m key place) log + counted_in (finite.get m key) log ≡ log_count m log + counted_in (Some place) log
 log_count-insert m key place log =
     omega (arith, weight-insert key_cmp_total key_cmp_antisymmetric (in_log log) m key place, weight_at-log log key (finite.get m key))
 
--- a key that had none
+-- inserting a new key
 pub log_count-new : (m : Places) (key : EntryKey) (place : Place) (log : ℕ) → finite.get m key ≡ None
     → log_count (finite.insert m key place) log ≡ log_count m log + counted_in (Some place) log
 log_count-new m key place log none = omega (arith, log_count-insert m key place log, ap (λ o. counted_in o log) none)
 
--- a key that is taken out
+-- removing a key
 pub log_count-remove : (m : Places) (key : EntryKey) (log : ℕ) → log_count (finite.remove m key) log + counted_in (finite.get m key) log ≡ log_count m log
 log_count-remove m key log =
     omega (arith, weight-remove key_cmp_total key_cmp_antisymmetric (in_log log) m key, weight_at-log log key (finite.get m key))
 
--- a ledger that is taken out
+-- removing a ledger
 pub log_count-without_ledger : (m : Places) (ledger log : ℕ) → log_count (without_ledger m ledger) log + log_count (of_ledger m ledger) log ≡ log_count m log
 log_count-without_ledger m ledger log =
     omega (
@@ -59,7 +59,7 @@ log_count-without_ledger m ledger log =
 pub log_count-le-len : (m : Places) (log : ℕ) → log_count m log ≤ finite.len m
 log_count-le-len m log = omega (arith, count_by-le-length (λ (e : EntryKey × Place). eqb e.1.log log) (finite.entries m), finite.len-entries m)
 
--- a log that no key is sent to counts none, and only such a one
+-- a log has no keys exactly if no place is in it
 pub log_count-none : (m : Places) (log : ℕ) → ((key : EntryKey) (place : Place) → finite.get m key ≡ Some place → place.log ≢ log) → log_count m log ≡ 0
 log_count-none m log none = weight-none key_cmp_total key_cmp_antisymmetric (in_log log) m (λ key place is. counted_in-apart place log (none key place is))
 
@@ -70,7 +70,7 @@ log_count-some m log key place is here =
 pub log_count-zero : (m : Places) (log : ℕ) → log_count m log ≡ 0 → (key : EntryKey) (place : Place) → finite.get m key ≡ Some place → place.log ≢ log
 log_count-zero m log zero key place is here = omega (arith, zero, log_count-some m log key place is here)
 
--- ---- the keys of a ledger
+-- ---- keys of a ledger
 
 module _ {X : Type 0} where
   abbrev in_ledger : ℕ → EntryKey × X → ℕ

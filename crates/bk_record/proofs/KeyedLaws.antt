@@ -1,4 +1,4 @@
--- Laws of finite maps from keys: a ledger's keys, and the map without them.
+-- Lemmas on maps by key: the keys of one ledger, and the map without them.
 use Rattle.std.proofs.Common.{◌≡◌, ℕ, ◌+◌, Bool, true, false, not, cond, eqb, length, None, refl, sym, ap, ◌∙◌, arith}
 use Rattle.std.specs.List.{filter}
 use Rattle.std.specs.FinMap as finite
@@ -16,7 +16,7 @@ module _ {X : Type 0} where
       finite.get-retain_keys m _ q (λ x tied. ap (λ (k : EntryKey). not (eqb k.ledger ledger)) (sym (key_cmp_antisymmetric q x tied)))
       ∙ elim (eqb q.ledger ledger) as (λ b. cond (not b) (finite.get m q) None ≡ cond b None (finite.get m q)) [ true ↦ refl | false ↦ refl ]
 
-  -- the entries of a ledger and the others are all entries
+  -- the entries of a ledger and the others together are all entries
   pub entries-without_ledger : (m : Keyed X) (ledger : ℕ) → finite.entries (without_ledger m ledger)
       ≡ filter (λ e. not (eqb e.0.ledger ledger)) (finite.entries m)
   entries-without_ledger m ledger = entries-retain_keys key_cmp_total key_cmp_antisymmetric m (λ key. not (eqb key.ledger ledger))

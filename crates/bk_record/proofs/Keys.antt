@@ -1,4 +1,4 @@
--- The order of keys: it is total, and only equal keys tie.
+-- The order of keys is total, and only equal keys tie.
 use Rattle.std.proofs.Common.{◌≡◌, refl}
 use Rattle.std.specs.declared.cmp.Ordering.{Ordering}
 use Rattle.std.specs.declared.cmp.Ordering.TheVariants.{Less, Equal, Greater}

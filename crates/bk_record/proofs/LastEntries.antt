@@ -1,4 +1,4 @@
--- The last entry of a key, and that the scan gives its payload.
+-- A key has one last entry, and the scan gives its payload.
 use Rattle.std.proofs.Common.{◌≡◌, inl, inr, ℕ, Some, None, List, ◌∷◌, refl, sym, ap, subst}
 use Rattle.std.specs.FinMap as finite
 use Rattle.bk_record.specs.Key.{EntryKey}
@@ -51,7 +51,7 @@ module _ (files : Files) (key : EntryKey) where
       let found = scan-last files key payload is in
       (found.0.place, subst (IsLastRecord files found.0.place key) found.1 (last-entry found.0))
 
-  -- and nothing where no entry stands
+  -- if the scan has no payload for the key, no entry has the key
   pub scan-no_entry : finite.get (scan_of files) key ≡ None → HasNoEntry files key
   scan-no_entry is place payload there = scan-none files key place payload is there.stands there.keyed
 

@@ -1,4 +1,4 @@
--- The scan of a set of files gives a key the payload of its last record, in the order in which they stand.
+-- The scan gives a key the payload of its last record, in the order of all records.
 use Rattle.std.proofs.Common.{◌≡◌, ◌≢◌, ◌⊎◌, inl, inr, ℕ, cond, Option, Some, None, List, [], ◌∷◌, ◌++◌, Bool, true, false}
 use Rattle.std.proofs.Common.{refl, sym, ap, ◌∙◌, reverse, append_assoc}
 use Rattle.std.specs.List.{filter_map, cons_option}
@@ -22,7 +22,7 @@ use Rattle.bk_record.proofs.Scans.{scan-found, scan-some, keyed-payload, payload
 abbrev pub NoneOf : EntryKey → List (Place × List ℕ) → Type 0
 NoneOf key records = (place : Place) (payload : List ℕ) → In (place, payload) records → key_of payload ≢ Some key
 
--- a key's last record in a list, split off
+-- a list split at the last record of a key
 pub record LastIn (key : EntryKey) (records : List (Place × List ℕ)) : Type 0 where
   pub place : Place
   pub payload : List ℕ
@@ -62,7 +62,7 @@ last_or_none key (r ∷ records) = elim (last_or_none key records) [
   ]
 ]
 
--- what has no entry of the key is passed over
+-- pairs without the key do not change a look-up
 find-append : (key : EntryKey) (es fs : List (EntryKey × List ℕ)) → ((payload : List ℕ) → In (key, payload) es → ⊥) → find key_cmp key (es ++ fs)
     ≡ find key_cmp key fs
 find-append key [] fs none = refl
@@ -81,7 +81,7 @@ none_keyed key records none payload there =
     let from = filter_map-In (λ r. keyed r.1) (key, payload) records (In-reverse _ _ there) in
     none from.0.0 from.0.1 from.1.0 (keyed-payload from.0.1 key payload from.1.1).0
 
--- the last record of a key is what a search from behind finds
+-- in the reversed list, a look-up finds the last record of the key
 find-last : (key : EntryKey) (before behind : List (Place × List ℕ)) (place : Place) (payload : List ℕ) → key_of payload ≡ Some key → NoneOf key behind
     → find key_cmp key (reverse (keyed_of (before ++ (place, payload) ∷ behind))) ≡ Some payload
 find-last key before behind place payload has none =

@@ -1,4 +1,4 @@
--- A log that only grows behind its header keeps its records.
+-- A log that only grows after its header keeps its records.
 use Rattle.std.proofs.Common.{ℕ, List, [], ◌++◌, length, drop}
 use Rattle.std.proofs.Common.{refl, sym, ap, ◌∙◌, arith, append_assoc, length-drop}
 use Rattle.std.proofs.Math.Decide.{dec_le}
@@ -6,7 +6,7 @@ use Rattle.std.proofs.lemmas.List.{drop-append-le, append-nil, nil_from_length}
 use Rattle.bk_record.specs.Files.{header_length}
 use Rattle.bk_record.specs.Longer.{IsLonger}
 
--- a log as it is, and a log with more bytes at its end
+-- reflexive; and a longer version after an append
 pub longer_same : (file : List ℕ) → IsLonger file file
 longer_same file = record { behind = []; is = sym (append-nil (drop header_length file)) }
 
@@ -26,6 +26,6 @@ longer_trans front middle whole a b = record {
   is = b.is ∙ ap (λ (l : List ℕ). l ++ b.behind) a.is ∙ append_assoc (drop header_length front) a.behind b.behind;
 }
 
--- a log without a byte is the beginning of every log
+-- every log is a longer version of an empty one
 pub longer_empty : (whole : List ℕ) → IsLonger [] whole
 longer_empty whole = record { behind = drop header_length whole; is = refl }

@@ -1,4 +1,4 @@
--- Finite maps by any key: what they answer once a key was put in or taken out.
+-- Finite maps by any key: look-up after an insertion or a removal.
 use Rattle.std.proofs.Common.{◌≡◌, ◌≢◌, ◌⊎◌, inl, inr, Some, None, Bool, true, false, cond, refl, sym, ap, ◌∙◌}
 use Rattle.std.specs.declared.cmp.Ordering.{Ordering}
 use Rattle.std.specs.Cmp.{IsTotalOrder}
@@ -9,7 +9,7 @@ use Rattle.std.proofs.lemmas.Map.Views.{tells_apart}
 use Rattle.std.proofs.lemmas.Cmp.{tied_itself}
 
 module _ {K : Type 0} {R : K → K → Ordering} (total : IsTotalOrder R) (same : IsAntisymmetric R) where
-  -- two keys are equal or told apart
+  -- two keys are equal or different
   pub key_cases : (q k : K) → (q ≡ k) ⊎ ((eq_by_cmp R q k ≡ false) × (q ≢ k))
   key_cases q k = elim (eq_by_cmp R q k) as (λ b. eq_by_cmp R q k ≡ b → (q ≡ k) ⊎ ((b ≡ false) × (q ≢ k))) [
     | true ↦ λ tied. inl (tells_apart same q k tied)
@@ -26,7 +26,7 @@ module _ {K X : Type 0} {R : K → K → Ordering} (total : IsTotalOrder R) (sam
     | inr other ↦ finite.get-insert total m k v q ∙ ap (λ (b : Bool). cond b (Some v) (finite.get m q)) other.0
   ]
 
-  -- what an insertion has is what was put or what was there
+  -- after an insertion a key has the new value, or the one that it had
   pub get-insert_cases : (m : finite.FinMap R X) (k : K) (v : X) (q : K) (w : X) → finite.get (finite.insert m k v) q ≡ Some w
       → ((q ≡ k) × (v ≡ w)) ⊎ ((q ≢ k) × (finite.get m q ≡ Some w))
   get-insert_cases m k v q w is = elim (key_cases total same q k) [
@@ -34,32 +34,32 @@ module _ {K X : Type 0} {R : K → K → Ordering} (total : IsTotalOrder R) (sam
     | inr other ↦ inr (other.1, sym (get-insert_else m k v q other.1) ∙ is)
   ]
 
-  -- a key that is taken out is not there
+  -- a removed key has no value
   pub get-remove_here : (m : finite.FinMap R X) (k : K) → finite.get (finite.remove m k) k ≡ None
   get-remove_here m k = finite.get-remove total m k k ∙ ap (λ (b : Bool). cond b None (finite.get m k)) (ap is_eq (tied_itself total k))
 
-  -- all others are
+  -- other keys keep their values
   pub get-remove_else : (m : finite.FinMap R X) (k q : K) → q ≢ k → finite.get (finite.remove m k) q ≡ finite.get m q
   get-remove_else m k q apart = elim (key_cases total same q k) [
     | inl e ↦ absurd (apart e)
     | inr other ↦ finite.get-remove total m k q ∙ ap (λ (b : Bool). cond b None (finite.get m q)) other.0
   ]
 
-  -- to take out a key that is not there changes nothing
+  -- removing a key that the map does not have
   pub remove-none : (m : finite.FinMap R X) (k : K) → finite.get m k ≡ None → finite.remove m k ≡ m
   remove-none m k none = finite.same_map total same (finite.remove m k) m (λ q. elim (key_cases total same q k) [
     | inl e ↦ ap (finite.get (finite.remove m k)) e ∙ get-remove_here m k ∙ sym (ap (finite.get m) e ∙ none)
     | inr other ↦ get-remove_else m k q other.1
   ])
 
-  -- to put back what was taken out gives the map again
+  -- inserting the pair that was removed
   pub insert-remove : (m : finite.FinMap R X) (k : K) (v : X) → finite.get m k ≡ Some v → finite.insert (finite.remove m k) k v ≡ m
   insert-remove m k v there = finite.same_map total same (finite.insert (finite.remove m k) k v) m (λ q. elim (key_cases total same q k) [
     | inl e ↦ ap (finite.get (finite.insert (finite.remove m k) k v)) e ∙ get-insert_here (finite.remove m k) k v ∙ sym (ap (finite.get m) e ∙ there)
     | inr other ↦ get-insert_else (finite.remove m k) k v q other.1 ∙ get-remove_else m k q other.1
   ])
 
-  -- a key that is put in twice, and one that is put in as it was
+  -- inserting a key twice; inserting the pair that the map has
   pub insert-insert : (m : finite.FinMap R X) (k : K) (v w : X) → finite.insert (finite.insert m k v) k w ≡ finite.insert m k w
   insert-insert m k v w = finite.same_map total same (finite.insert (finite.insert m k v) k w) (finite.insert m k w) (λ q. elim (key_cases total same q k) [
     | inl e ↦ ap (finite.get (finite.insert (finite.insert m k v) k w)) e ∙ get-insert_here (finite.insert m k v) k w

@@ -1,4 +1,4 @@
--- At each position stands one piece alone.
+-- There is one piece at each position.
 use Rattle.std.proofs.Common.{◌≡◌, ℕ, ◌+◌, ◌≤◌, ℤ, pos, ◌<ℤ◌, List, [], length, take, drop, IsSome, IsNone, refl, sym, ap, ◌∙◌, subst, arith}
 use Rattle.std.proofs.lemmas.List.{take_at}
 use Rattle.bk_record.specs.Record.{length_field, signed_field, key_of}
@@ -10,7 +10,7 @@ use Rattle.bk_record.specs.declared.piece.Piece.TheVariants.{Whole, Foreign, Tor
 use Rattle.bk_record.proofs.Records.{Starts, starts_only, starts-record_of, length_field-record_of, drop_field}
 use Rattle.bk_record.proofs.Spellings.{not_below}
 
--- a length that is below 16 stands in the first four bytes
+-- a length below 16 in the first four bytes
 record Low (left : List ℕ) (value : ℤ) : Type 0 where
   four : 4 ≤ length left
   value_is : value ≡ signed_field left
@@ -23,7 +23,7 @@ module _ (left : List ℕ) where
   begins-starts : (payload : List ℕ) → BeginsWith left payload → Starts left
   begins-starts payload b = subst Starts (sym b.is) (starts_only _ (starts-record_of payload b.behind b.legal))
 
-  -- the payload is the one that the length field cuts out
+  -- the payload is the part that the length field delimits
   begins-payload : (payload : List ℕ) → BeginsWith left payload → payload ≡ take (length_field left) (drop 4 left)
   begins-payload payload b =
       let field : length_field left ≡ length payload = ap length_field b.is ∙ length_field-record_of payload b.behind (omega (arith, b.legal.1)) in

@@ -17,7 +17,7 @@ use Rattle.bk_record.specs.Latest.{AreInOrder}
 use Rattle.bk_record.proofs.Growth.{In-append_cases}
 use Rattle.bk_record.proofs.Entries.{and_left, and_right, below-In, flat_map-In, map-In}
 
--- a list in order behind another
+-- concatenation of two lists in order
 in_order-append : (xs ys : List (Place × List ℕ)) → AreInOrder xs → AreInOrder ys
     → ((p q : Place) (x y : List ℕ) → In (p, x) xs → In (q, y) ys → Precedes p q) → AreInOrder (xs ++ ys)
 in_order-append [] ys first second between = second
@@ -31,7 +31,7 @@ in_order-append (r ∷ xs) ys first second between = (
 
 -- ---- one log
 
--- the pieces of bytes at a position stand behind it
+-- the pieces of bytes are after the position of the bytes
 pub pieces_behind : (most from : ℕ) (bytes : List ℕ) (at : ℕ) (payload : List ℕ) → In (at, payload) (pieces most from bytes) → from < at
 pieces_behind zero from bytes at payload there = absurd there
 pieces_behind (suc most) from bytes at payload there =

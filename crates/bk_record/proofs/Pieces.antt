@@ -1,4 +1,5 @@
--- Which piece stands at a position, told from what the bytes there say: `left` as the code cut them, `here` as they stand.
+-- Which piece is at a position: `left` are the bytes as the code cuts them, `here` as the
+-- definition does.
 use Rattle.std.proofs.Common.{◌≡◌, ◌⊎◌, inl, inr, ℕ, suc, ◌+◌, ◌-◌, ◌<◌, ◌≤◌, ◌^◌, ℤ, pos, negsuc, ◌<ℤ◌, cond, List, ◌++◌, length, take, drop, get_or, Fits}
 use Rattle.std.proofs.Common.{w8, Bool, true, false, Some, None, IsSome, IsNone, nat_lt, Ok, Err, refl, sym, ap, ◌∙◌, subst, arith, length-drop}
 use Rattle.std.proofs.lemmas.List.{length-take, take_rest}
@@ -16,7 +17,7 @@ use Rattle.bk_record.specs.declared.fault.RecordFault.{RecordFault}
 use Rattle.bk_record.specs.declared.fault.RecordFault.TheVariants.{Short, Negative}
 use Rattle.bk_record.proofs.Records.{IsBytes, bytes_drop, Starts, record_in_front, split_at}
 
--- what is read as a number is the length field
+-- the number that the code reads is the length field
 field_read : (left here : List ℕ) (n : ℕ) → left ≡ here → n ≡ big_number 4 left → n ≡ length_field here
 unfolding length_field
 field_read left here n is read =
@@ -24,7 +25,7 @@ field_read left here n is read =
     let same : big_number 4 left ≡ big_number 4 here = ap number is in
     omega arith
 
--- a length that is below 16 or negative, as a signed number
+-- a length that is below 16 or negative is below 16 as a signed number
 pub signed_below : (n : ℕ) → (n < 16) ⊎ (2 ^ 31 ≤ n) → cast_signed w32 n <ℤ pos 16
 signed_below n (inl few) = subst (λ (v : ℤ). v <ℤ pos 16) (sym (to_z_pos w32 n (omega arith))) (omega (arith, ints))
 signed_below n (inr high) = subst (λ (v : ℤ). v <ℤ pos 16) (sym (ap (λ (b : Bool). cond b (pos n) (negsuc (2 ^ 32 - suc n))) (le-ltb _ _ high)))
@@ -71,11 +72,11 @@ pub begins_at : (bytes : List ℕ) (at n : ℕ) → ((i : ℕ) → Fits w8 (get_
     → BeginsWith (drop at bytes) (take (4 + n - 4) (drop 4 left)) × (n ≡ length (take (4 + n - 4) (drop 4 left)))
 begins_at bytes at n each = begins_here _ _ n (take_rest bytes at) (bytes_drop at bytes (λ i. omega (arith, each i)))
 
--- so many bytes behind the length field, where there are so many
+-- number of bytes taken after the length field
 pub length-payload : (bytes : List ℕ) (n : ℕ) → 4 + n ≤ length bytes → length (take n (drop 4 bytes)) ≡ n
 length-payload bytes n enough = omega (arith, length-take n (drop 4 bytes), length-drop 4 bytes)
 
--- the first four bytes are a length's, and so many stand behind them
+-- the bytes begin with the record of a payload, from their length field and their number
 pub begins_with_field : (bytes : List ℕ) (n : ℕ) → to_be_bytes w32 n ≡ take 4 bytes → 16 ≤ n → n < 2 ^ 31 → 4 + n ≤ length bytes
     → BeginsWith bytes (take n (drop 4 bytes))
 unfolding record_of
@@ -88,7 +89,7 @@ begins_with_field bytes n written low high enough =
       is = sym (ap (λ (x : List ℕ). (x ++ take n (drop 4 bytes)) ++ drop (4 + n) bytes) field ∙ split_at bytes n);
     }
 
--- what the key of a payload was answered to be, is told of it
+-- a payload whose key was returned has a key
 pub some_key : (payload : List ℕ) (key : EntryKey) → Ok key ≡ read_key payload → IsSome (key_of payload)
 unfolding read_key
 some_key payload key is =

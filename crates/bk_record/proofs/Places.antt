@@ -1,4 +1,4 @@
--- The order of places is strict and total, and at each place stands one record.
+-- The order of places is strict and total, and one record is at each place.
 use Rattle.std.proofs.Common.{◌≡◌, ◌⊎◌, inl, inr, ℕ, ◌+◌, List, [], ◌∷◌, ◌++◌, refl, sym, ap, ◌∙◌, subst, arith}
 use Rattle.std.proofs.Math.Decide.{dec_le}
 use Rattle.bk_record.specs.Location.{Place, Precedes}
@@ -24,7 +24,7 @@ precedes_trans p q r (inr a) (inr b) = inr (a.0 ∙ b.0, omega (arith, a.1, b.1)
 pub precedes_one_way : (p q : Place) → Precedes p q → Precedes q p → ⊥
 precedes_one_way p q a b = precedes_not_itself p (precedes_trans p q p a b)
 
--- of two places one comes first, or they are one
+-- two places are equal, or one precedes the other
 pub precedes_cases : (p q : Place) → Precedes p q ⊎ ((p ≡ q) ⊎ Precedes q p)
 precedes_cases p q = elim (dec_le (p.log + 1) q.log) [
   | yes less ↦ inl (inl (omega arith))
@@ -57,7 +57,7 @@ pub one_record : (files : Files) (place : Place) (a b : List ℕ) → HasRecord 
 one_record files place a b here there =
     one_in_order (all_records files) (all_records_in_order files) place a b (record-all files place a here) (record-all files place b there)
 
--- what stands before an element of a list in order comes before it
+-- what is before an element of a list in order precedes it
 pub before-precedes : (before behind : List (Place × List ℕ)) (place : Place) (payload : List ℕ) → AreInOrder (before ++ (place, payload) ∷ behind)
     → (other : Place) (held : List ℕ) → In (other, held) before → Precedes other place
 before-precedes [] behind place payload order other held there = absurd there

@@ -1,4 +1,4 @@
--- What is known of a payload whose key was read, and of one that may be added.
+-- Facts about a payload whose key was read, and about one that may be added.
 use Rattle.std.proofs.Common.{◌≡◌, ◌≢◌, ℕ, ◌≤◌, ◌^◌, List, length, Bool, true, false, cond, ◌&&◌, Option, Some, None, Result, Ok, Err, IsSome, IsOk, nat_lt}
 use Rattle.std.proofs.Common.{refl, sym, ap, ◌∙◌, arith}
 use Rattle.std.proofs.lemmas.Bool.{false≢true, le-ltb, ltb-false}
@@ -9,17 +9,17 @@ use Rattle.bk_record.specs.Record.{IsPayload, key_of, read_key, read_added, unle
 use Rattle.bk_record.specs.declared.fault.RecordFault.{RecordFault}
 use Rattle.bk_record.specs.declared.fault.RecordFault.TheVariants.{Short, Negative, TooLong}
 
--- the answer for a payload that is long enough
+-- result for a payload of at least 16 bytes
 pub read_key-long : (payload : List ℕ) → 16 ≤ length payload → read_key payload ≡ ok_or (key_of payload) Negative
 unfolding read_key
 read_key-long payload long = ap (λ (b : Bool). cond b (Err (Short (length payload))) (ok_or (key_of payload) Negative)) (le-ltb (length payload) 16 long)
 
--- a payload with a key is read
+-- the key of a payload that has one is returned
 pub read_key-keyed : (payload : List ℕ) → 16 ≤ length payload → IsSome (key_of payload) → IsOk (read_key payload)
 read_key-keyed payload long some = rw (read_key-long payload long)
     (elim (key_of payload) as (λ o. IsSome o → IsOk (ok_or o Negative)) [ Some key ↦ λ h. refl | None ↦ λ h. absurd (false≢true h) ] some)
 
--- the key that is read has the payload's ledger
+-- the returned key has the payload's ledger
 pub read_key-ledger : (payload : List ℕ) (key : EntryKey) → read_key payload ≡ Ok key → key.ledger ≡ ledger_field payload
 unfolding read_key key_of
 read_key-ledger payload key is =
@@ -37,26 +37,26 @@ read_key-ledger payload key is =
           ] e
     ] is
 
--- the key that is read is the payload's
+-- the returned key is the payload's key
 pub read_key-some : (payload : List ℕ) (key : EntryKey) → 16 ≤ length payload → read_key payload ≡ Ok key → key_of payload ≡ Some key
 read_key-some payload key long is =
     elim (key_of payload) as (λ o. ok_or o Negative ≡ Ok key → o ≡ Some key) [ Some k ↦ λ e. cc | None ↦ λ e. cc ] (sym (read_key-long payload long) ∙ is)
 
--- a payload that isn't read has no key
+-- a payload with an error does not have this key
 pub read_key-none : (payload : List ℕ) (key : EntryKey) (fault : RecordFault) → 16 ≤ length payload → read_key payload ≡ Err fault → key_of payload ≢ Some key
 read_key-none payload key fault long is some =
     let e : ok_or (key_of payload) Negative ≡ Ok key = ap (λ o. ok_or o Negative) some in
     let f : Err fault ≡ Ok key = sym is ∙ read_key-long payload long ∙ e in
     cc
 
--- a payload that is long enough and isn't read has no key at all
+-- a payload of at least 16 bytes with an error has no key
 pub read_key-no : (payload : List ℕ) (fault : RecordFault) → 16 ≤ length payload → read_key payload ≡ Err fault → key_of payload ≡ None
 read_key-no payload fault long is =
     elim (key_of payload) as (λ o. ok_or o Negative ≡ Err fault → o ≡ None) [ Some k ↦ λ e. cc | None ↦ λ e. refl ] (sym (read_key-long payload long) ∙ is)
 
--- ---- a payload that may be added
+-- ---- a payload that can be added
 
--- a payload that may be added has a legal length and a key
+-- A payload that can be added has a valid length and a key.
 pub record IsAddable (payload : List ℕ) (key : EntryKey) : Type 0 where
   pub least : 16 ≤ length payload
   pub most : length payload ≤ max_added

@@ -1,4 +1,4 @@
--- One record in bytes: what its length field says, and when bytes begin with a whole record.
+-- One record in bytes: the value of its length field, and when bytes begin with a whole record.
 use Rattle.std.proofs.Common.{◌≡◌, ℕ, zero, suc, ◌+◌, ◌<◌, ◌≤◌, ◌^◌, List, [], ◌∷◌, ◌++◌, length, take, drop, true, false}
 use Rattle.std.proofs.Common.{refl, sym, ap, ◌∙◌, arith, length-append, append_assoc, length-drop}
 use Rattle.std.specs.List.{All}
@@ -16,7 +16,7 @@ pub length-record_of : (payload : List ℕ) → length (record_of payload) ≡ 4
 unfolding record_of
 length-record_of payload = omega (arith, length-append (to_be_bytes w32 (length payload)) payload)
 
--- the length field reads the first four bytes alone
+-- the length field depends only on the first four bytes
 pub length_field-append : (field behind : List ℕ) → length field ≡ 4 → length_field (field ++ behind) ≡ length_field field
 unfolding length_field
 length_field-append (a ∷ b ∷ c ∷ d ∷ []) behind four = refl
@@ -42,7 +42,7 @@ pub length_field-record_of : (payload behind : List ℕ) → length payload < 2 
 unfolding record_of length_field
 length_field-record_of payload behind fits = from_be_bytes-to_be_bytes_4 (length payload) fits
 
--- what it is for bytes to begin with a whole record
+-- what it takes for bytes to begin with a whole record
 pub record Starts (bytes : List ℕ) : Type 0 where
   pub field : 4 ≤ length bytes
   pub least : 16 ≤ length_field bytes
@@ -110,7 +110,7 @@ field_bytes bytes each four =
     ap length_field (sym (take-append-drop 4 bytes)) ∙ length_field-append (take 4 bytes) (drop 4 bytes) size in
     be_bytes_4 (take 4 bytes) (length_field bytes) size (bytes_take 4 bytes each) (same ∙ length_field-is (take 4 bytes))
 
--- four bytes, so many behind them, and the rest
+-- four bytes, the next n bytes, and the others
 pub split_at : (bytes : List ℕ) (n : ℕ) → (take 4 bytes ++ take n (drop 4 bytes)) ++ drop (4 + n) bytes ≡ bytes
 split_at bytes n =
     append_assoc (take 4 bytes) (take n (drop 4 bytes)) (drop (4 + n) bytes)
@@ -118,7 +118,7 @@ split_at bytes n =
     ∙ ap (λ (x : List ℕ). take 4 bytes ++ x) (take-append-drop n (drop 4 bytes))
     ∙ take-append-drop 4 bytes
 
--- bytes that begin with a whole record are its bytes and those behind it
+-- bytes that begin with a whole record are that record and the bytes after it
 pub record_in_front : (bytes : List ℕ) → IsBytes bytes → Starts bytes
     → bytes ≡ record_of (take (length_field bytes) (drop 4 bytes)) ++ drop (4 + length_field bytes) bytes
 record_in_front bytes each s =
@@ -128,7 +128,7 @@ record_in_front bytes each s =
     let field : to_be_bytes w32 (length payload) ≡ take 4 bytes = ap (to_be_bytes w32) size ∙ field_bytes bytes each s.field in
     sym (ap (λ (x : List ℕ). x ++ drop (4 + n) bytes) (record_of-is payload ∙ ap (λ (x : List ℕ). x ++ payload) field) ∙ split_at bytes n)
 
--- behind the length field stands the payload, behind that what follows
+-- the payload, and the bytes after it, follow the length field
 pub drop_field : (payload behind : List ℕ) → drop 4 (record_of payload ++ behind) ≡ payload ++ behind
 drop_field payload behind =
     ap (λ (x : List ℕ). drop 4 (x ++ behind)) (record_of-is payload)

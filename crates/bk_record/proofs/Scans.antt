@@ -1,4 +1,4 @@
--- What the scan of a set of files gives at a key.
+-- The payload that the scan gives a key.
 use Rattle.std.proofs.Common.{◌≡◌, ℕ, Option, Some, None, List, [], refl, sym, ap, ◌∙◌, subst, reverse, unwrap_or, option_map, arith}
 use Rattle.std.specs.List.{filter_map, flat_map}
 use Rattle.std.specs.FinMap as finite
@@ -15,7 +15,7 @@ use Rattle.bk_record.proofs.Keys.{key_cmp_total, key_cmp_antisymmetric}
 use Rattle.bk_record.proofs.Entries.{find-In, find-none, get-In, In-get, In-reverse, reverse-In}
 use Rattle.bk_record.proofs.Entries.{In-flat_map, flat_map-In, In-map, map-In, In-filter_map, filter_map-In}
 
--- a record of a file is one of all records, and these are the files'
+-- a record of a file is one of all records, and conversely
 pub record-all : (fs : Files) (place : Place) (payload : List ℕ) → HasRecord fs place payload → In (place, payload) (all_records fs)
 unfolding HasRecord all_records
 record-all fs place payload there =
@@ -54,7 +54,7 @@ pub scan-found : (fs : Files) (key : EntryKey) → finite.get (scan_of fs) key �
 unfolding scan_of
 scan-found fs key = finite.get-from_entries key_cmp_total (reverse (filter_map (λ r. keyed r.1) (all_records fs))) key
 
--- what a scan gives stands in a record of that key
+-- a payload that the scan gives is that of a record of the key
 pub scan-some : (fs : Files) (key : EntryKey) (payload : List ℕ) → finite.get (scan_of fs) key ≡ Some payload
     → (place : Place) × (HasRecord fs place payload × (key_of payload ≡ Some key))
 scan-some fs key payload is =
@@ -64,7 +64,7 @@ scan-some fs key payload is =
     let there = all-record fs from.0.0 from.0.1 from.1.0 in
     (from.0.0, (subst (λ (p : List ℕ). HasRecord fs from.0.0 p) same.1 there, ap key_of (sym same.1) ∙ same.0))
 
--- where it gives nothing, no record has that key
+-- if the scan gives nothing, no record has the key
 pub scan-none : (fs : Files) (key : EntryKey) (place : Place) (payload : List ℕ) → finite.get (scan_of fs) key ≡ None
     → HasRecord fs place payload → key_of payload ≡ Some key → ⊥
 scan-none fs key place payload is there has =

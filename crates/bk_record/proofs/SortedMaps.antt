@@ -1,4 +1,4 @@
--- Finite maps that are made of pairs in the order of their keys.
+-- Finite maps made of pairs in the order of their keys.
 use Rattle.std.proofs.Common.{◌≡◌, Bool, cond, List, [], length, None, refl, sym, ap, ◌∙◌}
 use Rattle.std.specs.declared.cmp.Ordering.{Ordering}
 use Rattle.std.specs.declared.cmp.Ordering.TheVariants.{Equal}
@@ -45,7 +45,7 @@ from_sorted-nil {X = X} R = empty_of_len _ (len-sorted {X = X} R [] refl)
 pub from_sorted-entries : {K X : Type 0} {R : K → K → Ordering} (m : FinMap R X) → from_sorted (map.entries m) ≡ m
 from_sorted-entries {R = R} m = same_entries_map _ m (entries-from_sorted R (map.entries m) (entries_sorted m))
 
--- the entries of keys that pass a test
+-- the entries whose keys pass a test
 pub entries-retain_keys : {K X : Type 0} {R : K → K → Ordering} → IsTotalOrder R → CmpEqualImpliesEq R → (m : FinMap R X) (p : K → Bool)
     → map.entries (map.retain_keys m p) ≡ filter (λ e. p e.0) (map.entries m)
 entries-retain_keys {R = R} o exact m p =

@@ -1,4 +1,5 @@
--- Pairs in the order of their keys: what stands at a place is what a look-up finds, and an edit there is one of the map.
+-- Pairs sorted by key, by position: a binary search finds what a look-up finds, and an edit at the
+-- position found edits the map.
 use Rattle.std.proofs.Common.{◌≡◌, ℕ, zero, suc, ◌<◌, ◌≤◌, Bool, true, false, T, cond, List, [], ◌∷◌, ◌++◌, length, drop, set, Some, None, slice_get, unwrap_or}
 use Rattle.std.proofs.Common.{refl, sym, ap, subst, ◌∙◌, arith}
 use Rattle.std.specs.declared.cmp.Ordering.{Ordering}
@@ -16,7 +17,7 @@ use Rattle.std.proofs.lemmas.Map.Keys.{IsDistinct-from_sorted}
 use Rattle.std.proofs.lemmas.Bool.{and_parts}
 use Rattle.std.specs.Cmp.Derive.{both_true}
 
--- a test that is true, in the two ways that std says it
+-- a true test, in the two forms of std
 pub passed : (b : Bool) → IsTrue b → T b
 passed b is = subst T (sym is) tt
 
@@ -32,7 +33,7 @@ less_from_test Greater e = cc
 pub Some-same : {A : Type 0} {x y : A} → Some x ≡ Some y → x ≡ y
 Some-same {x = x} e = ap (λ o. unwrap_or o x) e
 
--- what holds of each key holds of the one at a place
+-- a property of every key holds of the key at a position
 each_at : {K X : Type 0} (P : K → Type 0) (es : List (K × X)) (i : ℕ) (k : K) (v : X) → AllByRecursion P (keys_of es) → slice_get es i ≡ Some (k, v) → P k
 each_at P [] i k v all at = cc
 each_at P (e ∷ es) zero k v all at = subst P (ap (λ p. p.0) (Some-same at)) all.0
@@ -47,7 +48,7 @@ module _ {K X : Type 0} (R : K → K → Ordering) where
   below_each x [] below = tt
   below_each x (e ∷ es) below = let parts = and_parts _ _ below in (less_from_test _ parts.0, below_each x es parts.1)
 
-  -- the two ways to say that keys rise
+  -- two forms of being sorted by key
   pub keys_rise : (es : List (K × X)) → IsTrue (is_sorted R es) → IsStrictlySortedBy R (keys_of es)
   unfolding IsStrictlySortedBy
   keys_rise [] sorted = tt
@@ -57,19 +58,19 @@ module _ {K X : Type 0} (R : K → K → Ordering) where
   below_front k [] ys below = refl
   below_front k (x ∷ xs) ys below = let parts = and_parts _ _ below in both_true parts.0 (below_front k xs ys parts.1)
 
-  -- the first of some pairs in order are in order
+  -- a prefix of sorted pairs is sorted
   pub sorted_front : (xs ys : List (K × X)) → IsTrue (is_sorted R (xs ++ ys)) → IsTrue (is_sorted R xs)
   sorted_front [] ys sorted = refl
   sorted_front (x ∷ xs) ys sorted =
       let parts = and_parts _ _ sorted in both_true (below_front x.0 xs ys parts.0) (sorted_front xs ys parts.1)
 
 module _ {K X : Type 0} {R : K → K → Ordering} (o : IsTotalOrder R) where
-  -- what stands at a place is found
+  -- a look-up finds the pair at a position
   pub find_at : (es : List (K × X)) (i : ℕ) (k : K) (v : X) → IsTrue (is_sorted R es) → slice_get es i ≡ Some (k, v) → find R k es ≡ Some v
   find_at es i k v sorted at =
       find-lookup R k es ∙ lookup_from_place (eq_by_cmp_equiv o) es i k v (IsDistinct-from_sorted R _ (keys_rise R es sorted)) at
 
-  -- a key that would go to a place is not found
+  -- a look-up does not find a key that would be inserted at a position
   pub find_gap : (k : K) (es : List (K × X)) (i : ℕ) → ((j : ℕ) (e : K × X) → j < i → slice_get es j ≡ Some e → R e.0 k ≡ Less)
       → ((j : ℕ) (e : K × X) → i ≤ j → slice_get es j ≡ Some e → R e.0 k ≡ Greater) → IsTrue (is_sorted R es) → find R k es ≡ None
   find_gap k es i before behind sorted =
@@ -77,7 +78,7 @@ module _ {K X : Type 0} {R : K → K → Ordering} (o : IsTotalOrder R) where
       ∙ lookup_at_gap o k es i (keys_rise R es sorted) (λ j e lt at. o.antisymm k e.0 ∙ ap ordering_reverse (before j e lt at))
       (λ e at. o.antisymm k e.0 ∙ ap ordering_reverse (behind i e (omega arith) at))
 
-  -- to put a key into its gap is to insert it there
+  -- inserting a new key at its position
   pub put_gap : (k : K) (v : X) (es : List (K × X)) (i : ℕ) → ((j : ℕ) (e : K × X) → j < i → slice_get es j ≡ Some e → R e.0 k ≡ Less)
       → ((j : ℕ) (e : K × X) → i ≤ j → slice_get es j ≡ Some e → R e.0 k ≡ Greater) → i ≤ length es → put R k v es ≡ insert es i (k, v)
   put_gap k v [] zero before behind in_range = refl
@@ -89,7 +90,7 @@ module _ {K X : Type 0} {R : K → K → Ordering} (o : IsTotalOrder R) where
       (ap (λ rest. e ∷ rest) (put_gap k v es i (λ j e' lt at. before (suc j) e' (omega arith) at) (λ j e' le at. behind (suc j) e' (omega arith) at)
       (omega arith)))
 
-  -- to put a key that stands at a place is to write over its value
+  -- overwriting the value of the key at a position
   pub put_at : (k : K) (v w : X) (es : List (K × X)) (i : ℕ) → IsTrue (is_sorted R es) → slice_get es i ≡ Some (k, v) → put R k w es ≡ set es i (k, w)
   put_at k v w [] i sorted at = cc
   put_at k v w (e ∷ es) zero sorted at =
@@ -103,7 +104,7 @@ module _ {K X : Type 0} {R : K → K → Ordering} (o : IsTotalOrder R) where
   pub is_sorted_put : (k : K) (v : X) (es : List (K × X)) → IsTrue (is_sorted R es) → IsTrue (is_sorted R (put R k v es))
   is_sorted_put k v es sorted = is_true _ (is_sorted-put R o k v es (passed _ sorted))
 
-  -- the pairs behind a key that stands at a place are those after it
+  -- in sorted pairs all keys after the key at a position are greater
   all_behind : (k : K) (es : List (K × X)) → AllByRecursion (λ y. R k y ≡ Less) (keys_of es) → filter (λ e. is_lt (R k e.0)) es ≡ es
   all_behind k [] all = refl
   all_behind k (e ∷ es) all = rw all.0 (ap (λ rest. e ∷ rest) (all_behind k es all.1))

@@ -1,4 +1,4 @@
--- Each list of bytes is a body in one way, or bad at one place.
+-- Every list of bytes is a body in one way, or bad at one position.
 use Rattle.std.proofs.Common.{◌≡◌, ◌⊎◌, inl, inr, ℕ, zero, suc, ◌+◌, ◌-◌, ◌<◌, ◌≤◌, ◌^◌, ℤ, pos, ◌<ℤ◌, List, [], ◌∷◌, ◌++◌, length, take, drop, true, false}
 use Rattle.std.proofs.Common.{refl, sym, ap, ◌∙◌, subst, arith, length-append, append_assoc, length-drop}
 use Rattle.std.proofs.Math.Decide.{dec_le}
@@ -14,7 +14,7 @@ use Rattle.bk_record.proofs.Records.{IsBytes, bytes_drop, starts_when, starts_on
 use Rattle.bk_record.proofs.Bodies.{pieces-body, leftover-body, pieces-stop, leftover-stop, pieces-step, leftover-step, body_record, body_append}
 use Rattle.bk_record.proofs.Pieces.{signed_below}
 
--- what follows where no whole record begins: nothing, a torn record, or a bad length
+-- bytes that do not begin with a whole record: none, a torn record, or a bad length
 not_started : (bytes : List ℕ) → starts_with_record bytes ≡ false
     → (bytes ≡ []) ⊎ (IsTorn bytes ⊎ ((4 ≤ length bytes) × ((length_field bytes < 16) ⊎ (2 ^ 31 ≤ length_field bytes))))
 not_started [] is = inl refl
@@ -42,7 +42,7 @@ signed_field-append : (field behind : List ℕ) → length field ≡ 4 → signe
 signed_field-append field behind four =
     signed_field-is (field ++ behind) ∙ ap (cast_signed w32) (length_field-append field behind four) ∙ sym (signed_field-is field)
 
--- a record's length is not below 16
+-- a valid length is not below 16, also as a signed number
 pub not_below : (bytes : List ℕ) → 16 ≤ length_field bytes → length_field bytes < 2 ^ 31 → signed_field bytes <ℤ pos 16 → ⊥
 not_below bytes least most below =
     let same : signed_field bytes ≡ pos (length_field bytes) = signed_field-is bytes ∙ to_z_pos w32 (length_field bytes) most in
@@ -52,7 +52,7 @@ not_below bytes least most below =
 low_signed : (bytes : List ℕ) → (length_field bytes < 16) ⊎ (2 ^ 31 ≤ length_field bytes) → signed_field bytes <ℤ pos 16
 low_signed bytes low = subst (λ (v : ℤ). v <ℤ pos 16) (sym (signed_field-is bytes)) (signed_below (length_field bytes) low)
 
--- ---- bytes that are bad at a place
+-- ---- bytes that are bad at a position
 
 pub bad_first : (from : ℕ) (bytes : List ℕ) → 4 ≤ length bytes → signed_field bytes <ℤ pos 16 → IsBadAt from bytes from (signed_field bytes)
 bad_first from bytes four low =
@@ -70,7 +70,7 @@ bad_first from bytes four low =
       place = omega arith;
     }
 
--- the same behind whole records
+-- whole records, then bad bytes
 pub bad_append : {from : ℕ} {front : List ℕ} {records : List (ℕ × List ℕ)} (behind : List ℕ) (at : ℕ) (value : ℤ) → Body from front records []
     → IsBadAt (from + length front) behind at value → IsBadAt from (front ++ behind) at value
 bad_append {from = from} {front = front} {records = records} behind at value body bad =
@@ -88,7 +88,7 @@ bad_append {from = from} {front = front} {records = records} behind at value bod
       place = omega (arith, bad.place, length-append front bad.before);
     }
 
--- whole records in front are passed over
+-- whole records do not change the rest
 leftover-behind : (most : ℕ) {from : ℕ} {before left : List ℕ} {records : List (ℕ × List ℕ)} (tail : List ℕ) → Body from before records left → left ≡ []
     → length (before ++ tail) ≤ most → starts_with_record tail ≡ false → leftover most (before ++ tail) ≡ tail
 leftover-behind most tail (done) nothing enough is = leftover-stop most tail is
@@ -123,7 +123,7 @@ module _ (from : ℕ) (bytes : List ℕ) (at : ℕ) (value : ℤ) (bad : IsBadAt
   tail_starts : starts_with_record (bad.field ++ bad.behind) ≡ false
   tail_starts = starts_false _ (λ s. not_below _ s.least s.most tail_below)
 
-  -- the bad length and what follows it are what is left
+  -- the computed rest begins with the bad length
   all_leftover-bad : all_leftover bytes ≡ bad.field ++ bad.behind
   all_leftover-bad =
       ap (leftover (length bytes)) split_bytes
@@ -155,7 +155,7 @@ never_both from bytes records rest at value body bad =
       | inr is ↦ tail_torn from bytes at value bad (subst IsTorn left is)
     ]
 
--- the bytes spell what is computed of them, or are bad somewhere
+-- the bytes are a body with the computed records and rest, or they are bad
 abbrev Told : ℕ → ℕ → List ℕ → Type 0
 Told most from bytes = Body from bytes (pieces most from bytes) (leftover most bytes) ⊎ ((at : ℕ) × ((value : ℤ) × IsBadAt from bytes at value))
 

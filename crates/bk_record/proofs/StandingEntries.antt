@@ -1,4 +1,4 @@
--- One entry stands at a place.
+-- One entry is at each place.
 use Rattle.std.proofs.Common.{◌≡◌, ℕ, List, sym, ap, ◌∙◌}
 use Rattle.bk_record.specs.Key.{EntryKey}
 use Rattle.bk_record.specs.Location.{Place}
@@ -8,7 +8,7 @@ use Rattle.bk_record.specs.Entry.{HasKeyedRecord}
 use Rattle.bk_record.proofs.Places.{one_record}
 use Rattle.bk_record.proofs.SortedPairs.{Some-same}
 
--- at a place stands one entry
+-- there is one entry at a place
 pub one_entry : (files : Files) (place : Place) (key other : EntryKey) (a b : List ℕ) → HasKeyedRecord files place key a → HasKeyedRecord files place other b
     → (key ≡ other) × (a ≡ b)
 one_entry files place key other a b here there =

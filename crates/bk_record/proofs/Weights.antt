@@ -1,4 +1,4 @@
--- Sums over the entries of a finite map, each entry with a weight: what insertions and removals do to them.
+-- Sums of weights over the entries of a finite map, after insertions and removals.
 use Rattle.std.proofs.Common.{◌≡◌, ℕ, ◌+◌, ◌≤◌, cond, Option, Some, None, List, [], ◌∷◌, Bool, not, inl, inr, IsSome, is_some}
 use Rattle.std.proofs.Common.{refl, sym, ap, ◌∙◌, subst, arith, T}
 use Rattle.std.specs.declared.cmp.Ordering.{Ordering}
@@ -18,12 +18,12 @@ use Rattle.bk_record.proofs.SortedMaps.{entries-retain_keys}
 use Rattle.bk_record.specs.Files.{In}
 
 module _ {K X : Type 0} {R : K → K → Ordering} (total : IsTotalOrder R) (same : IsAntisymmetric R) (weigh : K × X → ℕ) where
-  -- what an entry of a key weighs, nothing where there is none
+  -- weight of a key's entry, 0 if it has none
   abbrev pub weight_at : K → Option X → ℕ
   weight_at k None = 0
   weight_at k (Some v) = weigh (k, v)
 
-  -- a key that comes before all is not found
+  -- a key below all others is not found
   find-below : (k : K) (e : K × X) (es : List (K × X)) → R k e.0 ≡ Less → T (is_sorted R (e ∷ es)) → find R k es ≡ None
   find-below k e es before sorted = elim (find R k es) as (λ o. find R k es ≡ o → o ≡ None) [
     | None ↦ λ _. refl
@@ -62,7 +62,7 @@ module _ {K X : Type 0} {R : K → K → Ordering} (total : IsTotalOrder R) (sam
       let found : weight_at k (finite.get m k) ≡ weight_at k (find R k (finite.entries m)) = ap (weight_at k) (finite.get-entries m k) in
       omega (arith, put_in, found, sum-put k v (finite.entries m) (finite.entries_sorted m))
 
-  -- the keys that pass a test and those that do not weigh what all weigh
+  -- the weights of the keys that pass a test and of the others add up
   pub weight-retain_keys : (m : finite.FinMap R X) (p q : K → Bool) → ((k : K) → q k ≡ not (p k))
       → weight (finite.retain_keys m p) + weight (finite.retain_keys m q) ≡ weight m
   weight-retain_keys m p q other =
@@ -81,7 +81,7 @@ module _ {K X : Type 0} {R : K → K → Ordering} (total : IsTotalOrder R) (sam
         omega (arith, gone, none, ap weight (insert-remove total same m k v there))
   ] refl
 
-  -- a map that has the entries of two without a common key weighs what both weigh
+  -- the weight of a disjoint union is the sum of the weights
   pub weight-union : (u m n : finite.FinMap R X) → ((q : K) → finite.get u q ≡ option_or (finite.get n q) (finite.get m q))
       → ((q : K) → IsSome (finite.get n q) → finite.get m q ≡ None) → weight u ≡ weight m + weight n
   weight-union u m n is apart =
@@ -102,7 +102,7 @@ module _ {K X : Type 0} {R : K → K → Ordering} (total : IsTotalOrder R) (sam
       left None b none = refl
       left (Some v) b none = sym (none refl)
 
-  -- entries that weigh nothing
+  -- if every entry weighs 0, so does the map
   pub weight-none : (m : finite.FinMap R X) → ((k : K) (v : X) → finite.get m k ≡ Some v → weigh (k, v) ≡ 0) → weight m ≡ 0
   weight-none m none = sum_none (finite.entries m) (λ k v there. none k v (In-get total same m k v there))
     where
@@ -116,6 +116,6 @@ module _ {K X : Type 0} {R : K → K → Ordering} (total : IsTotalOrder R) (sam
       never : (k : K) (v : X) → None ≡ Some v → weigh (k, v) ≡ 0
       never k v e = cc
 
-  -- an entry weighs at most what all weigh
+  -- an entry weighs at most as much as the map
   pub weight-le : (m : finite.FinMap R X) (k : K) (v : X) → finite.get m k ≡ Some v → weigh (k, v) ≤ weight m
   weight-le m k v is = omega (arith, weight-remove m k, ap (weight_at k) is)

@@ -1,22 +1,22 @@
--- How bytes are read as a body: in one way, or as bad at one place.
+-- Theorem: bytes parse as a body in one way, or they are bad at one position (`IsReadOneWay`).
 use Rattle.std.specs.Prelude.{◌≡◌, ℕ, ◌+◌, ◌-◌, ◌<◌, ℤ, List, length, slice_index, ◌⊎◌}
 use Rattle.bk_record.specs.Record.{signed_field}
 use Rattle.bk_record.specs.Body.{Body, IsBadAt, pieces, leftover}
 
--- each number is a byte
+-- every number is below 256
 abbrev pub IsBytes : List ℕ → Type 0
 IsBytes bytes = (i : ℕ) → slice_index bytes i < 256
 
--- all records of the bytes that stand from a position on, computed
+-- all records of the bytes from a position on, computed
 abbrev pub all_pieces : ℕ → List ℕ → List (ℕ × List ℕ)
 all_pieces from bytes = pieces (length bytes) from bytes
 
--- what is left behind them, computed
+-- bytes after them, computed
 abbrev pub all_leftover : List ℕ → List ℕ
 all_leftover bytes = leftover (length bytes) bytes
 
--- The relation and the computed lists agree: the bytes spell the computed records and rest and no others, or they are
--- bad where the computed rest begins, with the length that stands there, and nowhere else; never both.
+-- Either the bytes are a body with exactly the computed records and rest, or they are bad at the
+-- start of the computed rest, with the length that is there.
 pub record IsReadOneWay (from : ℕ) (bytes : List ℕ) : Type 0 where
   pub spelled_or_bad : Body from bytes (all_pieces from bytes) (all_leftover bytes)
       ⊎ IsBadAt from bytes (from + (length bytes - length (all_leftover bytes))) (signed_field (all_leftover bytes))

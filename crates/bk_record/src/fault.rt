@@ -1,20 +1,20 @@
-//! Why bytes are no entry.
+//! Errors of keys, payloads and records.
 
 use thiserror::Error;
 
 /// Why a payload is refused, or could not be written.
 #[derive(Clone, Copy, Debug, PartialEq, Eq, Error)]
 pub enum RecordFault {
-    /// The payload has this many bytes: fewer than the 16 of its two ids.
+    /// The payload has this many bytes, fewer than the 16 of its two ids.
     #[error("short {0}")]
     Short(u64),
-    /// The ledger id or the entry id, read as a signed number, is negative.
+    /// The ledger id or the entry id is negative as a signed number.
     #[error("negative number")]
     Negative,
-    /// The payload of an add has this many bytes: more than 5,000,000.
+    /// The payload of an add has this many bytes, more than 5,000,000.
     #[error("too long {0}")]
     TooLong(u64),
-    /// No memory was to be had.
+    /// Out of memory.
     #[error("memory")]
     Memory,
 }

@@ -1,4 +1,4 @@
-//! The key of an entry: two ids, each from 0 to 2^63 - 1.
+//! The key of an entry: its ledger id and its entry id.
 
 ghost use Rattle.std.specs.Prelude.{◌≡◌, ◌<◌, ◌^◌};
 ghost use Rattle.std.proofs.Common.{rules};
@@ -10,8 +10,8 @@ ghost use Rattle.bk_record.specs.Key.{key_cmp};
 use std::cmp::Ordering;
 use std::marker::Model;
 
-/// The ledger and the entry id of an entry, each from 0 to 2^63 - 1. Keys are in order of ledger, then entry (this
-/// project's rule).
+/// Ledger id and entry id of an entry, each from 0 to 2^63 - 1. Keys are ordered by ledger, then
+/// entry (project rule).
 #[derive(Clone, Copy, Debug, PartialEq, Eq)]
 pub struct Key {
     ledger: u64,
@@ -34,7 +34,7 @@ impl Model for Key {
 impl Key {
     ghost use Rattle.std.specs.Option.{SomeIff};
 
-    /// The key of these ids, `None` where one of them is past 2^63 - 1 (this project's rule).
+    /// Returns the key of these ids, or `None` if one of them exceeds 2^63 - 1 (project rule).
     pub fn new(ledger: u64, entry: u64) -> Option<Key>
         ensures { SomeIff result ((ledger < 2 ^ 63) × (entry < 2 ^ 63)) (record { ledger = ledger; entry = entry }) }
     {
@@ -45,7 +45,7 @@ impl Key {
         }
     }
 
-    /// The ledger's id.
+    /// Returns the ledger id.
     pub fn ledger(&self) -> u64
         ensures value { result ≡ self.now.ledger }
         ensures bound { result < 2 ^ 63 }
@@ -53,7 +53,7 @@ impl Key {
         self.ledger
     }
 
-    /// The entry's id in its ledger.
+    /// Returns the entry id.
     pub fn entry(&self) -> u64
         ensures value { result ≡ self.now.entry }
         ensures bound { result < 2 ^ 63 }

@@ -1,4 +1,4 @@
-//! Keys, locations and records: what one entry of an entry log is, and how its bytes are written and read.
+//! Keys, locations and records of entry logs: how the bytes of one entry are written and read.
 #![tactic(auto)]
 
 mod fault;
@@ -8,8 +8,6 @@ mod laws;
 mod location;
 mod piece;
 mod record;
-#[cfg(test)]
-mod tests;
 
 pub use fault::RecordFault;
 pub use format::{

@@ -1,13 +1,13 @@
-//! Where an entry stands: a log and a position in its file.
+//! The location of an entry: a log and a position in its file.
 
 ghost use Rattle.std.specs.Prelude.{◌≡◌, ◌<◌, ◌≤◌, ◌^◌};
 
 use crate::{HEADER_LENGTH, LENGTH_FIELD};
 use std::marker::Model;
 
-/// The place of an entry's payload: the id of its log, from 0 to 2^31 - 1, and the position of the payload's first
-/// byte in the log's file, from 1028 on. The position is the one behind the length field, as in the BookKeeper entry
-/// log format.
+/// Location of a payload: the log's id, from 0 to 2^31 - 1, and the position in bytes of the
+/// payload's first byte in the log's file, from 1028. The length field is before that position
+/// (BookKeeper entry log format).
 #[derive(Clone, Copy, Debug, PartialEq, Eq)]
 pub struct Location {
     log: u32,
@@ -31,11 +31,11 @@ impl Location {
     ghost use Rattle.std.specs.Option.{SomeIff};
     ghost use Rattle.bk_record.specs.Location.{packed};
 
-    /// The least position that a payload can have: a header of 1024 bytes and a length field stand before it.
+    /// Least position of a payload in bytes: a header and a length field are before it.
     pub const FIRST: u32 = (HEADER_LENGTH + LENGTH_FIELD) as u32;
 
-    /// The location of a payload at position `at` of log `log`. `None` where the log's id is past 2^31 - 1 or the
-    /// position is below 1028, where no payload can stand.
+    /// Returns the location of the payload at position `at` of log `log`, or `None` if `log`
+    /// exceeds 2^31 - 1 or `at` is below 1028.
     pub fn pack(log: u32, at: u32) -> Option<Location>
         ensures { SomeIff result ((log < 2 ^ 31) × (1028 ≤ at)) (record { log = log; at = at }) }
     {
@@ -46,7 +46,7 @@ impl Location {
         }
     }
 
-    /// The log's id.
+    /// Returns the log's id.
     pub fn log(&self) -> u32
         ensures value { result ≡ self.now.log }
         ensures bound { result < 2 ^ 31 }
@@ -54,7 +54,7 @@ impl Location {
         self.log
     }
 
-    /// The position of the payload's first byte in the log's file.
+    /// Returns the position of the payload's first byte in the log's file.
     pub fn at(&self) -> u32
         ensures value { result ≡ self.now.at }
         ensures bound { 1028 ≤ result }
@@ -62,7 +62,8 @@ impl Location {
         self.at
     }
 
-    /// The location as one number, the log's id in its upper 32 bits, the position in its lower 32.
+    /// Returns the location as one number: the log's id in the upper 32 bits, the position in the
+    /// lower 32 (BookKeeper entry log format).
     pub fn value(&self) -> u64
         ensures { result ≡ packed self.now }
     {

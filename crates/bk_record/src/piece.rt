@@ -1,4 +1,4 @@
-//! Reading records: the piece that stands at a position of an entry log's bytes, whatever the bytes are.
+//! Parsing of records: the piece at a position of an entry log's bytes, for any bytes.
 
 ghost use Rattle.std.specs.Prelude.{◌≤◌, length};
 ghost use Rattle.bk_record.specs.Piece.{IsPieceAt};
@@ -7,25 +7,28 @@ use crate::record::key_of;
 use crate::{IDS_LENGTH, LENGTH_FIELD, MAX_PAYLOAD};
 use byteorder::{BigEndian, ByteOrder};
 
-/// What stands at a position of an entry log's bytes. Positions are counted in the bytes that were read.
+/// The piece at a position of an entry log's bytes. Positions count bytes from the start of the
+/// slice that was read.
 #[derive(Clone, Copy, Debug, PartialEq, Eq)]
 pub enum Piece {
-    /// A whole record with a key; its payload lies from `from` to `to`.
+    /// A whole record with a key. Its payload is the bytes from `from` up to, not including, `to`.
     Whole { from: usize, to: usize },
-    /// A whole record without a key, such as a batch of a ledgers map; it ends at `to` (that it is no entry is this
-    /// project's rule).
+    /// A whole record without a key, such as a batch of a ledgers map. It ends before `to`. It is
+    /// not an entry (project rule).
     Foreign { to: usize },
-    /// Fewer bytes are left than the length field or its record needs; `rest` is their number (that this is no fault is
-    /// this project's rule).
+    /// Fewer bytes are left than the length field or its record needs; `rest` is their number. This
+    /// is no error (project rule).
     Torn { rest: usize },
-    /// The four bytes at position `at` are a length below 16, as a signed number (this project's rule).
+    /// The four bytes at position `at` are a length below 16, as a signed number (project rule).
     Bad { at: usize, length: i32 },
     /// No byte is left.
     End,
 }
 
-/// The piece of an entry log that stands at position `pos`, which is at most the length of the bytes. Each list of
-/// bytes has one at each position, so a reader goes from `to` to `to` until the answer is `Torn`, `Bad` or `End`.
+/// Returns the piece at position `pos`, which is at most the length of `bytes`.
+///
+/// There is one piece at each position. To read all records, continue at `to` until the piece is
+/// `Torn`, `Bad` or `End`.
 pub fn read_record(bytes: &[u8], pos: usize) -> Piece
     requires { pos ≤ length bytes.now }
     ensures { IsPieceAt bytes.now pos result }

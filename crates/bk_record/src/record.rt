@@ -1,4 +1,4 @@
-//! A payload, its key, and its record: the length in four bytes, big-endian, then the payload.
+//! Payloads and their records: a length in four bytes, big-endian, then the payload.
 
 ghost use Rattle.std.specs.Prelude.{◌≡◌, ◌++◌, OnOk, OnErr, IsOkUnless, length, Result};
 ghost use Rattle.bk_record.specs.Record.{record_of, IsPayload, read_key, read_added};
@@ -7,10 +7,15 @@ ghost use Rattle.bk_record.specs.declared.fault.RecordFault.TheVariants.{Memory}
 use crate::{IDS_LENGTH, Key, LENGTH_FIELD, MAX_ADDED, RecordFault};
 use byteorder::{BigEndian, ByteOrder};
 
-/// The key of a payload: the ledger id in its first eight bytes, the entry id in the next eight, both big-endian.
+/// Returns the key of a payload: the ledger id in its first eight bytes, the entry id in the next
+/// eight, both big-endian (BookKeeper entry log format).
 ///
-/// Faults, tried in this order: `Short` with the length where the payload has fewer than 16 bytes, `Negative` where
-/// an id, read as a signed number, is negative (this project's rule).
+/// # Errors
+///
+/// In this order (project rules):
+///
+/// - `Short` with the length in bytes, if the payload has fewer than 16 bytes.
+/// - `Negative` if an id is negative as a signed number.
 #[tactic(auto, unfolding(crate::specs::Record::read_key, crate::specs::Record::key_of, crate::specs::Record::ledger_field, crate::specs::Record::entry_field))]
 pub fn key_of(payload: &[u8]) -> Result<Key, RecordFault>
     ensures { result ≡ read_key payload.now }
@@ -26,8 +31,14 @@ pub fn key_of(payload: &[u8]) -> Result<Key, RecordFault>
     }
 }
 
-/// The key of a payload that is to be added: as `key_of`, and then `TooLong` with the length where the payload has
-/// more than 5,000,000 bytes (this project's rule).
+/// Returns the key of a payload to be added.
+///
+/// # Errors
+///
+/// In this order (project rules):
+///
+/// - those of `key_of`;
+/// - `TooLong` with the length in bytes, if the payload has more than 5,000,000 bytes.
 #[tactic(auto, unfolding(crate::specs::Record::read_added))]
 pub fn check_add(payload: &[u8]) -> Result<Key, RecordFault>
     ensures { result ≡ read_added payload.now }
@@ -38,8 +49,12 @@ pub fn check_add(payload: &[u8]) -> Result<Key, RecordFault>
     }
 }
 
-/// Appends the record of a payload: its length in four bytes, big-endian, then its bytes (the BookKeeper entry log
-/// format). `Memory`, the only fault, leaves `out` as it was.
+/// Appends the record of a payload to `out`: its length in four bytes, big-endian, then its bytes
+/// (BookKeeper entry log format). Requires a payload of 16 to 2^31 - 1 bytes.
+///
+/// # Errors
+///
+/// - `Memory` if `out` cannot grow; `out` is unchanged.
 #[tactic(auto, unfolding(crate::specs::Record::record_of))]
 pub fn write_record(payload: &[u8], out: &mut Vec<u8>) -> Result<(), RecordFault>
     requires { IsPayload payload.now }

@@ -1,4 +1,5 @@
--- Lines of a form: their first words are words and printable, and a word and its numbers make one step.
+-- Lines of a form: the words of `forms` have no space and are printable, and a word and its numbers
+-- make at most one step.
 use Rattle.std.proofs.Common.{◌≡◌, ℕ, ◌<◌, ◌≤◌, ◌^◌, Bool, true, not, eqb, List, [], ◌∷◌, length, Option, Some, None}
 use Rattle.std.proofs.Common.{All, arith, refl, subst}
 use Rattle.std.specs.Prelude.{bytes_eq, find, option_and_then, if◌then◌else◌, nat_le}
@@ -12,7 +13,7 @@ use Rattle.bk_script.specs.Line.{IsPrintable, IsWord, Form, forms, form_of, fits
 use Rattle.bk_script.proofs.Words.{IsWord-from_test}
 use Rattle.bk_script.proofs.Printable.{printable_test}
 
--- a form that is found has the word that was looked for
+-- A form that is found has the word that was searched for.
 same_word : (word : List ℕ) (fs : List Form) (f : Form) → find (λ (g : Form). bytes_eq word g.word) fs ≡ Some f → word ≡ f.word
 same_word word [] f is = cc
 same_word word (g ∷ fs) f is =
@@ -21,7 +22,7 @@ same_word word (g ∷ fs) f is =
     (λ same. λ first. let e : g ≡ f = cc in subst (λ (h : Form). word ≡ h.word) e ((bytes_eq-Decides word g.word).0 same))
     (λ _. λ later. same_word word fs f later) is
 
--- a form that is found passes each test that all pass
+-- A form that is found passes each test that all forms pass.
 form_tested : (word : List ℕ) (test : Form → Bool) (fs : List Form) (f : Form) → list_all test fs ≡ true
     → find (λ (g : Form). bytes_eq word g.word) fs ≡ Some f → test f ≡ true
 form_tested word test [] f all is = cc
@@ -31,7 +32,7 @@ form_tested word test (g ∷ fs) f all is =
     cond_both (bytes_eq word g.word) (Some g) (find (λ (h : Form). bytes_eq word h.word) fs) P (λ same. λ first. let e : g ≡ f = cc in subst (λ (h : Form). test h ≡ true) e parts.0)
     (λ _. λ later. form_tested word test fs f parts.1 later) is
 
--- the tests of all words are one computation
+-- The tests of all words are one computation.
 words_are : list_all (λ (g : Form). list_all (λ byte. not (eqb byte 32)) g.word) forms ≡ true
 words_are = refl
 
@@ -58,7 +59,7 @@ most_small readers id few = omega arith
 most_small readers log few = omega arith
 most_small readers count few = omega arith
 
--- numbers that fit are as many as the ranges, and none is past 64 bits
+-- There are as many fitting numbers as ranges, and none exceeds 64 bits.
 fit_small : (readers : ℕ) (ranges : List Range) (numbers : List ℕ) → readers < 2 ^ 32 → fits readers ranges numbers ≡ true
     → All (λ n. n < 2 ^ 64) numbers × (length numbers ≡ length ranges)
 fit_small readers [] [] few fit = (λ k d inside. absurd (omega (arith, inside)), refl)
@@ -79,7 +80,7 @@ found_form readers numbers step (Some f) is =
     let P : Option Step → Type 0 = λ made. made ≡ Some step → (g : Form) × (Some f ≡ Some g) × (fits readers g.ranges numbers ≡ true) in
     cond_both (fits readers f.ranges numbers) (Some (f.step numbers)) None P (λ fit. λ _. (f, refl, fit)) (λ _. λ none. cc) is
 
--- what is known of a word and numbers that ask for a step
+-- Facts about a word and numbers that make a step.
 pub record HasForm (name numbers : List ℕ) : Type 0 where
   pub word : IsWord name
   pub shown : All IsPrintable name

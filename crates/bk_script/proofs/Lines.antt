@@ -1,4 +1,4 @@
--- Lines that add an entry, put together from their parts.
+-- Lines that add an entry, from their parts.
 use Rattle.std.proofs.Common.{◌≡◌, ◌≢◌, ℕ, ◌<◌, ◌≤◌, ◌^◌, List, [], ◌∷◌, ◌++◌, replicate, codes, Option, Some, All, Result, Ok, Err, arith, sym, ◌∙◌}
 use Rattle.std.specs.Fmt.{decimal}
 use Rattle.std.specs.Result.{IfOk, MatchResult}
@@ -35,7 +35,7 @@ spelled_add_text readers kind ledger entry text behind last (Ok step) low high a
     rw (e, f) (add_text kind {ledger = ledger} {entry = entry} low high some all' is)
 spelled_add_text readers kind ledger entry text behind last (Err fault) low high all e f some is = tt
 
--- what stands behind the first number of an add, and the words there
+-- The rest after the first number of an add, and the words in it.
 pub add_behind : (text behind : List ℕ) (n : ℕ) (t : IsAddText text) → n < 2 ^ 64 → text ≡ decimal n ++ 32 ∷ behind
     → behind ≡ followed (decimal t.entry) t.rest
 add_behind text behind n t small is =

@@ -1,18 +1,18 @@
--- Numbers with one space between: they are read in one way, and what is known of a text that is none.
+-- A text parses as at most one list of numbers. Facts about a text that is not such a list.
 use Rattle.std.proofs.Common.{◌≡◌, ◌≢◌, ℕ, ◌+◌, ◌<◌, ◌≤◌, ◌^◌, List, [], ◌∷◌, ◌++◌, length, Some, All, arith, refl}
 use Rattle.std.specs.Fmt.{decimal}
 use Rattle.std.proofs.lemmas.List.Elements.{All-head, All-tail}
 use Rattle.bk_script.specs.Line.{followed, numbered}
 use Rattle.bk_script.proofs.Words.{numbers-injective}
 
--- the first of such numbers, and the others
+-- The first of the numbers, and the others.
 pub first_small : (n : ℕ) (numbers : List ℕ) → All (λ n. n < 2 ^ 64) (n ∷ numbers) → n < 2 ^ 64
 first_small n numbers small = All-head (λ (n : ℕ). n < 2 ^ 64) n numbers small
 
 pub others_small : (n : ℕ) (numbers : List ℕ) → All (λ n. n < 2 ^ 64) (n ∷ numbers) → All (λ n. n < 2 ^ 64) numbers
 others_small n numbers small = All-tail (λ (n : ℕ). n < 2 ^ 64) n numbers small
 
--- numbers are read in one way
+-- A text is at most one list of numbers.
 pub numbered-injective : (ms ns : List ℕ) → All (λ n. n < 2 ^ 64) ms → All (λ n. n < 2 ^ 64) ns → numbered ms ≡ numbered ns → ms ≡ ns
 numbered-injective [] [] low high e = refl
 numbered-injective [] (n ∷ ns) low high e = cc
@@ -23,7 +23,7 @@ numbered-injective (m ∷ ms) (n ∷ ns) low high e =
     let rest = numbered-injective ms ns (others_small m ms low) (others_small n ns high) same.1 in
     rw (same.0, rest) refl
 
--- what stands behind the first number and a space are the others
+-- The other numbers are the rest after the first one and a space.
 pub record AreOthers (text : List ℕ) (numbers : List ℕ) : Type 0 where
   pub others : List ℕ
   pub is : Some text ≡ numbered others
@@ -38,7 +38,7 @@ others_of text behind first (n ∷ numbers) low is small e =
     let same = numbers-injective first n (Some behind) (numbered numbers) low (first_small n numbers small) whole in
     record { others = numbers; is = same.1; small = others_small n numbers small; fewer = omega arith }
 
--- a text that is no number, with or without something behind it, is no numbers
+-- A text whose first word is not a number is not a list of numbers.
 pub no_numbers : (text : List ℕ) → ((n : ℕ) (rest : List ℕ) → n ≤ 18446744073709551615 → text ≢ decimal n ++ 32 ∷ rest)
     → ((n : ℕ) → n ≤ 18446744073709551615 → text ≢ decimal n) → (numbers : List ℕ) → All (λ n. n < 2 ^ 64) numbers → Some text ≢ numbered numbers
 no_numbers text none_first none [] small e = cc
@@ -46,7 +46,7 @@ no_numbers text none_first none (n ∷ []) small e = none n (let low = first_sma
 no_numbers text none_first none (n ∷ m ∷ numbers) small e =
     none_first n (followed (decimal m) (numbered numbers)) (let low = first_small n (m ∷ numbers) small in omega arith) cc
 
--- a text that is no number is not one number
+-- A text that is not a number is not one number.
 pub no_number : (text : List ℕ) → ((n : ℕ) → n ≤ 18446744073709551615 → text ≢ decimal n) → (numbers : List ℕ)
     → All (λ n. n < 2 ^ 64) numbers → length numbers ≤ 1 → Some text ≢ numbered numbers
 no_number text none [] small few e = cc

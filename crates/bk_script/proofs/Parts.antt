@@ -1,4 +1,4 @@
--- A line that spells a step: what stands behind its first word and a space.
+-- The rest of a line that encodes a step, after its first word and a space.
 use Rattle.std.proofs.Common.{◌≡◌, ◌≢◌, ℕ, ◌<◌, ◌≤◌, ◌^◌, List, [], ◌∷◌, ◌++◌, codes, slice_index, Option, Some}
 use Rattle.std.proofs.Common.{None, All, arith, refl, sym, ◌∙◌, ap, subst}
 use Rattle.std.specs.Fmt.{decimal}
@@ -14,7 +14,7 @@ use Rattle.bk_script.proofs.Printable.{printable_test, printable_decimal, follow
 use Rattle.bk_script.proofs.Numbered.{first_small, others_small, numbered-injective}
 use Rattle.bk_script.proofs.Forms.{HasForm, formed_has}
 
--- what stands behind the word of an add and a space
+-- The rest of an add.
 pub record IsAddText (text : List ℕ) : Type 0 where
   pub ledger : ℕ
   pub entry : ℕ
@@ -24,7 +24,7 @@ pub record IsAddText (text : List ℕ) : Type 0 where
   pub some : rest ≢ Some []
   pub is : text ≡ followed (decimal ledger) (Some (followed (decimal entry) rest))
 
--- what stands behind `pad` and a space
+-- The rest of a `pad`.
 pub record IsPadText (text : List ℕ) : Type 0 where
   pub ledger : ℕ
   pub entry : ℕ
@@ -34,7 +34,7 @@ pub record IsPadText (text : List ℕ) : Type 0 where
   pub size_fits : size ≤ max_pad
   pub is : Some text ≡ numbered (ledger ∷ entry ∷ size ∷ [])
 
--- the kinds of line
+-- The kinds of lines.
 data Kinds (readers : ℕ) (line : List ℕ) (step : Step) : Type 0 where
   is_form : IsFormed readers line step → Kinds readers line step
   is_add : (kind : AddKind) (text : List ℕ) → line ≡ followed (add_word kind) (Some text) → IsAddText text → Kinds readers line step
@@ -57,7 +57,7 @@ printable_add : (kind : AddKind) → All IsPrintable (add_word kind)
 printable_add Ordinary = printable_test (codes "add") refl
 printable_add Recovery = printable_test (codes "radd") refl
 
--- the word of an add is of no form, and not that of a pad
+-- The word of an add is not the word of a form, and not `pad`.
 add_unformed : (readers : ℕ) (kind : AddKind) (numbers : List ℕ) (step : Step) → ¬ (formed readers (add_word kind) numbers ≡ Some step)
 add_unformed readers Ordinary numbers step is = let none : None ≡ Some step = is in cc
 add_unformed readers Recovery numbers step is = let none : None ≡ Some step = is in cc
@@ -73,7 +73,7 @@ no_add name not_add not_radd Recovery = not_radd
 IsWord-pad : IsWord (codes "pad")
 IsWord-pad = IsWord-from_test (codes "pad") refl
 
--- a word and what is behind it, of a line of a form
+-- A word and the rest of a line of a form.
 pub record IsNumbered (readers : ℕ) (name : List ℕ) (rest : Option (List ℕ)) (step : Step) : Type 0 where
   pub numbers : List ℕ
   pub made : formed readers name numbers ≡ Some step
@@ -89,7 +89,7 @@ numbered_of readers name rest step few word is =
     let moved = subst N same.0 (is.made, has) in
     record { numbers = is.numbers; made = moved.0; behind = sym same.1; has = moved.1 }
 
--- what the form of a word and the numbers behind it tell of the line
+-- The step of a line, from the form of its word and its numbers.
 pub told : (readers : ℕ) (name : List ℕ) (rest : Option (List ℕ)) (numbers : List ℕ) (result : Option Step) → readers < 2 ^ 32 → IsWord name
     → rest ≡ numbered numbers → All (λ n. n < 2 ^ 64) numbers → result ≡ formed readers name numbers
     → MatchOption result ((step : Step) → ¬ (IsFormed readers (followed name rest) step)) (IsFormed readers (followed name rest))
@@ -101,7 +101,7 @@ told readers name rest numbers None few word behind small is = λ step formed_li
     let made : formed readers name numbers ≡ Some step = rw same n.made in
     let none : None ≡ Some step = is ∙ made in cc
 
--- what stands behind the word of an add and a space, and behind `pad` and a space
+-- The rest of an add, and of a `pad`.
 pub add_text_of : (readers : ℕ) (kind : AddKind) (text : List ℕ) (step : Step) → readers < 2 ^ 32 → Spells readers (add_word kind ++ 32 ∷ text) step
     → IsAddText text
 add_text_of readers kind text step few spells = elim (parted spells) [
@@ -122,7 +122,7 @@ pad_text_of readers text step few spells = elim (parted spells) [
       let is : t ≡ text = cc in subst IsPadText is h
 ]
 
--- a line that begins with neither is of a form, and so is a line without a space
+-- A line with another first word, or without a space, is of a form.
 pub form_with : (readers : ℕ) (name text : List ℕ) (step : Step) → IsWord name → ((kind : AddKind) → name ≢ add_word kind) → name ≢ codes "pad"
     → Spells readers (name ++ 32 ∷ text) step → IsFormed readers (name ++ 32 ∷ text) step
 form_with readers name text step word none no_pad spells = elim (parted spells) [
@@ -145,7 +145,7 @@ small_two a b first second = All-cons (λ (n : ℕ). n < 2 ^ 64) a (b ∷ []) fi
 pub small_three : (a b c : ℕ) → a < 2 ^ 64 → b < 2 ^ 64 → c < 2 ^ 64 → All (λ n. n < 2 ^ 64) (a ∷ b ∷ c ∷ [])
 small_three a b c first second third = All-cons (λ (n : ℕ). n < 2 ^ 64) a (b ∷ c ∷ []) first (small_two b c second third)
 
--- each byte of a line that spells a step is printable
+-- Each byte of a line that encodes a step is printable.
 printable_numbered : (word : List ℕ) (numbers : List ℕ) → All IsPrintable word → All (λ n. n < 2 ^ 64) numbers
     → All IsPrintable (followed word (numbered numbers))
 printable_numbered word [] shown small = shown

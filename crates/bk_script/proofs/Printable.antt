@@ -1,4 +1,4 @@
--- Printable bytes: what they are as text, and that numbers are printable.
+-- Printable bytes are text, and numbers are printable.
 use Rattle.std.proofs.Common.{◌≡◌, ℕ, ◌<◌, ◌^◌, true, List, [], ◌∷◌, ◌++◌, Result, Ok, Err, All, Bor, arith}
 use Rattle.std.specs.List.{list_all}
 use Rattle.std.specs.Int.{is_in_range}
@@ -19,7 +19,7 @@ pub printable_behind : (name rest : List ℕ) → All IsPrintable (name ++ 32 �
 printable_behind [] rest h = All-tail IsPrintable 32 rest h
 printable_behind (x ∷ name) rest h = printable_behind name rest (All-tail IsPrintable x (name ++ 32 ∷ rest) h)
 
--- bytes that are printable are text
+-- Printable bytes are text.
 pub text_of_printable : {E : Type 0} (line : List ℕ) (P : E → Type 0) (r : Result (Bor (List ℕ)) E)
     → MatchResult r (λ s. (s.now ≡ line) × IsUtf8 line) (λ e. ¬ (IsUtf8 line) × P e) → All IsPrintable line
     → MatchOption (result_ok r) (¬ (All IsPrintable line)) (λ text. (text.now ≡ line) × All IsPrintable line)
@@ -27,7 +27,7 @@ text_of_printable line P (Ok s) cases all = (cases.0, all)
 text_of_printable line P (Err e) cases all =
     absurd (cases.0 (IsUtf8-from_ascii line (IsAscii-from_all line (All-weaker IsPrintable (λ b. b < 128) (λ b h. omega (arith, h.1)) line all))))
 
--- a test that computes
+-- A test that is computed.
 in_range_test : (b : ℕ) → is_in_range 32 126 b ≡ true → IsPrintable b
 in_range_test b h = grind (arith, nat_tests)
 

@@ -1,11 +1,11 @@
--- A run of a script, beside other premises.
+-- A run of a script under other premises.
 use Rattle.std.proofs.Common.{◌≡◌, ℕ, List, Option, subst}
 use Rattle.bk_record.specs.Files.{Files}
 use Rattle.bk_drive.specs.Headline.{Headline}
 use Rattle.bk_store.specs.declared.settings.Settings.{Settings}
 use Rattle.bk_script.specs.Run.{AreAllowed, RunsOn}
 
--- what a run shows beside some premises it shows beside those that they follow from, of the same files
+-- What holds of a run under some premises holds under stronger ones, for the same files.
 pub still_runs : {Honest Unfailing Honest' Unfailing' : Type 0} {files files' : Files} {settings : Settings} {dead : List ℕ}
     {unread read shown written : Option (List ℕ)} → (Honest' → Honest) → (Unfailing' → Unfailing) → files ≡ files'
     → RunsOn Honest Unfailing files settings dead unread read shown written

@@ -1,4 +1,4 @@
--- A script read line by line: what the lines so far spell, and where the first bad one is.
+-- A script read line by line: the steps of the lines so far, and the first bad line.
 use Rattle.std.proofs.Common.{◌≡◌, ◌≢◌, ℕ, ◌+◌, ◌<◌, true, Option, Some, None, IfSome, List, [], ◌∷◌, ◌++◌, length}
 use Rattle.std.proofs.Common.{take, drop, get_or, All, arith, refl, sym, ◌∙◌, ap, subst, zero-add}
 use Rattle.std.specs.Io.KnownBytes.{Consumes, IsAtEnd}
@@ -11,7 +11,7 @@ use Rattle.bk_drive.specs.declared.step.Step.{Step}
 use Rattle.bk_script.specs.Line.{Spells}
 use Rattle.bk_script.specs.Script.{lines_in, has_bytes, last_reader, IsScript, IsGood, IsBad, IsFirstBad}
 
--- lines of which each that isn't empty spells a step, with these steps
+-- Each non-empty line encodes a step, and these are the steps.
 abbrev pub Spell : List (List ℕ) → List Step → Type 0
 Spell lines steps = AllZip (Spells last_reader) (filter has_bytes lines) steps
 
@@ -26,7 +26,7 @@ filled_test : (line : List ℕ) → line ≢ [] → has_bytes line ≡ true
 filled_test [] filled = absurd (filled refl)
 filled_test (x ∷ xs) filled = rw (eqb-suc-zero (length xs)) refl
 
--- the line at n is empty, and spells nothing
+-- Line n is empty and encodes no step.
 pub spell_skip : (lines : List (List ℕ)) (n : ℕ) (line : List ℕ) (steps : List Step) → n < length lines → line ≡ get_or lines n line
     → line ≡ [] → Spell (take n lines) steps → Spell (take (n + 1) lines) steps
 spell_skip lines n line steps inside here empty so_far =
@@ -35,7 +35,7 @@ spell_skip lines n line steps inside here empty so_far =
     filter_more has_bytes lines n line inside ∙ rw at_n (append-nil (filter has_bytes (take n lines))) in
     rw same so_far
 
--- the line at n spells a step
+-- Line n encodes a step.
 pub spell_more : (lines : List (List ℕ)) (n : ℕ) (line : List ℕ) (steps : List Step) (step : Step) → n < length lines → line ≡ get_or lines n line
     → line ≢ [] → Spells last_reader line step → Spell (take n lines) steps → Spell (take (n + 1) lines) (steps ++ step ∷ [])
 spell_more lines n line steps step inside here filled one so_far =
@@ -44,12 +44,12 @@ spell_more lines n line steps step inside here filled one so_far =
     filter_more has_bytes lines n line inside ∙ rw (test, ← here) refl in
     rw longer (zip_push (filter has_bytes (take n lines)) steps line step so_far one)
 
--- all lines so far are good
+-- All lines so far are good.
 pub good_more : (lines : List (List ℕ)) (n : ℕ) (line : List ℕ) → n < length lines → line ≡ get_or lines n line
     → IsGood line → All IsGood (take n lines) → All IsGood (take (n + 1) lines)
 good_more lines n line inside here good so_far = All-more IsGood lines n line inside so_far (subst IsGood here good)
 
--- the line at n is the first bad one
+-- Line n is the first bad line.
 pub first_bad : (input : List ℕ) (n : ℕ) (line : List ℕ) → n < length (lines_in input) → line ≡ get_or (lines_in input) n line
     → IsBad line → All IsGood (take n (lines_in input)) → IsFirstBad input (n + 1)
 first_bad input n line inside here bad so_far = record {
@@ -63,7 +63,7 @@ first_bad input n line inside here bad so_far = record {
   counted = omega (arith, length-take n (lines_in input));
 }
 
--- the line of a turn is the one at its number
+-- The line of an iteration is the one with its number.
 pub numbered_turn : (lines : List (List ℕ)) (n index : ℕ) (line : List ℕ)
     → (n < length (enumerate_from 0 lines)) × ((index, line) ≡ get_or (enumerate_from 0 lines) n (index, line))
     → (n < length lines) × (index ≡ n) × (line ≡ get_or lines n line)
@@ -72,11 +72,11 @@ numbered_turn lines n index line turn =
     let same = turn.1 ∙ get_or-enumerate_from 0 lines n (index, line) inside in
     (inside, ap (λ (p : ℕ × List ℕ). p.0) same ∙ zero-add n, ap (λ (p : ℕ × List ℕ). p.1) same)
 
--- at the end every line was met
+-- At the end every line has been read.
 pub spell_all : (lines : List (List ℕ)) (n : ℕ) (steps : List Step) → n ≡ length (enumerate_from 0 lines) → Spell (take n lines) steps → Spell lines steps
 spell_all lines n steps all so_far = rw (take_all n lines (omega (arith, all, length-enumerate_from 0 lines))) at so_far
 
--- an input that was read to its end and spells steps was not one that spells none
+-- An input that was read to its end and encodes steps has no bad line.
 pub spelled_never_bad : (Q : Type 0) (unread read : Option (List ℕ)) (input : List ℕ) (steps : List Step) → Consumes unread read input → IsAtEnd read
     → IsScript input steps → IfSome unread (λ xs. ((ss : List Step) → ¬ (IsScript xs ss)) → Q)
 spelled_never_bad Q None read input steps taken ended spells = tt

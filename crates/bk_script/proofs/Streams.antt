@@ -1,4 +1,4 @@
--- What several reads take from known bytes, and what several writes add to them.
+-- Bytes that several reads consume and several writes append.
 use Rattle.std.proofs.Common.{ℕ, List, [], Option, Some, None, refl, sym}
 use Rattle.std.proofs.lemmas.List.{append-nil}
 use Rattle.std.specs.Io.KnownBytes.{Appends, Keeps}

@@ -1,4 +1,5 @@
--- A line of a script, and the step that it spells: words with one space between.
+-- A line of a script, and the step that it encodes. A line is words separated by single spaces.
+-- Read `Spells` first, at the end.
 use Rattle.std.specs.Prelude.{◌≡◌, ◌≢◌, ℕ, ◌<◌, ◌≤◌, ◌^◌, ◌&&◌, nat_le, Bool, true, false, if◌then◌else◌, List, [], ◌∷◌, ◌++◌}
 use Rattle.std.specs.Prelude.{All, find, slice_index, replicate, codes, bytes_eq, Option, Some, None, option_and_then}
 use Rattle.std.specs.List.{join_with_byte}
@@ -15,28 +16,28 @@ use Rattle.bk_drive.specs.declared.step.Work.TheVariants.{Swap, WriteOne, Publis
 use Rattle.bk_drive.specs.declared.step.Work.TheVariants.{Begin, Copy, EndCopy, Switch, Finish, GiveUp}
 use Rattle.bk_compact.specs.declared.answer.Kind.TheVariants.{Minor, Major}
 
--- words with one space between
+-- Words separated by single spaces.
 abbrev pub words : List (List ℕ) → List ℕ
 words = join_with_byte 32
 
--- a word, and what stands behind it and a space, where something does
+-- A word, and the rest after a space if there is one.
 abbrev pub followed : List ℕ → Option (List ℕ) → List ℕ
 followed word None = word
 followed word (Some rest) = word ++ 32 ∷ rest
 
--- a word has no space
+-- The word has no space.
 abbrev pub IsWord : List ℕ → Type 0
 IsWord word = All (λ byte. byte ≢ 32) word
 
--- from a space to a tilde
+-- The byte is between a space and a tilde.
 abbrev pub IsPrintable : ℕ → Type 0
 IsPrintable = IsInRange 32 126
 
--- the payload of an add: the ledger id and the entry id, eight bytes each, big-endian, then the data
+-- Payload of an add: ledger id and entry id, eight bytes each, big-endian, then the data.
 unfoldable pub payload_of : ℕ → ℕ → List ℕ → List ℕ
 payload_of ledger entry bytes = to_be_bytes w64 ledger ++ to_be_bytes w64 entry ++ bytes
 
--- the word of an add, by its kind, and the step
+-- First word of an add by its kind, and the step of that kind.
 abbrev pub add_word : AddKind → List ℕ
 add_word Ordinary = codes "add"
 add_word Recovery = codes "radd"
@@ -45,37 +46,36 @@ abbrev pub add_step : AddKind → Vec ℕ → Step
 add_step Ordinary payload = steps.Add payload
 add_step Recovery payload = steps.AddRecovery payload
 
--- the step adds that payload
+-- The step adds this payload.
 abbrev pub IsAdd : AddKind → ℕ → ℕ → List ℕ → Step → Type 0
 IsAdd kind ledger entry bytes step = (payload : Vec ℕ) × (step ≡ add_step kind payload) × (payload.items ≡ payload_of ledger entry bytes)
 
--- numbers with one space between, where there are some
+-- Numbers separated by single spaces, or nothing.
 abbrev pub numbered : List ℕ → Option (List ℕ)
 numbered [] = None
 numbered (n ∷ numbers) = Some (followed (decimal n) (numbered numbers))
 
--- what a number of a line names: a reader, a ledger or an entry, a log, or how many
+-- What a number of a line is: a reader, a ledger or entry id, a log id, or a count.
 pub data Range : Type 0 where
   reader : Range
   id : Range
   log : Range
   count : Range
 
--- The greatest such number, where readers are numbered up to `readers`: ids are below 2 ^ 63, those of logs below 2 ^ 31,
--- and what a copy or a switch counts is below 2 ^ 32.
+-- Largest number of a range. Ids are below 2 ^ 63, log ids below 2 ^ 31, counts below 2 ^ 32.
 abbrev pub most : ℕ → Range → ℕ
 most readers reader = readers
 most readers id = 9223372036854775807
 most readers log = 2147483647
 most readers count = 4294967295
 
--- The first word of a line, what the numbers behind it name, and the step that they make.
+-- A form: the first word of a line, the ranges of its numbers, and the step that they make.
 pub record Form : Type 0 where
   pub word : List ℕ
   pub ranges : List Range
   pub step : List ℕ → Step
 
--- a word alone, and words with one and with three numbers behind them
+-- A word alone, and words with one and with three numbers.
 abbrev pub alone : List ℕ → Work → Form
 alone word call = record { word = word; ranges = []; step = λ numbers. steps.Work call }
 
@@ -89,7 +89,8 @@ with_three word first second third make = record {
   step = λ numbers. make (slice_index numbers 0) (slice_index numbers 1) (slice_index numbers 2);
 }
 
--- all forms of lines whose step is made of numbers alone; of two with one word the first would count
+-- All forms. The step of such a line is made of numbers only. If two had one word, the first would
+-- be used.
 abbrev pub forms : List Form
 forms =
     alone (codes "swap") Swap
@@ -117,27 +118,28 @@ forms =
 abbrev pub form_of : List ℕ → Option Form
 form_of word = find (λ form. bytes_eq word form.word) forms
 
--- there are as many numbers as ranges, and none is past its range
+-- There are as many numbers as ranges, and each is in its range.
 abbrev pub fits : ℕ → List Range → List ℕ → Bool
 fits readers [] [] = true
 fits readers [] (n ∷ numbers) = false
 fits readers (range ∷ ranges) [] = false
 fits readers (range ∷ ranges) (n ∷ numbers) = nat_le n (most readers range) && fits readers ranges numbers
 
--- the step that a word and the numbers behind it ask for
+-- The step of a word and its numbers.
 abbrev pub formed : ℕ → List ℕ → List ℕ → Option Step
 formed readers word numbers =
     option_and_then (λ form. if fits readers form.ranges numbers then Some (form.step numbers) else None) (form_of word)
 
--- the line is a word of a form, with fitting numbers behind it, and asks for the step
+-- The line is the word of a form and numbers that fit, and encodes the step.
 pub record IsFormed (readers : ℕ) (line : List ℕ) (step : Step) : Type 0 where
   pub word : List ℕ
   pub numbers : List ℕ
   pub made : formed readers word numbers ≡ Some step
   pub spelled : line ≡ followed word (numbered numbers)
 
--- The line spells the step (this project's rule), where readers are numbered from 0 to `readers`: it is of a form, or adds
--- an entry, as the ledger's writer or as its recovery, with a text or with up to `max_pad` zero bytes. Ids are below 2 ^ 63.
+-- The line encodes the step, with readers numbered from 0 to `readers` (this project's rule). It is
+-- of a form, or it adds an entry: `add` or `radd` with a text as data, `pad` with up to `max_pad`
+-- zero bytes. Ids are below 2 ^ 63.
 pub data Spells (readers : ℕ) : List ℕ → Step → Type 0 where
   form : {line : List ℕ} {step : Step} → IsFormed readers line step → Spells readers line step
   add : (kind : AddKind) {ledger entry : ℕ} {step : Step} → ledger < 2 ^ 63 → entry < 2 ^ 63 → IsAdd kind ledger entry [] step

@@ -1,4 +1,4 @@
--- The numbers that were read behind the first word of a line.
+-- The numbers after the first word of a line.
 use Rattle.std.specs.Prelude.{ℕ, List, [], ◌∷◌}
 use Rattle.bk_script.specs.declared.line.numbers.Numbers.{Numbers}
 use Rattle.bk_script.specs.declared.line.numbers.Numbers.TheVariants.{Zero, One, Two, Three}

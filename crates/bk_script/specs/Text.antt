@@ -1,4 +1,5 @@
--- The texts of answers and faults (this project's rule). Numbers are decimal, data is lower-case hexadecimal.
+-- The texts of answers and faults (this project's rule). Numbers are decimal, data is lower-case
+-- hexadecimal.
 use Rattle.std.specs.Prelude.{ℕ, ◌/◌, ◌%◌, List, [], ◌∷◌, ◌++◌, drop, codes, false, Result, Ok, Err}
 use Rattle.std.specs.List.{flat_map}
 use Rattle.std.specs.Fmt.{decimal, signed_decimal, digit_glyph}
@@ -21,8 +22,8 @@ use Rattle.bk_store.specs.declared.answer.Fence.{Fence}
 use Rattle.bk_store.specs.declared.answer.Fence.TheVariants as fences
 use Rattle.bk_store.specs.declared.answer.FenceFault.{FenceFault}
 use Rattle.bk_store.specs.declared.answer.FenceFault.TheVariants as fence_faults
-use Rattle.bk_store.specs.declared.answer.SwapAnswer.{SwapAnswer}
-use Rattle.bk_store.specs.declared.answer.SwapAnswer.TheVariants as swaps
+use Rattle.bk_cache.specs.declared.swap.Swap.{Swap}
+use Rattle.bk_cache.specs.declared.swap.Swap.TheVariants as swaps
 use Rattle.bk_store.specs.declared.answer.LogCause.{LogCause}
 use Rattle.bk_store.specs.declared.answer.LogCause.TheVariants as causes
 use Rattle.bk_flush.specs.declared.answer.WriteAnswer.{WriteAnswer}
@@ -31,8 +32,8 @@ use Rattle.bk_flush.specs.declared.answer.PublishAnswer.{PublishAnswer}
 use Rattle.bk_flush.specs.declared.answer.PublishAnswer.TheVariants as publishes
 use Rattle.bk_flush.specs.declared.answer.RollAnswer.{RollAnswer}
 use Rattle.bk_flush.specs.declared.answer.RollAnswer.TheVariants as rolls
-use Rattle.bk_step.specs.declared.fault.StepFault.{StepFault}
-use Rattle.bk_step.specs.declared.fault.StepFault.TheVariants as step_faults
+use Rattle.bk_store.specs.declared.step_fault.StepFault.{StepFault}
+use Rattle.bk_store.specs.declared.step_fault.StepFault.TheVariants as step_faults
 use Rattle.bk_collect.specs.declared.answer.RetireAnswer.{RetireAnswer}
 use Rattle.bk_collect.specs.declared.answer.RetireAnswer.TheVariants as retires
 use Rattle.bk_collect.specs.declared.answer.CloseAnswer.{CloseAnswer}
@@ -62,19 +63,19 @@ use Rattle.bk_drive.specs.declared.step.ReleaseAnswer.TheVariants as releases
 use Rattle.bk_drive.specs.declared.step.Answer.{Answer}
 use Rattle.bk_drive.specs.declared.step.Answer.TheVariants as answers
 
--- a byte as two digits, and bytes as such pairs in a row
+-- A byte as two digits, and bytes as pairs of digits.
 abbrev pub digit_pair : ℕ → List ℕ
 digit_pair byte = digit_glyph false (byte / 16) ∷ digit_glyph false (byte % 16) ∷ []
 
 abbrev pub hex_of : List ℕ → List ℕ
 hex_of = flat_map digit_pair
 
--- data, or a sign where there is none
+-- Data, or a sign if there is none.
 abbrev pub data_text : List ℕ → List ℕ
 data_text [] = codes "-"
 data_text (byte ∷ bytes) = hex_of (byte ∷ bytes)
 
--- the data of a payload, which stands behind its two ids
+-- The data of a payload, after its two ids.
 abbrev pub shown_data : List ℕ → List ℕ
 shown_data payload = data_text (drop 16 payload)
 
@@ -141,7 +142,7 @@ fence_text (Ok fences.Fenced) = codes "fenced"
 fence_text (Ok fences.AlreadyFenced) = codes "already fenced"
 fence_text (Err fault) = codes "fault " ++ fence_fault_text fault
 
-abbrev pub swap_text : SwapAnswer → List ℕ
+abbrev pub swap_text : Swap → List ℕ
 swap_text swaps.Running = codes "running"
 swap_text swaps.Nothing = codes "nothing"
 swap_text (swaps.Swapped n) = codes "swapped " ++ decimal n
@@ -249,7 +250,7 @@ abbrev pub give_up_text : GiveUpAnswer → List ℕ
 give_up_text give_ups.NoJob = codes "no job"
 give_up_text give_ups.GivenUp = codes "given up"
 
--- the text of an answer
+-- The text of an answer.
 abbrev pub text_of : Answer → List ℕ
 text_of (answers.Add answer) = add_text answer
 text_of (answers.Take answer) = take_text answer
@@ -272,6 +273,6 @@ text_of (answers.Switch answer) = switch_text answer
 text_of (answers.Finish answer) = finish_text answer
 text_of (answers.GiveUp answer) = give_up_text answer
 
--- one line for each answer
+-- One line for each answer.
 abbrev pub lines_of : List Answer → List ℕ
 lines_of = flat_map (λ answer. text_of answer ++ 10 ∷ [])

@@ -1,4 +1,4 @@
-//! The disks over which scripts run.
+//! Disks that scripts run on.
 
 ghost use Rattle.std.specs.Prelude.{IfOk, IsTrue};
 ghost use Rattle.bk_disk.specs.Disk.{AreSound};
@@ -9,11 +9,15 @@ use bk_disk::{DirDisk, LogDisk, MemDisk};
 use bk_drive::{Answer, OpenFault, Settings, Step, drive};
 use std::alloc::Global;
 
-/// A disk over which scripts run. Each such type drives a store of its own: what a run leaves has a size that is known only
-/// where the type of the disk is.
+/// A disk that scripts run on. Each implementation drives a store of its own type, because the size
+/// of the result of a run depends on the type of the disk.
 pub trait ScriptDisk: LogDisk {
-    /// Opens a store on the logs of this disk, and takes the steps one after another: their answers. `dead` are the ledgers that
-    /// were deleted before. Faults: those of `drive`.
+    /// Opens a store on the logs of this disk, performs the steps and returns their answers. `dead`
+    /// lists the ledgers deleted earlier.
+    ///
+    /// # Errors
+    ///
+    /// Those of `drive`.
     fn answers(
         self,
         alloc: Global,

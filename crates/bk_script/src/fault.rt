@@ -1,33 +1,33 @@
-//! Why a script is not run to its end.
+//! Errors of a script.
 
 use bk_drive::OpenFault;
 use std::io;
 use thiserror::Error;
 
-/// Why a script is not run to its end. Its text is what the program tells of it.
+/// Why a script is not run. Its text is the line on the error stream.
 #[derive(Clone, Copy, Debug, PartialEq, Eq, Error)]
 pub enum ScriptFault {
-    /// A read failed, or the input is past one of its bounds.
+    /// A read failed, or the input exceeds one of its bounds.
     #[error("read fault")]
     Read,
-    /// The line of this number, counted from 1, spells no step; it is the first such line.
+    /// The line with this number, counted from 1, is the first that encodes no step.
     #[error("line {0}: bad command")]
     Bad(u64),
     /// The store was not opened.
     #[error("fault {0}")]
     Open(OpenFault),
-    /// No memory was to be had.
+    /// Out of memory.
     #[error("fault memory")]
     Memory,
 }
 
-/// Why a run of a script shows nothing, or not all. Its text is what the program tells of it.
+/// Why a run of a script writes nothing, or not everything.
 #[derive(Debug, Error, Drop)]
 pub enum RunFault {
-    /// The script is not run to its end, and nothing is shown.
+    /// The script is not run, and nothing is written.
     #[error("{0}")]
     Script(ScriptFault),
-    /// The answers can't be written, for this reason.
+    /// The answers could not be written.
     #[error("fault output: {0}")]
     Output(io::Error),
 }

@@ -1,4 +1,4 @@
-//! Reading an input to its end, within bounds on its bytes and on the reads that it takes.
+//! Reads an input to its end, with a bound on its bytes and on the calls of `read`.
 
 ghost use Rattle.std.specs.Prelude.{◌≤◌, IfOk, OnOk, vec_len};
 ghost use Rattle.std.specs.Io.KnownBytes.{Consumes, IsAtEnd};
@@ -7,13 +7,18 @@ use crate::ScriptFault;
 use std::alloc::Global;
 use std::io::Read;
 
-/// The most bytes of an input (this project's rule).
+/// Largest input in bytes (this project's rule).
 const MAX_BYTES: usize = 16_777_216;
 
-/// The most calls of `read`, the one that finds the end among them (this project's rule).
+/// Largest number of calls of `read`, the last one included (this project's rule).
 const MAX_READS: u32 = 1_048_576;
 
-/// All bytes that a reader has left. `Read` where a read fails, or the input is past its bounds; `Memory`.
+/// Reads all bytes of a reader.
+///
+/// # Errors
+///
+/// - `Read`: a read fails, or the input exceeds a bound.
+/// - `Memory`: out of memory.
 pub(crate) fn read_input<R: Read>(alloc: Global, reader: &mut R) -> Result<Vec<u8>, ScriptFault>
     ensures bytes { IfOk result (λ input. Consumes (R.remaining reader.old) (R.remaining reader.new) input.items) }
     ensures end { OnOk result (IsAtEnd (R.remaining reader.new)) }

@@ -1,4 +1,4 @@
-//! Scripts of steps: what their lines spell, their run over a store, and the texts of the answers.
+//! Scripts of steps: parses the lines, runs the steps on a store, and prints the answers.
 #![tactic(auto)]
 
 mod disk;

@@ -1,4 +1,4 @@
-//! A line of a script, and the step that it spells: words with one space between.
+//! Parses a line of a script: words separated by single spaces.
 
 ghost use Rattle.std.specs.Prelude.{◌≡◌, ◌∷◌, ◌++◌, All, ◌↔◌, IsTrue, IfOk, MatchOption, option_copied};
 ghost use Rattle.bk_script.specs.Line.{IsPrintable, IsWord, followed, IsFormed, Spells};
@@ -16,20 +16,24 @@ use numbers::Numbers;
 use std::alloc::Global;
 use words::split_word;
 
-/// The number of the last reader of a script, in which readers are numbered from 0.
+/// Number of the last reader of a script. Readers are numbered from 0.
 pub const LAST_READER: u32 = 3;
 
-/// Why a line gave no step.
+/// Why a line has no step.
 #[derive(Clone, Copy, Debug, PartialEq, Eq)]
 pub enum LineFault {
-    /// The line spells no step.
+    /// The line encodes no step.
     Bad,
-    /// No memory was to be had.
+    /// Out of memory.
     Memory,
 }
 
-/// The step that a line spells, with readers numbered up to `last_reader`; in a script that is `LAST_READER`. `Bad` where it
-/// spells none; `Memory` where there is none for the step's payload.
+/// Parses a line to its step. Readers are numbered from 0 to `last_reader`.
+///
+/// # Errors
+///
+/// - `Bad`: the line encodes no step.
+/// - `Memory`: out of memory for the payload of the step.
 pub fn read_step(alloc: Global, line: &[u8], last_reader: u32) -> Result<Step, LineFault>
     ensures ok { IfOk result (Spells last_reader line.now) }
     ensures bad { result ≡ Err LineFault.Bad → (step : _) → ¬ (Spells last_reader line.now step) }
@@ -47,7 +51,7 @@ pub fn read_step(alloc: Global, line: &[u8], last_reader: u32) -> Result<Step, L
     }
 }
 
-/// The step of a line whose first word is `name`, with a space and `rest` behind it.
+/// Parses a line with first word `name`, a space, and `rest`.
 fn read_call(alloc: Global, name: &str, rest: &str, last_reader: u32) -> Result<Step, LineFault>
     requires word { IsWord name.now }
     requires printable { All IsPrintable rest.now }
@@ -65,7 +69,7 @@ fn read_call(alloc: Global, name: &str, rest: &str, last_reader: u32) -> Result<
     }
 }
 
-/// The step of a line of a form, whose first word is `name`, with a space and `rest` behind it where there is a rest.
+/// Parses a line of a form, with first word `name` and, if any, the rest after a space.
 fn read_form(name: &str, rest: Option<&str>, last_reader: u32) -> Option<Step>
     requires { IsWord name.now }
     ensures { MatchOption result
@@ -75,7 +79,7 @@ fn read_form(name: &str, rest: Option<&str>, last_reader: u32) -> Option<Step>
     step_of(name, Numbers::read(rest)?, last_reader)
 }
 
-/// The bytes as text, where each is from a space to a tilde.
+/// Returns the bytes as text if each is printable.
 fn printable(line: &[u8]) -> Option<&str>
     ensures { MatchOption result (¬ (All IsPrintable line.now))
         (λ text. (text.now ≡ line.now) × All IsPrintable line.now) }
@@ -86,7 +90,7 @@ fn printable(line: &[u8]) -> Option<&str>
     str::from_utf8(line).ok()
 }
 
-/// Each byte is from a space to a tilde.
+/// Returns whether each byte is between a space and a tilde.
 fn is_printable(line: &[u8]) -> bool
     ensures { IsTrue result ↔ All IsPrintable line.now }
 {

@@ -1,5 +1,5 @@
-//! Running a script: the whole input is read and understood before the first step, and the answers are printed after
-//! the last.
+//! Runs a script. The whole input is read and parsed before the first step, and the answers are
+//! printed after the last.
 
 ghost use Rattle.std.specs.Prelude.{◌≡◌, ◌≤◌, List, IfOk, IfSome, IsErr, IsTrue, OnOk};
 ghost use Rattle.std.specs.Io.KnownBytes.{Appends, Keeps};
@@ -21,13 +21,21 @@ use std::alloc::Global;
 use std::io;
 use std::io::{Read, Write};
 
-/// Runs the script that a reader gives, on a new disk in memory, and writes one line for each step. `dead` are the
-/// ledgers that were deleted before. Returns the program's status: 0, also where a step answered a fault, or 1.
+/// Runs the script of a reader on a new disk in memory and writes one line for each step.
 ///
-/// 1 comes with a line on the error stream: `read fault` where a read fails or the input is past its bounds,
-/// `line N: bad command` where a line spells no step, `fault TEXT` where the store is not opened, `fault settings` where
-/// a setting is out of its range, and `fault memory` where no memory is to be had outside a step. In all these cases
-/// nothing is written to `writer`. 1 comes too, with no such line, where a write fails.
+/// `dead` lists the ledgers deleted earlier. Returns the exit status of the program: 0, also if the
+/// answer of a step is a fault, or 1.
+///
+/// # Errors
+///
+/// Status 1, with a line on the error stream and nothing written to `writer`:
+///
+/// - `read fault`: a read fails or the input exceeds a bound.
+/// - `line N: bad command`: line N is the first that encodes no step.
+/// - `fault settings`: a setting is out of range; `fault TEXT`: the store is not opened.
+/// - `fault memory`: out of memory outside a step.
+///
+/// Status 1 without such a line: a write fails.
 pub fn run_script<R: Read, W: Write, E: Write>(
     alloc: Global,
     settings: Settings,
@@ -52,8 +60,8 @@ pub fn run_script<R: Read, W: Write, E: Write>(
     }
 }
 
-/// Tells on the error stream why a script is not run; nothing where its answers could not be written. The status is the same
-/// whether or not this line comes through.
+/// Writes the reason of a script that is not run to the error stream. The status does not depend on
+/// whether this write succeeds.
 fn tell<E: Write>(fault: &RunFault, errors: &mut E) {
     match fault {
         RunFault::Script(fault) => {
@@ -63,8 +71,12 @@ fn tell<E: Write>(fault: &RunFault, errors: &mut E) {
     }
 }
 
-/// The same on this disk: the store is opened on the logs that it has, once the whole script was read and understood. With
-/// `Script` nothing is written to `writer`; `Output` where a write fails.
+/// Runs the script of a reader on this disk. The store is opened after the whole script was parsed.
+///
+/// # Errors
+///
+/// - `Script`: the script is not run, and nothing is written to `writer`.
+/// - `Output`: a write fails.
 pub fn run_on<D: ScriptDisk, R: Read, W: Write>(
     alloc: Global,
     disk: D,
@@ -83,7 +95,7 @@ pub fn run_on<D: ScriptDisk, R: Read, W: Write>(
     Ok(())
 }
 
-/// Reads the script and runs its steps on this disk: their answers.
+/// Reads the script, runs its steps on this disk and returns their answers.
 fn answers_to<D: ScriptDisk, R: Read>(
     alloc: Global,
     disk: D,
@@ -104,7 +116,7 @@ fn answers_to<D: ScriptDisk, R: Read>(
     }
 }
 
-/// Writes one line for each answer, and then everything that the writer has kept back.
+/// Writes one line for each answer and flushes the writer.
 fn write_answers<W: Write>(writer: &mut W, answers: &[Answer]) -> io::Result<()>
     ensures { OnOk result (Appends (W.contents writer.old) (W.contents writer.new) (lines_of answers.now)) }
 {

@@ -1,4 +1,4 @@
-//! A script: lines that spell steps.
+//! Parses a script.
 
 ghost use Rattle.std.specs.Prelude.{◌≡◌, ℕ, IfOk};
 ghost use Rattle.bk_script.specs.Script.{IsScript, IsFirstBad};
@@ -8,7 +8,12 @@ use crate::line::{LAST_READER, LineFault, read_step};
 use bk_drive::Step;
 use std::alloc::Global;
 
-/// The steps that a script spells, one for each line that isn't empty. `Bad` where a line spells none; `Memory`.
+/// Parses an input to its steps, one for each non-empty line.
+///
+/// # Errors
+///
+/// - `Bad`: the number of the first line that encodes no step.
+/// - `Memory`: out of memory.
 pub(crate) fn read_steps(alloc: Global, input: &[u8]) -> Result<Vec<Step>, ScriptFault>
     ensures ok { IfOk result (λ steps. IsScript input.now steps.items) }
     ensures bad { (number : ℕ) → result ≡ Err (ScriptFault.Bad number) → IsFirstBad input.now number }

@@ -17,7 +17,8 @@ use bk_log::FetchFault;
 use std::fmt;
 use std::fmt::{Display, Formatter};
 
-/// A value as its text. Of an answer that is its line in the output of a script, without the line feed.
+/// A value with its text. The text of an answer is its line in the output of a script, without the
+/// line feed.
 #[derive(Drop)]
 pub struct Text<'a, T>(pub &'a T);
 
@@ -185,14 +186,14 @@ impl Display for Text<'_, Result<RollAnswer, StepFault>> {
     }
 }
 
-/// The data of a payload, behind its two ids.
+/// Returns the data of a payload, after its two ids.
 fn data_of(payload: &[u8]) -> &[u8]
     ensures { result.now ≡ drop 16 payload.now }
 {
     payload.get(16..).unwrap_or(&[])
 }
 
-/// Writes data in lower-case hexadecimal, or `-` where there is none.
+/// Writes data in lower-case hexadecimal, or `-` if there is none.
 fn write_data<W: fmt::Write>(f: &mut Formatter<W>, bytes: &[u8]) -> fmt::Result
     ensures { WritesOnOk W.write_str_gives f.old result (data_text bytes.now) f.new }
 {
@@ -205,7 +206,7 @@ fn write_data<W: fmt::Write>(f: &mut Formatter<W>, bytes: &[u8]) -> fmt::Result
     Ok(())
 }
 
-/// Writes a byte as two digits. A table is quicker than a number's format, by half.
+/// Writes a byte as two digits. A table takes half the time of a number's format.
 fn write_byte<W: fmt::Write>(f: &mut Formatter<W>, byte: u8) -> fmt::Result
     ensures { WritesOnOk W.write_str_gives f.old result (digit_pair byte) f.new }
 {
@@ -213,7 +214,7 @@ fn write_byte<W: fmt::Write>(f: &mut Formatter<W>, byte: u8) -> fmt::Result
     f.write_str(digit(byte % 16))
 }
 
-/// The digit of a number below 16.
+/// Returns the digit of a number below 16.
 fn digit(number: u8) -> &'static str
     requires { number < 16 }
     ensures { result.now ≡ digit_glyph false number ∷ [] }

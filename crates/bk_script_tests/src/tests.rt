@@ -1,4 +1,4 @@
-//! Scripts that run in memory and over folders, each with what it prints.
+//! Scripts in memory and on directories, with their output.
 
 mod faults;
 mod folder;
@@ -12,7 +12,7 @@ use bk_script::run_script;
 use std::alloc::Global;
 use std::io::Read;
 
-/// The settings of a store without options.
+/// Settings of a store without options.
 const DEFAULTS: Settings = Settings {
     log_limit: 1_073_741_824,
     cache_limit: 16_777_216,
@@ -23,7 +23,7 @@ const DEFAULTS: Settings = Settings {
     major: 800,
 };
 
-/// What a run of a script left: its status, and the texts on the two streams.
+/// Result of a script: its status and the texts on the two streams.
 #[derive(Drop)]
 struct Shown {
     status: u8,
@@ -36,7 +36,7 @@ fn run(alloc: Global, script: &str) -> Shown {
     run_from(alloc, DEFAULTS, &[], &mut script.as_bytes())
 }
 
-/// Runs the script that a reader gives on a store with these settings, of which these ledgers were deleted before.
+/// Runs the script of a reader on a store with these settings and deleted ledgers.
 fn run_from<R: Read>(alloc: Global, settings: Settings, dead: &[u64], reader: &mut R) -> Shown {
     let mut output = Vec::new(alloc);
     let mut errors = Vec::new(alloc);
@@ -48,7 +48,7 @@ fn run_from<R: Read>(alloc: Global, settings: Settings, dead: &[u64], reader: &m
     }
 }
 
-/// Whether a run ended with this status, and left these texts on the two streams.
+/// Returns whether a script ended with this status and these texts.
 fn is_shown(shown: &Shown, status: u8, output: &str, errors: &str) -> bool {
     shown.status == status
         && shown.output.as_slice() == output.as_bytes()

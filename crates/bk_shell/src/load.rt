@@ -1,4 +1,4 @@
-//! A load is put on a bookie, and what came of it is shown.
+//! The command `load`: loads a bookie and writes the report.
 
 ghost use Rattle.std.specs.Prelude.{◌≤◌};
 
@@ -7,7 +7,7 @@ mod row;
 #[cfg(test)]
 mod tests;
 
-use bk_commands::{open_or_make, tell};
+use bk_commands::{FailedCalls, open_or_make, tell};
 use bk_disk::{LogDisk, MemDisk};
 use bk_load::{Load, Report, run_load};
 use bk_store::Settings;
@@ -20,7 +20,8 @@ use std::rt::Clock;
 use std::sync::Wait;
 use std::thread::Threads;
 
-/// The store of a load: logs of 2 MiB, and a cache of 16; any log of which something is gone may be compacted.
+/// The settings of the store: logs of 2 MiB, a cache of 16 MiB. A log is compacted as soon as one
+/// of its entries is not live.
 const SETTINGS: Settings = Settings {
     log_limit: 2_097_152,
     cache_limit: 16_777_216,
@@ -31,9 +32,9 @@ const SETTINGS: Settings = Settings {
     major: 1000,
 };
 
-/// Puts the load that the words ask for on a bookie, with these threads, and shows what came of it, or help; or tells what is
-/// wrong with the words. Returns the program's status: 0 where the load was good or help was written; 2 where the words are
-/// wrong; else 1.
+/// Runs the load of a command line and writes the report, or writes help, or reports an invalid
+/// command line. Returns the exit status: 0 if the load was good or help was written, 2 if the
+/// command line is invalid, else 1.
 pub(super) fn load_as_asked<T: Threads + Wait + Clock + Sync, S: AsStr, W: Write, E: Write>(
     rt: &HostRuntime,
     threads: &T,
@@ -47,8 +48,10 @@ pub(super) fn load_as_asked<T: Threads + Wait + Clock + Sync, S: AsStr, W: Write
     }
 }
 
-/// Puts a load on a bookie. Returns the status: 0 where it was good; 1 where it was not, or ended early, which is told in a
-/// line `fault TEXT` on the error stream, but where nobody reads the output any more.
+/// Runs a load. Returns the status: 0 if it was good, 1 if it was bad or stopped early. If it
+/// stopped early, writes `fault TEXT` to the error stream, unless the reader of the output has
+/// closed it. Writes each call of the system that failed there too, the first first
+/// (`FailedCalls`).
 fn run_call<T: Threads + Wait + Clock + Sync, W: Write, E: Write>(
     rt: &HostRuntime,
     threads: &T,
@@ -58,35 +61,50 @@ fn run_call<T: Threads + Wait + Clock + Sync, W: Write, E: Write>(
 ) -> u8
     ensures { result ≤ 1 }
 {
-    match load_and_show(rt, threads, call, writer) {
-        Ok(is_good) => u8::from(!is_good),
-        Err(LoadFault::Output(error)) if error.kind() == io::ErrorKind::BrokenPipe => 1,
-        Err(fault) => {
-            tell_fault(rt.alloc(), call.form, &fault, errors);
-            1
-        }
+    let mut failed = None;
+    let loaded = load_and_show(rt, threads, call, &mut failed, writer);
+    if let Err(fault) = &loaded {
+        tell_end(rt, call, fault, errors);
+    }
+    if let Some(failed) = failed {
+        failed.tell(call.form, errors);
+    }
+    match loaded {
+        Ok(true) => 0,
+        Ok(false) | Err(_) => 1,
     }
 }
 
-/// Does what is asked, and writes the report, and what the writer has kept back; whether the load was good.
+/// Reports why a load ends early; nothing if nobody reads the output any more.
+fn tell_end<E: Write>(rt: &HostRuntime, call: &LoadCall<'_>, fault: &LoadFault, errors: &mut E) {
+    match fault {
+        LoadFault::Output(error) if error.kind() == io::ErrorKind::BrokenPipe => {}
+        _ => tell_fault(rt.alloc(), call.form, fault, errors),
+    }
+}
+
+/// Runs a load, writes the report and flushes. Returns whether the load was good. Sets `failed` to
+/// the calls of the system that fail on the directory, if there is one.
 fn load_and_show<T: Threads + Wait + Clock + Sync, W: Write>(
     rt: &HostRuntime,
     threads: &T,
     call: &LoadCall<'_>,
+    failed: &mut Option<FailedCalls>,
     writer: &mut W,
 ) -> Result<bool, LoadFault> {
     let report = match call.folder {
         None => load_on(rt, threads, MemDisk::new(rt.alloc()), call.load)?,
-        Some(path) => match open_or_make(rt, path, call.marks) {
-            Ok(disk) => load_on(rt, threads, disk, call.load)?,
-            Err(fault) => return Err(LoadFault::Folder(fault)),
-        },
+        Some(path) => {
+            let disk = open_or_make(rt, path, call.marks)?;
+            *failed = Some(disk.failed_calls()?);
+            load_on(rt, threads, disk, call.load)?
+        }
     };
     write_report(rt.alloc(), call.form, &report, writer)?;
     Ok(report.is_good())
 }
 
-/// Puts a load on a bookie over this disk. A line on the error stream tells how far it is, where that is a terminal.
+/// Loads a bookie on a disk. If the error stream is a terminal, a line there shows the progress.
 fn load_on<T: Threads + Wait + Clock + Sync, D: LogDisk>(
     rt: &HostRuntime,
     threads: &T,

@@ -1,14 +1,14 @@
-//! A program that runs scripts of steps over a store of entry logs, shows or compacts what a folder of such logs has, and puts a
-//! load of many callers on a bookie.
+//! The program: runs scripts on a store, inspects, seals and compacts directories of entry logs,
+//! and loads a bookie from many threads.
 #![tactic(auto)]
 
 mod load;
 
-use bk_commands::{StartFault, command_of, run_words, tell_fault, words_of};
-pub use bk_dir::{Digest, DigestChoice, DirCommand, EntryRange, ScanChoice, run_dir};
+use bk_commands::{StartFault, command_of, run_words, tell_fault, tell_reading, words_of};
+pub use bk_inspect::{Digest, DigestChoice, DirCommand, EntryRange, ScanChoice, run_dir};
 pub use bk_script::run_script;
 use load::load_as_asked;
-use std::io::{BufWriter, Stderr};
+use std::io::{BufWriter, IsTerminal, Stderr};
 use std::process::ExitCode;
 use std::rt::Clock;
 use std::sync::Wait;
@@ -25,7 +25,7 @@ fn main(rt: HostRuntime) -> ExitCode {
     }
 }
 
-/// Does what the command line of the process asks for, and returns the status. A load alone needs threads.
+/// Runs the command line and returns the exit status. Only `load` uses the threads.
 fn run<T: Threads + Wait + Clock + Sync>(
     rt: &HostRuntime,
     threads: &T,
@@ -39,5 +39,7 @@ fn run<T: Threads + Wait + Clock + Sync>(
     if command_of(&words) == Some("load") {
         return Ok(load_as_asked(rt, threads, &words, &mut writer, errors));
     }
-    Ok(run_words(rt, &words, &mut rt.stdin(), &mut writer, errors))
+    let mut reader = rt.stdin();
+    tell_reading(alloc, &words, reader.is_terminal(), errors);
+    Ok(run_words(rt, &words, &mut reader, &mut writer, errors))
 }

@@ -1,4 +1,5 @@
--- What is acknowledged of a log that is written has the log's records, also when the log has grown behind it.
+-- What is acknowledged of a log that is written has the log's records, also when the log has grown
+-- after it.
 use Rattle.std.proofs.Common.{◌≡◌, ℕ, ◌+◌, ◌-◌, ◌≤◌, List, [], ◌∷◌, ◌++◌, length, take, drop, not, Some, Option, unwrap_or, refl, sym, ap, subst, ◌∙◌, arith}
 use Rattle.std.specs.List.{filter}
 use Rattle.std.proofs.Math.Seq.{take-append_seam}
@@ -16,7 +17,7 @@ use Rattle.bk_record.proofs.EntryLists.{entries_of-same}
 use Rattle.bk_log.specs.Writing.{Writing, Writes}
 use Rattle.bk_log.proofs.Writes.{text_is_long}
 
--- behind its header the log's first bytes are what it had
+-- after its header the log's first bytes are what it had
 front_body : (front whole : List ℕ) → IsLonger front whole → header_length ≤ length front
     → drop header_length (take (length front) whole) ≡ drop header_length front
 front_body front whole longer long =
@@ -49,7 +50,7 @@ module _ (files : Files) (w : Writing) (writes : Writes files w) where
   pub entries_whole : entries_of (take w.end (file_of files w.log)) ≡ entries_of (file_of files w.log)
   entries_whole = entries_acknowledged (file_of files w.log) (longer_same (file_of files w.log))
 
--- one record more with a key is one entry more
+-- one more record with a key is one more entry
 pub entries_push : (a b : List ℕ) (at : ℕ) (payload : List ℕ) (key : EntryKey) → records_of b ≡ records_of a ++ (at, payload) ∷ [] → key_of payload ≡ Some key
     → entries_of b ≡ entries_of a ++ (at, payload) ∷ []
 unfolding entries_of

@@ -6,14 +6,14 @@ use Rattle.bk_record.specs.Key.{EntryKey}
 use Rattle.bk_record.specs.Scan.{Payloads, Ledgers}
 use Rattle.bk_record.specs.Keyed.{Places}
 use Rattle.bk_store.specs.Entries.{Bytes}
-use Rattle.bk_store.specs.Carried.{Cached, Carries}
+use Rattle.bk_store.specs.Representation.{Cached, Represents}
 use Rattle.bk_store.proofs.KeyMaps.{get-insert_other, same_key, inserted_cases, inserted_here}
-use Rattle.bk_store.proofs.Meaning.{unheld_unmapped, unmapped_has_none}
+use Rattle.bk_store.proofs.RepresentedContents.{unheld_unmapped, unmapped_has_none}
 
-module _ {bytes : Bytes} {index : Places} {cached : Cached} {dead : Ledgers} {map : Payloads} (carries : Carries bytes index cached dead map) where
-  -- keys are let go that are indexed
+module _ {bytes : Bytes} {index : Places} {cached : Cached} {dead : Ledgers} {map : Payloads} (carries : Represents bytes index cached dead map) where
+  -- keys are dropped that are indexed
   pub carries_let_go : (cached' : Cached) → ((key : EntryKey) → (cached' key ≡ cached key) ⊎ ((cached' key ≡ None) × IsSome (finite.get index key)))
-      → Carries bytes index cached' dead map
+      → Represents bytes index cached' dead map
   carries_let_go cached' fewer = record {
     lives = carries.lives;
     cached_is = λ key payload is. elim (fewer key) [
@@ -37,14 +37,14 @@ module _ {bytes : Bytes} {index : Places} {cached : Cached} {dead : Ledgers} {ma
   }
 
   -- the caches have what they had, elsewhere
-  pub carries_same_cached : (cached' : Cached) → ((key : EntryKey) → cached' key ≡ cached key) → Carries bytes index cached' dead map
+  pub carries_same_cached : (cached' : Cached) → ((key : EntryKey) → cached' key ≡ cached key) → Represents bytes index cached' dead map
   carries_same_cached cached' same = carries_let_go cached' (λ key. inl (same key))
 
   -- A key of a live ledger comes that is neither cached nor indexed.
   pub carries_added : (cached' : Cached) (key : EntryKey) (payload : List ℕ) → set.contains dead key.ledger ≡ false
       → cached key ≡ None → finite.get index key ≡ None
       → cached' key ≡ Some payload → ((other : EntryKey) → other ≢ key → cached' other ≡ cached other)
-      → Carries bytes index cached' dead (finite.insert map key payload)
+      → Represents bytes index cached' dead (finite.insert map key payload)
   carries_added cached' key payload alive none unnamed here others = record {
     lives = λ k b mapped. elim (inserted_cases map key payload k b mapped) [
       | inl new ↦ ap (λ (x : EntryKey). set.contains dead x.ledger) new.0 ∙ alive

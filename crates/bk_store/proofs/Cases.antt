@@ -1,4 +1,4 @@
--- Cases on what a lookup, a test or a comparison answers, each with its equation.
+-- Cases on what a lookup, a test or a comparison returns, each with its equation.
 use Rattle.std.proofs.Common.{◌≡◌, ◌≢◌, ◌⊎◌, inl, inr, ℕ, Option, Some, None, IsSome, refl, arith}
 use Rattle.std.proofs.Math.Decide.{dec_le}
 

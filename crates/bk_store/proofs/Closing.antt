@@ -8,22 +8,22 @@ use Rattle.bk_record.specs.Key.{EntryKey}
 use Rattle.bk_record.specs.Record.{key_of, is_foreign}
 use Rattle.bk_record.specs.Files.{In}
 use Rattle.bk_store.specs.Logs.{Log, Logs, is_open, is_written, unwritten_log, published_part, open_parts}
-use Rattle.bk_store.specs.Kept.{IsHeld}
-use Rattle.bk_store.specs.Beside.{unless_log}
+use Rattle.bk_store.specs.Invariant.{HeldLogInvariant}
+use Rattle.bk_store.specs.Internals.{unless_log}
 use Rattle.bk_store.specs.declared.log.LogState.{LogState}
 use Rattle.bk_store.specs.declared.log.LogState.TheVariants.{Writing}
 use Rattle.bk_store.proofs.Cases.{same_or_apart}
 use Rattle.bk_store.proofs.LogMaps.{log-inserted, log-insert_else, log-insert_cases}
 
 -- what is kept of a log that is closed
-pub held_closed : (next id : ℕ) (state : LogState) (log : Log) → is_written state ≡ false → IsHeld next id log → IsHeld next id (unwritten_log state log)
+pub held_closed : (next id : ℕ) (state : LogState) (log : Log) → is_written state ≡ false → HeldLogInvariant next id log → HeldLogInvariant next id (unwritten_log state log)
 held_closed next id state log closed was = record {
   below = was.below;
   written = λ wrong. absurd (let both : true ≡ false = sym wrong ∙ closed in cc);
   by = λ w wrong. absurd (cc);
 }
 
--- where a log is Writing no more, the others are Writing as before
+-- if a log is Writing no more, the others are Writing as before
 pub writing_closed : (logs : Logs) (id : ℕ) (new : Log) (writing : Option ℕ) → ¬ (new.state ≡ Writing)
     → ((q : ℕ) → (writing ≡ Some q) ↔ ((l : Log) × (finite.get logs q ≡ Some l) × (l.state ≡ Writing)))
     → (q : ℕ) → (unless_log writing id ≡ Some q) ↔ ((l : Log) × (finite.get (finite.insert logs id new) q ≡ Some l) × (l.state ≡ Writing))

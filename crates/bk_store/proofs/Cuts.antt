@@ -1,4 +1,4 @@
--- What a crash left of a file is the beginning of it behind the header, and has what was synced.
+-- What a crash left of a file is the beginning of it after the header, and has what was synced.
 use Rattle.std.proofs.Common.{◌≡◌, ◌⊎◌, inl, inr, ℕ, ◌≤◌, List, [], ◌++◌, length, take, drop, Some, Option, unwrap_or}
 use Rattle.std.proofs.Common.{sym, ap, ◌∙◌, subst, arith, append_assoc}
 use Rattle.std.proofs.lemmas.List.{drop-drop, take-append-drop, take-append-le, length-take-le}
@@ -20,7 +20,7 @@ use Rattle.bk_store.proofs.Growing.{none_stands}
 longer_front : (n : ℕ) (file : List ℕ) → IsLonger (take n file) file
 longer_front n file = subst (IsLonger (take n file)) (take-append-drop n file) (longer_append (take n file) (drop n file))
 
--- a cut is as the first bytes of its file, behind byte 20 and so behind the header
+-- a cut is as the first bytes of its file, after byte 20 and so after the header
 behind_header : (file left : List ℕ) → IsCut file left → drop header_length left ≡ drop header_length (take (length left) file)
 behind_header file left cut =
     sym (drop-drop 1004 20 left) ∙ ap (drop 1004) cut.behind ∙ drop-drop 1004 20 (take (length left) file)
@@ -67,12 +67,12 @@ entry_longer {bytes = bytes} {bytes' = bytes'} place key payload longer entry = 
   keyed = entry.keyed;
 }
 
--- the bytes of a log that stands
+-- the bytes of a log that has a file
 file_is : (files : Files) (id : ℕ) (file : List ℕ) → finite.get files id ≡ Some file → file_of files id ≡ file
 file_is files id file is = ap (λ (o : Option (List ℕ)). unwrap_or o []) is
 
 module _ {files gone kept left : Files} (leaves : MayLeave files gone kept left) where
-  -- each entry that a crash left stood in a file, or in a removed one
+  -- each entry that a crash left was in a file, or in a removed one
   left_entry : (place : Place) (key : EntryKey) (payload : List ℕ) → HasEntry (file_of left) place key payload
       → HasEntry (file_of files) place key payload ⊎ HasEntry (file_of gone) place key payload
   left_entry place key payload entry = elim (some_or_none (finite.get left place.log)) [

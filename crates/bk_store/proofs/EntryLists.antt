@@ -17,20 +17,21 @@ use Rattle.bk_store.proofs.KeyMaps.{get-insert_other, same_key, inserted_cases, 
 abbrev pub Listed : Type 0
 Listed = List (Place × EntryKey)
 
--- the last of the list with this key stands at the place
+-- the last of the list with this key is at the place
 pub record IsLastListed (entries : Listed) (key : EntryKey) (place : Place) : Type 0 where
   pub before : Listed
   pub behind : Listed
   pub entries_are : entries ≡ before ++ (place, key) ∷ behind
   pub last : (other : Place) → In (other, key) behind → ⊥
 
--- The index of the list: each key of a live ledger in it is sent to the place of its last, no other key is sent anywhere.
+-- The index of the list: each key of a live ledger in it points to the place of its last, no other
+-- key is sent anywhere.
 pub record IsIndexOfList (entries : Listed) (dead : Ledgers) (index : Places) : Type 0 where
   pub sent : (key : EntryKey) (place : Place) → finite.get index key ≡ Some place → IsLastListed entries key place
   pub lives : (key : EntryKey) (place : Place) → finite.get index key ≡ Some place → set.contains dead key.ledger ≡ false
   pub missing : (key : EntryKey) → finite.get index key ≡ None → set.contains dead key.ledger ≡ false → (place : Place) → In (place, key) entries → ⊥
 
--- each entry of the list stands before those behind it
+-- each entry of the list is before those after it
 abbrev pub AreRising : Listed → Type 0
 AreRising [] = Unit {0}
 AreRising (e ∷ entries) = ((place : Place) (key : EntryKey) → In (place, key) entries → Precedes e.0 place) × AreRising entries
@@ -43,7 +44,7 @@ pub record AreEntriesOf (bytes : Bytes) (entries : Listed) : Type 0 where
 
 -- ---- the order of the list
 
--- a list in order behind another
+-- a list in order after another
 pub rising_append : (first second : Listed) → AreRising first → AreRising second
     → ((p q : Place) (k j : EntryKey) → In (p, k) first → In (q, j) second → Precedes p q) → AreRising (first ++ second)
 rising_append [] second one two between = two
@@ -71,7 +72,7 @@ list_empty dead = record {
   missing = λ key none lives place never. never;
 }
 
--- what was last stays last behind an entry of another key
+-- what was last stays last after an entry of another key
 still_last : (entries : Listed) (k : EntryKey) (p : Place) (place : Place) (key : EntryKey) → key ≢ k → IsLastListed entries k p
     → IsLastListed (entries ++ (place, key) ∷ []) k p
 still_last entries k p place key apart old = record {
@@ -117,7 +118,7 @@ module _ {entries : Listed} {dead : Ledgers} {index : Places} (made : IsIndexOfL
     ];
   }
 
-  -- an entry of a dead ledger is passed by
+  -- an entry of a deleted ledger is passed by
   pub list_passed : (place : Place) (key : EntryKey) → set.contains dead key.ledger ≡ true → IsIndexOfList (entries ++ (place, key) ∷ []) dead index
   list_passed place key gone = record {
     sent = λ k p named.

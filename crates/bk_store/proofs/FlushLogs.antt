@@ -1,4 +1,5 @@
--- The logs of a flush are changed one after another by a rule that goes by their states, and so all logs are.
+-- The logs of a flush are changed one after another by a rule, by their states, and
+-- so all logs are.
 use Rattle.std.proofs.Common.{◌≡◌, ◌≢◌, ◌⊎◌, inl, inr, ℕ, List, [], ◌∷◌, ◌++◌, Bool, true, false, cond, nat_eq, Option}
 use Rattle.std.proofs.Common.{Some, None, option_map, refl, sym, ap, subst, ◌∙◌, ◌≤◌, length, take}
 use Rattle.std.proofs.lemmas.List.{take_all}
@@ -8,7 +9,7 @@ use Rattle.std.specs.Option.{option_eq}
 use Rattle.std.proofs.lemmas.Bool.{eqb-true, eq-eqb}
 use Rattle.bk_record.specs.Files.{In}
 use Rattle.bk_record.proofs.Growth.{In-push_cases}
-use Rattle.bk_store.specs.Logs.{Log, Logs, AllChanged, IsFlushLog, settled_as, unfilled_as}
+use Rattle.bk_store.specs.Logs.{Log, Logs, AllChanged, IsFlushLog, state_after_restart, state_after_flush}
 use Rattle.bk_store.specs.declared.log.LogState.{LogState}
 use Rattle.bk_store.specs.declared.log.LogState.TheVariants.{Writing, Filled, Copying, Readable, Retired, Closed}
 use Rattle.bk_store.proofs.Cases.{some_or_none, same_or_apart}
@@ -19,15 +20,15 @@ pub record IsSettling (rule : LogState → Log → Log) : Type 0 where
   pub twice : (log : Log) → rule (rule log.state log).state (rule log.state log) ≡ rule log.state log
   pub leaves : (log : Log) → ¬ ((log.state ≡ Writing) ⊎ (log.state ≡ Filled)) → rule log.state log ≡ log
 
-settled_twice : (s : LogState) (log : Log) → log.state ≡ s → settled_as (settled_as s log).state (settled_as s log) ≡ settled_as s log
+settled_twice : (s : LogState) (log : Log) → log.state ≡ s → state_after_restart (state_after_restart s log).state (state_after_restart s log) ≡ state_after_restart s log
 settled_twice Writing log is = refl
 settled_twice Filled log is = refl
-settled_twice Copying log is = ap (λ s. settled_as s log) is
-settled_twice Readable log is = ap (λ s. settled_as s log) is
-settled_twice Retired log is = ap (λ s. settled_as s log) is
-settled_twice Closed log is = ap (λ s. settled_as s log) is
+settled_twice Copying log is = ap (λ s. state_after_restart s log) is
+settled_twice Readable log is = ap (λ s. state_after_restart s log) is
+settled_twice Retired log is = ap (λ s. state_after_restart s log) is
+settled_twice Closed log is = ap (λ s. state_after_restart s log) is
 
-settled_leaves : (s : LogState) (log : Log) → log.state ≡ s → ¬ ((log.state ≡ Writing) ⊎ (log.state ≡ Filled)) → settled_as s log ≡ log
+settled_leaves : (s : LogState) (log : Log) → log.state ≡ s → ¬ ((log.state ≡ Writing) ⊎ (log.state ≡ Filled)) → state_after_restart s log ≡ log
 settled_leaves Writing log is other = absurd (other (inl is))
 settled_leaves Filled log is other = absurd (other (inr is))
 settled_leaves Copying log is other = refl
@@ -35,18 +36,18 @@ settled_leaves Readable log is other = refl
 settled_leaves Retired log is other = refl
 settled_leaves Closed log is other = refl
 
-pub settling : IsSettling settled_as
+pub settling : IsSettling state_after_restart
 settling = record { twice = λ log. settled_twice log.state log refl; leaves = λ log. settled_leaves log.state log refl }
 
-unfilled_twice : (s : LogState) (log : Log) → log.state ≡ s → unfilled_as (unfilled_as s log).state (unfilled_as s log) ≡ unfilled_as s log
-unfilled_twice Writing log is = ap (λ s. unfilled_as s log) is
+unfilled_twice : (s : LogState) (log : Log) → log.state ≡ s → state_after_flush (state_after_flush s log).state (state_after_flush s log) ≡ state_after_flush s log
+unfilled_twice Writing log is = ap (λ s. state_after_flush s log) is
 unfilled_twice Filled log is = refl
-unfilled_twice Copying log is = ap (λ s. unfilled_as s log) is
-unfilled_twice Readable log is = ap (λ s. unfilled_as s log) is
-unfilled_twice Retired log is = ap (λ s. unfilled_as s log) is
-unfilled_twice Closed log is = ap (λ s. unfilled_as s log) is
+unfilled_twice Copying log is = ap (λ s. state_after_flush s log) is
+unfilled_twice Readable log is = ap (λ s. state_after_flush s log) is
+unfilled_twice Retired log is = ap (λ s. state_after_flush s log) is
+unfilled_twice Closed log is = ap (λ s. state_after_flush s log) is
 
-unfilled_leaves : (s : LogState) (log : Log) → log.state ≡ s → ¬ ((log.state ≡ Writing) ⊎ (log.state ≡ Filled)) → unfilled_as s log ≡ log
+unfilled_leaves : (s : LogState) (log : Log) → log.state ≡ s → ¬ ((log.state ≡ Writing) ⊎ (log.state ≡ Filled)) → state_after_flush s log ≡ log
 unfilled_leaves Writing log is other = refl
 unfilled_leaves Filled log is other = absurd (other (inr is))
 unfilled_leaves Copying log is other = refl
@@ -54,7 +55,7 @@ unfilled_leaves Readable log is other = refl
 unfilled_leaves Retired log is other = refl
 unfilled_leaves Closed log is other = refl
 
-pub unfilling : IsSettling unfilled_as
+pub unfilling : IsSettling state_after_flush
 unfilling = record { twice = λ log. unfilled_twice log.state log refl; leaves = λ log. unfilled_leaves log.state log refl }
 
 -- each log was changed, or it is as it was and was not met yet
@@ -107,7 +108,7 @@ module _ (rule : LogState → Log → Log) (settles : IsSettling rule) (old now 
         ∙ ap (λ i. option_map (λ (l : Log). rule l.state l) (finite.get old i)) (sym here))
   ]
 
--- where all logs of the flush were met, all logs are changed
+-- if all logs of the flush were met, all logs are changed
 pub all_met : (rule : LogState → Log → Log) → IsSettling rule → (old now : Logs) (met : List ℕ) → ChangedSoFar rule old now met
     → ((id : ℕ) → IsFlushLog old id → In id met) → AllChanged rule old now
 all_met rule settles old now met so_far all id = elim (so_far id) [

@@ -1,4 +1,4 @@
--- The bytes of logs grow, or go, and carry the same map.
+-- The bytes of logs grow or are removed, and represent the same map.
 use Rattle.std.proofs.Common.{◌≡◌, ◌≢◌, ◌⊎◌, inl, inr, ℕ, List, [], ◌++◌, Some, false, sym, ap, ◌∙◌, subst, arith}
 use Rattle.std.specs.FinMap as finite
 use Rattle.std.specs.FinSet as set
@@ -10,14 +10,14 @@ use Rattle.bk_record.specs.Scan.{Payloads, Ledgers}
 use Rattle.bk_record.proofs.Growth.{In-append_left, In-append_cases, records_of-short}
 use Rattle.bk_record.specs.Keyed.{Places}
 use Rattle.bk_store.specs.Entries.{Bytes, HasEntry}
-use Rattle.bk_store.specs.Carried.{Cached, Carries}
+use Rattle.bk_store.specs.Representation.{Cached, Represents}
 use Rattle.bk_store.proofs.Cases.{same_or_apart}
 
--- each entry of the first bytes stands in the second
+-- each entry of the first bytes is in the second
 abbrev pub EntriesStay : Bytes → Bytes → Type 0
 EntriesStay bytes bytes' = (place : Place) (key : EntryKey) (payload : List ℕ) → HasEntry bytes place key payload → HasEntry bytes' place key payload
 
--- Each entry of the old bytes stands in the new; each new entry of a live ledger has what the map has.
+-- Each entry of the old bytes is in the new; each new entry of a live ledger has what the map has.
 pub record Grows (dead : Ledgers) (map : Payloads) (bytes bytes' : Bytes) : Type 0 where
   pub stood : EntriesStay bytes bytes'
   pub fresh : (place : Place) (key : EntryKey) (payload : List ℕ) → HasEntry bytes' place key payload → set.contains dead key.ledger ≡ false
@@ -27,7 +27,7 @@ pub record Grows (dead : Ledgers) (map : Payloads) (bytes bytes' : Bytes) : Type
 abbrev pub OnlyIn : ℕ → Bytes → Bytes → Type 0
 OnlyIn log bytes bytes' = (id : ℕ) → id ≢ log → bytes' id ≡ bytes id
 
--- an entry stands by its log's bytes alone
+-- an entry depends on the bytes of its log alone
 pub entry_same : {bytes bytes' : Bytes} (place : Place) (key : EntryKey) (payload : List ℕ) → bytes place.log ≡ bytes' place.log
     → HasEntry bytes place key payload → HasEntry bytes' place key payload
 entry_same place key payload same entry =
@@ -36,7 +36,7 @@ entry_same place key payload same entry =
 -- ---- the bytes grow
 
 module _ {bytes bytes' : Bytes} {index : Places} {cached : Cached} {dead : Ledgers} {map : Payloads} where
-  pub carries_grown : Grows dead map bytes bytes' → Carries bytes index cached dead map → Carries bytes' index cached dead map
+  pub carries_grown : Grows dead map bytes bytes' → Represents bytes index cached dead map → Represents bytes' index cached dead map
   carries_grown grows carries = record {
     lives = carries.lives;
     cached_is = carries.cached_is;
@@ -51,7 +51,8 @@ module _ {bytes bytes' : Bytes} {index : Places} {cached : Cached} {dead : Ledge
   }
 
 module _ {bytes bytes' : Bytes} (dead : Ledgers) (map : Payloads) where
-  -- In one log others stand behind the old records, and those of them that have keys of live ledgers have what the map has.
+  -- In one log others are after the old records, and those of them that have keys of live ledgers
+  -- have what the map has.
   pub grows_behind : (log : ℕ) → OnlyIn log bytes bytes' → (others : List (ℕ × List ℕ)) → records_of (bytes' log) ≡ records_of (bytes log) ++ others
       → ((at : ℕ) (payload : List ℕ) (key : EntryKey) → In (at, payload) others → key_of payload ≡ Some key → set.contains dead key.ledger ≡ false
       → finite.get map key ≡ Some payload)
@@ -78,7 +79,7 @@ module _ {bytes bytes' : Bytes} (dead : Ledgers) (map : Payloads) where
     ];
   }
 
--- ---- a log's bytes go
+-- ---- the bytes of a log are removed
 
 pub none_stands : {bytes : Bytes} (place : Place) (key : EntryKey) (payload : List ℕ) → bytes place.log ≡ [] → HasEntry bytes place key payload → ⊥
 none_stands place key payload empty entry =
@@ -87,7 +88,7 @@ none_stands place key payload empty entry =
 module _ {bytes bytes' : Bytes} {index : Places} {cached : Cached} {dead : Ledgers} {map : Payloads} where
   pub carries_removed : (log : ℕ) → OnlyIn log bytes bytes' → bytes' log ≡ []
       → ((key : EntryKey) (place : Place) → finite.get index key ≡ Some place → place.log ≢ log)
-      → Carries bytes index cached dead map → Carries bytes' index cached dead map
+      → Represents bytes index cached dead map → Represents bytes' index cached dead map
   carries_removed log only gone unnamed carries = record {
     lives = carries.lives;
     cached_is = carries.cached_is;

@@ -1,4 +1,4 @@
--- The logs that are held, by rising ids: the first entry of a table from an id on.
+-- The logs that are held, by rising id: the first entry of a table from an id on.
 use Rattle.std.proofs.Common.{◌≡◌, ℕ, ◌<◌, ◌≤◌, false, List, [], ◌∷◌, Option, Some, None, IsSome, IfSome, is_some, is_gt, true, sym, ap, subst, ◌∙◌, arith}
 use Rattle.std.proofs.Math.Decide.{dec_le}
 use Rattle.std.specs.Ordering.{nat_cmp}
@@ -11,8 +11,8 @@ use Rattle.std.proofs.lemmas.Bool.Decides.{nat_tests}
 use Rattle.std.specs.FinMap as finite
 use Rattle.bk_accounts.proofs.Maps.{get-entries}
 use Rattle.bk_store.specs.Logs.{IsNextHeld}
-use Rattle.bk_store.specs.State.{Parts}
-use Rattle.bk_store.specs.Kept.{Fits}
+use Rattle.bk_store.specs.State.{StoreParts}
+use Rattle.bk_store.specs.Invariant.{StructuralInvariant}
 use Rattle.bk_store.proofs.Cases.{some_value}
 
 not_gt : (a b : ℕ) → a ≤ b → is_gt (nat_cmp a b) ≡ false
@@ -46,7 +46,7 @@ module _ {X : Type 0} (m : BTreeMap ℕ X) (table : finite.FinMap nat_cmp X) (vi
   here_first there = (ap is_some (same_at from) ∙ there, omega arith, λ other held above. above)
 
 -- the id of a log that is held is one of a log
-pub held_from : (p : Parts) → Fits p → (from : ℕ) (o : Option ℕ) → IsNextHeld p.state.logs from o → IfSome o (λ id. id < 2147483648)
+pub held_from : (p : StoreParts) → StructuralInvariant p → (from : ℕ) (o : Option ℕ) → IsNextHeld p.state.logs from o → IfSome o (λ id. id < 2147483648)
 held_from p fits from None is = tt
 held_from p fits from (Some id) is =
     let log = some_value (finite.get p.state.logs id) is.0 in
@@ -54,7 +54,7 @@ held_from p fits from (Some id) is =
     let ids = fits.limits.ids in
     omega (arith, below, ids)
 
-pub held_id : (p : Parts) → Fits p → (id : ℕ) → IsSome (finite.get p.state.logs id) → id < 2147483648
+pub held_id : (p : StoreParts) → StructuralInvariant p → (id : ℕ) → IsSome (finite.get p.state.logs id) → id < 2147483648
 held_id p fits id there =
     let log = some_value (finite.get p.state.logs id) there in
     let below = (fits.logs.each id log.0 log.1).below in

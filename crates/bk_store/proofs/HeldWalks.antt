@@ -28,7 +28,7 @@ module _ {X : Type 0} where
   pub keys_ascending : (m : finite.FinMap nat_cmp X) → AreAscending (finite.keys m)
   keys_ascending m = sorted_ascending (finite.entries m) (finite.entries_sorted m)
 
-  -- where a log that the map does not have has no bytes, the walk over its keys lists all entries
+  -- if a log that the map does not have has no bytes, the walk over its keys lists all entries
   pub keys_walked : (m : finite.FinMap nat_cmp X) (bytes : Bytes) → ((id : ℕ) → finite.get m id ≡ None → bytes id ≡ [])
       → AreEntriesOf bytes (walked bytes (finite.keys m))
   keys_walked m bytes none = walked_lists bytes (finite.keys m) (keys_ascending m) (λ place key payload entry. elim (some_or_none (finite.get m place.log)) [

@@ -19,7 +19,7 @@ one_more dead front index made e =
       | false ↦ λ alive. (finite.insert index e.1 e.0, list_indexed made e.0 e.1 alive)
     ] refl
 
--- entries behind a list that has an index
+-- entries after a list that has an index
 behind : (dead : Ledgers) (front rest : Listed) (index : Places) → IsIndexOfList front dead index → HasIndex dead (front ++ rest)
 behind dead front [] index made = subst (HasIndex dead) (sym (append-nil front)) (index, made)
 behind dead front (e ∷ rest) index made =

@@ -1,4 +1,4 @@
--- What the job of a compaction keeps stays where its logs stay.
+-- The invariant of the job of a compaction is preserved where its logs stay.
 use Rattle.std.proofs.Common.{◌≡◌, ◌≢◌, ◌⊎◌, inl, inr, ℕ, Bool, cond, IsTrue, List, [], Option, Some, unwrap_or, sym, ap, subst, ◌∙◌}
 use Rattle.std.specs.Option.{option_map_or, option_and_then}
 use Rattle.std.specs.FinMap as finite
@@ -8,10 +8,10 @@ use Rattle.bk_record.specs.Files.{Files, file_of}
 use Rattle.bk_record.specs.Keyed.{Places}
 use Rattle.bk_store.specs.Entries.{HasEntry}
 use Rattle.bk_store.specs.Jobs.{Job, with_rebuild}
-use Rattle.bk_store.specs.JobKept.{IsJob, KeepsJob, IsCopied, IsReadTo, entries_from, copied_in, copy_state}
+use Rattle.bk_store.specs.JobInvariant.{JobInvariant, JobFacts, IsCopied, IsReadTo, entries_from, copied_in, copy_state}
 use Rattle.bk_store.specs.Logs.{Log, Logs, HasOpenView, is_open, published_part, open_parts}
 use Rattle.bk_store.specs.State.{State}
-use Rattle.bk_store.specs.Doors.{IsIn}
+use Rattle.bk_store.specs.Primitives.{IsIn}
 use Rattle.bk_store.specs.declared.job.Phase.{Phase}
 use Rattle.bk_store.specs.declared.job.Phase.TheVariants.{Copy, Switch}
 use Rattle.bk_store.specs.declared.log.LogState.{LogState}
@@ -19,8 +19,8 @@ use Rattle.bk_store.specs.declared.log.LogState.TheVariants.{Writing, Filled, Co
 use Rattle.bk_store.proofs.Growing.{entry_same}
 use Rattle.bk_store.proofs.LogMaps.{log-insert_else}
 
--- The logs of a job are held as before. Beside an honest disk the index names nothing more in the source, and the entries of
--- the copy's file stay.
+-- The logs of a job are held as before. On an honest disk the index points to nothing more in the
+-- source log, and the entries of the target log's file stay.
 pub record Stays (s t : State) (job : Job) : Type 0 where
   pub honest : t.honest ≡ s.honest
   pub source : finite.get t.logs job.source ≡ finite.get s.logs job.source
@@ -52,7 +52,7 @@ module _ (s t : State) (job : Job) (stays : Stays s t job) where
       entry_same place key payload
       (ap (open_parts s.logs) own ∙ sym (part_same s.logs t.logs job.copy stays.copy) ∙ ap (open_parts t.logs) (sym own)) entry
 
-  still_copied : IsTrue s.honest → IsJob s job → IsCopied s.files s.index s.logs job → IsCopied t.files t.index t.logs job
+  still_copied : IsTrue s.honest → JobInvariant s job → IsCopied s.files s.index s.logs job → IsCopied t.files t.index t.logs job
   still_copied honest is was =
       let part : open_parts s.logs job.source ≡ open_parts t.logs job.source = sym (part_same s.logs t.logs job.source stays.source) in
       record {
@@ -64,7 +64,7 @@ module _ (s t : State) (job : Job) (stays : Stays s t job) where
         ended = λ phase. subst (λ b. entries_from b job.at ≡ []) part (was.ended phase);
       }
 
-  pub job_stays : IsJob s job → IsJob t job
+  pub job_stays : JobInvariant s job → JobInvariant t job
   job_stays is = record {
     source = in_same s t job.source Readable stays.source is.source;
     shown = view_same s.logs t.logs job.source stays.source is.shown;
@@ -80,7 +80,7 @@ module _ (s t : State) (job : Job) (stays : Stays s t job) where
   }
 
 -- a log that is neither Readable nor Copying is none of the job's
-pub job_apart : (s : State) (job : Job) → IsJob s job → (id : ℕ) (log : Log) → finite.get s.logs id ≡ Some log → log.state ≢ Readable → log.state ≢ Copying
+pub job_apart : (s : State) (job : Job) → JobInvariant s job → (id : ℕ) (log : Log) → finite.get s.logs id ≡ Some log → log.state ≢ Readable → log.state ≢ Copying
     → (job.source ≢ id) × (job.copy ≢ id)
 job_apart s job is id log held unreadable uncopied = (
   (λ here. unreadable (state_here job.source Readable is.source here)),
@@ -98,7 +98,7 @@ job_apart s job is id log held unreadable uncopied = (
     by_phase Switch wrong = unreadable wrong
 
 -- a log that is Writing, or Filled, is none of the job's
-pub job_unflushed : (s : State) (job : Job) → IsJob s job → (id : ℕ) (log : Log) → finite.get s.logs id ≡ Some log
+pub job_unflushed : (s : State) (job : Job) → JobInvariant s job → (id : ℕ) (log : Log) → finite.get s.logs id ≡ Some log
     → (log.state ≡ Writing) ⊎ (log.state ≡ Filled) → (job.source ≢ id) × (job.copy ≢ id)
 job_unflushed s job is id log held (inl now) = job_apart s job is id log held (λ wrong. cc) (λ wrong. cc)
 job_unflushed s job is id log held (inr now) = job_apart s job is id log held (λ wrong. cc) (λ wrong. cc)
@@ -115,7 +115,7 @@ stays_same s t job honest logs index files = record {
   stands = λ truth place key payload own entry. subst (λ f. HasEntry (file_of f) place key payload) (sym (files truth)) entry;
 }
 
--- where one log changes, which is none of the job's, and an honest disk's file of it
+-- if one log changes, which is none of the job's, and an honest disk's file of it
 pub stays_else : (s t : State) (job : Job) (id : ℕ) (new : Log) → (job.source ≢ id) × (job.copy ≢ id) → t.honest ≡ s.honest
     → t.logs ≡ finite.insert s.logs id new → t.index ≡ s.index → (IsTrue s.honest → (q : ℕ) → q ≢ id → finite.get t.files q ≡ finite.get s.files q)
     → Stays s t job
@@ -129,11 +129,11 @@ stays_else s t job id new apart honest logs index files = record {
       entry_same place key payload (ap (file_of s.files) own ∙ sym file ∙ ap (file_of t.files) (sym own)) entry;
 }
 
--- ---- the index is made anew
+-- ---- the index is rebuilt
 
--- the job knows it, so nothing is owed of what the index names
-pub job_rebuilt : {honest : Bool} {files : Files} {index index' : Places} {held : Logs} (job : Job) → KeepsJob honest files index held job
-    → KeepsJob honest files index' held (with_rebuild job)
+-- the job knows it, so nothing is owed of what the index points to
+pub job_rebuilt : {honest : Bool} {files : Files} {index index' : Places} {held : Logs} (job : Job) → JobFacts honest files index held job
+    → JobFacts honest files index' held (with_rebuild job)
 job_rebuilt job was = record {
   source = was.source;
   shown = was.shown;

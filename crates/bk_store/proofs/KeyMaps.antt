@@ -1,4 +1,4 @@
--- Maps from keys, and dead ledgers, after one change.
+-- Maps from keys, and deleted ledgers, after one change.
 use Rattle.std.proofs.Common.{◌≡◌, ◌≢◌, ◌⊎◌, inl, inr, ℕ, Some, None, true, false, cond, ◌||◌, eqb, refl, sym, ap, ◌∙◌}
 use Rattle.std.proofs.lemmas.Bool.{eqb-true, eq-eqb}
 use Rattle.std.proofs.lemmas.Cmp.{nat_cmp_total, tied_itself}
@@ -46,7 +46,7 @@ module _ {X : Type 0} where
         | false ↦ λ _. refl
       ] refl
 
--- ---- one ledger more is dead
+-- ---- one ledger more is deleted
 
 pub still_lives : (dead : Ledgers) (ledger q : ℕ) → set.contains (set.insert dead ledger) q ≡ false → (q ≢ ledger) × (set.contains dead q ≡ false)
 still_lives dead ledger q is =

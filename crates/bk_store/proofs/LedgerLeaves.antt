@@ -5,14 +5,14 @@ use Rattle.bk_record.specs.Key.{EntryKey}
 use Rattle.bk_record.specs.Scan.{Payloads, Ledgers}
 use Rattle.bk_record.specs.Keyed.{without_ledger, Places}
 use Rattle.bk_store.specs.Entries.{Bytes}
-use Rattle.bk_store.specs.Carried.{Cached, Carries}
+use Rattle.bk_store.specs.Representation.{Cached, Represents}
 use Rattle.bk_store.proofs.Cases.{same_or_apart}
 use Rattle.bk_store.proofs.KeyMaps.{left_cases, left_same, still_lives, lives_still}
 
-module _ {bytes : Bytes} {index : Places} {cached : Cached} {dead : Ledgers} {map : Payloads} (carries : Carries bytes index cached dead map) where
+module _ {bytes : Bytes} {index : Places} {cached : Cached} {dead : Ledgers} {map : Payloads} (carries : Represents bytes index cached dead map) where
   pub carries_without_ledger : (cached' : Cached) (ledger : ℕ)
       → ((key : EntryKey) → key.ledger ≡ ledger → cached' key ≡ None) → ((key : EntryKey) → key.ledger ≢ ledger → cached' key ≡ cached key)
-      → Carries bytes (without_ledger index ledger) cached' (set.insert dead ledger) (without_ledger map ledger)
+      → Represents bytes (without_ledger index ledger) cached' (set.insert dead ledger) (without_ledger map ledger)
   carries_without_ledger cached' ledger gone others = record {
     lives = λ key payload mapped.
         let old = left_cases map ledger key payload mapped in

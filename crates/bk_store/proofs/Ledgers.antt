@@ -1,4 +1,5 @@
--- A set of ledgers, as the keys of a tree, and what one has of a ledger after one comes or goes.
+-- A set of ledgers, as the keys of a tree, and what one has of a ledger after one is added or
+-- removed.
 use Rattle.std.proofs.Common.{◌≡◌, ◌≢◌, ℕ, ◌+◌, ◌<◌, ◌≤◌, ◌^◌, arith, nat_lt, true, false, cond, ◌||◌, ◌&&◌, not, Bool, List, []}
 use Rattle.std.proofs.Common.{◌∷◌, ◌++◌, length, take, get_or, refl, sym, ap, ◌∙◌, add-one}
 use Rattle.std.specs.List.{filter}
@@ -14,7 +15,7 @@ use Rattle.std.specs.BTreeSet.{BTreeSet, contains, Updates}
 use Rattle.std.specs.FinSet as set
 use Rattle.std.specs.FinMap.{nat_cmp-IsAntisymmetric}
 use Rattle.bk_record.specs.Scan.{Ledgers}
-use Rattle.bk_store.specs.Turns.{valid_ledgers}
+use Rattle.bk_store.specs.Transitions.{valid_ledgers}
 
 either : (b c : Bool) → cond b true c ≡ (b || c)
 either true c = refl
@@ -33,7 +34,7 @@ without : (b c : Bool) → cond b false c ≡ (not b && c)
 without true c = refl
 without false c = refl
 
--- a ledger that goes
+-- a ledger that is removed
 pub ledgers-remove : (old new : BTreeSet ℕ) (ledger : ℕ) → Updates nat_cmp old new ledger false
     → set.from_list {R = nat_cmp} new.keys ≡ set.remove (set.from_list old.keys) ledger
 ledgers-remove old new ledger updates = set.same_set nat_cmp_total nat_cmp-IsAntisymmetric _ _ (λ q.

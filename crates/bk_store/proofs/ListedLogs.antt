@@ -1,4 +1,4 @@
--- The next log is listed, and the store keeps what it keeps.
+-- The next log is listed, and the store invariant is preserved.
 use Rattle.std.proofs.Common.{◌≡◌, ◌≢◌, ◌⊎◌, inl, inr, ℕ, ◌+◌, ◌≤◌, ◌<◌, ◌^◌, ◌↔◌, true, false, cond, eqb, IsTrue, List}
 use Rattle.std.proofs.Common.{[], length, take, Option, Some, None, is_some, option_map, unwrap_or}
 use Rattle.std.proofs.Common.{refl, sym, ap, subst, ◌∙◌, arith, length-take}
@@ -17,20 +17,20 @@ use Rattle.bk_log.specs.Growing.{Gains, HasNoBadLength}
 use Rattle.bk_accounts.specs.Book.{named_in, total_at, total_in, after_open}
 use Rattle.bk_accounts.proofs.BookLaws.{named_in-after_open, total_in-after_open}
 use Rattle.bk_accounts.proofs.CallerLaws.{sums_open}
-use Rattle.bk_store.specs.Shown.{Shows}
+use Rattle.bk_store.specs.Published.{IndexIsPublished}
 use Rattle.bk_store.specs.Logs.{Log, is_open, open_parts, published_part}
-use Rattle.bk_store.specs.State.{State, Parts}
-use Rattle.bk_store.specs.Kept.{Keeps, Fits, Promises, IsHeld, IsBacked, entry_measure, acknowledged_entries}
+use Rattle.bk_store.specs.State.{State, StoreParts}
+use Rattle.bk_store.specs.Invariant.{StoreInvariant, StructuralInvariant, ContentInvariant, HeldLogInvariant, LogMatchesFile, entry_measure, acknowledged_entries}
 use Rattle.bk_lease.specs.declared.slot.Slot.TheVariants as slots
 use Rattle.bk_lease.specs.Slots.{IsFree}
-use Rattle.bk_store.specs.Seated.{slot_state}
-use Rattle.bk_store.specs.Doors.{MayMake, with_next, with_seat}
-use Rattle.bk_store.specs.Beside.{AllStay}
+use Rattle.bk_store.specs.SlotAssignment.{slot_state}
+use Rattle.bk_store.specs.Primitives.{CanCreateLog, with_next, with_seat}
+use Rattle.bk_store.specs.Internals.{AllStay}
 use Rattle.bk_store.specs.declared.log.LogState.TheVariants.{Writing, Filled}
 use Rattle.bk_store.proofs.Cases.{some_or_none, same_or_apart}
 use Rattle.bk_store.proofs.Seats.{seated_new}
 use Rattle.bk_store.proofs.Growing.{Grows, grows_behind, carries_grown}
-use Rattle.bk_store.proofs.ShownMoves.{shows_grown}
+use Rattle.bk_store.proofs.PublishedMoves.{shows_grown}
 use Rattle.bk_store.proofs.LogMaps.{log-inserted, log-insert_else, log-insert_cases}
 use Rattle.bk_store.proofs.JobStays.{job_stays, stays_same, stays_else}
 
@@ -47,7 +47,7 @@ writes_same w same writes = record {
   keyed = writes.keyed;
 }
 
-module _ (p : Parts) (keeps : Keeps p) where
+module _ (p : StoreParts) (keeps : StoreInvariant p) where
   abbrev next : ℕ
   next = p.state.next
 
@@ -66,11 +66,11 @@ module _ (p : Parts) (keeps : Keeps p) where
 
   -- ---- the id is used up
 
-  held_later : (id : ℕ) (log : Log) → IsHeld next id log → IsHeld (next + 1) id log
+  held_later : (id : ℕ) (log : Log) → HeldLogInvariant next id log → HeldLogInvariant (next + 1) id log
   held_later id log was = record { below = let below = was.below in omega (arith, below); written = was.written; by = was.by }
 
   -- the list may go on
-  pub keeps_listed : (filled : List ℕ) → AllStay p.filled filled → Keeps (record p { filled = filled })
+  pub keeps_listed : (filled : List ℕ) → AllStay p.filled filled → StoreInvariant (record p { filled = filled })
   keeps_listed filled goes =
       let fits = keeps.fits in
       record {
@@ -92,7 +92,7 @@ module _ (p : Parts) (keeps : Keeps p) where
       }
 
   pub keeps_used : (files : Files) (failures : ℕ) (filled : List ℕ) → AllStay p.filled filled → next < 2 ^ 31 → (IsTrue p.state.honest → files ≡ p.state.files)
-      → Keeps (record p { state = with_next p.state files failures p.state.logs p.state.keeper; filled = filled })
+      → StoreInvariant (record p { state = with_next p.state files failures p.state.logs p.state.keeper; filled = filled })
   keeps_used files failures filled goes room same =
       let fits = keeps.fits in
       record {
@@ -113,13 +113,13 @@ module _ (p : Parts) (keeps : Keeps p) where
             let used = with_next p.state files failures p.state.logs p.state.keeper in
             job_stays p.state used job (stays_same p.state used job refl refl refl same) (keeps.job job is);
         promises = λ honest.
-            let promise = keeps.promises honest in
-            subst (λ f. Promises (record p { state = with_next p.state f failures p.state.logs p.state.keeper; filled = filled })) (sym (same honest)) (record {
-              map = promise.map;
-              shows = promise.shows;
-              counted = promise.counted;
-              logs = record { each = promise.logs.each; fresh = λ id above. promise.logs.fresh id (omega (arith, above)) };
-              placed = promise.placed;
+            let reveal_invariant = keeps.promises honest in
+            subst (λ f. ContentInvariant (record p { state = with_next p.state f failures p.state.logs p.state.keeper; filled = filled })) (sym (same honest)) (record {
+              map = reveal_invariant.map;
+              shows = reveal_invariant.shows;
+              counted = reveal_invariant.counted;
+              logs = record { each = reveal_invariant.logs.each; fresh = λ id above. reveal_invariant.logs.fresh id (omega (arith, above)) };
+              placed = reveal_invariant.placed;
             });
       }
 
@@ -128,7 +128,7 @@ module _ (p : Parts) (keeps : Keeps p) where
   module _ (new : Log) (blank : new.view ≡ None) (short : new.acknowledged ≡ header_length)
       (slot : ℕ) (free : IsFree p.state.keeper.slots slot) (stands : new.slot ≡ slot) (seat : slot_state next new.state ≡ slots.Open next)
       (files : Files) (failures : ℕ) (writing : Option ℕ) (filled : List ℕ) where
-    abbrev with_new : Parts
+    abbrev with_new : StoreParts
     with_new = record p {
       state = with_next p.state files failures (finite.insert p.state.logs next new) (with_seat p.state slot);
       accounts = after_open p.accounts next;
@@ -165,16 +165,16 @@ module _ (p : Parts) (keeps : Keeps p) where
     total_now id = ap (λ o. unwrap_or o 0) (total_in-after_open p.accounts next id)
         ∙ elim (eqb id next) as (λ b. unwrap_or (cond b (Some 0) (total_in p.accounts id)) 0 ≡ cond b 0 (total_at p.accounts id)) [ true ↦ refl | false ↦ refl ]
 
-    new_fits : MayMake p.state → IsHeld (next + 1) next new
+    new_fits : CanCreateLog p.state → HeldLogInvariant (next + 1) next new
         → ((id : ℕ) → (writing ≡ Some id) ↔ ((log : Log) × (finite.get (finite.insert p.state.logs next new) id ≡ Some log) × (log.state ≡ Writing)))
-        → AllStay p.filled filled → ((new.state ≡ Writing) ⊎ (new.state ≡ Filled) → In next filled) → Fits with_new
+        → AllStay p.filled filled → ((new.state ≡ Writing) ⊎ (new.state ≡ Filled) → In next filled) → StructuralInvariant with_new
     new_fits may held writes goes listed =
         let fits = keeps.fits in
         record {
           limits = record { allowed = fits.limits.allowed; limit = fits.limits.limit; ids = let room = may.id in omega (arith, room) };
           logs = record {
             seated = seated_new p.state.settings p.state.keeper p.state.logs fits.logs.seated slot next new free unheld stands seat;
-            each = each_new (λ id l. IsHeld (next + 1) id l) held (λ id l is. held_later id l (fits.logs.each id l is));
+            each = each_new (λ id l. HeldLogInvariant (next + 1) id l) held (λ id l is. held_later id l (fits.logs.each id l is));
             writing = writes;
             filled = each_new (λ id l. (l.state ≡ Writing) ⊎ (l.state ≡ Filled) → In id filled) listed
                 (λ id l is flushed. goes id (fits.logs.filled id l is flushed));
@@ -245,26 +245,26 @@ module _ (p : Parts) (keeps : Keeps p) where
               (only id there)
         ] refl
 
-    new_promises : (promise : Promises p) → Gains p.state.files next [] files → length (file_of files next) ≤ header_length → IsBacked files p.synced next new
-        → Promises with_new
-    new_promises promise gains empty backed =
-        let grows : Grows p.state.ledgers.dead promise.map.carried (file_of p.state.files) (file_of files) =
-        grows_behind p.state.ledgers.dead promise.map.carried next (λ id other. ap (λ (o : Option (List ℕ)). unwrap_or o []) (gains.only id other)) [] gains.records
+    new_promises : (reveal_invariant : ContentInvariant p) → Gains p.state.files next [] files → length (file_of files next) ≤ header_length → LogMatchesFile files p.synced next new
+        → ContentInvariant with_new
+    new_promises reveal_invariant gains empty backed =
+        let grows : Grows p.state.ledgers.dead reveal_invariant.map.carried (file_of p.state.files) (file_of files) =
+        grows_behind p.state.ledgers.dead reveal_invariant.map.carried next (λ id other. ap (λ (o : Option (List ℕ)). unwrap_or o []) (gains.only id other)) [] gains.records
         (λ at payload key never. absurd never) in
         record {
           map = record {
-            carried = promise.map.carried;
-            carries = carries_grown grows promise.map.carries;
-            harmless = promise.map.harmless;
-            recent = promise.map.recent;
-            replays = promise.map.replays;
+            carried = reveal_invariant.map.carried;
+            carries = carries_grown grows reveal_invariant.map.carries;
+            harmless = reveal_invariant.map.harmless;
+            recent = reveal_invariant.map.recent;
+            replays = reveal_invariant.map.replays;
           };
-          shows = subst (λ ps. Shows (file_of files) ps p.state.index) (λ i id. sym (parts_now id) i) (shows_grown promise.shows (file_of files) grows.stood);
-          counted = sums_open entry_measure promise.counted next (acknowledged_entries files (finite.insert p.state.logs next new)) unnamed
+          shows = subst (λ ps. IndexIsPublished (file_of files) ps p.state.index) (λ i id. sym (parts_now id) i) (shows_grown reveal_invariant.shows (file_of files) grows.stood);
+          counted = sums_open entry_measure reveal_invariant.counted next (acknowledged_entries files (finite.insert p.state.logs next new)) unnamed
               (later empty gains.only);
           logs = record {
-            each = each_new (λ id l. IsBacked files p.synced id l) backed (λ id l is.
-                let old = promise.logs.each id l is in
+            each = each_new (λ id l. LogMatchesFile files p.synced id l) backed (λ id l is.
+                let old = reveal_invariant.logs.each id l is in
                 let same = gains.only id (apart id l is) in
                 record {
                   stands = ap is_some same ∙ old.stands;
@@ -275,18 +275,18 @@ module _ (p : Parts) (keeps : Keeps p) where
                   shown = old.shown;
                   kept = old.kept;
                 });
-            fresh = λ id above. gains.only id (λ here. omega (arith, above, here)) ∙ promise.logs.fresh id (omega (arith, above));
+            fresh = λ id above. gains.only id (λ here. omega (arith, above, here)) ∙ reveal_invariant.logs.fresh id (omega (arith, above));
           };
           placed = λ key place is.
-              let old = promise.placed key place is in
+              let old = reveal_invariant.placed key place is in
               record { payload = old.payload; flushing = old.flushing; stands = grows.stood place key old.payload old.stands };
         }
 
-    pub kept_new : MayMake p.state → IsHeld (next + 1) next new
+    pub kept_new : CanCreateLog p.state → HeldLogInvariant (next + 1) next new
         → ((id : ℕ) → (writing ≡ Some id) ↔ ((log : Log) × (finite.get (finite.insert p.state.logs next new) id ≡ Some log) × (log.state ≡ Writing)))
         → AllStay p.filled filled → ((new.state ≡ Writing) ⊎ (new.state ≡ Filled) → In next filled)
-        → (IsTrue p.state.honest → Gains p.state.files next [] files × (length (file_of files next) ≤ header_length) × IsBacked files p.synced next new)
-        → Keeps (record p {
+        → (IsTrue p.state.honest → Gains p.state.files next [] files × (length (file_of files next) ≤ header_length) × LogMatchesFile files p.synced next new)
+        → StoreInvariant (record p {
           state = with_next p.state files failures (finite.insert p.state.logs next new) (with_seat p.state slot);
           accounts = after_open p.accounts next;
           writing = writing;

@@ -24,7 +24,7 @@ module _ {X : Type 0} where
   pub log-same : (m : finite.FinMap nat_cmp X) (id : ℕ) (v : X) → finite.get m id ≡ Some v → finite.insert m id v ≡ m
   log-same m id v there = insert-same nat_cmp_total nat_cmp-IsAntisymmetric m id v there
 
-  -- one goes
+  -- one is removed
   pub log-removed : (m : finite.FinMap nat_cmp X) (id : ℕ) → finite.get (finite.remove m id) id ≡ None
   log-removed m id = get-remove_here nat_cmp_total nat_cmp-IsAntisymmetric m id
 

@@ -1,4 +1,4 @@
--- A key is sent to a place: what the accounts owe, and what is remembered.
+-- A key points to a place: what the accounts owe, and what is remembered.
 use Rattle.std.proofs.Common.{◌≡◌, inl, inr, ℕ, ◌+◌, ◌<◌, ◌^◌, Bool, true, false, cond, eqb, List, Option, Some, None}
 use Rattle.std.proofs.Common.{Ok, ◌⊎◌, IfSome, option_map, refl, sym, ap, subst, ◌∙◌, arith}
 use Rattle.std.specs.FinMap as finite
@@ -10,22 +10,22 @@ use Rattle.bk_record.specs.Keyed.{log_count}
 use Rattle.bk_record.proofs.KeyedCounts.{log_count-some, log_count-le-len}
 use Rattle.bk_accounts.specs.Book.{Book, named_in, after_unname}
 use Rattle.bk_accounts.proofs.BookLaws.{named_in-after_name}
-use Rattle.bk_cache.specs.Caches.{CacheState, cached, flush_of}
-use Rattle.bk_cache.specs.Kept.{IsSound}
-use Rattle.bk_cache.specs.Recents.{Recents, remembered}
+use Rattle.bk_cache.specs.Caches.{CacheState, cached_payload, flush_of}
+use Rattle.bk_cache.specs.Invariant.{IsSound}
+use Rattle.bk_cache.specs.Recents.{Recents, recents_with}
 use Rattle.bk_store.specs.Logs.{Log}
-use Rattle.bk_store.specs.State.{Parts}
-use Rattle.bk_store.specs.Kept.{Keeps}
-use Rattle.bk_store.specs.Doors.{MayName, NameTurn, IsRecentAfter}
-use Rattle.bk_store.specs.Beside.{sent}
+use Rattle.bk_store.specs.State.{StoreParts}
+use Rattle.bk_store.specs.Invariant.{StoreInvariant}
+use Rattle.bk_store.specs.Primitives.{CanIndexEntry, IndexEntryTransition, IsRecentAfter}
+use Rattle.bk_store.specs.Internals.{parts_after_index}
 use Rattle.bk_store.proofs.Cases.{some_value}
 use Rattle.bk_store.proofs.Written.{found_payload}
-use Rattle.bk_store.proofs.KeptName.{names_move}
+use Rattle.bk_store.proofs.InvariantIndexEntry.{names_move}
 
 -- ---- the accounts
 
--- a log that a key names has a name to lose
-pub unname_fits : (p : Parts) → Keeps p → (key : EntryKey) (old : Place) → finite.get p.state.index key ≡ Some old
+-- a log that a key points into has an index entry to lose
+pub unname_fits : (p : StoreParts) → StoreInvariant p → (key : EntryKey) (old : Place) → finite.get p.state.index key ≡ Some old
     → IfSome (named_in p.accounts old.log) (λ n. 0 < n)
 unname_fits p keeps key old there = subst (λ o. IfSome o (λ n. 0 < n)) (sym (keeps.fits.accounts.named old.log)) (inside (finite.get p.state.logs old.log))
   where
@@ -45,8 +45,8 @@ below (Some n) None b most here few is = absurd (let wrong : Some (cond b (n + 1
 below (Some n) (Some l) true most here few is = let same = same_Some (n + 1) most is in omega (arith, same, few)
 below (Some n) (Some l) false most here few is = absurd (let wrong : false ≡ true = here in cc)
 
--- one name more is still counted: each is a key's
-pub name_fits : (p : Parts) → Keeps p → (key : EntryKey) (place : Place) (was : Option Place) → finite.get p.state.index key ≡ was
+-- one more index entry is still counted: each is a key's
+pub name_fits : (p : StoreParts) → StoreInvariant p → (key : EntryKey) (place : Place) (was : Option Place) → finite.get p.state.index key ≡ was
     → finite.len (finite.insert p.state.index key place) < 2 ^ 64 → IfSome (named_in (unnamed p.accounts was) place.log) (λ n. n + 1 < 2 ^ 64)
 name_fits p keeps key place was is few =
     below (named_in (unnamed p.accounts was) place.log) (finite.get p.state.logs place.log) (eqb place.log place.log)
@@ -69,18 +69,18 @@ only_recent : (new old : CacheState) (recents : Recents) → (new ≡ old) ⊎ (
 only_recent new old recents (inl kept) = kept ∙ ap (λ (h : CacheState). record old { recent = h.recent }) (sym kept)
 only_recent new old recents (inr made) = made ∙ ap (λ (h : CacheState). record old { recent = h.recent }) (sym made)
 
--- the key was sent, and what the caches gave for it was remembered, or not
-pub name_turn : (p q : Parts) (key : EntryKey) (place : Place) → Keeps p → MayName p.state key place → q ≡ sent p key place
-    → (bytes : List ℕ) → Some bytes ≡ cached q.state.caches key → IsSound q.state.caches → (new : CacheState)
-    → (new ≡ q.state.caches) ⊎ (new ≡ record q.state.caches { recent = remembered q.state.caches.recent key bytes })
-    → NameTurn {E = Unit {0}} p.state key place (Ok tt) (record q.state { caches = new })
+-- the key was indexed, and what the caches gave for it was remembered, or not
+pub name_turn : (p q : StoreParts) (key : EntryKey) (place : Place) → StoreInvariant p → CanIndexEntry p.state key place → q ≡ parts_after_index p key place
+    → (bytes : List ℕ) → Some bytes ≡ cached_payload q.state.caches key → IsSound q.state.caches → (new : CacheState)
+    → (new ≡ q.state.caches) ⊎ (new ≡ record q.state.caches { recent = recents_with q.state.caches.recent key bytes })
+    → IndexEntryTransition {E = Unit {0}} p.state key place (Ok tt) (record q.state { caches = new })
 name_turn p q key place keeps may here bytes found sound new after =
     let payload = some_value (finite.get (flush_of p.state.caches) key) (keeps.fits.placed.flushing key place may.placed) in
-    let same : q.state.caches ≡ p.state.caches = ap (λ (x : Parts). x.state.caches) here in
+    let same : q.state.caches ≡ p.state.caches = ap (λ (x : StoreParts). x.state.caches) here in
     let is = found_payload q.state.caches key payload.0 bytes sound (ap (λ (h : CacheState). finite.get (flush_of h) key) same ∙ payload.1) found in
-    let old : (new ≡ p.state.caches) ⊎ (new ≡ record p.state.caches { recent = remembered p.state.caches.recent key payload.0 }) = elim after [
+    let old : (new ≡ p.state.caches) ⊎ (new ≡ record p.state.caches { recent = recents_with p.state.caches.recent key payload.0 }) = elim after [
       | inl kept ↦ inl (kept ∙ same)
-      | inr made ↦ inr (made ∙ (λ i. record (same i) { recent = remembered (same i).recent key (is i) }))
+      | inr made ↦ inr (made ∙ (λ i. record (same i) { recent = recents_with (same i).recent key (is i) }))
     ] in
     let recent : IsRecentAfter p.state.caches.recent key payload.0 new.recent = elim old [
       | inl kept ↦ inl (ap (λ (h : CacheState). h.recent) kept)
@@ -89,7 +89,7 @@ name_turn p q key place keeps may here bytes found sound new after =
       payload.0,
       payload.1,
       recent,
-      ap (λ (x : Parts). record x.state { caches = new }) here
+      ap (λ (x : StoreParts). record x.state { caches = new }) here
           ∙ ap (λ (h : CacheState). record p.state { index = finite.insert p.state.index key place; caches = h })
-          (only_recent new p.state.caches (remembered p.state.caches.recent key payload.0) old),
+          (only_recent new p.state.caches (recents_with p.state.caches.recent key payload.0) old),
     )

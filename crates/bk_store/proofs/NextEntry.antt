@@ -1,4 +1,4 @@
--- The first entry of a flush behind the last one that has a place is the flush's next.
+-- The first entry of a flush after the last one that has a place is the flush's next.
 use Rattle.std.proofs.Common.{◌≡◌, inl, inr, ℕ, suc, ◌-◌, ◌≤◌, Bool, true, false, cond, List, [], ◌∷◌, length, Option, Some, None, IsSome}
 use Rattle.std.proofs.Common.{IsTrue, Less, Equal, Greater, is_some, slice_get, option_map, refl, sym, ap, ◌∙◌, arith}
 use Rattle.std.specs.declared.cmp.Ordering.{Ordering}
@@ -18,10 +18,10 @@ use Rattle.bk_record.proofs.SortedPairs.{is_true, Some-same, find_at, filter-beh
 use Rattle.bk_record.proofs.SortedMaps.{is_sorted-filter}
 use Rattle.bk_cache.specs.Caches.{flush_of, first_after}
 use Rattle.bk_cache.specs.Recents.{Entry}
-use Rattle.bk_store.specs.Placed.{last_key}
+use Rattle.bk_store.specs.FlushPlaces.{last_key}
 use Rattle.bk_store.specs.State.{State}
-use Rattle.bk_store.specs.Kept.{IsPlaced}
-use Rattle.bk_store.specs.Doors.{IsNextEntry}
+use Rattle.bk_store.specs.Invariant.{PlacesInvariant}
+use Rattle.bk_store.specs.Primitives.{IsNextEntry}
 
 less_from_test : (o : Ordering) → is_lt o ≡ true → o ≡ Less
 less_from_test Less is = refl
@@ -51,7 +51,7 @@ module _ {X : Type 0} where
       let before : key_cmp q x.0 ≡ Less = ap (λ p. key_cmp q p.0) (Some-same at) ∙ less in
       rw before (none_before q x.0 es before parts.0)
 
-  -- where there is no first pair, there is none
+  -- if there is no first pair, there is none
   none_found : (es : List (EntryKey × X)) → slice_get es 0 ≡ None → (q : EntryKey) → find key_cmp q es ≡ None
   none_found [] none q = refl
   none_found (e ∷ es) none q = cc
@@ -68,7 +68,7 @@ module _ {X : Type 0} where
       → find key_cmp q (filter (λ e. is_lt (key_cmp k e.0)) es) ≡ cond (is_lt (key_cmp k q)) (find key_cmp q es) None
   found_behind k q es = find-where_key key_cmp (λ x. is_lt (key_cmp k x)) q (λ x tied. ap (λ y. is_lt (key_cmp k y)) (sym (key_cmp_antisymmetric q x tied))) es
 
-  -- no key comes behind the last
+  -- no key comes after the last
   last_greatest : (es : List (EntryKey × X)) → IsTrue (is_sorted key_cmp es) → (e : EntryKey × X) → slice_get es (length es - 1) ≡ Some e
       → (q : EntryKey) → key_cmp e.0 q ≡ Less → find key_cmp q es ≡ None
   last_greatest es sorted e at q less =
@@ -78,8 +78,9 @@ module _ {X : Type 0} where
 
 -- ---- what a key of a flush says of its place
 
--- Some pairs of the flush in order: those of the keys that pass a test. No key that passes has a place, and each entry of the
--- others has one. Then the first of these pairs is the flush's next entry.
+-- Some pairs of the flush in order: those of the keys that pass a test. No key that passes has a
+-- place, and each entry of the others has one. Then the first of these pairs is the flush's next
+-- entry.
 module _ (s : State) (pairs : List Entry) (sorted : IsTrue (is_sorted key_cmp pairs)) (passes : EntryKey → Bool)
     (found : (q : EntryKey) → find key_cmp q pairs ≡ cond (passes q) (finite.get (flush_of s.caches) q) None)
     (unplaced : (q : EntryKey) → passes q ≡ true → finite.get s.places q ≡ None)
@@ -108,19 +109,19 @@ module _ (s : State) (pairs : List Entry) (sorted : IsTrue (is_sorted key_cmp pa
         first = λ earlier less there. placed_else earlier (first_least pairs sorted e at earlier less) there;
       }
 
--- the last key that has a place stands last among the pairs
+-- the last key that has a place is last among the pairs
 last_pair : (o : Option (EntryKey × Place)) (k : EntryKey) → option_map (λ e. e.0) o ≡ Some k → (place : Place) × (o ≡ Some (k, place))
 last_pair None k is = cc
 last_pair (Some e) k is = (e.1, ap (λ x. Some (x, e.1)) (Some-same is))
 
-module _ (s : State) (is : IsPlaced s.caches.flush s.places s.logs) where
+module _ (s : State) (is : PlacesInvariant s.caches.flush s.places s.logs) where
   flush_sorted : IsTrue (is_sorted key_cmp (finite.entries (flush_of s.caches)))
   flush_sorted = is_true _ (finite.entries_sorted (flush_of s.caches))
 
   placed_sorted : IsTrue (is_sorted key_cmp (finite.entries s.places))
   placed_sorted = is_true _ (finite.entries_sorted s.places)
 
-  -- an entry that is not behind the last key with a place has one too
+  -- an entry that is not after the last key with a place has one too
   not_behind : (k q : EntryKey) (place : Place) (o : Ordering) → key_cmp k q ≡ o → is_lt o ≡ false → finite.get s.places k ≡ Some place
       → IsSome (finite.get (flush_of s.caches) q) → IsSome (finite.get s.places q)
   not_behind k q place Less order behind at there = cc

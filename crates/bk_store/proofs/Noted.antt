@@ -1,4 +1,4 @@
--- Pairs in the order of their keys, with one more behind them.
+-- Pairs in the order of their keys, with one more after them.
 use Rattle.std.proofs.Common.{◌≡◌, ◌-◌, Bool, true, false, cond, List, [], ◌∷◌, ◌++◌, Some, Option, IsSome, IsTrue, Less}
 use Rattle.std.proofs.Common.{refl, sym, ap, subst, ◌∙◌, length, is_some, slice_get, option_map}
 use Rattle.std.specs.Ordering.{eq_by_cmp, is_eq, ordering_reverse}
@@ -13,7 +13,7 @@ use Rattle.bk_record.proofs.Keys.{key_cmp_total}
 use Rattle.bk_record.proofs.SortedPairs.{is_sorted_put}
 use Rattle.bk_record.proofs.SortedMaps.{get-sorted, insert-sorted, entries-sorted, len-sorted}
 use Rattle.bk_record.specs.Keyed.{Places}
-use Rattle.bk_store.specs.Placed.{IsBehind, last_key}
+use Rattle.bk_store.specs.FlushPlaces.{IsAfterPlaced, last_key}
 
 module _ {K X : Type 0} (R : K → K → Ordering) (o : IsTotalOrder R) (key : K) where
   still_found : (b : Bool) (value : X) (rest : Option X) → IsSome rest → IsSome (cond b (Some value) rest)
@@ -35,26 +35,26 @@ module _ {K X : Type 0} (R : K → K → Ordering) (o : IsTotalOrder R) (key : K
 abbrev pairs_type : Type 0
 pairs_type = List (EntryKey × Place)
 
--- a key behind all is put at the end
-put_last : (es : pairs_type) (key : EntryKey) (place : Place) → IsTrue (is_sorted key_cmp es) → IsBehind (finite.from_sorted es) key
+-- a key after all is put at the end
+put_last : (es : pairs_type) (key : EntryKey) (place : Place) → IsTrue (is_sorted key_cmp es) → IsAfterPlaced (finite.from_sorted es) key
     → put key_cmp key place es ≡ es ++ (key, place) ∷ []
 put_last es key place sorted behind =
     put_behind key_cmp key_cmp_total key place es
     (all_below key_cmp key_cmp_total key es (λ q there. behind q (ap is_some (get-sorted key_cmp es sorted q) ∙ there)))
 
 pub noted : (es : pairs_type) (places : Places) (key : EntryKey) (place : Place) → IsTrue (is_sorted key_cmp es)
-    → finite.from_sorted es ≡ places → IsBehind places key
+    → finite.from_sorted es ≡ places → IsAfterPlaced places key
     → finite.from_sorted (es ++ (key, place) ∷ []) ≡ finite.insert places key place
 noted es places key place sorted is behind =
-    let here : IsBehind (finite.from_sorted es) key = subst (λ m. IsBehind m key) (sym is) behind in
+    let here : IsAfterPlaced (finite.from_sorted es) key = subst (λ m. IsAfterPlaced m key) (sym is) behind in
     ap finite.from_sorted (sym (put_last es key place sorted here)) ∙ sym (insert-sorted key_cmp es sorted key_cmp_total key place)
     ∙ ap (λ m. finite.insert m key place) is
 
 pub noted_sorted : (es : pairs_type) (places : Places) (key : EntryKey) (place : Place) → IsTrue (is_sorted key_cmp es)
-    → finite.from_sorted es ≡ places → IsBehind places key
+    → finite.from_sorted es ≡ places → IsAfterPlaced places key
     → IsTrue (is_sorted key_cmp (es ++ (key, place) ∷ []))
 noted_sorted es places key place sorted is behind =
-    let here : IsBehind (finite.from_sorted es) key = subst (λ m. IsBehind m key) (sym is) behind in
+    let here : IsAfterPlaced (finite.from_sorted es) key = subst (λ m. IsAfterPlaced m key) (sym is) behind in
     subst (λ (l : pairs_type). IsTrue (is_sorted key_cmp l)) (put_last es key place sorted here) (is_sorted_put key_cmp_total key place es sorted)
 
 -- the last pair has the last key

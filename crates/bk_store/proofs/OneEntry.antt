@@ -1,4 +1,4 @@
--- One entry stands at a place.
+-- One entry is at a place.
 use Rattle.std.proofs.Common.{◌≡◌, ℕ, List, [], Option, Some, Bool, cond, sym, ap, ◌∙◌, subst, unwrap_or}
 use Rattle.std.specs.Ordering.{nat_cmp, is_eq}
 use Rattle.std.specs.FinMap as finite
@@ -23,13 +23,13 @@ unfolding HasRecord
 alone_record place payload bytes there =
     subst (λ (o : Option (List ℕ)). In (place.at, payload) (records_of (unwrap_or o []))) (sym (alone_has place.log bytes)) there
 
--- one record stands at a place
+-- one record is at a place
 one_in_bytes : (place : Place) (first second bytes : List ℕ)
     → In (place.at, first) (records_of bytes) → In (place.at, second) (records_of bytes) → first ≡ second
 one_in_bytes place first second bytes one two =
     one_record (alone place.log bytes) place first second (alone_record place first bytes one) (alone_record place second bytes two)
 
--- so one entry stands there, with one key and one payload
+-- so one entry is there, with one key and one payload
 pub one_payload : {bytes : Bytes} {place : Place} {key other : EntryKey} {first second : List ℕ}
     → HasEntry bytes place key first → HasEntry bytes place other second → first ≡ second
 one_payload {bytes = bytes} {place = place} {first = first} {second = second} one two = one_in_bytes place first second (bytes place.log) one.stands two.stands

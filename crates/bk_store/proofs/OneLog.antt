@@ -1,4 +1,5 @@
--- One log of those that are held changes: what holds of each log, of the views, and of the logs of a flush.
+-- One log of those that are held changes: what holds of each log, of the views, and of the logs of
+-- a flush.
 use Rattle.std.proofs.Common.{◌≡◌, ◌≢◌, ◌⊎◌, inl, inr, ℕ, ◌+◌, ◌↔◌, true, cond, List, [], Option, Some, is_some}
 use Rattle.std.proofs.Common.{option_map, take, unwrap_or, refl, sym, ap, subst, ◌∙◌}
 use Rattle.std.specs.Option.{option_map_or}
@@ -7,7 +8,7 @@ use Rattle.std.proofs.lemmas.Cmp.{nat_cmp_total}
 use Rattle.bk_record.specs.Files.{Files}
 use Rattle.bk_record.specs.Scan.{entries_of}
 use Rattle.bk_store.specs.Logs.{View, Log, Logs, HasOpenView, IsFlushLog, is_open, open_parts, published_part, acknowledged_part}
-use Rattle.bk_store.specs.Kept.{acknowledged_entries}
+use Rattle.bk_store.specs.Invariant.{acknowledged_entries}
 use Rattle.bk_store.specs.declared.log.LogState.TheVariants.{Writing, Filled}
 use Rattle.bk_store.proofs.Cases.{same_or_apart}
 use Rattle.bk_store.proofs.LogMaps.{log-inserted, log-insert_else, log-insert_cases}
@@ -48,7 +49,7 @@ module _ (logs : Logs) (id : ℕ) (log new : Log) (held : finite.get logs id ≡
         record { log = new; view = now.1.0; held = log-inserted logs id new q here; opened = now.0; view_is = now.1.1 }
   ]
 
-  -- where no key is sent to the log that changes, nothing is owed of it
+  -- if no key points to the log that changes, nothing is owed of it
   pub views_else : (q : ℕ) → q ≢ id → HasOpenView logs q → HasOpenView (finite.insert logs id new) q
   views_else q apart was = record {
     log = was.log;
@@ -91,7 +92,7 @@ module _ (logs : Logs) (id : ℕ) (log new : Log) (held : finite.get logs id ≡
     ]),
   )
 
-  -- ---- what the logs show
+  -- ---- the published parts of the logs
 
   pub parts_else : (q : ℕ) → q ≢ id → open_parts (finite.insert logs id new) q ≡ open_parts logs q
   parts_else q apart = ap (λ o. option_map_or (λ (l : Log). cond (is_open l.state) (published_part l) []) o []) (log-insert_else logs id new q apart)

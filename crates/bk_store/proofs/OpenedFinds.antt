@@ -1,4 +1,4 @@
--- Logs that are found one after another, and why the first that is refused is.
+-- Logs that are found one after another, and why the first that fails is.
 use Rattle.std.proofs.Common.{◌≡◌, inl, inr, ℕ, zero, suc, ◌+◌, ◌<◌, ◌≤◌, ◌^◌, Bool, if◌then◌else◌, IsTrue, List, [], ◌∷◌, ◌++◌}
 use Rattle.std.proofs.Common.{length, map, take, get_or, Some, None, refl, sym, ap, subst, ◌∙◌, arith, eq-eqb}
 use Rattle.std.proofs.lemmas.List.{take_more}
@@ -31,7 +31,7 @@ pub opened_total : (old opened : Book) (id : ℕ) → opened ≡ after_open old 
 opened_total old opened id is =
     ap (λ b. total_in b id) is ∙ total_in-after_open old id id ∙ ap (λ b. if b then Some 0 else total_in old id) (eq-eqb id id refl)
 
--- a log that was scanned was taken in
+-- a log that was scanned was tallied
 pub log_taken : (honest : Bool) (files : Files) (id slot end : ℕ) (view : View) (old opened now : Tally)
     → opened ≡ record old { accounts = after_open old.accounts id } → IsScanned id end view.is_honest view.bytes opened now
     → (IsTrue honest → IsFile files id view.bytes × IsTrue view.is_honest) → (IsTrue view.is_honest → end ≡ view_end view.bytes)
@@ -56,14 +56,14 @@ log_taken honest files id slot end view old opened now begun scanned shown whole
   taken = scanned.taken ∙ ap (λ t. with_entries id t scanned.founds) begun;
 }
 
--- a scan that is refused, of a view of the log's file
+-- a scan that fails, of a view of the log's file
 pub scan_fails : (files files' : Files) (id : ℕ) (file bytes : List ℕ) (fault : OpenFault) → files' ≡ files → IsFile files id file → IsFile files' id bytes
     → IsHeaded file → (IsHeaded bytes → FileFails id bytes fault) → FileFails id file fault
 scan_fails files files' id file bytes fault unchanged stands shown headed fails =
     let same : bytes ≡ file = same_Some bytes file (sym shown ∙ ap (λ (fs : Files). finite.get fs id) unchanged ∙ stands) in
     subst (λ b. FileFails id b fault) same (fails (subst IsHeaded (sym same) headed))
 
--- ---- one log more
+-- ---- one more log
 
 reads_push : (t : Tally) (reads : List LogRead) (r : LogRead) → with_reads t (reads ++ r ∷ []) ≡ with_read (with_reads t reads) r
 reads_push t [] r = refl
@@ -157,7 +157,7 @@ module _ (files : Files) (ids : List ℕ) (listed : ids ≡ finite.keys files) w
     pub next_file : (file : List ℕ) × IsFile files (get_or ids k d) file
     next_file = id_file (get_or ids k d) (get_or-In ids k d within)
 
-    -- and where it is refused, all before it open
+    -- and where it fails, all before it open
     pub first_fails : (fault : OpenFault) → IsTrue honest → ((file : List ℕ) → IsFile files (get_or ids k d) file → FileFails (get_or ids k d) file fault)
         → FirstFails files fault
     first_fails fault is fails = record {
@@ -174,7 +174,7 @@ module _ (files : Files) (ids : List ℕ) (listed : ids ≡ finite.keys files) w
 
 -- ---- the loop over the ids
 
--- The logs before this one were taken in, and the disk has not failed.
+-- The logs before this one were tallied, and the disk has not failed.
 pub record IsFinding (honest : Bool) (files : Files) (failures : ℕ) (ids : List ℕ) (old : Tally) (before : Logs) (honest' : Bool) (files' : Files)
     (failures' k next : ℕ) (now : Tally) (logs : Logs) : Type 0 where
   pub stays : honest' ≡ honest
@@ -204,7 +204,7 @@ module _ {honest : Bool} {files : Files} {failures : ℕ} {ids : List ℕ} {old 
   pub finding_closed : (id : ℕ) → old.accounts ≡ finite.empty → next ≤ id → IsNotOpen now.accounts id
   finding_closed id fresh above = next_closed honest files (take k ids) next id old now before logs so_far.taken fresh above
 
-  -- one log more
+  -- one more log
   pub finding_on : (d slot : ℕ) (log : Log) (honest'' : Bool) (files'' : Files) (failures'' : ℕ) (now' : Tally) (logs' : Logs) → k < length ids
       → next ≤ get_or ids k d → get_or ids k d < 2 ^ 31 → honest'' ≡ honest' → failures'' ≡ failures' → (IsTrue honest' → files'' ≡ files')
       → IsTaken honest' files' (get_or ids k d) slot log now now' → logs' ≡ finite.insert logs (get_or ids k d) log
@@ -219,7 +219,7 @@ module _ {honest : Bool} {files : Files} {failures : ℕ} {ids : List ℕ} {old 
   }
 
   module _ (listed : IsTrue honest → ids ≡ finite.keys files) (d : ℕ) (within : k < length ids) where
-    -- the next log is the first that is refused
+    -- the next log is the first that fails
     pub finding_refused : (fault : OpenFault)
         → ((file : List ℕ) → IsTrue honest' → IsFile files' (get_or ids k d) file → FileFails (get_or ids k d) file fault)
         → IsTrue honest → FirstFails files fault

@@ -5,7 +5,7 @@ use Rattle.std.proofs.lemmas.Option.{same_Some}
 use Rattle.bk_record.specs.Files.{Files, header_length}
 use Rattle.bk_disk.specs.Disk.{IsFile}
 
--- a read of so many bytes from the front gives the file's
+-- a read of n bytes from the front gives the file's
 pub read_front : (files : Files) (id : ℕ) (file other bytes : List ℕ) → IsFile files id file → IsFile files id other
     → header_length ≤ length other → bytes ≡ take header_length other → (bytes ≡ take header_length file) × (length bytes ≡ header_length)
 read_front files id file other bytes stands there long is =

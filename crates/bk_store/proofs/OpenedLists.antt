@@ -1,4 +1,4 @@
--- The index of logs that are taken in entry by entry: that of the list of all entries found.
+-- The index of logs that are tallied entry by entry: that of the list of all entries found.
 use Rattle.std.proofs.Common.{◌≡◌, ℕ, Bool, true, false, not, cond, if◌then◌else◌, List, [], ◌∷◌, ◌++◌, map, Some, None, Option}
 use Rattle.std.proofs.Common.{option_map, is_some, unwrap_or, IsTrue, refl, sym, ap, subst, ◌∙◌, append_assoc}
 use Rattle.std.specs.List.{AllByRecursion, filter, flat_map, cons_option}

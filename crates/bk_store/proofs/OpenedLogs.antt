@@ -1,4 +1,5 @@
--- Logs that are taken in one after another: which are held, with which entries, and the ids that they have.
+-- Logs that are tallied one after another: which are held, with which entries, and the ids that
+-- they have.
 use Rattle.std.proofs.Common.{◌≡◌, ◌⊎◌, inl, inr, ℕ, ◌+◌, ◌<◌, ◌≤◌, ◌^◌, true, false, cond, ◌==◌, if◌then◌else◌, List, [], ◌∷◌}
 use Rattle.std.proofs.Common.{◌++◌, Some, refl, sym, ap, subst, ◌∙◌, arith, eqb-true, eq-eqb}
 use Rattle.std.specs.List.{AllByRecursion}
@@ -72,7 +73,7 @@ id_below first next [] id is never = absurd never
 id_below first next (x ∷ ids) id is (inl here) = omega (arith, here, ids_within (x + 1) next ids is.2)
 id_below first next (x ∷ ids) id is (inr later) = id_below (x + 1) next ids id is.2 later
 
--- and the next one is the first or behind one of them
+-- and the next one is the first or after one of them
 pub next_cases : (first next : ℕ) (ids : List ℕ) → AreIds first ids next → (next ≡ first) ⊎ ((last : ℕ) × ((next ≡ last + 1) × ((last < 2 ^ 31) × In last ids)))
 next_cases first next [] is = inl is
 next_cases first next (x ∷ ids) is = elim (next_cases (x + 1) next ids is.2) [

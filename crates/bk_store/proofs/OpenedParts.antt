@@ -1,4 +1,4 @@
--- The parts of a store that was opened on logs keep its promise.
+-- The parts of a store that was opened on logs satisfies the store invariant.
 use Rattle.std.proofs.Common.{◌≡◌, inl, inr, ℕ, ◌+◌, ◌<◌, ◌≤◌, ◌^◌, Bool, IsTrue, List, [], ◌∷◌, take, Some, None}
 use Rattle.std.proofs.Common.{Option, option_map, unwrap_or, is_some, if◌then◌else◌, refl, sym, ap, subst, ◌∙◌, arith}
 use Rattle.std.specs.Option.{option_or, option_map_or}
@@ -17,7 +17,7 @@ use Rattle.bk_record.specs.Scan.{Ledgers, scan_of, live, entries_of}
 use Rattle.bk_record.proofs.Entries.{In-map, map-In, flat_map-In, get-In}
 use Rattle.bk_record.proofs.Growth.{In-append_right}
 use Rattle.bk_disk.specs.Disk.{IsFile, view_end}
-use Rattle.bk_disk.specs.Durable.{HasKept}
+use Rattle.bk_disk.specs.Durable.{IsDurable}
 use Rattle.bk_log.specs.declared.found.Found.{Found}
 use Rattle.bk_log.specs.Growing.{HasNoBadLength}
 use Rattle.bk_accounts.specs.Book.{named_in, total_at}
@@ -25,24 +25,24 @@ use Rattle.bk_accounts.specs.Sums.{AreSums, all_bytes, live_bytes, live_bytes_of
 use Rattle.bk_accounts.proofs.CallerLaws.{sums_new}
 use Rattle.bk_cache.specs.Caches as caches
 use Rattle.bk_store.specs.Entries.{IsIndexOf}
-use Rattle.bk_store.specs.Carried.{Cached, Carries}
+use Rattle.bk_store.specs.Representation.{Cached, Represents}
 use Rattle.bk_store.specs.Logs.{View, Log, Logs, found_log, open_parts, is_open, published_part}
 use Rattle.bk_store.specs.Ledgers.{opened_ledgers}
-use Rattle.bk_store.specs.State.{Parts}
-use Rattle.bk_store.specs.Meaning.{written_at}
+use Rattle.bk_store.specs.State.{StoreParts}
+use Rattle.bk_store.specs.Contents.{written_at}
 use Rattle.bk_lease.specs.Values.{SlotTable}
 use Rattle.bk_store.specs.Limits.{IsAllowed}
-use Rattle.bk_store.specs.Seated.{IsSeated}
-use Rattle.bk_store.specs.Kept.{IsHeld, Fits, IsBacked, Promises, entry_measure, acknowledged_entries}
+use Rattle.bk_store.specs.SlotAssignment.{IsSeated}
+use Rattle.bk_store.specs.Invariant.{HeldLogInvariant, StructuralInvariant, LogMatchesFile, ContentInvariant, entry_measure, acknowledged_entries}
 use Rattle.bk_store.specs.Opening.{HoldsFiles, Opens}
-use Rattle.bk_store.specs.Found.{LogRead, IsRead, IsReadWhole, AreTaken, AllKept, with_reads, named_by}
+use Rattle.bk_store.specs.Found.{LogRead, IsRead, IsReadWhole, AreTaken, AllDurable, with_reads, named_by}
 use Rattle.bk_store.specs.declared.settings.Settings.{Settings}
 use Rattle.bk_store.specs.declared.open.tally.Tally.{Tally}
 use Rattle.bk_store.proofs.Cases.{some_or_none, some_value}
 use Rattle.bk_store.proofs.Growing.{none_stands, entry_same}
-use Rattle.bk_store.proofs.Harmless.{HasNone, harmless_none}
+use Rattle.bk_store.proofs.RemovedFiles.{HasNone, harmless_none}
 use Rattle.bk_store.proofs.TrailMoves.{replays_none, follows_none}
-use Rattle.bk_store.proofs.KeptParts.{none_placed, all_unplaced}
+use Rattle.bk_store.proofs.InvariantParts.{none_placed, all_unplaced}
 use Rattle.bk_store.proofs.EntryLists.{IsIndexOfList, list_empty, list_index}
 use Rattle.bk_store.proofs.Walks.{walked, keyed_at}
 use Rattle.bk_store.proofs.HeldWalks.{files_walked}
@@ -53,12 +53,12 @@ use Rattle.bk_store.proofs.OpenedLists.{found_in, found_in_all, indexed_reads, f
 use Rattle.bk_store.proofs.OpenedLogs.{IsHeldAs, IsElsewhere, HeldOr, each_log, id_below, next_cases, all-In}
 use Rattle.bk_store.proofs.Seating.{none_held}
 
--- nothing was taken in yet
+-- nothing was tallied yet
 abbrev pub started : Ledgers → Tally
 started dead = record { index = finite.empty; accounts = finite.empty; dead = dead }
 
 -- the parts of a store that was opened
-abbrev pub opened_parts : Settings → Files → Files → Files → Bool → ℕ → Tally → Logs → SlotTable → ℕ → Parts
+abbrev pub opened_parts : Settings → Files → Files → Files → Bool → ℕ → Tally → Logs → SlotTable → ℕ → StoreParts
 opened_parts settings files synced gone honest failures t logs keeper next = record {
   state = record {
     settings = settings;
@@ -84,7 +84,7 @@ opened_parts settings files synced gone honest failures t logs keeper next = rec
 abbrev pub no_lists : Lists
 no_lists _ = None
 
--- what a log shows, where keys may be sent to it
+-- what a log shows, where keys may point into it
 abbrev shown_part : Log → List ℕ
 shown_part log = if is_open log.state then published_part log else []
 
@@ -93,7 +93,7 @@ plus n = omega arith
 
 module _ (settings : Settings) (honest : Bool) (files synced gone : Files) (failures : ℕ) (dead : Ledgers) (ids : List ℕ) (next : ℕ) (t : Tally)
     (logs : Logs) (taken : AreTaken honest files ids next (started dead) t finite.empty logs) (keeper : SlotTable) where
-  abbrev p : Parts
+  abbrev p : StoreParts
   p = opened_parts settings files synced gone honest failures t logs keeper next
 
   dead_is : t.dead ≡ dead
@@ -152,12 +152,12 @@ module _ (settings : Settings) (honest : Bool) (files synced gone : Files) (fail
         | inr held ↦ held
       ]
 
-  -- ---- beside any disk
+  -- ---- on any disk
 
-  kept_log : (id : ℕ) (log : Log) → finite.get logs id ≡ Some log → IsHeld next id log
+  kept_log : (id : ℕ) (log : Log) → finite.get logs id ≡ Some log → HeldLogInvariant next id log
   kept_log id log is =
       let r = read_of id log is in
-      subst (IsHeld next id) (sym r.1.1) (record {
+      subst (HeldLogInvariant next id) (sym r.1.1) (record {
         below = subst (λ n. n < next) r.1.0.own (id_below 0 next ids r.0.id taken.rising (id_in r.0 r.1.0.there));
         written = λ wrong. cc;
         by = λ w wrong. cc;
@@ -187,7 +187,7 @@ module _ (settings : Settings) (honest : Bool) (files synced gone : Files) (fail
       let fits = (all-In (IsRead honest files) r.0 taken.reads taken.each r.1.0.there).fits in
       omega (arith, total, long, fits)
 
-  pub opened_fits : IsAllowed settings → IsSeated settings keeper logs → Fits p
+  pub opened_fits : IsAllowed settings → IsSeated settings keeper logs → StructuralInvariant p
   opened_fits allowed seated = record {
     limits = record { allowed = allowed; limit = refl; ids = ids_fit };
     logs = record {
@@ -205,7 +205,7 @@ module _ (settings : Settings) (honest : Bool) (files synced gone : Files) (fail
     accounts = record { named = named_here; total = total_here };
   }
 
-  -- ---- beside an honest disk
+  -- ---- on an honest disk
 
   module _ (is : IsTrue honest) (listed : ids ≡ finite.keys files) where
     whole_read : (r : LogRead) → In r taken.reads → IsReadWhole files r
@@ -275,11 +275,11 @@ module _ (settings : Settings) (honest : Bool) (files synced gone : Files) (fail
         ∙ finite.get-empty key_cmp key
         )
 
-    pub opened_promises : AllKept files synced ids → HasNone gone → Promises p
+    pub opened_promises : AllDurable files synced ids → HasNone gone → ContentInvariant p
     opened_promises kept none = record {
       map = record {
         carried = live (scan_of files) t.dead;
-        carries = subst (λ (c : Cached). Carries (file_of files) t.index c t.dead (live (scan_of files) t.dead)) (λ i key. none_written key i)
+        carries = subst (λ (c : Cached). Represents (file_of files) t.index c t.dead (live (scan_of files) t.dead)) (λ i key. none_written key i)
             (carries_opened files whole_index);
         harmless = harmless_none gone none;
         recent = λ key payload wrong. cc;
@@ -308,14 +308,14 @@ module _ (settings : Settings) (honest : Bool) (files synced gone : Files) (fail
       logs = record {
         each = λ id log there.
             let r = read_of id log there in
-            subst (IsBacked files synced id) (sym r.1.1) (record {
+            subst (LogMatchesFile files synced id) (sym r.1.1) (record {
               stands = ap is_some (read_file id r.0 r.1.0);
               writes = λ w wrong. cc;
               honest = λ view shows. subst (λ (v : View). IsTrue v.is_honest) (same_Some r.0.view view shows) (whole_read r.0 r.1.0.there).honest;
               spelled = subst HasNoBadLength (sym (file_is id r.0 r.1.0)) (whole_read r.0 r.1.0.there).opens.whole;
               shown = λ view shows. subst (λ (v : View). HasNoBadLength v.bytes) (same_Some r.0.view view shows) (whole_read r.0 r.1.0.there).opens.whole;
-              kept = λ view shows. subst (λ (v : View). HasKept synced id v.bytes) (same_Some r.0.view view shows)
-                  (subst (HasKept synced id) (file_is id r.0 r.1.0) (kept id (subst (λ n. In n ids) r.1.0.own (id_in r.0 r.1.0.there))));
+              kept = λ view shows. subst (λ (v : View). IsDurable synced id v.bytes) (same_Some r.0.view view shows)
+                  (subst (IsDurable synced id) (file_is id r.0 r.1.0) (kept id (subst (λ n. In n ids) r.1.0.own (id_in r.0 r.1.0.there))));
             });
         fresh = λ id past. elim (some_or_none (finite.get files id)) [
           | inl none ↦ none

@@ -17,12 +17,12 @@ use Rattle.bk_log.specs.declared.found.Found.{Found}
 use Rattle.bk_log.specs.declared.fault.ScanFault.{ScanFault}
 use Rattle.bk_log.specs.declared.fault.ScanFault.TheVariants as scans
 use Rattle.bk_log.specs.Ranges.{entries_in, part}
-use Rattle.bk_log.specs.Scanning.{Scan, part_of, NextMoves, NextTurn}
+use Rattle.bk_log.specs.Scanning.{Scan, part_of, NextMoves, ScanNextTransition}
 use Rattle.bk_log.proofs.Ranges.{entries_in-file, whole_view}
 use Rattle.bk_accounts.specs.Book.{total_in, after_ready, after_count, after_count_dead}
 use Rattle.bk_accounts.proofs.BookLaws.{total_in-after_count, total_in-after_count_dead, total_in-after_ready}
 use Rattle.bk_store.specs.Opening.{IsHeaded, FileFails}
-use Rattle.bk_store.specs.Found.{IsScanned, IsFoundAt, AreFoundAt, with_entry, with_entries, bytes_found, scan_told}
+use Rattle.bk_store.specs.Found.{IsScanned, IsFoundAt, AreFoundAt, with_entry, with_entries, bytes_found, open_fault_of_scan}
 use Rattle.bk_store.specs.declared.open.tally.Tally.{Tally}
 
 -- ---- entries of one log, as they come
@@ -63,7 +63,8 @@ found_push (x ∷ records) (f ∷ founds) r found are is = (are.0, found_push re
 
 -- ---- the scan so far
 
--- The scan is one of this log's whole part. The entries that it gave were taken in, and there was room for them.
+-- The scan is one of this log's whole part. The entries that it gave were tallied, and there was
+-- room for them.
 pub record IsScanning (log end : ℕ) (honest : Bool) (file : List ℕ) (old : Tally) (s : Scan) (now : Tally) : Type 0 where
   pub founds : List Found
   pub taken : now ≡ with_entries log old founds
@@ -85,9 +86,9 @@ module _ (log end : ℕ) (honest : Bool) (file : List ℕ) (old : Tally) (s : Sc
   is_honest : IsTrue honest → IsTrue s.honest
   is_honest is = so_far.honest_is ∙ is
 
-  -- an entry more
+  -- one more entry
   module _ (found : Found) (s' : Scan) (moves : NextMoves s (Ok (Some found)) s') where
-    pub scanning_on : (now' : Tally) → (IsTrue s.honest → NextTurn s (Ok (Some found)) s') → (IsTrue honest → end ≡ view_end file)
+    pub scanning_on : (now' : Tally) → (IsTrue s.honest → ScanNextTransition s (Ok (Some found)) s') → (IsTrue honest → end ≡ view_end file)
         → now' ≡ with_entry log now found → IsScanning log end honest file old s' now'
     scanning_on now' turn whole added = record {
       founds = so_far.founds ++ found ∷ [];
@@ -111,7 +112,7 @@ module _ (log end : ℕ) (honest : Bool) (file : List ℕ) (old : Tally) (s : Sc
     }
 
   -- the end
-  pub scanned : (s' : Scan) → NextMoves s (Ok None) s' → (IsTrue s.honest → NextTurn s (Ok None) s') → (IsTrue honest → end ≡ view_end file)
+  pub scanned : (s' : Scan) → NextMoves s (Ok None) s' → (IsTrue s.honest → ScanNextTransition s (Ok None) s') → (IsTrue honest → end ≡ view_end file)
       → IsScanned log end honest file old now
   scanned s' moves turn whole =
       let same : part_of s' ≡ part_of s =
@@ -136,8 +137,8 @@ module _ (log end : ℕ) (honest : Bool) (file : List ℕ) (old : Tally) (s : Sc
       }
 
   -- a fault
-  pub scan_refused : (fault : ScanFault) (s' : Scan) → NextMoves s (Err fault) s' → (IsTrue s.honest → NextTurn s (Err fault) s')
-      → (IsTrue honest → end ≡ view_end file) → end < 2 ^ 32 → IsTrue honest → IsHeaded file → FileFails log file (scan_told log fault)
+  pub scan_refused : (fault : ScanFault) (s' : Scan) → NextMoves s (Err fault) s' → (IsTrue s.honest → ScanNextTransition s (Err fault) s')
+      → (IsTrue honest → end ≡ view_end file) → end < 2 ^ 32 → IsTrue honest → IsHeaded file → FileFails log file (open_fault_of_scan log fault)
   scan_refused (scans.BadLength at value) s' moves turn whole short is headed =
       let same : part_of s' ≡ part_of s =
       λ i. part (ap (λ (x : Scan). x.file) moves i) (ap (λ (x : Scan). x.from) moves i) (ap (λ (x : Scan). x.end) moves i) in

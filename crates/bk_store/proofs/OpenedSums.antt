@@ -1,4 +1,4 @@
--- The accounts of logs that are taken in entry by entry: the sums over the entries found.
+-- The accounts of logs that are tallied entry by entry: the sums over the entries found.
 use Rattle.std.proofs.Common.{◌≡◌, ℕ, ◌+◌, ◌<◌, ◌≤◌, ◌^◌, Bool, true, false, ◌==◌, if◌then◌else◌, List, [], ◌∷◌, ◌++◌, length, Some, None, Option}
 use Rattle.std.proofs.Common.{IfSome, Result, Ok, Err, is_err, OnOk, refl, sym, ap, subst, ◌∙◌, append_assoc, arith, eq-eqb}
 use Rattle.std.specs.List.{count_by}
@@ -139,13 +139,13 @@ pub when_ok : {T E P : Type 0} (r : Result T E) → is_err r ≡ false → OnOk 
 when_ok (Ok x) ok on = on
 when_ok (Err fault) ok on = cc
 
--- a log whose total leaves room for one more record has that room behind a `ready`
+-- a log whose total leaves room for one more record has that room after a `ready`
 pub still_fits : (book now : Book) (log ledger size : ℕ) → now ≡ after_ready book log ledger → IfSome (total_in book log) (λ total. total + size < 2 ^ 32)
     → IfSome (total_in now log) (λ total. total + size < 2 ^ 32)
 still_fits book now log ledger size is fits =
     subst (λ o. IfSome o (λ total. total + size < 2 ^ 32)) (sym (ap (λ b. total_in b log) is ∙ total_in-after_ready book log ledger log)) fits
 
--- each log has so many names at most
+-- each log has n index entries at most
 abbrev pub NamedWithin : ℕ → Book → Type 0
 NamedWithin most book = (log : ℕ) → IfSome (named_in book log) (λ named. named ≤ most)
 
@@ -168,7 +168,8 @@ name_fits most book log few within = fewer_fit most (named_in book log) few (wit
 
 -- ---- a walk over the pairs of an index that names their logs
 
--- the pairs that are left name their logs as all of them do, and no log has more names than pairs were passed
+-- the pairs that are left name their logs as all of them do, and no log has more names than pairs
+-- were passed
 pub record IsNaming (pairs : List (EntryKey × Place)) (old : Book) (left : List (EntryKey × Place)) (now : Book) : Type 0 where
   pub passed : ℕ
   pub counted : passed + length left ≡ length pairs

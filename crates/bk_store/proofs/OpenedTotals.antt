@@ -6,7 +6,7 @@ use Rattle.bk_record.specs.Record.{ledger_field}
 use Rattle.bk_log.specs.declared.found.Found.{Found}
 use Rattle.bk_log.proofs.Tallies.{key_of-ledger}
 use Rattle.bk_accounts.specs.Sums.{all_bytes, live_bytes, live_bytes_of}
-use Rattle.bk_store.specs.Kept.{entry_measure}
+use Rattle.bk_store.specs.Invariant.{entry_measure}
 use Rattle.bk_store.specs.Found.{IsFoundAt, AreFoundAt}
 use Rattle.bk_store.proofs.OpenedSums.{found_measure}
 

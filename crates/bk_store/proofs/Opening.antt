@@ -1,4 +1,5 @@
--- The index of all entries of the files carries what the files mean, and there is one such index.
+-- The index of all entries of the files represents the contents of the files, and there is one such
+-- index.
 use Rattle.std.proofs.Common.{◌≡◌, inl, inr, ℕ, List, Some, None, Bool, true, false, not, cond, is_some, refl, sym, ap, ◌∙◌, subst}
 use Rattle.std.specs.FinMap as finite
 use Rattle.std.specs.FinSet as set
@@ -10,12 +11,12 @@ use Rattle.bk_record.proofs.Keys.{key_cmp_total, key_cmp_antisymmetric}
 use Rattle.bk_record.specs.Keyed.{Places}
 use Rattle.bk_record.proofs.Places.{precedes_cases}
 use Rattle.bk_store.specs.Entries.{Bytes, HasEntry, IsIndexOf}
-use Rattle.bk_store.specs.Carried.{Carries}
+use Rattle.bk_store.specs.Representation.{Represents}
 use Rattle.bk_store.proofs.Cases.{some_or_none}
 use Rattle.bk_store.proofs.OneEntry.{one_payload}
-use Rattle.bk_store.proofs.LastEntries.{one_last, scan_entry, entry_scan}
+use Rattle.bk_store.proofs.LatestEntries.{one_last, scan_entry, entry_scan}
 
--- what lives has no dead ledger, and is the map's
+-- what lives has no deleted ledger, and is the map's
 pub live_cases : (map : Payloads) (dead : Ledgers) (key : EntryKey) (payload : List ℕ) → finite.get (live map dead) key ≡ Some payload
     → (set.contains dead key.ledger ≡ false) × (finite.get map key ≡ Some payload)
 unfolding live
@@ -36,7 +37,7 @@ live_same map dead key lives =
 
 -- files that were just opened, with nothing cached
 pub carries_opened : (files : Files) {index : Places} {dead : Ledgers} → IsIndexOf (file_of files) dead index
-    → Carries (file_of files) index (λ _. None) dead (live (scan_of files) dead)
+    → Represents (file_of files) index (λ _. None) dead (live (scan_of files) dead)
 carries_opened files {index = index} {dead = dead} made = record {
   lives = λ key payload mapped. (live_cases (scan_of files) dead key payload mapped).0;
   cached_is = λ key payload never. absurd (none-some payload never);

@@ -21,7 +21,8 @@ module _ {X : Type 0} (ledger : ℕ) where
       rw (ne_eqb x.0.ledger ledger (omega (arith, above 0 x (omega arith))))
       (ap (λ rest. x ∷ rest) (above_stay xs (λ i d within. above (suc i) d (omega arith))))
 
-  -- where the first pair of no smaller ledger is of another one, or there is none, no pair goes with those of the ledger
+  -- if the first pair of no smaller ledger is of another one, or there is none, no pair goes with
+  -- those of the ledger
   pub others_stay : (xs : List (EntryKey × X)) (from : ℕ) → IsNonDecreasingBy (λ e. e.0.ledger) xs
       → IsPartitionPoint (λ e. ltb e.0.ledger ledger ≡ true) (λ e. ltb e.0.ledger ledger ≡ false) xs from
       → ((d : EntryKey × X) → from < length xs → (get_or xs from d).0.ledger ≢ ledger) → filter (λ e. not (e.0.ledger == ledger)) xs ≡ xs

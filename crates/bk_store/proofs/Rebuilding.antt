@@ -1,4 +1,4 @@
--- An index made anew of what the logs show carries the same map.
+-- An index rebuilt of the published parts of the logs represents the same map.
 use Rattle.std.proofs.Common.{◌≡◌, inl, inr, Some, IsSome, is_some, ap}
 use Rattle.std.specs.FinMap as finite
 use Rattle.bk_record.specs.Key.{EntryKey}
@@ -7,15 +7,16 @@ use Rattle.bk_record.specs.Scan.{Payloads, Ledgers}
 use Rattle.bk_record.specs.Keyed.{Places}
 use Rattle.bk_record.proofs.Places.{precedes_cases}
 use Rattle.bk_store.specs.Entries.{Bytes, IsIndexOf}
-use Rattle.bk_store.specs.Carried.{Cached, IsIndexed, Carries}
-use Rattle.bk_store.specs.Shown.{Shows}
+use Rattle.bk_store.specs.Representation.{Cached, IsIndexed, Represents}
+use Rattle.bk_store.specs.Published.{IndexIsPublished}
 use Rattle.bk_store.proofs.Cases.{some_or_none, some_value}
 use Rattle.bk_store.proofs.IndexMoves.{IsForward, carries_moved}
-use Rattle.bk_store.proofs.ShownMoves.{shows_moved}
+use Rattle.bk_store.proofs.PublishedMoves.{shows_moved}
 
-module _ {bytes parts : Bytes} {index index' : Places} {cached : Cached} {dead : Ledgers} {map : Payloads} (carries : Carries bytes index cached dead map)
-    (shows : Shows bytes parts index) (made : IsIndexOf parts dead index') where
-  -- A key's last shown entry has what the map has: were it stale, the index would send the key behind it, to a shown one.
+module _ {bytes parts : Bytes} {index index' : Places} {cached : Cached} {dead : Ledgers} {map : Payloads} (carries : Represents bytes index cached dead map)
+    (shows : IndexIsPublished bytes parts index) (made : IsIndexOf parts dead index') where
+  -- A key's last published entry has what the map has: were it stale, the index would point the key
+  -- after it, to a published one.
   last_shown : (key : EntryKey) (place : Place) → finite.get index' key ≡ Some place → IsIndexed bytes map key place
   last_shown key place named =
       let last = made.sent key place named in
@@ -49,8 +50,8 @@ module _ {bytes parts : Bytes} {index index' : Places} {cached : Cached} {dead :
         ]
       ]
 
-  pub carries_rebuilt : Carries bytes index' cached dead map
+  pub carries_rebuilt : Represents bytes index' cached dead map
   carries_rebuilt = carries_moved carries index' last_shown still_named (λ key was place none. goes_forward key was place)
 
-  pub shows_rebuilt : Shows bytes parts index'
+  pub shows_rebuilt : IndexIsPublished bytes parts index'
   shows_rebuilt = shows_moved shows index' (λ key place named. let last = made.sent key place named in (last.0, last.1.here))

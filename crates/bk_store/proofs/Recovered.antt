@@ -8,16 +8,16 @@ use Rattle.bk_record.specs.Location.{Place}
 use Rattle.bk_record.specs.Scan.{Payloads, Ledgers}
 use Rattle.bk_record.specs.Keyed.{Places}
 use Rattle.bk_store.specs.Entries.{Bytes, HasEntry, IsIndexOf, IsLastEntry}
-use Rattle.bk_store.specs.Carried.{Cached, Carries, IsStale}
-use Rattle.bk_store.specs.Shown.{Shows}
-use Rattle.bk_store.specs.Crash.{AreHarmless, Survives, StayDead, IsBetween}
+use Rattle.bk_store.specs.Representation.{Cached, Represents, IsStale}
+use Rattle.bk_store.specs.Published.{IndexIsPublished}
+use Rattle.bk_store.specs.Crash.{RemovedFilesAreHarmless, Survives, StayDead, IsBetween}
 use Rattle.bk_store.proofs.Cases.{some_or_none, some_value}
 use Rattle.bk_store.proofs.OneEntry.{one_payload}
 
 module _ {bytes gone parts read : Bytes} {index index' : Places} {cached : Cached} {dead later : Ledgers} {map found : Payloads}
-    (carries : Carries bytes index cached dead map) (shows : Shows bytes parts index) (harmless : AreHarmless gone index cached dead map)
+    (carries : Represents bytes index cached dead map) (shows : IndexIsPublished bytes parts index) (harmless : RemovedFilesAreHarmless gone index cached dead map)
     (survives : Survives bytes gone parts read) (stay : StayDead dead later)
-    (made : IsIndexOf read later index') (opened : Carries read index' (λ _. None) later found) where
+    (made : IsIndexOf read later index') (opened : Represents read index' (λ _. None) later found) where
   -- an entry that is read has what the map has, or is stale
   read_entry : (place : Place) (key : EntryKey) (payload : List ℕ) → HasEntry read place key payload → set.contains later key.ledger ≡ false
       → (finite.get map key ≡ Some payload) ⊎ IsStale index cached key place
@@ -28,7 +28,7 @@ module _ {bytes gone parts read : Bytes} {index index' : Places} {cached : Cache
         | inr back ↦ harmless.recorded place key payload back alive
       ]
 
-  -- the last one is not stale: the index's place was shown, so it is read too
+  -- the last one is not stale: the index's place was published, so it is read too
   last_entry : (place : Place) (key : EntryKey) (payload : List ℕ) → IsLastEntry read place key payload → set.contains later key.ledger ≡ false
       → finite.get map key ≡ Some payload
   last_entry place key payload last lives = elim (read_entry place key payload last.here lives) [

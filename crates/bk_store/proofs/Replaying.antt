@@ -1,4 +1,5 @@
--- The map that a trail replays to has just the entries that came in and whose ledgers were not deleted.
+-- The map that a trail replays to has just the entries that came in and whose ledgers were not
+-- deleted.
 use Rattle.std.proofs.Common.{◌≡◌, inl, inr, ℕ, zero, suc, List, [], ◌∷◌, Option, Some, None, true, false, cond, not, IsTrue}
 use Rattle.std.proofs.Common.{refl, sym, ap, ◌∙◌, subst}
 use Rattle.std.specs.List.{filter_map}
@@ -11,21 +12,21 @@ use Rattle.bk_record.specs.Scan.{Payloads}
 use Rattle.bk_record.proofs.Keys.{key_cmp_total, key_cmp_antisymmetric}
 use Rattle.bk_store.specs.declared.mark.Mark.{Mark}
 use Rattle.bk_store.specs.declared.mark.Mark.TheVariants.{Add, Delete, Fence}
-use Rattle.bk_store.specs.Trail.{Replays, CameIn, WasDeleted, HasDigest, added_pair, deleted_in, replay_of}
+use Rattle.bk_store.specs.Trail.{MapMatchesTrail, HasAddMark, WasDeleted, HasDigest, added_pair, deleted_in, replay_of}
 use Rattle.bk_store.specs.State.{State}
-use Rattle.bk_store.specs.Meaning.{IsMeaning}
-use Rattle.bk_store.specs.Plain.{IsKept}
+use Rattle.bk_store.specs.Contents.{IsContents}
+use Rattle.bk_store.specs.Abstract.{SatisfiesInvariant}
 use Rattle.bk_store.proofs.Cases.{same_or_apart}
 use Rattle.bk_store.proofs.KeyMaps.{same_key, get-insert_other, inserted_cases, inserted_here}
 use Rattle.bk_store.proofs.Ledgers.{inserted_is, inserted_else}
-use Rattle.bk_store.proofs.Meaning.{carries_meaning}
+use Rattle.bk_store.proofs.RepresentedContents.{carries_meaning}
 
 -- ---- what came in
 
 abbrev added : List Mark → Keyed (List ℕ)
 added trail = finite.from_entries (filter_map added_pair trail)
 
-added_came : (trail : List Mark) (key : EntryKey) (digest : List ℕ) → finite.get (added trail) key ≡ Some digest → (n : ℕ) × CameIn trail n key digest
+added_came : (trail : List Mark) (key : EntryKey) (digest : List ℕ) → finite.get (added trail) key ≡ Some digest → (n : ℕ) × HasAddMark trail n key digest
 added_came [] key digest is = absurd (let wrong : ◌≡◌ {A = Option (List ℕ)} (Some digest) None = sym is ∙ finite.get-empty key_cmp key in cc)
 added_came (Add k d ∷ ms) key digest is = elim (inserted_cases (added ms) k d key digest is) [
   | inl here ↦ (0, λ i. Some (Add (sym here.0 i) (here.1 i)))
@@ -36,12 +37,12 @@ added_came (Fence l ∷ ms) key digest is = let came = added_came ms key digest 
 
 -- no key came in twice
 abbrev IsOnce : List Mark → Type 0
-IsOnce trail = (n m : ℕ) (key : EntryKey) (digest digest' : List ℕ) → CameIn trail n key digest → CameIn trail m key digest' → n ≡ m
+IsOnce trail = (n m : ℕ) (key : EntryKey) (digest digest' : List ℕ) → HasAddMark trail n key digest → HasAddMark trail m key digest' → n ≡ m
 
 later_once : (mark : Mark) (ms : List Mark) → IsOnce (mark ∷ ms) → IsOnce ms
 later_once mark ms once n m key digest digest' at also = let same = once (suc n) (suc m) key digest digest' at also in cc
 
-came_added : (trail : List Mark) → IsOnce trail → (n : ℕ) (key : EntryKey) (digest : List ℕ) → CameIn trail n key digest
+came_added : (trail : List Mark) → IsOnce trail → (n : ℕ) (key : EntryKey) (digest : List ℕ) → HasAddMark trail n key digest
     → finite.get (added trail) key ≡ Some digest
 came_added [] once n key digest at = absurd (cc)
 came_added (Add k d ∷ ms) once zero key digest at =
@@ -86,17 +87,17 @@ get-replay_of trail key = finite.get-retain_keys (added trail) (λ k. not (set.c
     (λ x tied. ap (λ (k : EntryKey). not (set.contains (deleted_in trail) k.ledger)) (sym (key_cmp_antisymmetric key x tied)))
 
 pub replay_came : (trail : List Mark) (key : EntryKey) (digest : List ℕ) → finite.get (replay_of trail) key ≡ Some digest
-    → (n : ℕ) × CameIn trail n key digest × ¬ (WasDeleted trail key.ledger)
+    → (n : ℕ) × HasAddMark trail n key digest × ¬ (WasDeleted trail key.ledger)
 replay_came trail key digest is =
     elim (set.contains (deleted_in trail) key.ledger) as (λ b. set.contains (deleted_in trail) key.ledger ≡ b
-    → cond (not b) (finite.get (added trail) key) None ≡ Some digest → (n : ℕ) × CameIn trail n key digest × ¬ (WasDeleted trail key.ledger)) [
+    → cond (not b) (finite.get (added trail) key) None ≡ Some digest → (n : ℕ) × HasAddMark trail n key digest × ¬ (WasDeleted trail key.ledger)) [
       | true ↦ λ _ none. absurd (cc)
       | false ↦ λ lives there.
           let came = added_came trail key digest there in
           (came.0, came.1, λ out. let wrong : true ≡ false = sym (deleted_is trail key.ledger out) ∙ lives in cc)
     ] refl (sym (get-replay_of trail key) ∙ is)
 
-pub came_replays : (map : Payloads) (trail : List Mark) → Replays map trail → (n : ℕ) (key : EntryKey) (digest : List ℕ) → CameIn trail n key digest
+pub came_replays : (map : Payloads) (trail : List Mark) → MapMatchesTrail map trail → (n : ℕ) (key : EntryKey) (digest : List ℕ) → HasAddMark trail n key digest
     → ¬ (WasDeleted trail key.ledger) → finite.get (replay_of trail) key ≡ Some digest
 came_replays map trail replays n key digest at lives =
     get-replay_of trail key
@@ -107,17 +108,17 @@ came_replays map trail replays n key digest at lives =
     ] refl
 
 -- what it has of a key the map has, with that digest
-pub replay_has : (map : Payloads) (trail : List Mark) → Replays map trail → (key : EntryKey) (digest : List ℕ)
+pub replay_has : (map : Payloads) (trail : List Mark) → MapMatchesTrail map trail → (key : EntryKey) (digest : List ℕ)
     → finite.get (replay_of trail) key ≡ Some digest → HasDigest map key digest
 replay_has map trail replays key digest is =
     let came = replay_came trail key digest is in replays.has came.0 key digest came.1 came.2
 
--- what a store means has what its trail says
-pub kept_replays : (s : State) (map : Payloads) → IsKept s → IsTrue s.honest → IsMeaning map s → Replays map s.ledgers.trail
+-- the logical contents of a store has what its trail says
+pub kept_replays : (s : State) (map : Payloads) → SatisfiesInvariant s → IsTrue s.honest → IsContents map s → MapMatchesTrail map s.ledgers.trail
 kept_replays s map kept honest means =
     let p = kept.parts in
-    let promise = kept.keeps.promises (subst (λ (x : State). IsTrue x.honest) (sym kept.seen) honest) in
-    let means_p : IsMeaning map p.state = subst (IsMeaning map) (sym kept.seen) means in
-    let same : promise.map.carried ≡ map =
-    finite.same_map key_cmp_total key_cmp_antisymmetric promise.map.carried map (λ key. carries_meaning p.state.files promise.map.carries key ∙ sym (means_p key)) in
-    subst (λ (m : Payloads). Replays m s.ledgers.trail) same (subst (λ (x : State). Replays promise.map.carried x.ledgers.trail) kept.seen promise.map.replays)
+    let reveal_invariant = kept.keeps.promises (subst (λ (x : State). IsTrue x.honest) (sym kept.seen) honest) in
+    let means_p : IsContents map p.state = subst (IsContents map) (sym kept.seen) means in
+    let same : reveal_invariant.map.carried ≡ map =
+    finite.same_map key_cmp_total key_cmp_antisymmetric reveal_invariant.map.carried map (λ key. carries_meaning p.state.files reveal_invariant.map.carries key ∙ sym (means_p key)) in
+    subst (λ (m : Payloads). MapMatchesTrail m s.ledgers.trail) same (subst (λ (x : State). MapMatchesTrail reveal_invariant.map.carried x.ledgers.trail) kept.seen reveal_invariant.map.replays)

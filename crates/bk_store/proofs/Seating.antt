@@ -1,4 +1,4 @@
--- Logs that are found are seated one behind the other.
+-- Logs that are found are seated one after the other.
 use Rattle.std.proofs.Common.{◌≡◌, inl, inr, ℕ, ◌+◌, ◌<◌, ◌≤◌, Some, None, length, replicate, refl, sym, ap, subst, ◌∙◌, arith, lt_of_not-le}
 use Rattle.std.proofs.lemmas.List.{length-set, length-replicate, get_or-replicate}
 use Rattle.std.proofs.Math.ListN.{get_or-eq_default}
@@ -12,7 +12,7 @@ use Rattle.bk_lease.specs.Slots.{taken_count}
 use Rattle.bk_lease.specs.Values.{SlotTable, with_state}
 use Rattle.bk_lease.proofs.Slots.{taken_count-replicate, state_at-set_else}
 use Rattle.bk_store.specs.Logs.{Log, Logs}
-use Rattle.bk_store.specs.Seated.{AreSeated, IsSameTable, IsSeated, slot_state}
+use Rattle.bk_store.specs.SlotAssignment.{AreSeated, IsSameTable, IsSeated, slot_state}
 use Rattle.bk_store.specs.declared.settings.Settings.{Settings}
 use Rattle.bk_store.proofs.Cases.{some_or_none}
 use Rattle.bk_store.proofs.LogMaps.{log-insert_cases}
@@ -58,7 +58,7 @@ module _ {old keeper : SlotTable} {logs : Logs} {slot next : ℕ} (so_far : IsSe
     | inr there ↦ absurd (let less = so_far.below id there.0 there.1 in omega (arith, above, less))
   ]
 
-  -- one log more
+  -- one more log
   pub seat_on : (id : ℕ) (log : Log) (keeper' : SlotTable) (logs' : Logs) → slot < length keeper.slots → next ≤ id → log.slot ≡ slot
       → slot_state id log.state ≡ slots.Open id → keeper' ≡ with_state keeper slot (slots.Open id) → logs' ≡ finite.insert logs id log
       → IsSeating old keeper' logs' (slot + 1) (id + 1)

@@ -10,7 +10,7 @@ use Rattle.bk_lease.specs.Slots.{IsFree, taken_of}
 use Rattle.bk_lease.specs.Values.{SlotTable, with_state}
 use Rattle.bk_lease.proofs.Slots.{inside_slots, taken_count-set, state_at-set_here, state_at-set_else, other_slot}
 use Rattle.bk_store.specs.Logs.{Log, Logs, unwritten_log, is_open, is_written}
-use Rattle.bk_store.specs.Seated.{AreSeated, IsSeated, slot_state}
+use Rattle.bk_store.specs.SlotAssignment.{AreSeated, IsSeated, slot_state}
 use Rattle.bk_store.specs.declared.log.LogState.{LogState}
 use Rattle.bk_store.specs.declared.log.LogState.TheVariants.{Writing, Filled, Copying, Readable, Retired, Closed}
 use Rattle.bk_store.specs.declared.settings.Settings.{Settings}
@@ -70,7 +70,7 @@ slot_state-same id new old first second = slot_state-opened id new first ∙ sym
 -- ---- what the seats say
 
 module _ (keeper : SlotTable) (logs : Logs) (seats : AreSeated keeper logs) where
-  -- a log stands in its slot
+  -- a log is in its slot
   pub stands_log : (id : ℕ) (log : Log) → finite.get logs id ≡ Some log → log_at keeper.slots log.slot ≡ id
   stands_log id log held = ap log_of (seats.stands id log held) ∙ slot_state-log id log.state
 
@@ -83,7 +83,7 @@ module _ (keeper : SlotTable) (logs : Logs) (seats : AreSeated keeper logs) wher
   pub stands_inside : (id : ℕ) (log : Log) → finite.get logs id ≡ Some log → log.slot < length keeper.slots
   stands_inside id log held = inside_slots keeper.slots log.slot (slot_state id log.state) (seats.stands id log held) (slot_state-not_free id log.state)
 
-  -- two logs stand in two slots
+  -- two logs are in two slots
   pub slots_apart : (id other : ℕ) (log l : Log) → finite.get logs id ≡ Some log → finite.get logs other ≡ Some l → other ≢ id → l.slot ≢ log.slot
   slots_apart id other log l held is apart = other_slot keeper.slots l.slot log.slot other id apart (stands_log other l is) (stands_log id log held)
 
@@ -92,7 +92,7 @@ module _ (keeper : SlotTable) (logs : Logs) (seats : AreSeated keeper logs) wher
   not_stood slot id log free held same =
       slot_state-not_free id log.state (sym (seats.stands id log held) ∙ ap (state_at keeper.slots) same ∙ free.1)
 
-  -- ---- one log changes, and stands as before
+  -- ---- one log changes, and is as before
   pub seats_one : (id : ℕ) (log new : Log) → finite.get logs id ≡ Some log → new.slot ≡ log.slot → slot_state id new.state ≡ slot_state id log.state
       → AreSeated keeper (finite.insert logs id new)
   seats_one id log new held slot state = record {
@@ -101,7 +101,7 @@ module _ (keeper : SlotTable) (logs : Logs) (seats : AreSeated keeper logs) wher
         (ap (state_at keeper.slots) slot ∙ seats.stands id log held ∙ sym state) (λ q l _ is. seats.stands q l is);
   }
 
-  -- ---- a log more stands in a slot that was free
+  -- ---- one more log is in a slot that was free
   pub seats_new : (slot id : ℕ) (new : Log) → IsFree keeper.slots slot → finite.get logs id ≡ None → new.slot ≡ slot
       → slot_state id new.state ≡ slots.Open id → AreSeated (with_state keeper slot (slots.Open id)) (finite.insert logs id new)
   seats_new slot id new free none at state = record {
@@ -130,7 +130,7 @@ module _ (keeper : SlotTable) (logs : Logs) (seats : AreSeated keeper logs) wher
         (λ q l apart is. state_at-set_else keeper.slots log.slot l.slot (slots.Closed id) (slots_apart id q log l held is apart) ∙ seats.stands q l is);
   }
 
-  -- ---- a log goes, and its slot is free
+  -- ---- a log is removed, and its slot is free
   pub seats_removed : (id : ℕ) (log : Log) → finite.get logs id ≡ Some log → AreSeated (with_state keeper log.slot slots.Free) (finite.remove logs id)
   seats_removed id log held = record {
     taken = let less = taken_count-set keeper.slots log.slot slots.Free (stands_inside id log held) in
@@ -178,7 +178,7 @@ module _ (settings : Settings) (keeper : SlotTable) (logs : Logs) (seated : IsSe
     seats = seats_removed keeper logs seated.seats id log held;
   }
 
-  -- ---- all logs change by a rule, and stand as before
+  -- ---- all logs change by a rule, and is as before
   pub seated_ruled : (rule : LogState → Log → Log) (new : Logs) → finite.len new ≡ finite.len logs
       → ((id : ℕ) (log : Log) → finite.get new id ≡ Some log → (l : Log) × (finite.get logs id ≡ Some l) × (rule l.state l ≡ log))
       → ((log : Log) → (rule log.state log).slot ≡ log.slot)

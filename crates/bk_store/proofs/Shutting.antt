@@ -1,4 +1,4 @@
--- The slots of the logs are closed one after another, by rising ids, and opened again.
+-- The slots of the logs are closed one after another, by rising id, and opened again.
 use Rattle.std.proofs.Common.{◌≡◌, ◌≢◌, inl, inr, ℕ, ◌+◌, ◌<◌, ◌≤◌, ◌^◌, Option, Some, None, IsSome, is_some}
 use Rattle.std.proofs.Common.{length, set, refl, sym, ap, subst, ◌∙◌, arith, lt_of_not-le}
 use Rattle.std.proofs.lemmas.List.{length-set, ext_get_or}
@@ -11,13 +11,13 @@ use Rattle.bk_lease.specs.declared.rule.Register.{Register}
 use Rattle.bk_lease.specs.declared.rule.Role.TheVariants.{Keeper}
 use Rattle.bk_lease.specs.Leases.{state_at, log_at, log_of, open_word, IsOpen, MayOpen}
 use Rattle.bk_lease.specs.Steps.{with_slot}
-use Rattle.bk_lease.specs.Values.{SlotTable, MayMeet, resting, with_closed, with_state}
+use Rattle.bk_lease.specs.Values.{SlotTable, AllowsLeaseCount, register_at_rest, with_closed, with_state}
 use Rattle.bk_lease.proofs.KeeperRuled.{keeping, RuledBy-opened}
 use Rattle.bk_lease.proofs.Views.{held_on-set}
 use Rattle.bk_lease.proofs.Slots.{state_at-set_here, state_at-set_else, with_closed-opened}
 use Rattle.bk_store.specs.Logs.{Log, Logs, IsNextHeld}
-use Rattle.bk_store.specs.Seated.{AreSeated, slot_state}
-use Rattle.bk_store.specs.Leasing.{IsLowestLeased, AreUnleased, AreShut, slot_lent, lent_slot}
+use Rattle.bk_store.specs.SlotAssignment.{AreSeated, slot_state}
+use Rattle.bk_store.specs.Leasing.{IsLowestLeased, HaveNoLeases, AreClosedToLeases, slot_lent, lent_slot}
 use Rattle.bk_store.specs.declared.log.LogState.{LogState}
 use Rattle.bk_store.specs.declared.log.LogState.TheVariants.{Writing, Filled, Copying, Readable, Retired, Closed}
 use Rattle.bk_store.proofs.Cases.{same_or_apart}
@@ -27,9 +27,9 @@ use Rattle.bk_store.proofs.Seats.{slots_apart, stands_inside, stands_open, slot_
 
 -- a count that may be met beside a closed slot may be met beside it when it is open
 meet_opened : (keeper : SlotTable) (at log slot count : ℕ) → at < length keeper.slots → log < 2 ^ 31 → state_at keeper.slots at ≡ slots.Closed log
-    → MayMeet keeper slot count → MayMeet (with_state keeper at (slots.Open log)) slot count
+    → AllowsLeaseCount keeper slot count → AllowsLeaseCount (with_state keeper at (slots.Open log)) slot count
 meet_opened keeper at log slot count inside fits closed met =
-    let p : Register = resting keeper.slots keeper.most keeper.given in
+    let p : Register = register_at_rest keeper.slots keeper.most keeper.given in
     let q : Register = with_slot p at (slots.Open log) in
     let change = held_on-set slot met.1 0 (Keeper p) (Keeper q) met.2.keeper in
     let same = met.3 in (
@@ -43,7 +43,7 @@ module _ (logs : Logs) (old : SlotTable) (seats : AreSeated old logs) where
   one_log : (id : ℕ) (log l : Log) → finite.get logs id ≡ Some log → finite.get logs id ≡ Some l → log ≡ l
   one_log id log l held is = let both : Some log ≡ Some l = sym held ∙ is in cc
 
-  module _ {now : SlotTable} {first end : ℕ} (so_far : AreShut logs old now first end) where
+  module _ {now : SlotTable} {first end : ℕ} (so_far : AreClosedToLeases logs old now first end) where
     -- the slot of a log that is not among those
     slot_kept : (id : ℕ) (log : Log) → finite.get logs id ≡ Some log → ((first ≤ id) → id < end → ⊥) → state_at now.slots log.slot ≡ state_at old.slots log.slot
     slot_kept id log held outside = so_far.else_as log.slot (λ q l is above below same.
@@ -65,9 +65,9 @@ module _ (logs : Logs) (old : SlotTable) (seats : AreSeated old logs) where
         (λ slot _. so_far.else_as slot (λ id log held above below _. none id log held above below)) in
         so_far.same ∙ ap (λ s. record old { slots = s }) lists
 
--- ---- a log more is closed
+-- ---- one more log is closed
 
-module _ (logs : Logs) (old : SlotTable) (seats : AreSeated old logs) {now : SlotTable} {end : ℕ} (so_far : AreShut logs old now 0 end)
+module _ (logs : Logs) (old : SlotTable) (seats : AreSeated old logs) {now : SlotTable} {end : ℕ} (so_far : AreClosedToLeases logs old now 0 end)
     (id : ℕ) (log : Log) (held : finite.get logs id ≡ Some log) (behind : end ≤ id)
     (least : (other : ℕ) → IsSome (finite.get logs other) → end ≤ other → id ≤ other) where
   before : (q : ℕ) (l : Log) → finite.get logs q ≡ Some l → q < id → q < end
@@ -89,7 +89,7 @@ module _ (logs : Logs) (old : SlotTable) (seats : AreSeated old logs) {now : Slo
   abbrev closed_now : SlotTable
   closed_now = with_closed now log.slot
 
-  shut_next : ¬ (log.state ≡ Closed) → AreShut logs old closed_now 0 (id + 1)
+  shut_next : ¬ (log.state ≡ Closed) → AreClosedToLeases logs old closed_now 0 (id + 1)
   shut_next lent =
       let state = slots.Closed (log_at now.slots log.slot) in
       record {
@@ -112,7 +112,7 @@ module _ (logs : Logs) (old : SlotTable) (seats : AreSeated old logs) {now : Slo
       }
 
   -- a log that is closed already
-  shut_skipped : log.state ≡ Closed → AreShut logs old now 0 (id + 1)
+  shut_skipped : log.state ≡ Closed → AreClosedToLeases logs old now 0 (id + 1)
   shut_skipped closed = record {
     same = so_far.same;
     long = so_far.long;
@@ -126,7 +126,7 @@ module _ (logs : Logs) (old : SlotTable) (seats : AreSeated old logs) {now : Slo
   }
 
   -- the logs below this one are those that were closed
-  shut_here : AreShut logs old now 0 id
+  shut_here : AreClosedToLeases logs old now 0 id
   shut_here = record {
     same = so_far.same;
     long = so_far.long;
@@ -135,18 +135,18 @@ module _ (logs : Logs) (old : SlotTable) (seats : AreSeated old logs) {now : Slo
   }
 
   -- what may be met beside the table when one more slot is closed might be before
-  meets_next : ¬ (log.state ≡ Closed) → id < 2 ^ 31 → (slot count : ℕ) → MayMeet closed_now slot count → MayMeet now slot count
+  meets_next : ¬ (log.state ≡ Closed) → id < 2 ^ 31 → (slot count : ℕ) → AllowsLeaseCount closed_now slot count → AllowsLeaseCount now slot count
   meets_next lent fits slot count met =
       let inside = inside_now logs old seats so_far id log held in
       let same = log_now lent in
-      subst (λ k. MayMeet k slot count) (with_closed-opened now log.slot (next_open lent))
+      subst (λ k. AllowsLeaseCount k slot count) (with_closed-opened now log.slot (next_open lent))
       (meet_opened closed_now log.slot (log_at now.slots log.slot) slot count
       (let long = length-set now.slots log.slot (slots.Closed (log_at now.slots log.slot)) in omega (arith, inside, long)) (omega (arith, same, fits))
       (state_at-set_here now.slots log.slot (slots.Closed (log_at now.slots log.slot)) inside) met)
 
 -- ---- a log less is closed
 
-module _ (logs : Logs) (old : SlotTable) (seats : AreSeated old logs) {now : SlotTable} {first end : ℕ} (so_far : AreShut logs old now first end)
+module _ (logs : Logs) (old : SlotTable) (seats : AreSeated old logs) {now : SlotTable} {first end : ℕ} (so_far : AreClosedToLeases logs old now first end)
     (id : ℕ) (log : Log) (held : finite.get logs id ≡ Some log) (behind : first ≤ id) (below_end : id < end)
     (least : (other : ℕ) → IsSome (finite.get logs other) → first ≤ other → id ≤ other) where
   is_shut : state_at now.slots log.slot ≡ slots.Closed id
@@ -163,10 +163,10 @@ module _ (logs : Logs) (old : SlotTable) (seats : AreSeated old logs) {now : Slo
     | inr other ↦ let far = least q (ap is_some is) above in none q l is (omega (arith, far, other)) below same
   ]
 
-  reopened : (keeper : SlotTable) → ¬ (log.state ≡ Closed) → keeper ≡ with_state now log.slot (slots.Open id) → AreShut logs old keeper (id + 1) end
+  reopened : (keeper : SlotTable) → ¬ (log.state ≡ Closed) → keeper ≡ with_state now log.slot (slots.Open id) → AreClosedToLeases logs old keeper (id + 1) end
   reopened keeper lent is =
       let state = slots.Open id in
-      subst (λ k. AreShut logs old k (id + 1) end) (sym is) (record {
+      subst (λ k. AreClosedToLeases logs old k (id + 1) end) (sym is) (record {
         same = ap (λ (k : SlotTable). record k { slots = set now.slots log.slot state }) so_far.same;
         long = length-set now.slots log.slot state ∙ so_far.long;
         shut = λ q l there above below.
@@ -181,7 +181,7 @@ module _ (logs : Logs) (old : SlotTable) (seats : AreSeated old logs) {now : Slo
         ];
       })
 
-  stays_closed : log.state ≡ Closed → AreShut logs old now (id + 1) end
+  stays_closed : log.state ≡ Closed → AreClosedToLeases logs old now (id + 1) end
   stays_closed closed = record {
     same = so_far.same;
     long = so_far.long;
@@ -231,11 +231,12 @@ closed_in logs id some is = elim (finite.get logs id) as (λ o. finite.get logs 
 
 -- ---- all slots, one after another
 
--- so far the slots of the logs below this id were closed: no lease of theirs was out, and what may be met now might be before
+-- so far the slots of the logs below this id were closed: no lease of theirs was out, and what may
+-- be met now might be before
 pub record IsShutting (logs : Logs) (old now : SlotTable) (from : ℕ) : Type 0 where
-  pub shut : AreShut logs old now 0 from
-  pub meets : (slot count : ℕ) → MayMeet now slot count → MayMeet old slot count
-  pub unleased : AreUnleased old logs from
+  pub shut : AreClosedToLeases logs old now 0 from
+  pub meets : (slot count : ℕ) → AllowsLeaseCount now slot count → AllowsLeaseCount old slot count
+  pub unleased : HaveNoLeases old logs from
 
 module _ (logs : Logs) (old : SlotTable) (seats : AreSeated old logs) where
   module _ {now : SlotTable} {from : ℕ} (so_far : IsShutting logs old now from) (id : ℕ) (next : IsNextHeld logs from (Some id)) where
@@ -247,7 +248,7 @@ module _ (logs : Logs) (old : SlotTable) (seats : AreSeated old logs) where
       close_open = subst (λ n. IsOpen now.slots n) this.at (next_open logs old seats so_far.shut id this.log this.held next.1 next.2 this.lent)
 
       -- no lease of this log was out, and it is closed
-      pub shutting_on : (keeper : SlotTable) → id < 2147483648 → keeper ≡ with_closed now slot → MayMeet now slot 0 → IsShutting logs old keeper (id + 1)
+      pub shutting_on : (keeper : SlotTable) → id < 2147483648 → keeper ≡ with_closed now slot → AllowsLeaseCount now slot 0 → IsShutting logs old keeper (id + 1)
       shutting_on keeper fits closed met =
           subst (λ k. IsShutting logs old k (id + 1)) (sym (closed ∙ ap (with_closed now) (sym this.at))) (record {
             shut = shut_next logs old seats so_far.shut id this.log this.held next.1 next.2 this.lent;
@@ -257,7 +258,7 @@ module _ (logs : Logs) (old : SlotTable) (seats : AreSeated old logs) where
               | inl here ↦ record {
                 log = this.log;
                 held = ap (finite.get logs) here ∙ this.held;
-                met = so_far.meets this.log.slot 0 (subst (λ n. MayMeet now n 0) (sym this.at) met);
+                met = so_far.meets this.log.slot 0 (subst (λ n. AllowsLeaseCount now n 0) (sym this.at) met);
               }
               | inr apart ↦ so_far.unleased q
                   (before logs old seats so_far.shut id this.log this.held next.1 next.2 q other.log other.held (omega (arith, less, apart))) other
@@ -266,10 +267,10 @@ module _ (logs : Logs) (old : SlotTable) (seats : AreSeated old logs) where
 
       -- some leases of this log are out
       module _ (keeper : SlotTable) (count : ℕ) (same : keeper ≡ now) where
-        pub refused_here : AreShut logs old keeper 0 id
-        refused_here = subst (λ k. AreShut logs old k 0 id) (sym same) (shut_here logs old seats so_far.shut id this.log this.held next.1 next.2)
+        pub refused_here : AreClosedToLeases logs old keeper 0 id
+        refused_here = subst (λ k. AreClosedToLeases logs old k 0 id) (sym same) (shut_here logs old seats so_far.shut id this.log this.held next.1 next.2)
 
-        pub refused_lowest : (0 < count) × (count ≤ now.most) → MayMeet now slot count → IsLowestLeased old logs id count
+        pub refused_lowest : (0 < count) × (count ≤ now.most) → AllowsLeaseCount now slot count → IsLowestLeased old logs id count
         refused_lowest some met = record {
           lent = record { log = this.log; held = this.held; open_is = this.lent };
           leased = record {
@@ -278,7 +279,7 @@ module _ (logs : Logs) (old : SlotTable) (seats : AreSeated old logs) where
             met = record {
               log = this.log;
               held = this.held;
-              met = so_far.meets this.log.slot count (subst (λ n. MayMeet now n count) (sym this.at) met);
+              met = so_far.meets this.log.slot count (subst (λ n. AllowsLeaseCount now n count) (sym this.at) met);
             };
           };
           lowest = λ q less other. so_far.unleased q
@@ -305,11 +306,11 @@ module _ (logs : Logs) (old : SlotTable) (seats : AreSeated old logs) where
 -- the slots of the logs from this id on are closed yet, whatever the table was before
 abbrev pub IsReopening : Logs → SlotTable → SlotTable → ℕ → ℕ → Type 0
 IsReopening logs begun now from end =
-    (old : SlotTable) → AreSeated old logs → AreShut logs old begun 0 end → AreShut logs old now from end
+    (old : SlotTable) → AreSeated old logs → AreClosedToLeases logs old begun 0 end → AreClosedToLeases logs old now from end
 
 module _ {logs : Logs} {begun now : SlotTable} {from end : ℕ} (so_far : IsReopening logs begun now from end) where
   pub reopening_ends : (next : Option ℕ) → IsNextHeld logs from next → ((id : ℕ) → next ≡ Some id → end ≤ id)
-      → (old : SlotTable) → AreSeated old logs → AreShut logs old begun 0 end → now ≡ old
+      → (old : SlotTable) → AreSeated old logs → AreClosedToLeases logs old begun 0 end → now ≡ old
   reopening_ends None none past old seats shut =
       all_kept logs old seats (so_far old seats shut) (λ id log held above below. omega (arith, above, none id (ap is_some held)))
   reopening_ends (Some next) is past old seats shut =
@@ -329,7 +330,7 @@ module _ {logs : Logs} {begun now : SlotTable} {from end : ℕ} (so_far : IsReop
         let this = closed_in logs id next.0 none in
         stays_closed logs old seats (so_far old seats shut) id this.0 this.1 next.1 below next.2 this.2
 
-    module _ (slot : ℕ) (there : lent_slot logs id ≡ Some slot) (was : (x : SlotTable) × AreSeated x logs × AreShut logs x begun 0 end) where
+    module _ (slot : ℕ) (there : lent_slot logs id ≡ Some slot) (was : (x : SlotTable) × AreSeated x logs × AreClosedToLeases logs x begun 0 end) where
       pub reopen_within : slot < length now.slots
       reopen_within =
           let this = open_in logs id slot there in

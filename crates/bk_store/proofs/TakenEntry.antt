@@ -4,19 +4,19 @@ use Rattle.std.specs.FinMap as finite
 use Rattle.bk_record.specs.Key.{EntryKey}
 use Rattle.bk_record.specs.Record.{read_added}
 use Rattle.bk_cache.specs.Caches.{CacheState}
-use Rattle.bk_cache.specs.Turns.{CacheAddTurn}
+use Rattle.bk_cache.specs.Transitions.{CacheAddTransition}
 use Rattle.bk_cache.specs.declared.cache_add.CacheAdd.TheVariants.{Taken}
 use Rattle.bk_store.specs.Ledgers.{KnownLedgers, is_barred, receipt_of, with_add}
 use Rattle.bk_store.specs.State.{State}
-use Rattle.bk_store.specs.Turns.{AddTurn, is_dead}
+use Rattle.bk_store.specs.Transitions.{AddTransition, is_dead}
 use Rattle.bk_store.specs.declared.adding.AddKind.{AddKind}
 use Rattle.bk_store.specs.declared.answer.Added.TheVariants.{Accepted}
 use Rattle.bk_store.specs.declared.mark.Receipt.{Receipt}
 
 pub taken_is_added : (s : State) (caches : CacheState) (ledgers : KnownLedgers) (kind : AddKind) (key : EntryKey) (payload : List ℕ) (receipt : Receipt)
     → read_added payload ≡ Ok key → is_dead s key.ledger ≡ false → is_barred kind s.ledgers.fenced key.ledger ≡ false → finite.get s.index key ≡ None
-    → CacheAddTurn s.caches key payload (Ok Taken) caches → receipt ≡ receipt_of s.ledgers.trail key payload → ledgers ≡ with_add s.ledgers key payload
-    → AddTurn s kind payload (Ok (Accepted receipt)) (record s { caches = caches; ledgers = ledgers })
+    → CacheAddTransition s.caches key payload (Ok Taken) caches → receipt ≡ receipt_of s.ledgers.trail key payload → ledgers ≡ with_add s.ledgers key payload
+    → AddTransition s kind payload (Ok (Accepted receipt)) (record s { caches = caches; ledgers = ledgers })
 taken_is_added s caches ledgers kind key payload receipt reads lives unbarred unnamed taken given marked = (
   record {
     key = key;

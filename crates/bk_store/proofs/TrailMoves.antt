@@ -1,4 +1,4 @@
--- What is kept of a trail, after one mark more.
+-- What is kept of a trail, after one more mark.
 use Rattle.std.proofs.Common.{◌≡◌, ◌≢◌, ◌⊎◌, inl, inr, ℕ, zero, suc, List, [], ◌∷◌, ◌++◌, length, Option, Some, None, true, false}
 use Rattle.std.proofs.Common.{refl, sym, ap, ◌∙◌, subst}
 use Rattle.std.specs.Prelude.{slice_get}
@@ -13,15 +13,15 @@ use Rattle.bk_record.proofs.Growth.{In-append_left, In-append_right, In-push_cas
 use Rattle.sha2.specs.Sha256.{sha256}
 use Rattle.bk_store.specs.declared.mark.Mark.{Mark}
 use Rattle.bk_store.specs.declared.mark.Mark.TheVariants.{Add, Delete, Fence}
-use Rattle.bk_store.specs.Trail.{Replays, CameIn, WasDeleted, WasFenced, HasDigest}
-use Rattle.bk_store.specs.Ledgers.{KnownLedgers, FollowsTrail, opened_ledgers, with_add, with_deletion, with_fence}
+use Rattle.bk_store.specs.Trail.{MapMatchesTrail, HasAddMark, WasDeleted, WasFenced, HasDigest}
+use Rattle.bk_store.specs.Ledgers.{KnownLedgers, LedgersMatchTrail, opened_ledgers, with_add, with_deletion, with_fence}
 use Rattle.bk_store.proofs.Cases.{same_or_apart}
 use Rattle.bk_store.proofs.KeyMaps.{get-insert_other, inserted_here, left_same}
 use Rattle.bk_store.proofs.Ledgers.{inserted_is, inserted_else, removed_is, removed_else}
 
--- ---- one mark more
+-- ---- one more mark
 
--- a mark of a trail with one more stood there, or is the last
+-- a mark of a trail with one more was there, or is the last
 pub number_cases : (xs : List Mark) (y : Mark) (n : ℕ) (m : Mark) → slice_get (xs ++ y ∷ []) n ≡ Some m
     → (slice_get xs n ≡ Some m) ⊎ ((n ≡ length xs) × (y ≡ m))
 number_cases [] y zero m is = inr (refl, cc)
@@ -33,23 +33,23 @@ module _ (trail : List Mark) (mark : Mark) where
   abbrev longer : List Mark
   longer = trail ++ mark ∷ []
 
-  -- what stood in it stands in it
+  -- what was in it is in it
   still : (m : Mark) → In m trail → In m longer
   still m there = In-append_left m trail (mark ∷ []) there
 
   last_is : In mark longer
   last_is = In-append_right mark trail (mark ∷ []) (inl refl)
 
-  -- another mark stood in it before
+  -- another mark was in it before
   was : (m : Mark) → In m longer → (mark ≡ m → ⊥) → In m trail
   was m there apart = elim (In-push_cases m mark trail there) [ inl old ↦ old | inr same ↦ absurd (apart same) ]
 
-  came_before : (n : ℕ) (key : EntryKey) (digest : List ℕ) → CameIn longer n key digest → (mark ≡ Add key digest → ⊥) → CameIn trail n key digest
+  came_before : (n : ℕ) (key : EntryKey) (digest : List ℕ) → HasAddMark longer n key digest → (mark ≡ Add key digest → ⊥) → HasAddMark trail n key digest
   came_before n key digest at apart = elim (number_cases trail mark n (Add key digest) at) [ inl old ↦ old | inr new ↦ absurd (apart new.1) ]
 
   -- a mark that is no add leaves what came in, but for a ledger that it deletes
-  replays_marked : {map : Payloads} → Replays map trail → (left : Payloads) → ((key : EntryKey) (digest : List ℕ) → mark ≡ Add key digest → ⊥)
-      → ((key : EntryKey) → ¬ (WasDeleted longer key.ledger) → finite.get left key ≡ finite.get map key) → Replays left longer
+  replays_marked : {map : Payloads} → MapMatchesTrail map trail → (left : Payloads) → ((key : EntryKey) (digest : List ℕ) → mark ≡ Add key digest → ⊥)
+      → ((key : EntryKey) → ¬ (WasDeleted longer key.ledger) → finite.get left key ≡ finite.get map key) → MapMatchesTrail left longer
   replays_marked replays left no_add same = record {
     has = λ n key digest at lives.
         let has = replays.has n key digest (came_before n key digest at (no_add key digest)) (λ out. lives (still (Delete key.ledger) out)) in
@@ -60,12 +60,12 @@ module _ (trail : List Mark) (mark : Mark) where
 
 -- ---- an entry that comes in
 
-module _ {map : Payloads} {l : KnownLedgers} (replays : Replays map l.trail) (follows : FollowsTrail l) (key : EntryKey) (payload : List ℕ)
+module _ {map : Payloads} {l : KnownLedgers} (replays : MapMatchesTrail map l.trail) (follows : LedgersMatchTrail l) (key : EntryKey) (payload : List ℕ)
     (alive : set.contains l.dead key.ledger ≡ false) (missing : finite.get map key ≡ None) where
   never_deleted : WasDeleted l.trail key.ledger → ⊥
   never_deleted out = let wrong : true ≡ false = sym (follows.gone key.ledger out) ∙ alive in cc
 
-  never_came : (n : ℕ) (digest : List ℕ) → CameIn l.trail n key digest → ⊥
+  never_came : (n : ℕ) (digest : List ℕ) → HasAddMark l.trail n key digest → ⊥
   never_came n digest at =
       let has = replays.has n key digest at never_deleted in
       let wrong : ◌≡◌ {A = Option (List ℕ)} (Some has.0) None = sym has.1 ∙ missing in cc
@@ -76,35 +76,35 @@ module _ {map : Payloads} {l : KnownLedgers} (replays : Replays map l.trail) (fo
   abbrev new : List Mark
   new = l.trail ++ mark ∷ []
 
-  has_added : (n : ℕ) (k : EntryKey) (digest : List ℕ) → CameIn new n k digest → ¬ (WasDeleted new k.ledger)
+  has_added : (n : ℕ) (k : EntryKey) (digest : List ℕ) → HasAddMark new n k digest → ¬ (WasDeleted new k.ledger)
       → HasDigest (finite.insert map key payload) k digest
   has_added n k digest at lives = elim (number_cases l.trail mark n (Add k digest) at) [
     | inl old ↦
         let has = replays.has n k digest old (λ out. lives (still l.trail mark (Delete k.ledger) out)) in (
           has.0,
-          get-insert_other map key payload k (λ same. never_came n digest (subst (λ (q : EntryKey). CameIn l.trail n q digest) same old)) ∙ has.1,
+          get-insert_other map key payload k (λ same. never_came n digest (subst (λ (q : EntryKey). HasAddMark l.trail n q digest) same old)) ∙ has.1,
           has.2,
         )
     | inr here ↦ let same : k ≡ key = cc in let told : digest ≡ sha256 payload = cc in (payload, inserted_here map key payload k same, told)
   ]
 
-  once_added : (n m : ℕ) (k : EntryKey) (digest digest' : List ℕ) → CameIn new n k digest → CameIn new m k digest' → n ≡ m
+  once_added : (n m : ℕ) (k : EntryKey) (digest digest' : List ℕ) → HasAddMark new n k digest → HasAddMark new m k digest' → n ≡ m
   once_added n m k digest digest' at also = elim (number_cases l.trail mark n (Add k digest) at) [
     | inl old ↦ elim (number_cases l.trail mark m (Add k digest') also) [
       | inl other ↦ replays.once n m k digest digest' old other
-      | inr here ↦ let same : k ≡ key = cc in absurd (never_came n digest (subst (λ (q : EntryKey). CameIn l.trail n q digest) same old))
+      | inr here ↦ let same : k ≡ key = cc in absurd (never_came n digest (subst (λ (q : EntryKey). HasAddMark l.trail n q digest) same old))
     ]
     | inr here ↦ elim (number_cases l.trail mark m (Add k digest') also) [
-      | inl other ↦ let same : k ≡ key = cc in absurd (never_came m digest' (subst (λ (q : EntryKey). CameIn l.trail m q digest') same other))
+      | inl other ↦ let same : k ≡ key = cc in absurd (never_came m digest' (subst (λ (q : EntryKey). HasAddMark l.trail m q digest') same other))
       | inr last ↦ here.0 ∙ sym last.0
     ]
   ]
 
-  pub replays_added : Replays (finite.insert map key payload) (with_add l key payload).trail
+  pub replays_added : MapMatchesTrail (finite.insert map key payload) (with_add l key payload).trail
   replays_added = record { has = has_added; once = once_added }
 
-module _ {l : KnownLedgers} (follows : FollowsTrail l) where
-  pub follows_added : (key : EntryKey) (payload : List ℕ) → FollowsTrail (with_add l key payload)
+module _ {l : KnownLedgers} (follows : LedgersMatchTrail l) where
+  pub follows_added : (key : EntryKey) (payload : List ℕ) → LedgersMatchTrail (with_add l key payload)
   follows_added key payload =
       let mark = Add key (sha256 payload) in
       record {
@@ -120,20 +120,20 @@ module _ {l : KnownLedgers} (follows : FollowsTrail l) where
 
 -- ---- a ledger that is deleted
 
-module _ {map : Payloads} {trail : List Mark} (replays : Replays map trail) (ledger : ℕ) where
-  pub replays_deleted : Replays (without_ledger map ledger) (trail ++ Delete ledger ∷ [])
+module _ {map : Payloads} {trail : List Mark} (replays : MapMatchesTrail map trail) (ledger : ℕ) where
+  pub replays_deleted : MapMatchesTrail (without_ledger map ledger) (trail ++ Delete ledger ∷ [])
   replays_deleted = replays_marked trail (Delete ledger) replays (without_ledger map ledger) (λ key digest wrong. cc)
       (λ key lives. left_same map ledger key (λ same. lives (subst (λ (q : ℕ). WasDeleted (trail ++ Delete ledger ∷ []) q) (sym same)
       (last_is trail (Delete ledger)))))
 
-module _ {l : KnownLedgers} (follows : FollowsTrail l) (ledger : ℕ) where
+module _ {l : KnownLedgers} (follows : LedgersMatchTrail l) (ledger : ℕ) where
   abbrev shorn : List Mark
   shorn = l.trail ++ Delete ledger ∷ []
 
   deleted_else : (q : ℕ) → q ≢ ledger → WasDeleted shorn q → WasDeleted l.trail q
   deleted_else q apart out = was l.trail (Delete ledger) (Delete q) out (λ same. apart (cc))
 
-  pub follows_deleted : FollowsTrail (with_deletion l ledger)
+  pub follows_deleted : LedgersMatchTrail (with_deletion l ledger)
   follows_deleted = record {
     gone = λ q out. elim (same_or_apart q ledger) [
       | inl here ↦ subst (λ (x : ℕ). set.contains (set.insert l.dead ledger) x ≡ true) (sym here) (inserted_is l.dead ledger)
@@ -158,18 +158,18 @@ module _ {l : KnownLedgers} (follows : FollowsTrail l) (ledger : ℕ) where
 
 -- ---- a ledger that is fenced
 
-module _ {map : Payloads} {trail : List Mark} (replays : Replays map trail) (ledger : ℕ) where
-  pub replays_fenced : Replays map (trail ++ Fence ledger ∷ [])
+module _ {map : Payloads} {trail : List Mark} (replays : MapMatchesTrail map trail) (ledger : ℕ) where
+  pub replays_fenced : MapMatchesTrail map (trail ++ Fence ledger ∷ [])
   replays_fenced = replays_marked trail (Fence ledger) replays map (λ key digest wrong. cc) (λ key lives. refl)
 
-module _ {l : KnownLedgers} (follows : FollowsTrail l) (ledger : ℕ) (alive : set.contains l.dead ledger ≡ false) where
+module _ {l : KnownLedgers} (follows : LedgersMatchTrail l) (ledger : ℕ) (alive : set.contains l.dead ledger ≡ false) where
   abbrev fenced : List Mark
   fenced = l.trail ++ Fence ledger ∷ []
 
   deleted_before : (q : ℕ) → WasDeleted fenced q → WasDeleted l.trail q
   deleted_before q out = was l.trail (Fence ledger) (Delete q) out (λ wrong. cc)
 
-  pub follows_fenced : FollowsTrail (with_fence l ledger)
+  pub follows_fenced : LedgersMatchTrail (with_fence l ledger)
   follows_fenced = record {
     gone = λ q out. follows.gone q (deleted_before q out);
     fenced = λ q. elim (same_or_apart q ledger) [
@@ -195,13 +195,13 @@ module _ {l : KnownLedgers} (follows : FollowsTrail l) (ledger : ℕ) (alive : s
 
 -- ---- a store that was just opened
 
-pub replays_none : (map : Payloads) → Replays map []
+pub replays_none : (map : Payloads) → MapMatchesTrail map []
 replays_none map = record {
   has = λ n key digest at lives. absurd (cc);
   once = λ n m key digest digest' at also. absurd (cc);
 }
 
-pub follows_none : (dead : Ledgers) → FollowsTrail (opened_ledgers dead)
+pub follows_none : (dead : Ledgers) → LedgersMatchTrail (opened_ledgers dead)
 follows_none dead = record {
   gone = λ ledger out. absurd out;
   fenced = λ ledger. (

@@ -11,7 +11,7 @@ use Rattle.bk_record.specs.Keyed.{without_ledger, log_count, Places}
 use Rattle.bk_record.proofs.Keys.{key_cmp_total, key_cmp_antisymmetric}
 use Rattle.bk_record.proofs.SortedMaps.{entries-retain_keys}
 use Rattle.bk_record.proofs.KeyedCounts.{log_count-without_ledger}
-use Rattle.bk_cache.specs.Caches.{CacheState, held}
+use Rattle.bk_cache.specs.Caches.{CacheState, write_cached_payload}
 use Rattle.bk_accounts.specs.Account.{Account, without_name}
 use Rattle.bk_accounts.specs.Account.{without_size}
 use Rattle.bk_accounts.specs.Book.{Book, named_in, after_unname, after_forget}
@@ -21,7 +21,7 @@ use Rattle.bk_store.specs.Deletion.{AreNamedBy, AreLeft}
 abbrev Listed : Type 0
 Listed = List (EntryKey × Place)
 
--- how many of the entries stand in a log
+-- how many of the entries are in a log
 abbrev pub in_log : ℕ → Listed → ℕ
 in_log log entries = count_by (λ e. e.1.log == log) entries
 
@@ -30,9 +30,9 @@ one_if b = cond b 1 0
 
 -- no write cache has the key
 abbrev is_alone : CacheState → EntryKey × Place → Bool
-is_alone s e = not (is_some (held s e.0))
+is_alone s e = not (is_some (write_cached_payload s e.0))
 
--- each log has so many names, and those of the entries still to come
+-- each log has n index entries, and those of the entries still to come
 abbrev pub IsUnnaming : (ℕ → ℕ) → Book → Book → Listed → Type 0
 IsUnnaming names old now rest = (log : ℕ)
     → finite.get now log ≡ option_map (λ (account : Account). record account { named = names log + in_log log rest }) (finite.get old log)
@@ -73,8 +73,8 @@ module _ (names : ℕ → ℕ) (old now : Book) (e : EntryKey × Place) (rest : 
       kept log None is = refl
       kept log (Some account) is = ap (λ n. Some (record account { named = names log + n })) is
 
--- So far: each log has the names of the keys that the index will have, and of those still to come; and so many were counted
--- that with those to come they are all.
+-- So far: each log has the names of the keys that the index will have, and of those still to come;
+-- and n were counted that with those to come they are all.
 pub record Goes (index : Places) (s : CacheState) (ledger : ℕ) (old now : Book) (alone : ℕ) (rest : Listed) : Type 0 where
   pub named : IsUnnaming (log_count (without_ledger index ledger)) old now rest
   pub counted : alone + count_by (is_alone s) rest ≡ count_by (λ e. (e.0.ledger == ledger) && is_alone s e) (finite.entries index)
@@ -128,7 +128,7 @@ module _ {index : Places} {s : CacheState} {ledger : ℕ} {old now : Book} {alon
   counts : count_by (is_alone s) (e ∷ rest) ≡ cond (is_alone s e) 1 0 + count_by (is_alone s) rest
   counts = sum_by-cons (λ x. cond (is_alone s x) 1 0) e rest
 
-  -- so many are counted of the one entry
+  -- n are counted of the one entry
   pub goes_on : (new : Book) (n : ℕ) → new ≡ after_unname now e.1.log → n ≡ one_if (is_alone s e) → Goes index s ledger old new (alone + n) rest
   goes_on new n is one = record {
     named = λ log. ap (λ b. finite.get b log) is ∙ unnamed (log_count (without_ledger index ledger)) old now e rest goes.named log;
@@ -138,7 +138,7 @@ module _ {index : Places} {s : CacheState} {ledger : ℕ} {old now : Book} {alon
   pub alone-more : (n : ℕ) → n ≡ one_if (is_alone s e) → alone + n ≤ count_by (λ x. (x.0.ledger == ledger) && is_alone s x) (finite.entries index)
   alone-more n one = omega (arith, goes.counted, counts, one)
 
--- ---- behind the last
+-- ---- after the last
 
 module _ {index : Places} {s : CacheState} {ledger : ℕ} {old now : Book} {alone : ℕ} (goes : Goes index s ledger old now alone []) where
   pub all_counted : alone ≡ count_by (λ e. (e.0.ledger == ledger) && is_alone s e) (finite.entries index)

@@ -1,4 +1,4 @@
--- A walk over logs by rising ids, and over the records of each, lists the entries that stand in them.
+-- A walk over logs by rising id, and over the records of each, lists the entries that are in them.
 use Rattle.std.proofs.Common.{◌≡◌, inl, ℕ, ◌<◌, List, [], ◌∷◌, ◌++◌, length, Option, Some, None, true, false, option_map}
 use Rattle.std.proofs.Common.{refl, sym, ap, ◌∙◌, subst, append_assoc, arith}
 use Rattle.std.specs.List.{flat_map, filter_map, cons_option}
@@ -38,7 +38,7 @@ listed_of log = filter_map (placed_key log)
 abbrev pub walked : Bytes → List ℕ → Listed
 walked bytes ids = flat_map (λ id. listed_of id (records_of (bytes id))) ids
 
--- each number of the list is below those behind it
+-- each number of the list is below those after it
 abbrev pub AreAscending : List ℕ → Type 0
 AreAscending [] = Unit {0}
 AreAscending (id ∷ ids) = ((other : ℕ) → In other ids → id < other) × AreAscending ids
@@ -122,7 +122,7 @@ walked_rising bytes (id ∷ ids) ascending =
     let right = theirs.log_is in
     inl (omega arith))
 
--- A walk over all logs that have entries, by rising ids, lists what stands in them.
+-- A walk over all logs that have entries, by rising id, lists what is in them.
 pub walked_lists : (bytes : Bytes) (ids : List ℕ) → AreAscending ids
     → ((place : Place) (key : EntryKey) (payload : List ℕ) → HasEntry bytes place key payload → In place.log ids)
     → AreEntriesOf bytes (walked bytes ids)
@@ -136,14 +136,14 @@ walked_lists bytes ids ascending all = record {
   rising = walked_rising bytes ids ascending;
 }
 
--- one log more
+-- one more log
 pub walked_push : (bytes : Bytes) (ids : List ℕ) (id : ℕ) → walked bytes (ids ++ id ∷ []) ≡ walked bytes ids ++ listed_of id (records_of (bytes id))
 walked_push bytes [] id = append-nil (listed_of id (records_of (bytes id)))
 walked_push bytes (x ∷ ids) id =
     ap (λ (l : Listed). listed_of x (records_of (bytes x)) ++ l) (walked_push bytes ids id)
     ∙ sym (append_assoc (listed_of x (records_of (bytes x))) (walked bytes ids) (listed_of id (records_of (bytes id))))
 
--- ---- one record more of a log, behind what was walked over
+-- ---- one more record of a log, after what was walked over
 
 listed_keyed : (log : ℕ) (records : List (ℕ × List ℕ)) (at : ℕ) (payload : List ℕ) (key : EntryKey) → key_of payload ≡ Some key
     → listed_of log (records ++ (at, payload) ∷ []) ≡ listed_of log records ++ keyed_at log at key ∷ []

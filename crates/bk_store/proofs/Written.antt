@@ -11,32 +11,32 @@ use Rattle.bk_record.specs.Record.{IsPayload, key_of, record_of}
 use Rattle.bk_record.specs.Files.{Files, header_length}
 use Rattle.bk_record.proofs.Keys.{key_cmp_total, key_cmp_antisymmetric}
 use Rattle.bk_record.proofs.ReadKeys.{addable, addable_payload}
-use Rattle.bk_disk.specs.Disk.{IsCaused, grown}
+use Rattle.bk_disk.specs.Disk.{FailsExactlyIf, files_after_append}
 use Rattle.bk_log.specs.Writing as writers
 use Rattle.bk_log.specs.declared.fault.LogFault.{LogFault}
 use Rattle.bk_log.specs.declared.fault.LogFault.TheVariants as log_faults
 use Rattle.std.specs.Option.{SomeIff, option_or}
 use Rattle.std.proofs.lemmas.Bool.{false_from_ne_true}
-use Rattle.bk_cache.specs.Caches.{CacheState, flush_of, cached}
-use Rattle.bk_cache.specs.Kept.{IsSound}
+use Rattle.bk_cache.specs.Caches.{CacheState, flush_of, cached_payload}
+use Rattle.bk_cache.specs.Invariant.{IsSound}
 use Rattle.bk_cache.specs.Recents.{recent_of}
-use Rattle.bk_store.proofs.KeptNoted.{flush_held}
+use Rattle.bk_store.proofs.InvariantNotePlace.{flush_held}
 use Rattle.bk_accounts.specs.Book.{total_in, total_at, after_ready}
 use Rattle.bk_accounts.proofs.BookLaws.{total_in-after_ready}
 use Rattle.bk_record.specs.Keyed.{Places}
 use Rattle.bk_store.specs.Logs.{Log, Logs}
-use Rattle.bk_store.specs.Placed.{IsBehind}
-use Rattle.bk_store.specs.State.{Parts}
-use Rattle.bk_store.specs.Kept.{Keeps}
-use Rattle.bk_store.specs.Putting.{MayPut, put_log, grown_log, next_place, IsPutAt}
-use Rattle.bk_store.specs.Doors.{CanTake, MayWrite, WriteTurn, PutTurn, IsNext}
+use Rattle.bk_store.specs.FlushPlaces.{IsAfterPlaced}
+use Rattle.bk_store.specs.State.{StoreParts}
+use Rattle.bk_store.specs.Invariant.{StoreInvariant}
+use Rattle.bk_store.specs.Appending.{CanAppendRecord, put_log, grown_log, next_place, IsPutAt}
+use Rattle.bk_store.specs.Primitives.{CanTake, CanAppendFlushed, AppendFlushedTransition, AppendRecordTransition, IsFirstUnplaced}
 use Rattle.bk_store.specs.declared.log.LogState.{LogState}
 use Rattle.bk_store.specs.declared.log.LogState.TheVariants.{Writing}
 use Rattle.bk_store.proofs.LogMaps.{log-same}
-use Rattle.bk_store.proofs.ShowTurns.{not_failed, failed_once}
+use Rattle.bk_store.proofs.PublishTransitions.{not_failed, failed_once}
 
 -- what is known of a log that can take a record
-pub record IsRoomy (p : Parts) (id : ℕ) (payload : List ℕ) : Type 0 where
+pub record IsRoomy (p : StoreParts) (id : ℕ) (payload : List ℕ) : Type 0 where
   pub log : Log
   pub w : writers.Writing
   pub held : finite.get p.state.logs id ≡ Some log
@@ -50,7 +50,7 @@ pub record IsRoomy (p : Parts) (id : ℕ) (payload : List ℕ) : Type 0 where
   pub total : total_at p.accounts id + header_length ≤ w.end
   pub writes : IsTrue p.state.honest → writers.Writes p.state.files w
 
-pub roomy : (p : Parts) → Keeps p → (id : ℕ) (state : LogState) (payload : List ℕ) → CanTake p.state id state payload → IsRoomy p id payload
+pub roomy : (p : StoreParts) → StoreInvariant p → (id : ℕ) (state : LogState) (payload : List ℕ) → CanTake p.state id state payload → IsRoomy p id payload
 roomy p keeps id state payload takes =
     let old = keeps.fits.logs.each id takes.log takes.writer.held in
     let by = old.by takes.w takes.writer.writer in
@@ -70,17 +70,17 @@ roomy p keeps id state payload takes =
       writes = λ honest. ((keeps.promises honest).logs.each id takes.log takes.writer.held).writes takes.w takes.writer.writer;
     }
 
-pub roomy_same : {p : Parts} {id : ℕ} {a b : List ℕ} → IsRoomy p id a → a ≡ b → IsRoomy p id b
+pub roomy_same : {p : StoreParts} {id : ℕ} {a b : List ℕ} → IsRoomy p id a → a ≡ b → IsRoomy p id b
 roomy_same {p} {id} {a} {b} is same = subst (λ x. IsRoomy p id x) same is
 
--- ---- the next entry is behind all that have a place
+-- ---- the next entry is after all that have a place
 
 ordered : (q key : EntryKey) (o : Ordering) → key_cmp q key ≡ o → (q ≡ key → ⊥) → (key_cmp key q ≡ Less → ⊥) → o ≡ Less
 ordered q key Less is apart after = refl
 ordered q key Equal is apart after = absurd (apart (key_cmp_antisymmetric q key is))
 ordered q key Greater is apart after = absurd (after (key_cmp_total.antisymm key q ∙ ap ordering_reverse is))
 
-pub next_behind : (p : Parts) → Keeps p → (key : EntryKey) (payload : List ℕ) → IsNext p.state key payload → IsBehind p.state.places key
+pub next_behind : (p : StoreParts) → StoreInvariant p → (key : EntryKey) (payload : List ℕ) → IsFirstUnplaced p.state key payload → IsAfterPlaced p.state.places key
 next_behind p keeps key payload next other there = ordered other key (key_cmp other key) refl
     (λ same. let none = ap (finite.get p.state.places) same ∙ next.unplaced in cc)
     (λ after.
@@ -92,18 +92,18 @@ next_behind p keeps key payload next other there = ordered other key (key_cmp ot
 -- ---- the entry that is written
 
 -- what is known of the flush's next entry, and of the log that takes it
-pub record IsWritable (p : Parts) (id : ℕ) (key : EntryKey) (payload : List ℕ) : Type 0 where
+pub record IsWritable (p : StoreParts) (id : ℕ) (key : EntryKey) (payload : List ℕ) : Type 0 where
   pub room : IsRoomy p id payload
   pub legal : IsPayload payload
   pub keyed : key_of payload ≡ Some key
-  pub behind : IsBehind p.state.places key
+  pub behind : IsAfterPlaced p.state.places key
 
-pub writable : (p now : Parts) → p ≡ now → Keeps now → (id : ℕ) (key : EntryKey) (payload : List ℕ) → MayWrite now.state id key
+pub writable : (p now : StoreParts) → p ≡ now → StoreInvariant now → (id : ℕ) (key : EntryKey) (payload : List ℕ) → CanAppendFlushed now.state id key
     → finite.get (flush_of now.state.caches) key ≡ Some payload → IsSound p.state.caches → IsWritable p id key payload
 writable p now here keeps id key payload may flushing sound =
-    let mine = subst (λ (q : Parts). MayWrite q.state id key) (sym here) may in
-    let kept = subst Keeps (sym here) keeps in
-    let there = ap (λ (q : Parts). finite.get (flush_of q.state.caches) key) here ∙ flushing in
+    let mine = subst (λ (q : StoreParts). CanAppendFlushed q.state id key) (sym here) may in
+    let kept = subst StoreInvariant (sym here) keeps in
+    let there = ap (λ (q : StoreParts). finite.get (flush_of q.state.caches) key) here ∙ flushing in
     let both : Some payload ≡ Some mine.payload = sym there ∙ mine.next.flushing in
     let same : payload ≡ mine.payload = cc in
     let read = sound.flush_keyed key payload there in
@@ -116,7 +116,7 @@ writable p now here keeps id key payload may flushing sound =
 
 -- ---- the account takes the record in
 
-pub total_fits : (p : Parts) (id ledger size : ℕ) (payload : List ℕ) → IsRoomy p id payload → size ≡ length payload + 4
+pub total_fits : (p : StoreParts) (id ledger size : ℕ) (payload : List ℕ) → IsRoomy p id payload → size ≡ length payload + 4
     → IfSome (total_in (after_ready p.accounts id ledger) id) (λ total. total + size < 2 ^ 32)
 total_fits p id ledger size payload is long =
     elim (total_in p.accounts id) as (λ o. total_in p.accounts id ≡ o
@@ -130,26 +130,26 @@ total_fits p id ledger size payload is long =
           omega (arith, sum, most, room, long))
     ] refl
 
--- ---- the turn
+-- ---- the transition
 
-module _ (p now : Parts) (here : p ≡ now) (id : ℕ) (key : EntryKey) (payload : List ℕ) (is : IsRoomy p id payload) (files : Files)
+module _ (p now : StoreParts) (here : p ≡ now) (id : ℕ) (key : EntryKey) (payload : List ℕ) (is : IsRoomy p id payload) (files : Files)
     (honest : Bool) (failures : ℕ)
     (logs : Logs) (same_honest : honest ≡ p.state.honest) where
   pub written_turn : (place : Place) (places : Places) → places ≡ finite.insert p.state.places key place
       → logs ≡ finite.insert p.state.logs id (grown_log is.log is.w payload) → place ≡ next_place is.w
-      → IsCaused p.state.failures failures (Ok place ≡ Err log_faults.Disk)
-      → (IsTrue p.state.honest → files ≡ grown p.state.files is.w.log (record_of payload))
-      → WriteTurn now.state id key payload (Ok place)
+      → FailsExactlyIf p.state.failures failures (Ok place ≡ Err log_faults.Disk)
+      → (IsTrue p.state.honest → files ≡ files_after_append p.state.files is.w.log (record_of payload))
+      → AppendFlushedTransition now.state id key payload (Ok place)
       (record p.state { files = files; honest = honest; failures = failures; logs = logs; places = places })
   written_turn place places noted_there put at cause grew =
-      subst (λ (n : Parts). WriteTurn n.state id key payload (Ok place)
+      subst (λ (n : StoreParts). AppendFlushedTransition n.state id key payload (Ok place)
       (record p.state { files = files; honest = honest; failures = failures; logs = logs; places = places })) here (
         is.log,
         (
           is.w,
           record { held = is.held; writer = is.writer },
           at,
-          (λ h. grew h ∙ ap (λ n. grown p.state.files n (record_of payload)) is.own),
+          (λ h. grew h ∙ ap (λ n. files_after_append p.state.files n (record_of payload)) is.own),
           (λ i. record p.state {
             files = files;
             honest = same_honest i;
@@ -161,9 +161,9 @@ module _ (p now : Parts) (here : p ≡ now) (id : ℕ) (key : EntryKey) (payload
       )
 
   pub failed_inside : (fault : LogFault) → logs ≡ finite.insert p.state.logs id (put_log is.log is.w payload (Err fault)) → IsPutAt is.w (Err fault)
-      → IsCaused p.state.failures failures (◌≡◌ {A = Result Place LogFault} (Err fault) (Err log_faults.Disk))
-      → (IsTrue p.state.honest → writers.AppendTurn p.state.files is.w payload (Err fault) files)
-      → PutTurn p.state id payload (Err fault) (record p.state { files = files; honest = honest; failures = failures; logs = logs })
+      → FailsExactlyIf p.state.failures failures (◌≡◌ {A = Result Place LogFault} (Err fault) (Err log_faults.Disk))
+      → (IsTrue p.state.honest → writers.WriterPutTransition p.state.files is.w payload (Err fault) files)
+      → AppendRecordTransition p.state id payload (Err fault) (record p.state { files = files; honest = honest; failures = failures; logs = logs })
   failed_inside log_faults.Memory put at cause turn = (
     turn,
     (λ i. record p.state {
@@ -176,7 +176,7 @@ module _ (p now : Parts) (here : p ≡ now) (id : ℕ) (key : EntryKey) (payload
   failed_inside log_faults.Disk put at cause turn = (
     is.log,
     is.held,
-    (λ h. let left = turn h in (left.0, left.1 ∙ ap (λ n. grown p.state.files n (take left.0 (record_of payload))) is.own)),
+    (λ h. let left = turn h in (left.0, left.1 ∙ ap (λ n. files_after_append p.state.files n (take left.0 (record_of payload))) is.own)),
     (λ i. record p.state { files = files; honest = same_honest i; failures = failed_once cause refl i; logs = put i }),
   )
   failed_inside log_faults.Odd put at cause turn = (
@@ -191,26 +191,26 @@ module _ (p now : Parts) (here : p ≡ now) (id : ℕ) (key : EntryKey) (payload
 
   pub failed_turn : (fault : LogFault) (places : Places) → places ≡ p.state.places
       → logs ≡ finite.insert p.state.logs id (put_log is.log is.w payload (Err fault)) → IsPutAt is.w (Err fault)
-      → IsCaused p.state.failures failures (◌≡◌ {A = Result Place LogFault} (Err fault) (Err log_faults.Disk))
-      → (IsTrue p.state.honest → writers.AppendTurn p.state.files is.w payload (Err fault) files)
-      → WriteTurn now.state id key payload (Err fault) (record p.state { files = files; honest = honest; failures = failures; logs = logs; places = places })
+      → FailsExactlyIf p.state.failures failures (◌≡◌ {A = Result Place LogFault} (Err fault) (Err log_faults.Disk))
+      → (IsTrue p.state.honest → writers.WriterPutTransition p.state.files is.w payload (Err fault) files)
+      → AppendFlushedTransition now.state id key payload (Err fault) (record p.state { files = files; honest = honest; failures = failures; logs = logs; places = places })
   failed_turn fault places back put at cause turn =
-      subst (λ (n : Parts). WriteTurn n.state id key payload (Err fault)
+      subst (λ (n : StoreParts). AppendFlushedTransition n.state id key payload (Err fault)
       (record p.state { files = files; honest = honest; failures = failures; logs = logs; places = places })) here
-      (subst (λ m. WriteTurn p.state id key payload (Err fault)
+      (subst (λ m. AppendFlushedTransition p.state id key payload (Err fault)
       (record p.state { files = files; honest = honest; failures = failures; logs = logs; places = m })) (sym back) (failed_inside fault put at cause turn))
 
 -- nothing was done
-pub refused_turn : (p now : Parts) → p ≡ now → (id : ℕ) (key : EntryKey) (payload : List ℕ) (places : Places) → places ≡ p.state.places
-    → WriteTurn now.state id key payload (Err log_faults.Memory) (record p.state { places = places })
+pub refused_turn : (p now : StoreParts) → p ≡ now → (id : ℕ) (key : EntryKey) (payload : List ℕ) (places : Places) → places ≡ p.state.places
+    → AppendFlushedTransition now.state id key payload (Err log_faults.Memory) (record p.state { places = places })
 refused_turn p now here id key payload places back =
-    subst (λ (n : Parts). WriteTurn n.state id key payload (Err log_faults.Memory) (record p.state { places = places })) here
+    subst (λ (n : StoreParts). AppendFlushedTransition n.state id key payload (Err log_faults.Memory) (record p.state { places = places })) here
     ((λ _. refl), (λ i. record p.state { places = back i }))
 
 -- ---- what is asked of a put
 
-pub may_put : (p : Parts) (id : ℕ) (payload bytes : List ℕ) → IsRoomy p id payload → bytes ≡ payload → (log : Log)
-    → finite.get p.state.logs id ≡ Some log → MayPut log bytes
+pub may_put : (p : StoreParts) (id : ℕ) (payload bytes : List ℕ) → IsRoomy p id payload → bytes ≡ payload → (log : Log)
+    → finite.get p.state.logs id ≡ Some log → CanAppendRecord log bytes
 may_put p id payload bytes is same log held =
     let both : Some is.log ≡ Some log = sym is.held ∙ held in
     let one : is.log ≡ log = cc in
@@ -223,7 +223,7 @@ may_put p id payload bytes is same log held =
 
 -- the payload that the caches give for a key of the flush is the flush's
 pub found_payload : (held : CacheState) (key : EntryKey) (payload bytes : List ℕ) → IsSound held → finite.get (flush_of held) key ≡ Some payload
-    → Some bytes ≡ cached held key → bytes ≡ payload
+    → Some bytes ≡ cached_payload held key → bytes ≡ payload
 found_payload held key payload bytes sound flushing found =
     let there = flush_held held key payload sound.apart flushing in
     let both : Some bytes ≡ Some payload = found ∙ ap (λ o. option_or o (recent_of held.recent key)) there in

@@ -1,4 +1,5 @@
--- How logs that were found are taken in: the entries of each into the index and the accounts.
+-- How an opening tallies the logs that it finds: an entry (`with_entry`), a scan (`IsScanned`), a
+-- log (`IsTaken`), all logs (`AreTaken`).
 use Rattle.std.specs.Prelude.{◌≡◌, ℕ, ◌+◌, ◌<◌, ◌≤◌, ◌^◌, Bool, IsTrue, List, [], ◌∷◌, length, map, sum_by, if◌then◌else◌, Some, IfSome}
 use Rattle.std.specs.List.{AllByRecursion}
 use Rattle.std.specs.FinMap as finite
@@ -9,7 +10,7 @@ use Rattle.bk_record.specs.Record.{key_of}
 use Rattle.bk_record.specs.Files.{Files, file_of, header_length, In}
 use Rattle.bk_record.specs.Scan.{entries_of}
 use Rattle.bk_disk.specs.Disk.{IsFile, view_end}
-use Rattle.bk_disk.specs.Durable.{HasKept}
+use Rattle.bk_disk.specs.Durable.{IsDurable}
 use Rattle.bk_disk.specs.declared.fault.DiskFault.{DiskFault}
 use Rattle.bk_disk.specs.declared.fault.DiskFault.TheVariants as disk_faults
 use Rattle.bk_log.specs.Growing.{HasNoBadLength}
@@ -26,7 +27,8 @@ use Rattle.bk_store.specs.declared.open.tally.Tally.{Tally}
 
 -- ---- faults
 
--- a refused call on the disk: want of memory and a failing device as they are, all else is odd
+-- the fault of an opening for a fault of the disk: out of memory and a failed device stay, all else
+-- is odd
 abbrev pub open_fault_of : DiskFault → OpenFault
 open_fault_of disk_faults.Disk = open_faults.Disk
 open_fault_of disk_faults.Memory = open_faults.Memory
@@ -35,16 +37,17 @@ open_fault_of disk_faults.NoLog = open_faults.Odd
 open_fault_of disk_faults.PastEnd = open_faults.Odd
 open_fault_of disk_faults.TooLong = open_faults.Odd
 
--- a refused scan: a bad length is the log's
-abbrev pub scan_told : ℕ → ScanFault → OpenFault
-scan_told id (scan_faults.BadLength at value) = open_faults.Log id (causes.BadLength at value)
-scan_told id scan_faults.Disk = open_faults.Disk
-scan_told id scan_faults.Memory = open_faults.Memory
-scan_told id scan_faults.Odd = open_faults.Odd
+-- the fault of an opening for a fault of a scan; a bad length is reported with the log
+abbrev pub open_fault_of_scan : ℕ → ScanFault → OpenFault
+open_fault_of_scan id (scan_faults.BadLength at value) = open_faults.Log id (causes.BadLength at value)
+open_fault_of_scan id scan_faults.Disk = open_faults.Disk
+open_fault_of_scan id scan_faults.Memory = open_faults.Memory
+open_fault_of_scan id scan_faults.Odd = open_faults.Odd
 
 -- ---- entries
 
--- One more entry of a log: its record is counted, and where its ledger lives, its key is sent to it.
+-- Tallies one entry of a log: its record is counted and, if its ledger is live, its key points to
+-- it.
 abbrev pub with_entry : ℕ → Tally → Found → Tally
 with_entry log t found = record t {
   index = if set.contains t.dead found.key.ledger then t.index else finite.insert t.index found.key (record { log = log; at = found.at });
@@ -53,7 +56,7 @@ with_entry log t found = record t {
       else after_count (after_ready t.accounts log found.key.ledger) log found.key.ledger found.size;
 }
 
--- entries of a log, one after another
+-- tallies entries of a log, in order
 abbrev pub with_entries : ℕ → Tally → List Found → Tally
 with_entries log t [] = t
 with_entries log t (found ∷ later) = with_entries log (with_entry log t found) later
@@ -62,19 +65,19 @@ with_entries log t (found ∷ later) = with_entries log (with_entry log t found)
 abbrev pub bytes_found : List Found → ℕ
 bytes_found founds = sum_by (λ f. f.size) founds
 
--- the entry of this record, with its place
+-- the scan returned the entry of this record, with its place
 abbrev pub IsFoundAt : ℕ × List ℕ → Found → Type 0
 IsFoundAt r found = (found.at ≡ r.0) × (key_of r.1 ≡ Some found.key) × (found.size ≡ 4 + length r.1)
 
--- the entries of these records, in their order
+-- the scan returned the entries of these records, in order
 abbrev pub AreFoundAt : List (ℕ × List ℕ) → List Found → Type 0
 AreFoundAt [] [] = Unit {0}
 AreFoundAt [] (found ∷ later) = ⊥
 AreFoundAt (r ∷ records) [] = ⊥
 AreFoundAt (r ∷ records) (found ∷ later) = IsFoundAt r found × AreFoundAt records later
 
--- A scan took entries of a log in, no more than there is room for before its end; beside an honest view they are those of
--- its file.
+-- A scan tallied entries of a log, no more than fit before its end. If the view is honest, they are
+-- those of its file.
 pub record IsScanned (log end : ℕ) (honest : Bool) (file : List ℕ) (old new : Tally) : Type 0 where
   pub founds : List Found
   pub taken : new ≡ with_entries log old founds
@@ -84,8 +87,7 @@ pub record IsScanned (log end : ℕ) (honest : Bool) (file : List ℕ) (old new 
 
 -- ---- logs
 
--- A log as it was read: its id, the slot that it is to stand in, its view and where that ends, and the entries that were
--- found.
+-- A log that was read: its id, its slot, its view with its end, and the entries found.
 pub record LogRead : Type 0 where
   pub id : ℕ
   pub slot : ℕ
@@ -93,7 +95,7 @@ pub record LogRead : Type 0 where
   pub end : ℕ
   pub founds : List Found
 
--- beside an honest disk a log was read whole: its file opens
+-- on an honest disk a log was read whole, and its file opens
 pub record IsReadWhole (files : Files) (r : LogRead) : Type 0 where
   pub stands : IsFile files r.id r.view.bytes
   pub honest : IsTrue r.view.is_honest
@@ -101,26 +103,26 @@ pub record IsReadWhole (files : Files) (r : LogRead) : Type 0 where
   pub found : AreFoundAt (entries_of r.view.bytes) r.founds
   pub opens : Opens r.view.bytes
 
--- a log was read; its entries have room before its end
+-- a log was read, and its entries fit before its end
 pub record IsRead (honest : Bool) (files : Files) (r : LogRead) : Type 0 where
   pub fits : header_length + bytes_found r.founds ≤ r.end
   pub whole : IsTrue honest → IsReadWhole files r
 
--- with the entries of one more log
+-- tallies one log
 abbrev pub with_read : Tally → LogRead → Tally
 with_read t r = with_entries r.id (record t { accounts = after_open t.accounts r.id }) r.founds
 
--- with those of more logs, one after another
+-- tallies several logs, in order
 abbrev pub with_reads : Tally → List LogRead → Tally
 with_reads t [] = t
 with_reads t (r ∷ later) = with_reads (with_read t r) later
 
--- and the logs themselves
+-- the logs that are then held
 abbrev pub logs_with : Logs → List LogRead → Logs
 logs_with logs [] = logs
 logs_with logs (r ∷ later) = logs_with (finite.insert logs r.id (found_log r.view r.slot r.end)) later
 
--- One log was taken in, and is to be held so, in this slot.
+-- One log was tallied, and is held in this slot.
 pub record IsTaken (honest : Bool) (files : Files) (id slot : ℕ) (log : Log) (old new : Tally) : Type 0 where
   pub read : LogRead
   pub own : read.id ≡ id
@@ -129,12 +131,12 @@ pub record IsTaken (honest : Bool) (files : Files) (id slot : ℕ) (log : Log) (
   pub log_is : log ≡ found_log read.view read.slot read.end
   pub taken : new ≡ with_read old read
 
--- ids from a first one on, rising; the next one is past them all
+-- rising ids from a first one on; the next id is past them all
 abbrev pub AreIds : ℕ → List ℕ → ℕ → Type 0
 AreIds first [] next = next ≡ first
 AreIds first (id ∷ ids) next = (first ≤ id) × (id < 2 ^ 31) × AreIds (id + 1) ids next
 
--- The logs of these ids were taken in, and are held.
+-- The logs of these ids were tallied, and are held.
 pub record AreTaken (honest : Bool) (files : Files) (ids : List ℕ) (next : ℕ) (old new : Tally) (before held : Logs) : Type 0 where
   pub reads : List LogRead
   pub ids_are : map (λ r. r.id) reads ≡ ids
@@ -143,17 +145,17 @@ pub record AreTaken (honest : Bool) (files : Files) (ids : List ℕ) (next : ℕ
   pub taken : new ≡ with_reads old reads
   pub held_are : held ≡ logs_with before reads
 
--- of each of these logs its file is kept, as it is
-abbrev pub AllKept : Files → Files → List ℕ → Type 0
-AllKept files kept ids = (id : ℕ) → In id ids → HasKept kept id (file_of files id)
+-- the whole file of each of these logs is durable
+abbrev pub AllDurable : Files → Files → List ℕ → Type 0
+AllDurable files kept ids = (id : ℕ) → In id ids → IsDurable kept id (file_of files id)
 
--- ---- names
+-- ---- counts of index entries
 
--- no log is named by a key
+-- no account counts an index entry
 abbrev pub AreUnnamed : Book → Type 0
 AreUnnamed book = (log : ℕ) → IfSome (named_in book log) (λ named. named ≡ 0)
 
--- each key names its log
+-- each entry of the index is counted in the account of its log
 abbrev pub named_by : List (EntryKey × Place) → Book → Book
 named_by [] book = book
 named_by (e ∷ later) book = named_by later (after_name book e.1.log)

@@ -1,4 +1,4 @@
--- A compaction that runs: the entries of one log that the index names are copied to another, then the index is sent there.
+-- The job of a running compaction.
 use Rattle.std.specs.Prelude.{◌≡◌, ℕ, zero, suc, Bool, true, false, List, [], ◌∷◌, ◌++◌}
 use Rattle.std.proofs.Common.{refl}
 use Rattle.std.specs.Coded.{Coded, code_by, coded×, coded_ℕ, coded_bool, coded_list}
@@ -10,9 +10,9 @@ use Rattle.bk_store.specs.declared.job.Phase.{Phase}
 use Rattle.bk_store.specs.declared.job.Phase.TheVariants.{Copy, Switch}
 use Rattle.bk_store.specs.declared.job.Move.{Move}
 
--- A job: the log whose entries are copied; the log that they are copied to; the position in the source up to which its
--- records were examined; what comes next; the moves that wait, in the order in which the entries were copied; and whether the
--- index was made anew since the job began.
+-- A job: the source log; the target log; the position in the source log up to which records were
+-- examined; the phase; the pending relocations, in order; and whether the index was rebuilt since
+-- the begin.
 pub record Job : Type 0 where
   pub source : ℕ
   pub copy : ℕ
@@ -25,23 +25,23 @@ pub record Job : Type 0 where
 abbrev pub new_job : ℕ → ℕ → Job
 new_job source copy = record { source = source; copy = copy; at = header_length; phase = Copy; moves = []; rebuilt = false }
 
--- the job with one more move behind the others
+-- the job with one more relocation
 abbrev pub with_move : Job → Move → Job
 with_move job copied = record job { moves = job.moves ++ copied ∷ [] }
 
--- the move is the first that waits, and the second job is without it
+-- the relocation is the oldest pending one, and the second job is without it
 abbrev pub waits_from : Job → Move → Job → Type 0
 waits_from job first rest = (job.moves ≡ first ∷ rest.moves) × (rest ≡ record job { moves = rest.moves })
 
--- a move of the key from this place waits
+-- a relocation of the key from this place is pending
 abbrev pub Waits : List Move → EntryKey → Place → Type 0
 Waits moves key place = (waiting : Move) × In waiting moves × (waiting.key ≡ key) × (waiting.from ≡ place)
 
--- the job knows that the index was made anew
+-- the job after a rebuild of the index
 abbrev pub with_rebuild : Job → Job
 with_rebuild job = record job { rebuilt = true }
 
--- ---- how a model holds a job
+-- ---- representation in a model
 
 abbrev phase_number : Phase → ℕ
 phase_number Copy = 0

@@ -1,9 +1,9 @@
--- The limits that a store may be opened with (this project's rule).
+-- Ranges of the settings (this project's rule).
 use Rattle.std.specs.Prelude.{◌≤◌}
 use Rattle.bk_record.specs.Limits.{max_log_limit, max_cache_limit}
 use Rattle.bk_store.specs.declared.settings.Settings.{Settings}
 
--- each number lies in its range
+-- each number is in its range
 pub record IsAllowed (settings : Settings) : Type 0 where
   pub log_least : 2048 ≤ settings.log_limit
   pub log_most : settings.log_limit ≤ max_log_limit

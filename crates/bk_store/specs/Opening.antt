@@ -1,4 +1,5 @@
--- What a store is that was just opened on files, and why an opening is refused.
+-- The store after an opening, in terms of the files alone, and why an opening fails. Read
+-- `IsOpened` and `OpenFails` first.
 use Rattle.std.specs.Prelude.{◌≡◌, ◌⊎◌, ℕ, ◌+◌, ◌<◌, ◌≤◌, ◌^◌, Bool, IsTrue, List, length, take, drop, Some, None, IsSome}
 use Rattle.std.specs.FinMap as finite
 use Rattle.bk_record.specs.Files.{Files, file_of, header_length}
@@ -12,7 +13,7 @@ use Rattle.bk_store.specs.Limits.{IsAllowed}
 use Rattle.bk_store.specs.Logs.{View, Logs, found_log}
 use Rattle.bk_store.specs.Ledgers.{opened_ledgers}
 use Rattle.bk_store.specs.State.{State}
-use Rattle.bk_store.specs.Turns.{valid_ledgers}
+use Rattle.bk_store.specs.Transitions.{valid_ledgers}
 use Rattle.bk_store.specs.declared.settings.Settings.{Settings}
 use Rattle.bk_store.specs.declared.answer.LogCause.{LogCause}
 use Rattle.bk_store.specs.declared.answer.LogCause.TheVariants as causes
@@ -21,7 +22,7 @@ use Rattle.bk_store.specs.declared.answer.OpenFault.TheVariants as open_faults
 
 -- ---- one file
 
--- A log with bytes enough for a header has one, of version 0 or 1 (this project's rule).
+-- A log with enough bytes for a header has one, of version 0 or 1 (this project's rule).
 abbrev pub IsHeaded : List ℕ → Type 0
 IsHeaded file = header_length ≤ length file → HasHeader (take header_length file)
 
@@ -31,12 +32,12 @@ pub record Opens (file : List ℕ) : Type 0 where
   pub headed : IsHeaded file
   pub whole : HasNoBadLength file
 
--- what stands in a file that can't be read; its header is judged before its records
+-- why a file cannot be read; its header is judged before its records
 abbrev pub HasLogCause : List ℕ → LogCause → Type 0
 HasLogCause file (causes.Header fault) = (header_length ≤ length file) × HeaderFault (take header_length file) fault
 HasLogCause file (causes.BadLength at value) = IsHeaded file × IsBadAt header_length (drop header_length file) at value
 
--- why the log of this id and file is refused by an honest disk
+-- why an honest disk rejects the log of this id and file
 abbrev pub FileFails : ℕ → List ℕ → OpenFault → Type 0
 FileFails id file open_faults.Settings = ⊥
 FileFails id file open_faults.Disk = Unit {0}
@@ -48,7 +49,7 @@ FileFails id file open_faults.Odd = ⊥
 
 -- ---- all files
 
--- one of the files is refused, and all before it open
+-- one of the files is rejected, and all before it open
 pub record FirstFails (files : Files) (fault : OpenFault) : Type 0 where
   pub id : ℕ
   pub file : List ℕ
@@ -60,8 +61,8 @@ pub record FirstFails (files : Files) (fault : OpenFault) : Type 0 where
 abbrev pub HasSlots : Files → Settings → Type 0
 HasSlots files settings = finite.len files ≤ settings.slots
 
--- Why an opening beside an honest disk is refused: the settings are judged first, then how many logs there are, then each
--- log by rising ids. A failing device and want of memory come wherever they arise.
+-- Why an opening on an honest disk fails: first the settings, then the number of logs, then each
+-- log by rising id. A failing device and out of memory can occur at any point.
 abbrev pub OpenFails : Files → Settings → OpenFault → Type 0
 OpenFails files settings open_faults.Settings = ¬ (IsAllowed settings)
 OpenFails files settings open_faults.Disk = IsAllowed settings
@@ -73,7 +74,7 @@ OpenFails files settings open_faults.Odd = ⊥
 
 -- ---- the store
 
--- a log that was found is held with a view of its whole file, all of it acknowledged
+-- a log found is held with a view of its whole file, all of it acknowledged
 pub record IsHeldWhole (logs : Logs) (id : ℕ) (file : List ℕ) : Type 0 where
   pub view : View
   pub slot : ℕ
@@ -81,13 +82,13 @@ pub record IsHeldWhole (logs : Logs) (id : ℕ) (file : List ℕ) : Type 0 where
   pub honest : IsTrue view.is_honest
   pub shows : view.bytes ≡ file
 
--- the next id is one past the greatest, 0 where there is no file
+-- the next id is one more than the largest, 0 if there is no file
 pub record IsNextId (files : Files) (next : ℕ) : Type 0 where
   pub above : (id : ℕ) → IsSome (finite.get files id) → id < next
   pub least : (next ≡ 0) ⊎ ((last : ℕ) × (next ≡ last + 1) × IsSome (finite.get files last))
 
--- What the files give beside an honest disk: each opens, the index is that of all their entries, their logs are held and
--- no others, and the next id is free.
+-- What the files give on an honest disk: each opens, the index is that of all their entries,
+-- exactly their logs are held, and the next id is free.
 pub record HoldsFiles (files : Files) (s : State) : Type 0 where
   pub same : s.files ≡ files
   pub opens : (id : ℕ) (file : List ℕ) → IsFile files id file → Opens file
@@ -96,8 +97,8 @@ pub record HoldsFiles (files : Files) (s : State) : Type 0 where
   pub none : (id : ℕ) → finite.get files id ≡ None → finite.get s.logs id ≡ None
   pub next : IsNextId files s.next
 
--- A store that was opened: these settings, nothing cached, no flush, these ledgers dead and none fenced, no mark in the trail,
--- and what the files give.
+-- A store after opening: these settings, nothing cached, no flush, these ledgers deleted and none
+-- fenced, an empty trail, and what the files give.
 pub record IsOpened (honest : Bool) (files : Files) (settings : Settings) (dead : List ℕ) (s : State) : Type 0 where
   pub settings_are : s.settings ≡ settings
   pub caches_are : s.caches ≡ caches.new_caches settings.cache_limit settings.recent

@@ -17,9 +17,9 @@ use Rattle.bk_store.specs.declared.log.LogState.{LogState}
 use Rattle.bk_store.specs.declared.log.LogState.TheVariants.{Writing, Filled, Copying, Readable, Retired, Closed}
 use Rattle.bk_store.specs.declared.settings.Settings.{Settings}
 
--- What is to be seen of a store: its limits; the disk's files, whether it is honest, and how often it has failed; the
--- caches; the places of the running flush's entries, by key; the index; the logs that it holds; the table of the slots in
--- which they stand; the id of the next log; what is known of ledgers; the compaction that runs.
+-- The visible state: the settings; the files of the disk, whether it is honest, and its failure
+-- count; the caches; the places of the running flush, by key; the index; the logs held; the table
+-- of their slots; the id of the next log; the known ledgers; the running compaction.
 pub record State : Type 0 where
   pub settings : Settings
   pub files : Files
@@ -34,10 +34,11 @@ pub record State : Type 0 where
   pub ledgers : KnownLedgers
   pub job : Option Job
 
--- A store's parts: the visible state, and what is kept beside it so that no call has to look for it. These are the accounts
--- of the logs, the log that flushes write, and the logs that are Writing or Filled, possibly with others; and of the disk what
--- a crash leaves of its logs at least, and the files that were removed and may be back.
-pub record Parts : Type 0 where
+-- The parts of a store: the visible state, and the internals. These are the accounts of the logs,
+-- the Writing log, and a list with at least the logs that are Writing or Filled, which save a
+-- search; and of the disk the synced part of each log, and the removed files that a crash may bring
+-- back.
+pub record StoreParts : Type 0 where
   pub state : State
   pub accounts : Book
   pub writing : Option ℕ
@@ -45,7 +46,7 @@ pub record Parts : Type 0 where
   pub synced : Files
   pub gone : Files
 
--- ---- how a model holds such a state
+-- ---- representation in a model
 
 abbrev state_number : LogState → ℕ
 state_number Writing = 0
@@ -128,8 +129,8 @@ state_code = code_by
     })
     (λ _. refl)
 
--- and so are the parts
-abbrev pub parts_code : Coded Parts
+-- so are the parts
+abbrev pub parts_code : Coded StoreParts
 parts_code = code_by (State × (Book × (Option ℕ × (List ℕ × (Files × Files)))))
     (coded× state_code (coded× book_code (coded× (coded_option coded_ℕ) (coded× (coded_list coded_ℕ) (coded× files_code files_code)))))
     (λ p. (p.state, (p.accounts, (p.writing, (p.filled, (p.synced, p.gone))))))

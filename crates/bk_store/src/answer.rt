@@ -1,4 +1,4 @@
-//! What the calls of a store answer: an enum for each call, and why a call is refused.
+//! Results and errors of the calls of a store, one enum per call.
 
 use crate::Receipt;
 use bk_lease::Lease;
@@ -6,74 +6,85 @@ use bk_record::{Location, RecordFault};
 use std::sync::Arc;
 use thiserror::Error;
 
-/// What became of an add.
+/// Result of an add.
 #[derive(Clone, Copy, Debug, PartialEq, Eq)]
 pub enum Added {
-    /// The entry is kept from now on; here is its receipt.
+    /// The entry is in the store; here is its receipt.
     Accepted(Receipt),
-    /// An entry of that key is kept already; its first bytes stay (this project's rule).
+    /// The store has an entry of this key, which is unchanged (this project's rule).
     Held,
 }
 
-/// Why an add was refused. The store is as it was.
+/// Why an add failed. The store is unchanged.
 #[derive(Clone, Copy, Debug, PartialEq, Eq, Error)]
 pub enum AddFault {
-    /// The payload is no entry's, or too long.
+    /// The payload is too short or too long, or an id is out of range.
     #[error("{0}")]
     Bad(RecordFault),
-    /// The entry's ledger was deleted.
+    /// The ledger of the entry is deleted.
     #[error("deleted")]
     Deleted,
-    /// The entry's ledger is fenced, and this is no recovery add.
+    /// The ledger of the entry is fenced, and the add is not a recovery.
     #[error("fenced")]
     Fenced,
-    /// The active cache has `used` payload bytes, and this payload would take it past its limit.
+    /// The active cache has `used` payload bytes, and this payload would exceed the limit.
     #[error("full {used} {limit}")]
     Full { used: u64, limit: u64 },
-    /// No memory was to be had.
+    /// Out of memory.
     #[error("memory")]
     Memory,
 }
 
-/// What a take gives.
+/// Result of appending the next entry of a flush.
+#[derive(Clone, Copy, Debug, PartialEq, Eq)]
+pub enum Appended {
+    /// Every entry of the flush has a place, or no flush is running.
+    AllPlaced,
+    /// No log is Writing, or the Writing log has a record and this entry would exceed `log_limit`.
+    NeedsLog,
+    /// The entry was appended at this location.
+    At(Location),
+}
+
+/// Result of a take.
 #[derive(Drop)]
 pub enum Taken<V: Drop> {
-    /// The entry's ledger was deleted.
+    /// The ledger of the entry is deleted.
     Deleted,
     /// The payload, from a cache.
     Cached(Arc<Vec<u8>>),
-    /// The store has no entry of that key.
+    /// The store has no entry of this key.
     NotHeld,
-    /// A lease on the log that holds the entry, and the entry's location there.
+    /// A lease on the log that has the entry, and the location of the entry there.
     Leased(Lease<V>, Location),
 }
 
-/// Why a take was refused. The store is as it was, and no lease of that call is out.
+/// Why a take failed. The store is unchanged, and no lease of this call is out.
 #[derive(Clone, Copy, Debug, PartialEq, Eq, Error)]
 pub enum TakeFault {
-    /// The table of leases was refused a further owner.
+    /// The lease table cannot have a further owner.
     #[error("no seat")]
     NoSeat,
-    /// As many leases of the log are out as one log may have.
+    /// The log has as many leases as one log may have.
     #[error("too many leases")]
     TooMany,
-    /// A payload or a view was refused a further owner.
+    /// A payload or a view cannot have a further owner.
     #[error("memory")]
     Memory,
 }
 
-/// Why a deletion was refused. The store is as it was.
+/// Why a deletion failed. The store is unchanged.
 #[derive(Clone, Copy, Debug, PartialEq, Eq, Error)]
 pub enum DeleteFault {
     /// The ledger was deleted before.
     #[error("already deleted")]
     AlreadyDeleted,
-    /// No memory was to be had.
+    /// Out of memory.
     #[error("memory")]
     Memory,
 }
 
-/// What became of a fence.
+/// Result of a fence.
 #[derive(Clone, Copy, Debug, PartialEq, Eq)]
 pub enum Fence {
     /// The ledger is fenced from now on.
@@ -82,76 +93,65 @@ pub enum Fence {
     AlreadyFenced,
 }
 
-/// Why a ledger was not fenced. The store is as it was.
+/// Why a fence failed. The store is unchanged.
 #[derive(Clone, Copy, Debug, PartialEq, Eq, Error)]
 pub enum FenceFault {
-    /// The ledger was deleted.
+    /// The ledger is deleted.
     #[error("deleted")]
     Deleted,
-    /// No memory was to be had.
+    /// Out of memory.
     #[error("memory")]
     Memory,
 }
 
-/// What became of a swap.
-#[derive(Clone, Copy, Debug, PartialEq, Eq)]
-pub enum SwapAnswer {
-    /// A flush runs already.
-    Running,
-    /// The active cache has no entry.
-    Nothing,
-    /// The active cache, of this many entries, is now the flushing one.
-    Swapped(u64),
-}
-
-/// Why no log was made.
+/// Why no log was created.
 #[derive(Clone, Copy, Debug, PartialEq, Eq)]
 pub enum MakeFault {
-    /// As many logs as there are slots are held.
+    /// Every slot is taken.
     LogsFull,
     /// The next id is past 2^31 - 1.
     NoMoreIds,
-    /// No memory was to be had.
+    /// Out of memory.
     Memory,
     /// The device failed.
     Disk,
-    /// The disk answered what an honest disk cannot.
+    /// The disk returned what no honest disk can.
     Odd,
 }
 
-/// Why a log was not read at opening.
+/// Why a log could not be read at opening.
 #[derive(Clone, Copy, Debug, PartialEq, Eq, Error)]
 pub enum LogCause {
-    /// Its header is no entry log's.
+    /// Its header is not that of an entry log.
     #[error("{0}")]
     Header(bk_head::HeadFault),
-    /// At this position, where a record should begin, stands this length, read as a signed number, which is below 16.
+    /// The length field at this position, read as a signed number, is below 16.
     #[error("bad length {at} {length}")]
     BadLength { at: u64, length: i32 },
 }
 
-/// Why a store was not opened. The disk is let go.
+/// Why a store did not open. The disk is dropped.
 #[derive(Clone, Copy, Debug, PartialEq, Eq, Error)]
 pub enum OpenFault {
-    /// A setting is out of its range.
+    /// A setting is out of range.
     #[error("settings")]
     Settings,
     /// The device failed.
     #[error("disk")]
     Disk,
-    /// No memory was to be had.
+    /// Out of memory.
     #[error("memory")]
     Memory,
-    /// More logs were found than there are slots.
+    /// There are more logs than slots.
     #[error("logs full")]
     LogsFull,
-    /// The log of this id can't be read.
+    /// The log of this id cannot be read.
     #[error("log {id}: {cause}")]
     Log { id: u32, cause: LogCause },
-    /// The log of this id has more than 2^32 - 1 bytes.
+    /// The log of this id is longer than 2^32 - 1 bytes.
     #[error("log too long {0}")]
     TooLong(u32),
-    /// The disk answered what an honest disk cannot.
+    /// The disk returned what no honest disk can.
     #[error("odd disk")]
     Odd,
 }

@@ -1,7 +1,7 @@
-//! A fence: ordinary adds to a ledger are refused from then on.
+//! Fencing a ledger against ordinary adds.
 
 ghost use Rattle.std.specs.Prelude.{◌≡◌};
-ghost use Rattle.bk_store.specs.Turns.{FenceTurn};
+ghost use Rattle.bk_store.specs.Transitions.{FenceTransition};
 
 use crate::fields::Fields;
 use crate::{Fence, FenceFault};
@@ -9,8 +9,8 @@ use bk_disk::LogDisk;
 
 impl<D: LogDisk> Fields<D> {
     pub fn fence(&mut self, ledger: u64) -> Result<Fence, FenceFault>
-        ensures turn { FenceTurn self.old.state ledger result self.new.state }
-        ensures beside { self.new ≡ record self.old { state = self.new.state } }
+        ensures transition { FenceTransition self.old.state ledger result self.new.state }
+        ensures internals { self.new ≡ record self.old { state = self.new.state } }
     {
         if self.ledgers.is_dead(ledger) {
             return Err(FenceFault::Deleted);

@@ -1,6 +1,7 @@
-//! The fields of a store, and what each call does to them.
+//! The fields of a store, and the transitions of its calls.
 //!
-//! Nothing ties the fields together here: a `Store` has the promise that they keep, and each of its calls is one of these.
+//! `Fields` has no invariant: each call is proved against its transition here. `Store` has the
+//! invariant.
 
 ghost use Rattle.std.specs.Prelude.{◌≡◌};
 
@@ -16,8 +17,8 @@ use bk_lease::Keeper;
 use std::alloc::Global;
 use std::marker::Model;
 
-/// What a store is made of. `writing` is the log that flushes write, and `filled` has the logs that are Writing or Filled;
-/// both only save a search.
+/// The parts of a store. `writing` is the Writing log, and `filled` lists the logs that are Writing
+/// or Filled; both only save a search.
 #[derive(Drop)]
 pub(crate) struct Fields<D: LogDisk> {
     pub disk: D,
@@ -28,7 +29,7 @@ pub(crate) struct Fields<D: LogDisk> {
     pub index: Index,
     pub accounts: Accounts,
     pub logs: LogTable<D::View>,
-    /// The slots in which the logs stand.
+    /// Slots of the logs that are held.
     pub keeper: Keeper,
     pub writing: Option<u32>,
     pub filled: Vec<u32>,
@@ -38,9 +39,9 @@ pub(crate) struct Fields<D: LogDisk> {
 }
 
 impl<D: LogDisk> Model for Fields<D> {
-    ghost use Rattle.bk_store.specs.State.{Parts, parts_code};
+    ghost use Rattle.bk_store.specs.State.{StoreParts, parts_code};
 
-    ghost Value = { Parts };
+    ghost Value = { StoreParts };
 
     ghost coded = { parts_code };
 
@@ -68,7 +69,7 @@ impl<D: LogDisk> Model for Fields<D> {
 }
 
 impl<D: LogDisk> Fields<D> {
-    /// The disk as it is.
+    /// Returns the disk.
     pub fn disk(&self) -> &D
         ensures files { D.files result.now ≡ self.now.state.files }
         ensures honest { D.honest result.now ≡ self.now.state.honest }

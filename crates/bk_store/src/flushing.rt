@@ -1,42 +1,52 @@
-//! A flush starts again, or ends.
+//! Beginning, restarting and ending a flush.
 
 ghost use Rattle.std.specs.Prelude.{◌≡◌, ℕ, Some};
 ghost use Rattle.bk_record.specs.Files.{In};
-ghost use Rattle.bk_store.specs.Kept.{Keeps};
-ghost use Rattle.bk_store.specs.Doors.{AllNamed, Restarts, Ends};
-ghost use Rattle.bk_store.specs.Beside.{RestartsBeside, EndsBeside};
+ghost use Rattle.bk_store.specs.Invariant.{StoreInvariant};
+ghost use Rattle.bk_store.specs.Primitives.{AllIndexed, RestartFlushTransition, EndFlushTransition};
+ghost use Rattle.bk_store.specs.Transitions.{SwapTransition};
+ghost use Rattle.bk_store.specs.Internals.{RestartFlushInternals, EndFlushInternals};
 
+use crate::SwapAnswer;
 use crate::fields::Fields;
 use bk_disk::LogDisk;
 
 impl<D: LogDisk> Fields<D> {
-    /// The flush starts again.
-    pub fn restart_flush(&mut self)
-        requires { Keeps self.old }
-        ensures turn { Restarts self.old.state self.new.state }
-        ensures beside { RestartsBeside self.old self.new }
+    pub fn swap(&mut self) -> SwapAnswer
+        requires { StoreInvariant self.old }
+        ensures transition { SwapTransition self.old.state result self.new.state }
+        ensures internals { self.new ≡ record self.old { state = self.new.state } }
     {
-        self.logs.settle(&self.filled);
+        self.caches.swap()
+    }
+
+    /// Restarts the flush.
+    pub fn restart_flush(&mut self)
+        requires { StoreInvariant self.old }
+        ensures transition { RestartFlushTransition self.old.state self.new.state }
+        ensures internals { RestartFlushInternals self.old self.new }
+    {
+        self.logs.after_restart(&self.filled);
         self.filled.clear();
         self.writing = None;
         self.places.clear();
     }
 
-    /// The flush is over.
+    /// Ends the flush.
     pub fn end_flush(&mut self)
-        requires keeps { Keeps self.old }
-        requires named { AllNamed self.old.state }
-        ensures turn { Ends self.old.state self.new.state }
-        ensures beside { EndsBeside self.old self.new }
+        requires keeps { StoreInvariant self.old }
+        requires named { AllIndexed self.old.state }
+        ensures transition { EndFlushTransition self.old.state self.new.state }
+        ensures internals { EndFlushInternals self.old self.new }
     {
-        self.logs.unfill(&self.filled);
+        self.logs.after_flush(&self.filled);
         keep_written(&mut self.filled, self.writing);
         self.places.clear();
         self.caches.done();
     }
 }
 
-/// Takes all logs out of the list but the one that flushes write.
+/// Removes all logs from the list except the Writing log.
 fn keep_written(filled: &mut Vec<u32>, writing: Option<u32>)
     ensures still { (id : ℕ) → In id filled.old.items → writing ≡ Some id → In id filled.new.items }
     ensures alone { (id : ℕ) → In id filled.new.items → writing ≡ Some id }

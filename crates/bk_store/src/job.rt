@@ -1,8 +1,8 @@
-//! A compaction that runs: the entries of one log that the index names are copied to another log, then the index is sent to
-//! the copies.
+//! The job of a running compaction: which log is copied where, how far, and which relocations are
+//! pending.
 //!
-//! A store keeps the job of a compaction between the calls of it. It is taken out while a call goes on with it, and then
-//! given back, or the compaction is over.
+//! The store keeps the job between the calls of a compaction. A call takes it out, and then gives
+//! it back or ends the compaction.
 
 ghost use Rattle.std.specs.Prelude.{◌≡◌, List, [], ◌∷◌, ◌++◌, length, OnOk, OnErr, IfNone, IfSome};
 ghost use Rattle.bk_store.specs.Jobs.{Job as JobState, new_job, waits_from, with_move, with_rebuild};
@@ -13,16 +13,16 @@ use bk_record::{HEADER_LENGTH, Key, Location};
 use std::alloc::{AllocError, Global};
 use std::marker::Model;
 
-/// What a compaction does next.
+/// Phase of a compaction.
 #[derive(Clone, Copy, Debug, PartialEq, Eq)]
 pub enum Phase {
-    /// Entries of the source are examined, and copied.
+    /// Entries of the source log are examined and copied.
     Copy,
-    /// The copy is sealed and shown; the index is sent there.
+    /// The target log is sealed and published; index entries are switched to it.
     Switch,
 }
 
-/// An entry that was copied: its key, where the index named it, and where its copy stands.
+/// Relocation of one entry: its key, where the index pointed to, and the location of its copy.
 #[derive(Clone, Copy, Debug, PartialEq, Eq)]
 pub struct Move {
     pub key: Key,
@@ -30,8 +30,8 @@ pub struct Move {
     pub to: Location,
 }
 
-/// A compaction of one log, the source, into another, the copy. `moves` has the entries that were copied, of which the first
-/// `taken` were switched.
+/// A compaction of the log `source` into the log `copy`. `moves` has the relocations, of which the
+/// first `taken` are done.
 #[derive(Drop)]
 pub struct Job {
     source: u32,
@@ -43,14 +43,14 @@ pub struct Job {
     rebuilt: bool,
 }
 
-/// The job of a compaction while a call goes on with it. It has no `Drop`: code that loses one does not compile. Give it back
-/// to the store by `set_job`, or end the compaction.
+/// The job of a compaction while a call works on it. It has no `Drop`, so code that loses one does
+/// not compile. Give it back with `set_job`, or end the compaction.
 pub struct TakenJob {
     pub job: Job,
 }
 
 impl TakenJob {
-    /// The compaction is over, and nothing of it is kept.
+    /// Ends the compaction and drops its job.
     pub fn end(self) {
         let TakenJob { job } = self;
         drop(job);
@@ -78,7 +78,7 @@ impl Model for Job {
 }
 
 impl Job {
-    /// A job that has examined nothing.
+    /// Returns a job that has examined nothing.
     pub fn new(alloc: Global, source: u32, copy: u32) -> Job
         ensures { result ≡ new_job source copy }
     {
@@ -93,49 +93,49 @@ impl Job {
         }
     }
 
-    /// The log whose entries are copied.
+    /// Returns the source log.
     pub fn source(&self) -> u32
         ensures { result ≡ self.now.source }
     {
         self.source
     }
 
-    /// The log that they are copied to.
+    /// Returns the target log.
     pub fn copy(&self) -> u32
         ensures { result ≡ self.now.copy }
     {
         self.copy
     }
 
-    /// The position in the source behind the last record that was examined.
+    /// Returns the position in the source log after the last examined record.
     pub fn at(&self) -> u64
         ensures { result ≡ self.now.at }
     {
         self.at
     }
 
-    /// What the job does next.
+    /// Returns the phase.
     pub fn phase(&self) -> Phase
         ensures { result ≡ self.now.phase }
     {
         self.phase
     }
 
-    /// How many moves wait.
+    /// Returns the number of pending relocations.
     pub fn left(&self) -> u64
         ensures { result ≡ length self.now.moves }
     {
         (self.moves.len() - self.taken) as u64
     }
 
-    /// All records before this position of the source were examined.
+    /// Notes that all records before this position of the source log were examined.
     pub fn go_to(&mut self, at: u64)
         ensures { self.new ≡ record self.old { at = at } }
     {
         self.at = at;
     }
 
-    /// Notes an entry that is to be copied. The only error is want of memory, which leaves the job as it was.
+    /// Notes a relocation. Fails only if out of memory, which leaves the job unchanged.
     pub fn note(&mut self, copied: Move) -> Result<(), AllocError>
         ensures ok { OnOk result (self.new ≡ with_move self.old copied) }
         ensures err { OnErr result (self.new ≡ self.old) }
@@ -144,7 +144,7 @@ impl Job {
         Ok(())
     }
 
-    /// Takes the move that was noted last back.
+    /// Removes the relocation that was noted last.
     pub fn take_back(&mut self)
         ensures { (earlier : JobState) (copied : JobMove) → self.old ≡ with_move earlier copied → self.new ≡ earlier }
     {
@@ -153,14 +153,14 @@ impl Job {
         }
     }
 
-    /// All entries were copied: from now on the index is sent to the copies.
+    /// Begins the switch phase: all entries were copied.
     pub fn begin_switch(&mut self)
         ensures { self.new ≡ record self.old { phase = Switch } }
     {
         self.phase = Phase::Switch;
     }
 
-    /// Takes the move that waits longest, `None` where none waits.
+    /// Takes the oldest pending relocation.
     pub fn next_move(&mut self) -> Option<Move>
         ensures none { IfNone result ((self.old.moves ≡ []) × (self.new ≡ self.old)) }
         ensures some { IfSome result (λ first. waits_from self.old first self.new) }
@@ -170,7 +170,7 @@ impl Job {
         Some(first)
     }
 
-    /// The index was made anew.
+    /// Notes that the index was rebuilt.
     pub(crate) fn note_rebuild(&mut self)
         ensures { self.new ≡ with_rebuild self.old }
     {

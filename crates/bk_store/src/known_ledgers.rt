@@ -1,7 +1,7 @@
-//! What a store knows of ledgers, and its trail.
+//! Deleted and fenced ledgers, and the trail.
 //!
-//! A mark is made together with the change that it tells: room for it comes first, so that nothing is changed that is not
-//! marked.
+//! A change and its mark are made together. Room for the mark comes first, so that no change lacks
+//! its mark.
 
 ghost use Rattle.std.specs.Prelude.{◌≡◌, ◌<◌, ℕ, List, length, OnOk, OnErr};
 ghost use Rattle.std.specs.FinSet as set;
@@ -14,7 +14,7 @@ use bk_record::Key;
 use std::alloc::{AllocError, Global};
 use std::marker::Model;
 
-/// What a store knows of ledgers: those that were deleted, those that are fenced, and what it accepted since it was opened.
+/// Deleted ledgers, fenced ledgers, and the trail of what was accepted since the opening.
 #[derive(Drop)]
 pub(crate) struct KnownLedgers {
     dead: LedgerSet,
@@ -38,7 +38,8 @@ impl Model for KnownLedgers {
 impl KnownLedgers {
     ghost use Rattle.bk_store.specs.Ledgers.{opened_ledgers, is_barred, receipt_of, with_add, with_deletion, with_fence};
 
-    /// What is known when a store was just opened, beside these dead ledgers: none is fenced, and there is no mark.
+    /// Returns the state after opening with these deleted ledgers: nothing is fenced, and the trail
+    /// is empty.
     pub fn opened(alloc: Global, dead: LedgerSet) -> KnownLedgers
         ensures { result.known ≡ opened_ledgers dead }
     {
@@ -49,21 +50,21 @@ impl KnownLedgers {
         }
     }
 
-    /// Whether a ledger was deleted.
+    /// Returns whether a ledger is deleted.
     pub fn is_dead(&self, ledger: u64) -> bool
         ensures { result ≡ set.contains self.now.known.dead ledger }
     {
         self.dead.contains(ledger)
     }
 
-    /// Whether a ledger is fenced.
+    /// Returns whether a ledger is fenced.
     pub fn is_fenced(&self, ledger: u64) -> bool
         ensures { result ≡ set.contains self.now.known.fenced ledger }
     {
         self.fenced.contains(ledger)
     }
 
-    /// Whether a fence keeps adds of this kind out of a ledger.
+    /// Returns whether a fence bars adds of this kind to a ledger.
     pub fn bars(&self, kind: AddKind, ledger: u64) -> bool
         ensures { result ≡ is_barred kind self.now.known.fenced ledger }
     {
@@ -73,21 +74,21 @@ impl KnownLedgers {
         }
     }
 
-    /// The marks of what was accepted, in their order.
+    /// Returns the marks, in order.
     pub fn trail(&self) -> &[Mark]
         ensures { result.now ≡ self.now.known.trail }
     {
         self.trail.marks()
     }
 
-    /// How many marks there are.
+    /// Returns the number of marks.
     pub fn front(&self) -> u64
         ensures { result ≡ length self.now.known.trail }
     {
         self.trail.len()
     }
 
-    /// Makes room for one mark more. The only error is want of memory; what is known stays.
+    /// Makes room for one more mark. Fails only if out of memory, and changes no mark.
     pub fn ready(&mut self) -> Result<(), AllocError>
         ensures same { self.new.known ≡ self.old.known }
         ensures ok { OnOk result (0 < self.new.room) }
@@ -95,7 +96,8 @@ impl KnownLedgers {
         self.trail.ready()
     }
 
-    /// An entry came in, whose payload has this SHA-256, and for whose mark there is room.
+    /// Appends the mark of an entry whose payload has this SHA-256, and returns its receipt. There
+    /// must be room for the mark.
     pub fn accept(&mut self, key: Key, digest: [u8; 32]) -> Receipt
         requires { 0 < self.old.room }
         ensures receipt { (payload : List ℕ) → digest ≡ sha256 payload → result ≡ receipt_of self.old.known.trail key payload }
@@ -110,7 +112,7 @@ impl KnownLedgers {
         }
     }
 
-    /// A ledger is dead from now on, and fenced no more. The only error is want of memory, which leaves what is known.
+    /// Deletes a ledger and clears its fence. Fails only if out of memory, which changes nothing.
     pub fn delete(&mut self, ledger: u64) -> Result<(), AllocError>
         ensures ok { OnOk result (self.new.known ≡ with_deletion self.old.known ledger) }
         ensures err { OnErr result (self.new.known ≡ self.old.known) }
@@ -122,7 +124,7 @@ impl KnownLedgers {
         Ok(())
     }
 
-    /// A ledger is fenced from now on. The only error is want of memory, which leaves what is known.
+    /// Fences a ledger. Fails only if out of memory, which changes nothing.
     pub fn fence(&mut self, ledger: u64) -> Result<(), AllocError>
         ensures ok { OnOk result (self.new.known ≡ with_fence self.old.known ledger) }
         ensures err { OnErr result (self.new.known ≡ self.old.known) }

@@ -1,11 +1,11 @@
-//! Leases of the logs: a take gives them, and a log is closed, and the disk given back, only where none is out.
+//! Leases of logs: granting one, closing a log that has none, and returning the disk.
 
 ghost use Rattle.std.specs.Prelude.{◌≡◌, OnOk, IfOk, IfErr};
-ghost use Rattle.bk_store.specs.Kept.{Keeps};
-ghost use Rattle.bk_store.specs.Doors.{IsIn};
+ghost use Rattle.bk_store.specs.Invariant.{StoreInvariant};
+ghost use Rattle.bk_store.specs.Primitives.{IsIn};
 ghost use Rattle.bk_store.specs.Logs.{HasOpenView};
-ghost use Rattle.bk_store.specs.Turns.{TakeTurn, LeaseTurn};
-ghost use Rattle.bk_store.specs.Leasing.{AreUnleased, CloseLogTurn, IsLowestLeased};
+ghost use Rattle.bk_store.specs.Transitions.{TakeTransition, GrantLeaseTransition};
+ghost use Rattle.bk_store.specs.Leasing.{HaveNoLeases, CloseLogTransition, IsLowestLeased};
 ghost use Rattle.bk_store.specs.declared.log.LogState.TheVariants.{Retired};
 
 use crate::fields::Fields;
@@ -14,23 +14,23 @@ use bk_disk::LogDisk;
 use bk_lease::{Lease, Leased, PinFault};
 use bk_record::Key;
 
-/// A store whose disk is not given back: leases of a log are out.
+/// A store that keeps its disk, because leases are out.
 #[derive(Drop)]
 pub struct StillLeased<D: LogDisk> {
-    /// The store as it was.
+    /// The store, unchanged.
     pub store: Store<D>,
-    /// The lowest log that is leased.
+    /// The lowest log with a lease.
     pub log: u32,
-    /// How many leases of it were out, at least one.
+    /// The number of its leases, at least one.
     pub count: u64,
 }
 
 impl<D: LogDisk> Fields<D> {
-    /// Where the entry of a key is, as it is told to who asks for it.
+    /// Returns the payload of a key from a cache, or a lease on the log that has it.
     pub fn take(&mut self, key: Key) -> Result<Taken<D::View>, TakeFault>
-        requires { Keeps self.old }
-        ensures turn { TakeTurn D.View.bytes D.View.honest D.View.sound self.old.state key result self.new.state }
-        ensures beside { self.new ≡ record self.old { state = self.new.state } }
+        requires { StoreInvariant self.old }
+        ensures transition { TakeTransition D.View.bytes D.View.honest D.View.sound self.old.state key result self.new.state }
+        ensures internals { self.new ≡ record self.old { state = self.new.state } }
     {
         if self.ledgers.is_dead(key.ledger()) {
             return Ok(Taken::Deleted);
@@ -48,12 +48,13 @@ impl<D: LogDisk> Fields<D> {
         Ok(Taken::Leased(lease, location))
     }
 
-    /// A lease of a log that keys may be sent to, on its last view: first an owner of the view, then the log's slot.
+    /// Grants a lease of an open log on its last view: first a handle of the view, then one of the
+    /// slot.
     fn lease(&mut self, log: u32) -> Result<Lease<D::View>, TakeFault>
-        requires keeps { Keeps self.old }
+        requires keeps { StoreInvariant self.old }
         requires shown { HasOpenView self.old.state.logs log }
-        ensures turn { LeaseTurn D.View.bytes D.View.honest D.View.sound self.old.state log result self.new.state }
-        ensures beside { self.new ≡ record self.old { state = self.new.state } }
+        ensures transition { GrantLeaseTransition D.View.bytes D.View.honest D.View.sound self.old.state log result self.new.state }
+        ensures internals { self.new ≡ record self.old { state = self.new.state } }
     {
         let Some(held) = self.logs.get(log) else {
             unreachable!();
@@ -73,10 +74,10 @@ impl<D: LogDisk> Fields<D> {
 
     /// Closes a Retired log and its slot.
     pub fn close_log(&mut self, log: u32) -> Result<(), Leased>
-        requires keeps { Keeps self.old }
+        requires keeps { StoreInvariant self.old }
         requires retired { IsIn self.old.state log Retired }
-        ensures turn { CloseLogTurn self.old.state log result self.new.state }
-        ensures beside { self.new ≡ record self.old { state = self.new.state } }
+        ensures transition { CloseLogTransition self.old.state log result self.new.state }
+        ensures internals { self.new ≡ record self.old { state = self.new.state } }
     {
         let Some(held) = self.logs.get(log) else {
             unreachable!();
@@ -88,15 +89,16 @@ impl<D: LogDisk> Fields<D> {
 }
 
 impl<D: LogDisk> Store<D> {
-    /// Gives the disk back, where no lease of a log is out.
+    /// Returns the disk if no lease is out.
     ///
-    /// Where some are, the store comes back as it was, with the lowest log that is leased, and how many leases of it were
-    /// out.
+    /// # Errors
+    ///
+    /// - `StillLeased`: the store, unchanged, with the lowest log that has leases and their number.
     pub fn into_disk(self) -> Result<D, StillLeased<D>>
         ensures files { IfOk result (λ disk. D.files disk ≡ self.files) }
         ensures honest { IfOk result (λ disk. D.honest disk ≡ self.honest) }
         ensures failures { IfOk result (λ disk. D.failures disk ≡ self.failures) }
-        ensures unleased { OnOk result (AreUnleased self.keeper self.logs self.next) }
+        ensures unleased { OnOk result (HaveNoLeases self.keeper self.logs self.next) }
         ensures leased { IfErr result (λ refused. IsLowestLeased self.keeper self.logs refused.log refused.count) }
         ensures same { IfErr result (λ refused. refused.store ≡ self) }
     {

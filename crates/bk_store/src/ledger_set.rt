@@ -1,4 +1,4 @@
-//! Sets of ledgers: those that were deleted, and those that are fenced.
+//! A set of ledgers, used for the deleted and for the fenced ones.
 
 ghost use Rattle.std.specs.Prelude.{◌≡◌, ◌<◌, ◌^◌, OnOk, OnErr, IfOk, nat_lt};
 ghost use Rattle.std.specs.List.{filter};
@@ -28,9 +28,9 @@ impl Model for LedgerSet {
 }
 
 impl LedgerSet {
-    ghost use Rattle.bk_store.specs.Turns.{valid_ledgers};
+    ghost use Rattle.bk_store.specs.Transitions.{valid_ledgers};
 
-    /// No ledger.
+    /// Returns the empty set.
     pub fn new(alloc: Global) -> LedgerSet
         ensures { result ≡ set.empty }
     {
@@ -39,8 +39,8 @@ impl LedgerSet {
         }
     }
 
-    /// The ledgers of a list; one that is past the greatest id, or that stands in it again, means nothing. The only error
-    /// is want of memory.
+    /// Returns the ledgers of a list. Ignores duplicates and values above the greatest id. Fails
+    /// only if out of memory.
     pub fn of(alloc: Global, listed: &[u64]) -> Result<LedgerSet, AllocError>
         ensures { IfOk result (λ ledgers. ledgers ≡ valid_ledgers listed.now) }
     {
@@ -53,14 +53,14 @@ impl LedgerSet {
         Ok(LedgerSet { ledgers })
     }
 
-    /// Whether the ledger is one of them.
+    /// Returns whether the set has the ledger.
     pub fn contains(&self, ledger: u64) -> bool
         ensures { result ≡ set.contains self.now ledger }
     {
         self.ledgers.contains(&ledger)
     }
 
-    /// Takes a ledger in. The only error is want of memory, which leaves the set as it was.
+    /// Adds a ledger. Fails only if out of memory, which leaves the set unchanged.
     pub fn insert(&mut self, ledger: u64) -> Result<(), AllocError>
         ensures ok { OnOk result (self.new ≡ set.insert self.old ledger) }
         ensures err { OnErr result (self.new ≡ self.old) }
@@ -69,7 +69,7 @@ impl LedgerSet {
         Ok(())
     }
 
-    /// Lets a ledger go, if it is one of them. It takes no memory.
+    /// Removes a ledger. Does not allocate.
     pub fn remove(&mut self, ledger: u64)
         ensures { self.new ≡ set.remove self.old ledger }
     {

@@ -1,12 +1,13 @@
-//! A log that a store holds: its state, its last view, what of it is acknowledged, and its writer while it is written.
+//! A log that a store holds: its state, its last view, its acknowledged length, and its writer
+//! while it is written.
 
 ghost use Rattle.std.specs.Prelude.{◌≡◌, ◌+◌, ◌<◌, ◌^◌, Some, IsTrue, IsErrOf, IsSome, false, length};
 ghost use Rattle.bk_record.specs.Record.{IsPayload, key_of};
-ghost use Rattle.bk_disk.specs.Disk.{IsCaused};
-ghost use Rattle.bk_disk.specs.Durable.{KeepsMore};
-ghost use Rattle.bk_log.specs.Writing.{Writing, Writes, AppendTurn};
-ghost use Rattle.bk_store.specs.Logs.{in_state, unwritten_log, halted_log, settled_as, unfilled_as, unmade_log, with_view, view_of};
-ghost use Rattle.bk_store.specs.Putting.{put_log, IsPutAt, MayPut};
+ghost use Rattle.bk_disk.specs.Disk.{FailsExactlyIf};
+ghost use Rattle.bk_disk.specs.Durable.{DurableGrows};
+ghost use Rattle.bk_log.specs.Writing.{Writing, Writes, WriterPutTransition};
+ghost use Rattle.bk_store.specs.Logs.{in_state, unwritten_log, log_after_failed_append, state_after_restart, state_after_flush, log_without_records, with_view, view_of};
+ghost use Rattle.bk_store.specs.Appending.{put_log, IsPutAt, CanAppendRecord};
 ghost use Rattle.bk_store.specs.Leasing.{slot_lent};
 
 use bk_disk::{LogDisk, LogView};
@@ -16,25 +17,25 @@ use std::alloc::Global;
 use std::marker::Model;
 use std::sync::Arc;
 
-/// What a log is to the store that holds it (this project's rule).
+/// State of a log (this project's rule).
 #[derive(Clone, Copy, Debug, PartialEq, Eq)]
 pub enum LogState {
-    /// The log that flushes write; at most one.
+    /// The current log of the flushes; at most one.
     Writing,
-    /// Closed for writing during the running flush.
+    /// Sealed or failed during the running flush, and written no more.
     Filled,
-    /// The copy that a compaction writes.
+    /// The target log of a compaction, while it is written.
     Copying,
     /// Written no more.
     Readable,
-    /// Named by no key, and never named again.
+    /// No index entry points into it, and none ever will.
     Retired,
     /// Retired, and closed to leases.
     Closed,
 }
 
-/// A log that is held, in a slot of the store's table. `acknowledged` is how many bytes of its file are: all of a file that
-/// was found, and else the header and the records whose write was answered.
+/// A log that is held, in a slot of the lease table. `acknowledged` is the length of its file up to
+/// the last record whose append succeeded; of a log found at opening it is the whole length.
 #[derive(Drop)]
 pub(crate) struct HeldLog<V: LogView> {
     pub state: LogState,
@@ -56,9 +57,9 @@ impl<V: LogView> Model for HeldLog<V> {
 }
 
 impl<V: LogView> HeldLog<V> {
-    /// A log whose file is to be made, and which is to stand in this slot.
+    /// Returns a log whose file does not exist yet, for this slot.
     pub fn unmade(slot: usize) -> HeldLog<V>
-        ensures { result ≡ unmade_log slot }
+        ensures { result ≡ log_without_records slot }
     {
         HeldLog {
             state: LogState::Readable,
@@ -69,7 +70,7 @@ impl<V: LogView> HeldLog<V> {
         }
     }
 
-    /// The log's slot, `None` where the log is closed to leases.
+    /// Returns the slot, and `None` if the log is closed to leases.
     pub fn lent_slot(&self) -> Option<usize>
         ensures { result ≡ slot_lent self.now.state self.now.slot }
     {
@@ -83,7 +84,7 @@ impl<V: LogView> HeldLog<V> {
         }
     }
 
-    /// The log's file was made: it is written from then on.
+    /// Starts writing the log, whose file was created.
     pub fn start(&mut self, state: LogState, writer: LogWriter)
         ensures { self.new ≡ record self.old { state = state; writer = Some writer } }
     {
@@ -91,14 +92,14 @@ impl<V: LogView> HeldLog<V> {
         self.writer = Some(writer);
     }
 
-    /// Puts the log into a state.
+    /// Sets the state.
     pub fn set_state(&mut self, state: LogState)
         ensures { self.new ≡ in_state state self.old }
     {
         self.state = state;
     }
 
-    /// Puts the log into a state in which it is written no more, and gives its writer back.
+    /// Ends writing, sets the state, and returns the writer.
     pub fn end_writing(&mut self, state: LogState) -> Option<LogWriter>
         ensures log { self.new ≡ unwritten_log state self.old }
         ensures writer { result ≡ self.old.writer }
@@ -107,16 +108,16 @@ impl<V: LogView> HeldLog<V> {
         self.writer.take()
     }
 
-    /// Gives the log its next view.
+    /// Sets the last view.
     pub fn show(&mut self, view: Arc<V>)
         ensures { self.new ≡ with_view (view_of V.bytes V.honest V.sound view.value) self.old }
     {
         self.view = Some(view);
     }
 
-    /// A write of the log failed: it is written no more.
-    fn halt(&mut self)
-        ensures { self.new ≡ halted_log self.old }
+    /// Ends writing after a failed append.
+    fn stop_after_failure(&mut self)
+        ensures { self.new ≡ log_after_failed_append self.old }
     {
         self.state = match self.state {
             LogState::Writing => LogState::Filled,
@@ -126,9 +127,9 @@ impl<V: LogView> HeldLog<V> {
         self.writer = None;
     }
 
-    /// The flush starts again.
-    pub fn settle(&mut self)
-        ensures { self.new ≡ settled_as self.old.state self.old }
+    /// Sets the state after a restart of the flush.
+    pub fn after_restart(&mut self)
+        ensures { self.new ≡ state_after_restart self.old.state self.old }
     {
         match self.state {
             LogState::Writing => {
@@ -140,16 +141,17 @@ impl<V: LogView> HeldLog<V> {
         }
     }
 
-    /// The flush is over.
-    pub fn unfill(&mut self)
-        ensures { self.new ≡ unfilled_as self.old.state self.old }
+    /// Sets the state after the end of the flush.
+    pub fn after_flush(&mut self)
+        ensures { self.new ≡ state_after_flush self.old.state self.old }
     {
         if self.state == LogState::Filled {
             self.state = LogState::Readable;
         }
     }
 
-    /// Puts a record at the end of the log, which is acknowledged with it. A write that failed closes the log.
+    /// Appends a record, which is then acknowledged. A failed append ends writing, except if out of
+    /// memory.
     pub fn put<D: LogDisk>(
         &mut self,
         disk: &mut D,
@@ -158,15 +160,15 @@ impl<V: LogView> HeldLog<V> {
     ) -> Result<Location, LogFault>
         requires payload { IsPayload payload.now }
         requires keyed { IsSome (key_of payload.now) }
-        requires may { MayPut self.old payload.now }
+        requires may { CanAppendRecord self.old payload.now }
         requires writes { (w : Writing) → self.old.writer ≡ Some w → IsTrue (D.honest disk.old) → Writes (D.files disk.old) w }
         ensures honest { D.honest disk.new ≡ D.honest disk.old }
-        ensures kept { IsTrue (D.honest disk.old) → KeepsMore (D.synced disk.old) (D.gone disk.old) (D.synced disk.new) (D.gone disk.new) }
-        ensures cause { IsCaused (D.failures disk.old) (D.failures disk.new) (IsErrOf result LogFault.Disk) }
+        ensures durable { IsTrue (D.honest disk.old) → DurableGrows (D.synced disk.old) (D.gone disk.old) (D.synced disk.new) (D.gone disk.new) }
+        ensures cause { FailsExactlyIf (D.failures disk.old) (D.failures disk.new) (IsErrOf result LogFault.Disk) }
         ensures log { (w : Writing) → self.old.writer ≡ Some w → self.new ≡ put_log self.old w payload.now result }
         ensures place { (w : Writing) → self.old.writer ≡ Some w → IsPutAt w result }
-        ensures turn { (w : Writing) → self.old.writer ≡ Some w → IsTrue (D.honest disk.old)
-            → AppendTurn (D.files disk.old) w payload.now result (D.files disk.new) }
+        ensures transition { (w : Writing) → self.old.writer ≡ Some w → IsTrue (D.honest disk.old)
+            → WriterPutTransition (D.files disk.old) w payload.now result (D.files disk.new) }
     {
         let Some(writer) = &mut self.writer else {
             unreachable!();
@@ -178,7 +180,7 @@ impl<V: LogView> HeldLog<V> {
             }
             Err(LogFault::Memory) => Err(LogFault::Memory),
             Err(fault) => {
-                self.halt();
+                self.stop_after_failure();
                 Err(fault)
             }
         }

@@ -1,14 +1,16 @@
-//! A log is made: it has its place and its account before its file, so that no file stands that is not held, and its slot is
-//! opened behind the file, so that a log that is not made leaves its slot free.
+//! Creating a log.
+//!
+//! The log is held and has its account before its file is created, so that every file is held. Its
+//! slot opens after the file was created, so that a failed creation leaves the slot free.
 
 ghost use Rattle.std.specs.Prelude.{◌≡◌, ◌<◌, true, IfOk, OnErr, OnOk, IsOkUnless};
 ghost use Rattle.std.specs.FinMap as map;
 ghost use Rattle.bk_store.specs.Logs.{is_written};
-ghost use Rattle.bk_store.specs.Kept.{Keeps};
-ghost use Rattle.bk_store.specs.Doors.{MayMakeTurn, MakeTurn};
+ghost use Rattle.bk_store.specs.Invariant.{StoreInvariant};
+ghost use Rattle.bk_store.specs.Primitives.{CanCreateLogAnswer, CreateLogTransition};
 ghost use Rattle.bk_record.specs.Files.{In};
 ghost use Rattle.bk_store.specs.declared.log.LogState.TheVariants.{Writing};
-ghost use Rattle.bk_store.specs.Beside.{ListGoesOn, MakesBeside, HasSlot, HasNoSlot, KeepsOn, kept_as, make_told, writing_in};
+ghost use Rattle.bk_store.specs.Internals.{ListGoesOn, CreateLogInternals, HasSlot, HasNoSlot, DurableNeverShrinks, with_durable_of, writing_in};
 
 use crate::fields::Fields;
 use crate::log::HeldLog;
@@ -19,9 +21,9 @@ use bk_record::LAST_LOG;
 use std::alloc::AllocError;
 
 impl<D: LogDisk> Fields<D> {
-    /// Whether the next log may be made.
-    pub fn may_make(&self) -> Result<(), MakeFault>
-        ensures { MayMakeTurn self.now.state result }
+    /// Returns whether the next log can be created.
+    pub fn can_create_log(&self) -> Result<(), MakeFault>
+        ensures { CanCreateLogAnswer self.now.state result }
     {
         if self.logs.len() >= self.settings.slots as usize {
             return Err(MakeFault::LogsFull);
@@ -32,21 +34,17 @@ impl<D: LogDisk> Fields<D> {
         Ok(())
     }
 
-    /// Makes the next log, which is in this state from then on.
-    #[tactic(auto, using(bk_disk::proofs::KeepsMore::kept_rules))]
-    pub fn make_log(&mut self, state: LogState) -> Result<u32, MakeFault>
-        requires keeps { Keeps self.old }
+    /// Creates the next log, in this state.
+    #[tactic(auto, using(bk_disk::proofs::DurableGrows::kept_rules))]
+    pub fn create_log(&mut self, state: LogState) -> Result<u32, MakeFault>
+        requires keeps { StoreInvariant self.old }
         requires written { is_written state ≡ true }
-        ensures turn { MakeTurn self.old.state state result self.new.state }
-        ensures beside { MakesBeside (kept_as self.old self.new) state result self.new }
-        ensures kept { KeepsOn self.old self.new }
+        ensures transition { CreateLogTransition self.old.state state result self.new.state }
+        ensures internals { CreateLogInternals (with_durable_of self.old self.new) state result self.new }
+        ensures durable { DurableNeverShrinks self.old self.new }
     {
-        if let Err(fault) = self.may_make() {
-            return Err(fault);
-        }
-        let Ok(slot) = self.take_slot(state) else {
-            return Err(MakeFault::Memory);
-        };
+        self.can_create_log()?;
+        let slot = self.take_slot(state)?;
         let log = self.next;
         self.next += 1;
         match LogWriter::create(&mut self.disk, self.alloc, log) {
@@ -60,18 +58,18 @@ impl<D: LogDisk> Fields<D> {
                 if fault.made {
                     self.keeper.open(slot, log);
                 } else {
-                    self.logs.let_go(log);
+                    self.logs.remove(log);
                     self.accounts.drop_log(log);
                 }
-                Err(make_fault(fault.fault))
+                Err(MakeFault::from(fault.fault))
             }
         }
     }
 
-    /// Finds a free slot for the next log, which is held from then on, and opens its account. The slot is free yet: it is
-    /// opened once the log's file stands. The only fault is `Memory`, which leaves all as it was.
+    /// Finds a free slot for the next log, holds the log, and opens its account. The slot opens
+    /// later, when the file exists. Fails only with `Memory`, which changes nothing.
     fn take_slot(&mut self, state: LogState) -> Result<usize, MakeFault>
-        requires keeps { Keeps self.old }
+        requires keeps { StoreInvariant self.old }
         requires room { map.len self.old.state.logs < self.old.state.settings.slots }
         ensures ok { IfOk result (λ slot. HasSlot self.old state slot self.new) }
         ensures err { OnErr result (HasNoSlot self.old state self.new) }
@@ -87,7 +85,7 @@ impl<D: LogDisk> Fields<D> {
         let Ok(()) = self.accounts.open(log) else {
             return Err(MakeFault::Memory);
         };
-        let Ok(()) = self.logs.hold(log, HeldLog::unmade(slot)) else {
+        let Ok(()) = self.logs.insert(log, HeldLog::unmade(slot)) else {
             self.accounts.drop_log(log);
             return Err(MakeFault::Memory);
         };
@@ -95,7 +93,7 @@ impl<D: LogDisk> Fields<D> {
     }
 }
 
-/// Puts a log that is to be Writing in the list of the flush's logs. The only error is want of memory.
+/// Adds a log that becomes Writing to the list of the flush's logs. Fails only if out of memory.
 fn list_written(filled: &mut Vec<u32>, log: u32, state: LogState) -> Result<(), AllocError>
     ensures list { ListGoesOn state filled.old.items filled.new.items }
     ensures listed { OnOk result (state ≡ Writing → In log filled.new.items) }
@@ -111,7 +109,7 @@ fn list_written(filled: &mut Vec<u32>, log: u32, state: LogState) -> Result<(), 
     Ok(())
 }
 
-/// The log that flushes write, after a log was made in this state.
+/// Returns the Writing log after a log was created in this state.
 fn written_after(old: Option<u32>, log: u32, state: LogState) -> Option<u32>
     ensures { result ≡ writing_in old log state }
 {
@@ -125,13 +123,17 @@ fn written_after(old: Option<u32>, log: u32, state: LogState) -> Option<u32>
     }
 }
 
-/// What a fault of the log that was to be made means.
-fn make_fault(fault: LogFault) -> MakeFault
-    ensures { result ≡ make_told fault }
-{
-    match fault {
-        LogFault::Memory => MakeFault::Memory,
-        LogFault::Disk => MakeFault::Disk,
-        LogFault::Failed | LogFault::Odd => MakeFault::Odd,
+impl From<LogFault> for MakeFault {
+    ghost use Rattle.std.specs.Prelude.{◌≡◌};
+    ghost use Rattle.bk_store.specs.Internals.{make_fault_of};
+
+    ghost from_gives = { λ fault e. e ≡ make_fault_of fault };
+
+    fn from(fault: LogFault) -> MakeFault {
+        match fault {
+            LogFault::Memory => MakeFault::Memory,
+            LogFault::Disk => MakeFault::Disk,
+            LogFault::Failed | LogFault::Odd => MakeFault::Odd,
+        }
     }
 }

@@ -1,11 +1,11 @@
-//! The marks of the trail, and the receipt of an entry.
+//! Marks of the trail, and receipts of entries.
 
 use bk_record::Key;
 
 /// A change that a store accepted.
 #[derive(Clone, Copy, Debug, PartialEq, Eq)]
 pub enum Mark {
-    /// An entry came in: its key, and the SHA-256 of its payload.
+    /// An entry was added: its key, and the SHA-256 of its payload.
     Add { key: Key, digest: [u8; 32] },
     /// A ledger was deleted.
     Delete { ledger: u64 },
@@ -13,7 +13,8 @@ pub enum Mark {
     Fence { ledger: u64 },
 }
 
-/// What says that an entry was accepted: the place of its mark in the trail, its key, and the SHA-256 of its payload.
+/// Evidence that an entry was accepted: the number of its mark in the trail, its key, and the
+/// SHA-256 of its payload.
 #[derive(Clone, Copy, Debug, PartialEq, Eq)]
 pub struct Receipt {
     pub number: u64,

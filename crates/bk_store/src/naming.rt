@@ -1,9 +1,10 @@
-//! Keys are named in the index.
+//! Adding entries of a flush to the index.
 
-ghost use Rattle.std.specs.Prelude.{◌≡◌, OnOk, OnErr};
-ghost use Rattle.bk_store.specs.Kept.{Keeps};
-ghost use Rattle.bk_store.specs.Doors.{MayName, NameTurn};
-ghost use Rattle.bk_store.specs.Beside.{NamesBeside, sent};
+ghost use Rattle.std.specs.Prelude.{◌≡◌, OnOk, OnErr, slice_get};
+ghost use Rattle.std.specs.FinMap as map;
+ghost use Rattle.bk_store.specs.Invariant.{StoreInvariant};
+ghost use Rattle.bk_store.specs.Primitives.{CanIndexEntry, CanIndexPlaced, IndexEntryTransition};
+ghost use Rattle.bk_store.specs.Internals.{IndexEntryInternals, IndexPlacedParts, parts_after_index};
 
 use crate::fields::Fields;
 use bk_disk::LogDisk;
@@ -11,16 +12,35 @@ use bk_record::{Key, Location};
 use std::alloc::AllocError;
 
 impl<D: LogDisk> Fields<D> {
-    /// Sends a key of the flush to its place, and remembers its entry where entries are.
-    pub fn name(&mut self, key: Key, place: Location) -> Result<(), AllocError>
-        requires keeps { Keeps self.old }
-        requires may { MayName self.old.state key place }
-        ensures turn { NameTurn self.old.state key place result self.new.state }
-        ensures beside { NamesBeside self.old key place result self.new }
+    /// Points the key of the entry of the flush with this number, in key order, to its place.
+    pub fn index_placed(&mut self, number: usize) -> Result<(), AllocError>
+        requires keeps { StoreInvariant self.old }
+        requires may { CanIndexPlaced self.old.state number }
+        ensures { IndexPlacedParts self.old number result self.new }
+    {
+        let Some((key, place)) = self.placed(number) else {
+            unreachable!();
+        };
+        self.index_entry(key, place)
+    }
+
+    /// Returns the key and the place of an entry of the flush, by its number in key order.
+    pub fn placed(&self, number: usize) -> Option<(Key, Location)>
+        ensures { result ≡ slice_get (map.entries self.now.state.places) number }
+    {
+        Some(*self.places.pairs().get(number)?)
+    }
+
+    /// Points a key of the flush to its place, and remembers its entry as a recent one.
+    fn index_entry(&mut self, key: Key, place: Location) -> Result<(), AllocError>
+        requires keeps { StoreInvariant self.old }
+        requires may { CanIndexEntry self.old.state key place }
+        ensures transition { IndexEntryTransition self.old.state key place result self.new.state }
+        ensures internals { IndexEntryInternals self.old key place result self.new }
     {
         self.send(key, place)?;
         if self.settings.recent == 0 {
-            // No key is in both write caches: what the caches say of themselves.
+            // Lemma: no key is in both write caches.
             let _ = self.caches.limit();
             return Ok(());
         }
@@ -32,14 +52,16 @@ impl<D: LogDisk> Fields<D> {
         Ok(())
     }
 
-    /// Sends a key to a place in the index, and counts it as a name of its log. Want of memory leaves both as they were.
+    /// Points a key to a place, and counts the index entry in the account of its log. Out of memory
+    /// changes nothing.
     fn send(&mut self, key: Key, place: Location) -> Result<(), AllocError>
-        requires { Keeps self.old }
-        ensures ok { OnOk result (self.new ≡ sent self.old key place) }
+        requires { StoreInvariant self.old }
+        ensures ok { OnOk result (self.new ≡ parts_after_index self.old key place) }
         ensures err { OnErr result (self.new ≡ self.old) }
     {
         let before = self.index.insert(key, place)?;
-        // A log has at most as many names as the index has keys, so there is room for one more.
+        // Lemma: a log has at most as many index entries as the index, so the count cannot
+        // overflow.
         let _keys = self.index.len();
         if let Some(before) = before {
             self.accounts.unname(before.log());

@@ -1,7 +1,7 @@
-//! Opening: a store is made on files that are there, and on a list of ledgers that were deleted before.
+//! Opening a store on existing files, with a list of deleted ledgers.
 
 ghost use Rattle.std.specs.Prelude.{◌≡◌, ◌↔◌, IsTrue, IsErrOf, IfOk, IfErr};
-ghost use Rattle.bk_store.specs.Kept.{Keeps};
+ghost use Rattle.bk_store.specs.Invariant.{StoreInvariant};
 ghost use Rattle.bk_store.specs.Limits.{IsAllowed};
 ghost use Rattle.bk_store.specs.Opening.{IsOpened, OpenFails};
 
@@ -23,7 +23,6 @@ use bk_cache::Caches;
 use bk_disk::LogDisk;
 use bk_index::Index;
 use bk_lease::LeaseTable;
-use fault::open_fault;
 use logs::find_all;
 use std::alloc::Global;
 use tally::Tally;
@@ -37,7 +36,7 @@ impl<D: LogDisk> Fields<D> {
         dead: &[u64],
     ) -> Result<Fields<D>, OpenFault>
         ensures settings { IsErrOf result OpenFault.Settings ↔ ¬ (IsAllowed settings) }
-        ensures kept { IfOk result Keeps }
+        ensures store_invariant { IfOk result StoreInvariant }
         ensures honest { IfOk result (λ p. p.state.honest ≡ D.honest disk) }
         ensures failures { IfOk result (λ p. p.state.failures ≡ D.failures disk) }
         ensures opened { IfOk result (λ p. IsOpened (D.honest disk) (D.files disk) settings dead.now p.state) }
@@ -47,23 +46,14 @@ impl<D: LogDisk> Fields<D> {
             return Err(OpenFault::Settings);
         }
         let slots = settings.slots as usize;
-        let Ok(mut keeper) = LeaseTable::new(alloc, slots, u64::from(settings.leases)) else {
-            return Err(OpenFault::Memory);
-        };
+        let mut keeper = LeaseTable::new(alloc, slots, u64::from(settings.leases))?;
         let mut disk = disk;
-        let ids = match disk.list(alloc) {
-            Ok(ids) => ids,
-            Err(fault) => return Err(open_fault(fault)),
-        };
+        let ids = disk.list(alloc)?;
         if ids.len() > slots {
             return Err(OpenFault::LogsFull);
         }
-        let Ok(caches) = Caches::new(alloc, u64::from(settings.cache_limit), settings.recent) else {
-            return Err(OpenFault::Memory);
-        };
-        let Ok(dead) = LedgerSet::of(alloc, dead) else {
-            return Err(OpenFault::Memory);
-        };
+        let caches = Caches::new(alloc, u64::from(settings.cache_limit), settings.recent)?;
+        let dead = LedgerSet::of(alloc, dead)?;
         let mut tally = Tally::new(alloc, dead);
         let mut logs = LogTable::new(alloc);
         let next = find_all(&mut disk, alloc, &ids, &mut tally, &mut logs, &mut keeper)?;

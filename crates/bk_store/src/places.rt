@@ -1,16 +1,18 @@
-//! Where the entries of the running flush were written. A flush writes in the order of its keys, so a place is only ever
-//! noted behind the others. Room for it is made before its record is written.
+//! Places of the running flush.
+//!
+//! A flush writes in key order, so a place is always appended. Room for it is made before its
+//! record is written.
 
 ghost use Rattle.std.specs.Prelude.{◌≡◌, ◌<◌, false, OnOk};
 ghost use Rattle.std.specs.FinMap as map;
 ghost use Rattle.bk_record.specs.Keyed.{without_ledger};
-ghost use Rattle.bk_store.specs.Placed.{last_key, IsBehind};
+ghost use Rattle.bk_store.specs.FlushPlaces.{last_key, IsAfterPlaced};
 
 use bk_record::{Key, Location};
 use std::alloc::{AllocError, Global};
 use std::marker::Model;
 
-/// A place for each of the flush's first entries, in the order of their keys.
+/// Places of the first entries of the flush, in key order.
 #[derive(Drop)]
 pub(crate) struct FlushPlaces {
     pairs: Vec<(Key, Location)>,
@@ -20,7 +22,7 @@ impl Model for FlushPlaces {
     ghost use Rattle.std.specs.Prelude.{◌-◌, IsTrue, vec_len, vec_capacity};
     ghost use Rattle.std.specs.FinMap as map;
     ghost use Rattle.bk_record.specs.Key.{key_cmp};
-    ghost use Rattle.bk_store.specs.Placed.{HeldPlaces, held_places_code};
+    ghost use Rattle.bk_store.specs.FlushPlaces.{HeldPlaces, held_places_code};
 
     ghost Value = { HeldPlaces };
 
@@ -32,7 +34,7 @@ impl Model for FlushPlaces {
 }
 
 impl FlushPlaces {
-    /// No place.
+    /// Returns no places.
     pub fn new(alloc: Global) -> FlushPlaces
         ensures { result.places ≡ map.empty }
     {
@@ -41,14 +43,14 @@ impl FlushPlaces {
         }
     }
 
-    /// How many entries have a place.
+    /// Returns the number of places.
     pub fn len(&self) -> usize
         ensures { result ≡ map.len self.now.places }
     {
         self.pairs.len()
     }
 
-    /// The last key that has a place.
+    /// Returns the last key that has a place.
     pub fn last(&self) -> Option<Key>
         ensures { result ≡ last_key self.now.places }
     {
@@ -56,7 +58,7 @@ impl FlushPlaces {
         Some(*key)
     }
 
-    /// Makes room for one place more. The only error is want of memory; the places stay.
+    /// Makes room for one more place. Fails only if out of memory, and changes no place.
     pub fn make_room(&mut self) -> Result<(), AllocError>
         ensures same { self.new.places ≡ self.old.places }
         ensures ok { OnOk result (0 < self.new.room) }
@@ -64,23 +66,23 @@ impl FlushPlaces {
         self.pairs.reserve(1)
     }
 
-    /// Notes the place of a key behind all others, for which there is room.
+    /// Appends the place of a key, for which there must be room.
     pub fn note(&mut self, key: Key, place: Location)
-        requires behind { IsBehind self.old.places key }
+        requires behind { IsAfterPlaced self.old.places key }
         requires room { 0 < self.old.room }
         ensures { self.new.places ≡ map.insert self.old.places key place }
     {
         self.pairs.push_reserved((key, place));
     }
 
-    /// Forgets all places.
+    /// Drops all places.
     pub fn clear(&mut self)
         ensures { self.new.places ≡ map.empty }
     {
         self.pairs.clear();
     }
 
-    /// Forgets the places of a ledger. Where it has none no place is looked at but those on the way to where they would be.
+    /// Drops the places of a ledger. If it has none, only a binary search is made.
     pub fn drop_ledger(&mut self, ledger: u64)
         ensures { self.new.places ≡ without_ledger self.old.places ledger }
     {
@@ -89,7 +91,7 @@ impl FlushPlaces {
         }
     }
 
-    // Whether an entry of the ledger has a place: those of one ledger stand side by side.
+    // Returns whether an entry of the ledger has a place. Places of one ledger are adjacent.
     fn has_ledger(&self, ledger: u64) -> bool
         ensures { result ≡ false → without_ledger self.now.places ledger ≡ self.now.places }
     {
@@ -100,7 +102,7 @@ impl FlushPlaces {
         }
     }
 
-    /// The pairs of a key and its place, in the order of the keys.
+    /// Returns the pairs of key and place, in key order.
     pub fn pairs(&self) -> &[(Key, Location)]
         ensures { result.now ≡ map.entries self.now.places }
     {

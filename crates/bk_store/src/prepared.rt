@@ -1,17 +1,19 @@
-//! An entry that is ready to be added. What an add needs of its payload alone is done before a store is asked: whoever holds
-//! a lock on the store holds it the shorter.
+//! An entry that is ready to be added. The work on its payload is done before the store is called,
+//! so that a lock around the store is held for less time.
 
+ghost use Rattle.std.specs.Prelude.{◌≡◌, Ok, IfOk};
+ghost use Rattle.bk_record.specs.Record.{read_added};
 ghost use Rattle.bk_store.specs.Preparing.{IsPrepared};
 
 use crate::AddFault;
 use bk_cache::share;
 use bk_record::{Key, check_add};
 use sha2::{Digest, Sha256};
-use std::alloc::Global;
+use std::alloc::{AllocError, Global};
 use std::marker::Model;
 use std::sync::Arc;
 
-/// An entry that may be added: a copy of its payload, the key that this gives, and its SHA-256.
+/// An entry to be added: a copy of its payload, its key, and its SHA-256.
 #[derive(Drop)]
 pub struct Prepared {
     pub(crate) key: Key,
@@ -34,9 +36,12 @@ impl Model for Prepared {
 }
 
 impl Prepared {
-    /// Checks a payload, copies it, and takes its SHA-256.
+    /// Checks and copies a payload, and computes its SHA-256.
     ///
-    /// Faults, in this order: `Bad` with the payload's fault, as an add has it; `Memory`.
+    /// # Errors
+    ///
+    /// - `Bad`: the payload is not that of an entry.
+    /// - `Memory`: out of memory.
     pub fn new(alloc: Global, payload: &[u8]) -> Result<Prepared, AddFault>
         ensures { IsPrepared payload.now result }
     {
@@ -44,9 +49,18 @@ impl Prepared {
             Ok(key) => key,
             Err(fault) => return Err(AddFault::Bad(fault)),
         };
-        let Ok(copy) = share(alloc, payload) else {
-            return Err(AddFault::Memory);
-        };
+        match Prepared::of(alloc, key, payload) {
+            Ok(entry) => Ok(entry),
+            Err(_) => Err(AddFault::Memory),
+        }
+    }
+
+    /// Copies a payload of this key, and computes its SHA-256. Fails only if out of memory.
+    pub(crate) fn of(alloc: Global, key: Key, payload: &[u8]) -> Result<Prepared, AllocError>
+        requires { read_added payload.now ≡ Ok key }
+        ensures { IfOk result (λ entry. entry ≡ payload.now) }
+    {
+        let copy = share(alloc, payload)?;
         Ok(Prepared {
             key,
             payload: copy,

@@ -1,9 +1,9 @@
-//! A closed log goes, with its file.
+//! Removing a closed log with its file.
 
-ghost use Rattle.bk_store.specs.Kept.{Keeps};
-ghost use Rattle.bk_store.specs.Doors.{IsIn};
-ghost use Rattle.bk_store.specs.Beside.{RemovesBeside, LetsGo, kept_as};
-ghost use Rattle.bk_store.specs.Copying.{RemoveLogTurn};
+ghost use Rattle.bk_store.specs.Invariant.{StoreInvariant};
+ghost use Rattle.bk_store.specs.Primitives.{IsIn};
+ghost use Rattle.bk_store.specs.Internals.{RemoveLogInternals, RemovalDurability, with_durable_of};
+ghost use Rattle.bk_store.specs.CompactionPrimitives.{RemoveLogTransition};
 ghost use Rattle.bk_store.specs.declared.log.LogState.TheVariants.{Closed as ClosedState};
 
 use crate::fields::Fields;
@@ -13,14 +13,14 @@ use bk_lease::Closed;
 use bk_log::LogFault;
 
 impl<D: LogDisk> Fields<D> {
-    /// Removes a closed log, of which nothing is kept from then on, and whose file may be back after a crash.
-    #[tactic(auto, using(bk_disk::proofs::KeepsMore::kept_rules))]
+    /// Removes a closed log. After a crash its file may be back.
+    #[tactic(auto, using(bk_disk::proofs::DurableGrows::kept_rules))]
     pub fn remove_log(&mut self, log: u32) -> Result<(), LogFault>
-        requires keeps { Keeps self.old }
+        requires keeps { StoreInvariant self.old }
         requires closed { IsIn self.old.state log ClosedState }
-        ensures turn { RemoveLogTurn self.old.state log result self.new.state }
-        ensures beside { RemovesBeside (kept_as self.old self.new) log result self.new }
-        ensures kept { LetsGo self.old log result self.new }
+        ensures transition { RemoveLogTransition self.old.state log result self.new.state }
+        ensures internals { RemoveLogInternals (with_durable_of self.old self.new) log result self.new }
+        ensures durable { RemovalDurability self.old log result self.new }
     {
         let Some(held) = self.logs.get(log) else {
             unreachable!();
@@ -29,7 +29,7 @@ impl<D: LogDisk> Fields<D> {
         if let Err(fault) = self.disk.remove(self.alloc, log) {
             return Err(view_fault(fault));
         }
-        self.logs.let_go(log);
+        self.logs.remove(log);
         self.accounts.drop_log(log);
         self.keeper.free(Closed { slot, log });
         Ok(())

@@ -1,31 +1,43 @@
-//! What a store is opened with.
+//! Settings of a store.
 
 ghost use Rattle.std.specs.Prelude.{◌↔◌, IsTrue};
 ghost use Rattle.bk_store.specs.Limits.{IsAllowed};
 
 use bk_record::{MAX_CACHE_LIMIT, MAX_LOG_LIMIT};
 
-/// The limits and thresholds of a store (this project's rule).
+/// Limits and thresholds of a store (this project's rule).
 #[derive(Clone, Copy, Debug, PartialEq, Eq)]
 pub struct Settings {
-    /// A log with a record is sealed before one that would take it past this many bytes: 2,048 to 4,000,000,000.
+    /// A log with a record is sealed before a record that would exceed this many bytes: 2,048 to
+    /// 4,000,000,000.
     pub log_limit: u32,
-    /// The most payload bytes of one write cache: 16 to 1,073,741,824.
+    /// Maximal payload bytes of one write cache: 16 to 1,073,741,824.
     pub cache_limit: u32,
-    /// How many recently flushed entries are kept in memory: 0 to 65,536.
+    /// Number of recently flushed entries kept in memory: 0 to 65,536.
     pub recent: u32,
-    /// How many logs are held at once: 1 to 65,536.
+    /// Maximal number of logs held at once: 1 to 65,536.
     pub slots: u32,
-    /// How many leases are out on one log at once: 1 to 65,535.
+    /// Maximal number of leases on one log at once: 1 to 65,535.
     pub leases: u32,
-    /// A minor compaction takes a log of which fewer than this many thousandths remain: 0 to 1,000.
+    /// A minor compaction takes a log with fewer live thousandths than this: 0 to 1,000.
     pub minor: u32,
     /// The same for a major compaction: 0 to 1,000.
     pub major: u32,
 }
 
 impl Settings {
-    /// Whether each number lies in its range.
+    /// The default settings.
+    pub const DEFAULT: Settings = Settings {
+        log_limit: 1_073_741_824,
+        cache_limit: 16_777_216,
+        recent: 0,
+        slots: 1024,
+        leases: 1024,
+        minor: 200,
+        major: 800,
+    };
+
+    /// Returns whether each number is in its range.
     pub fn is_allowed(&self) -> bool
         ensures { IsTrue result ↔ IsAllowed self.now }
     {

@@ -1,16 +1,16 @@
-//! The store: one state, which keeps its promise whoever holds it.
+//! The store: one state, with an invariant.
 //!
-//! Its visible state is the record of `specs/State.antt`; each call is one turn from such a state to the next. What the
-//! type promises stands in `specs/Kept.antt`: beside an honest disk the files, the index and the write caches carry a map,
-//! and the accounts are those of the acknowledged parts.
+//! Its visible state is the record of `specs/State.antt`, and each call is one transition of it.
+//! The invariant is in `specs/Invariant.antt`: on an honest disk files, index and write caches
+//! represent one map, and the accounts are sums over the acknowledged entries.
 
 ghost use Rattle.std.specs.Prelude.{◌≡◌, ◌↔◌, Some, IsTrue, IsErrOf, IfOk, IfErr, length, option_map};
 ghost use Rattle.std.specs.FinMap as map;
-ghost use Rattle.bk_store.specs.Plain.{IsKept};
+ghost use Rattle.bk_store.specs.Abstract.{SatisfiesInvariant};
 ghost use Rattle.bk_store.specs.Limits.{IsAllowed};
 ghost use Rattle.bk_store.specs.Opening.{IsOpened, OpenFails};
-ghost use Rattle.bk_store.specs.Outliving.{Outlives};
-ghost use Rattle.bk_store.specs.Turns.{AddTurn, TakeTurn, DeleteTurn, FenceTurn, SwapTurn};
+ghost use Rattle.bk_store.specs.CrashSafety.{SurvivesCrash};
+ghost use Rattle.bk_store.specs.Transitions.{AddTransition, TakeTransition, DeleteTransition, FenceTransition, SwapTransition};
 ghost use Rattle.bk_store.specs.declared.adding.AddKind.TheVariants.{Ordinary, Recovery};
 
 use crate::fields::Fields;
@@ -36,29 +36,36 @@ impl<D: LogDisk> Model for Store<D> {
 
     ghost coded = { state_code };
 
-    ghost use Rattle.bk_store.specs.Kept.{Keeps};
+    ghost use Rattle.bk_store.specs.Invariant.{StoreInvariant};
 
     ghost view = { λ s. s.fields.state };
 
-    ghost invariant = { λ s. Keeps s.fields };
+    ghost invariant = { λ s. StoreInvariant s.fields };
 }
 
 impl<D: LogDisk> Store<D> {
-    /// Opens a store on the logs of a disk. `dead` are the ledgers that were deleted before; a number past 2^63 - 1, or one
-    /// that stands there again, means nothing.
+    /// Opens a store on the entry logs of a disk.
     ///
-    /// Each log is read once, entry by entry, so no file is held in memory. The index sends each key of a live ledger to
-    /// its last record, in order of log, then position (this project's rule). All bytes of a log that was found are
-    /// published, and it is never written again; the next log's id is one past the greatest, 0 where there is none.
+    /// Syncs and scans every log once, in order of log id, and builds the index and the accounts in
+    /// memory; no log is loaded as a whole. If a key has several records, the last one wins, by log
+    /// id, then position. All bytes found are published, and logs found are never appended to. The
+    /// next log id is one more than the largest id found, or 0.
     ///
-    /// Faults, in this order: `Settings` exactly where a setting is out of its range; `LogsFull` where there are more logs
-    /// than slots; then log by log, by rising ids, `TooLong` where its file has more than 2^32 - 1 bytes, `Log` where its
-    /// header is none, or where a length below 16 stands where a record should begin. A file shorter than a header is an
-    /// empty log, whatever its bytes are. `Disk`, where the device failed or a view can't be read, `Memory`, and `Odd`
-    /// come wherever they arise.
+    /// `dead` lists the ledgers deleted earlier; deletions are not stored in the logs. Duplicates
+    /// and values above 2^63 - 1 are ignored.
     ///
-    /// A refusal lets the disk go. So how often the device failed in a refused opening is not to be seen any more; in an
-    /// opening that succeeds it never failed.
+    /// # Errors
+    ///
+    /// In this order; the disk is dropped with every error:
+    ///
+    /// - `Settings`: a setting is out of range (see `Settings`).
+    /// - `LogsFull`: there are more logs than `settings.slots`.
+    /// - per log, by id: `TooLong` if the file is longer than 2^32 - 1 bytes; `Log` if the header's
+    ///   magic or version is invalid, or a record's length field is below 16. A file shorter than a
+    ///   header is an empty log. A torn record at the end is ignored.
+    ///
+    /// `Disk` (the device failed, or a view could not be read), `Memory` and `Odd` can occur at any
+    /// point. A successful open met no device failure.
     pub fn open(
         alloc: Global,
         disk: D,
@@ -75,104 +82,133 @@ impl<D: LogDisk> Store<D> {
         Ok(Store { fields })
     }
 
-    /// Adds an entry, unless one of its key is held: the first bytes of a key stay. The payload is the ledger id and the
-    /// entry id, eight bytes each, big-endian, then the data. An entry that is accepted is marked in the trail, and the
-    /// answer has its receipt.
+    /// Adds an entry and returns a receipt, or returns `Held` if the store has an entry of this
+    /// key, which is unchanged.
     ///
-    /// Faults, tried in this order; each leaves the store as it was: `Bad` with the payload's fault, `Deleted` where the
-    /// ledger was deleted, `Fenced` where it is fenced; then, only where the key is new, `Full` where the active cache has
-    /// no room for the payload, `Memory`.
+    /// The payload is the ledger id and the entry id, 8 bytes each, big-endian, followed by the
+    /// data. An accepted entry has a mark in the trail.
+    ///
+    /// # Errors
+    ///
+    /// In this order; each leaves the store unchanged:
+    ///
+    /// - `Bad`: the payload is not that of an entry.
+    /// - `Deleted`: the ledger is deleted.
+    /// - `Fenced`: the ledger is fenced.
+    /// - `Full`: the key is new, and the payload does not fit into the active cache.
+    /// - `Memory`: the key is new, and an allocation failed.
     pub fn add(&mut self, payload: &[u8]) -> Result<Added, AddFault>
-        ensures { AddTurn self.old Ordinary payload.now result self.new }
+        ensures { AddTransition self.old Ordinary payload.now result self.new }
     {
         self.fields.add(AddKind::Ordinary, payload)
     }
 
-    /// Adds an entry as `add` does, to a fenced ledger too: who recovers a ledger fences it, and then writes what its
-    /// writer did not write everywhere.
+    /// Adds an entry as `add` does, to a fenced ledger too. A recovery fences the ledger, then adds
+    /// the entries that its writer did not write everywhere.
     ///
-    /// The faults are those of `add` but for `Fenced`.
+    /// # Errors
+    ///
+    /// Those of `add` except `Fenced`.
     pub fn add_recovery(&mut self, payload: &[u8]) -> Result<Added, AddFault>
-        ensures { AddTurn self.old Recovery payload.now result self.new }
+        ensures { AddTransition self.old Recovery payload.now result self.new }
     {
         self.fields.add(AddKind::Recovery, payload)
     }
 
-    /// Adds an entry that was prepared: as `add` does, or `add_recovery`, but what these make of the payload alone was made
-    /// before. So it takes memory for its key and its mark alone.
+    /// Adds a prepared entry, as `add` or `add_recovery` does. Allocates only for its key and its
+    /// mark.
     ///
-    /// The faults are those of the add of this kind but for `Bad`.
+    /// # Errors
+    ///
+    /// Those of an add of this kind except `Bad`.
     pub fn add_prepared(&mut self, kind: AddKind, entry: Prepared) -> Result<Added, AddFault>
-        ensures { AddTurn self.old kind entry result self.new }
+        ensures { AddTransition self.old kind entry result self.new }
     {
         self.fields.add_prepared(kind, entry)
     }
 
-    /// Fences a ledger: ordinary adds to it are refused, until it is deleted or the store is opened anew. Any number may be
-    /// fenced, also one that is no ledger's id. A ledger that is fenced already stays so, and that takes no memory.
+    /// Fences a ledger: ordinary adds to it fail until the ledger is deleted or the store is opened
+    /// again. Any number may be fenced, also one that is not a ledger id.
     ///
-    /// Faults, tried in this order; each leaves the store as it was: `Deleted` where the ledger was deleted; `Memory`, only
-    /// where the ledger is not fenced yet.
+    /// # Errors
+    ///
+    /// In this order; each leaves the store unchanged:
+    ///
+    /// - `Deleted`: the ledger is deleted.
+    /// - `Memory`: the ledger is not fenced yet, and an allocation failed.
     pub fn fence(&mut self, ledger: u64) -> Result<Fence, FenceFault>
-        ensures { FenceTurn self.old ledger result self.new }
+        ensures { FenceTransition self.old ledger result self.new }
     {
         self.fields.fence(ledger)
     }
 
-    /// How many marks the trail has: the number that the next one gets.
+    /// Returns the number of marks in the trail, which is the number of the next mark.
     pub fn front(&self) -> u64
         ensures { result ≡ length self.now.ledgers.trail }
     {
         self.fields.ledgers.front()
     }
 
-    /// The trail: a mark for each add, deletion and fence that was accepted since the store was opened, in their order.
+    /// Returns the trail: one mark for each add, deletion and fence accepted since the opening, in
+    /// order.
     pub fn trail(&self) -> &[Mark]
         ensures { result.now ≡ self.now.ledgers.trail }
     {
         self.fields.ledgers.trail()
     }
 
-    /// The entry of a key: its payload where a cache has it, else a lease on the log where the index says that it
-    /// stands. As long as the lease lives the log is not closed.
+    /// Returns the payload of a key from a cache, or a lease on the log that has it. The log is not
+    /// closed while the lease exists.
     ///
-    /// Faults, each of which leaves the store as it was, no lease of that call being out: `Memory`, only where the entry is
-    /// held; `NoSeat` and `TooMany`, in the place of a lease alone, `TooMany` where as many leases of the log are out as one
-    /// log may have.
+    /// # Errors
+    ///
+    /// Each leaves the store unchanged, and no lease of the call is out:
+    ///
+    /// - `Memory`: the store has the entry, and an allocation failed.
+    /// - `NoSeat`: the lease table cannot have a further owner.
+    /// - `TooMany`: the log has as many leases as one log may have.
     pub fn take(&mut self, key: Key) -> Result<Taken<D::View>, TakeFault>
-        ensures { TakeTurn D.View.bytes D.View.honest D.View.sound self.old key result self.new }
+        ensures { TakeTransition D.View.bytes D.View.honest D.View.sound self.old key result self.new }
     {
         self.fields.take(key)
     }
 
-    /// Deletes a ledger: its entries leave the caches, the running flush, the index and the accounts, and it is dead for as
-    /// long as the store is, and fenced no more; the trail has a mark of it. A flush that loses all its entries still runs; the files stay as they are. Any number may be
-    /// deleted, also one that is no ledger's id (this project's rule).
+    /// Deletes a ledger, and returns how many of its keys the store had.
     ///
-    /// The answer is how many keys of the ledger were held, each counted once. Faults, tried in this order; each leaves the
-    /// store as it was: `AlreadyDeleted` where the ledger is dead already, `Memory`.
+    /// Removes its entries from the caches, the running flush, the index and the accounts, clears
+    /// its fence, and appends a `Delete` mark to the trail. The ledger stays deleted for the
+    /// lifetime of the store. Files are not changed, and a flush without entries still runs. Any
+    /// number may be deleted, also one that is not a ledger id (this project's rule).
+    ///
+    /// # Errors
+    ///
+    /// In this order; each leaves the store unchanged:
+    ///
+    /// - `AlreadyDeleted`: the ledger was deleted before.
+    /// - `Memory`: an allocation failed.
     pub fn delete(&mut self, ledger: u64) -> Result<u64, DeleteFault>
-        ensures { DeleteTurn self.old ledger result self.new }
+        ensures { DeleteTransition self.old ledger result self.new }
     {
         self.fields.delete(ledger)
     }
 
-    /// Makes the active cache the flushing one, unless a flush runs or there is nothing to flush.
+    /// Begins a flush: makes the active cache the flushing cache. Does nothing if a flush is
+    /// running or the active cache is empty.
     pub fn swap(&mut self) -> SwapAnswer
-        ensures { SwapTurn self.old result self.new }
+        ensures { SwapTransition self.old result self.new }
     {
         self.fields.swap()
     }
 
-    /// Does nothing: what any store keeps.
-    pub fn promise(&self)
-        ensures { IsKept self.now }
+    /// Reveals the invariant of the store to a proof. Does nothing.
+    pub fn reveal_invariant(&self)
+        ensures { SatisfiesInvariant self.now }
     {
-        // No key is in both write caches: what the caches say of themselves.
+        // Lemma: no key is in both write caches.
         let _ = self.fields.caches.limit();
     }
 
-    /// The disk as it is: its files are those of the store's state, and so are its honesty and its count of failures.
+    /// Returns the disk. Its files, its honesty and its failure count are those of the state.
     pub fn disk(&self) -> &D
         ensures files { D.files result.now ≡ self.now.files }
         ensures honest { D.honest result.now ≡ self.now.honest }
@@ -181,18 +217,20 @@ impl<D: LogDisk> Store<D> {
         self.fields.disk()
     }
 
-    /// The disk as it is, with what outlives a crash: power may go before and after any call, and a store that is opened on
-    /// whatever files are left then, with no fewer dead ledgers, means each pair that the index named and whose ledger lives,
-    /// and no pair that this store did not mean.
-    pub fn outlives(&self) -> &D
+    /// Returns the disk, with the theorem of crash safety.
+    ///
+    /// Power may fail before and after any call. A store opened on whatever files are left then,
+    /// with at least these deleted ledgers, has each entry of a live ledger that the index had, and
+    /// no entry that this store did not have.
+    pub fn survives_crash(&self) -> &D
         ensures files { D.files result.now ≡ self.now.files }
         ensures honest { D.honest result.now ≡ self.now.honest }
-        ensures outlives { IsTrue self.now.honest → Outlives (D.synced result.now) (D.gone result.now) self.now }
+        ensures survives_crash { IsTrue self.now.honest → SurvivesCrash (D.synced result.now) (D.gone result.now) self.now }
     {
         self.fields.disk()
     }
 
-    /// The state of a log, `None` where no such log is held.
+    /// Returns the state of a log, and `None` if the log is not held.
     pub fn log_state(&self, id: u32) -> Option<LogState>
         ensures { result ≡ option_map (λ log. log.state) (map.get self.now.logs id) }
     {

@@ -1,8 +1,8 @@
-//! The trail: what a store accepted since it was opened, in order.
+//! The trail: what a store accepted since its opening, in order.
 //!
-//! It only grows, for as long as the store is, so it must not be copied as a whole within one call. From half full on it has
-//! a second, larger list, and each mark that comes takes two of the old ones along; when the first list is full, the second
-//! has all of them and takes its place.
+//! It only grows, and no call copies it as a whole. From half full on it has a second list of twice
+//! the size, and each new mark moves two old ones there. When the first list is full, the second
+//! has all marks and replaces it.
 
 ghost use Rattle.std.specs.Prelude.{◌≡◌, ◌<◌, ◌≤◌, ◌+◌, [], ◌∷◌, ◌++◌, length, take, OnOk, vec_len, vec_capacity};
 
@@ -11,10 +11,10 @@ use std::alloc::{AllocError, Global};
 use std::marker::Model;
 use std::mem;
 
-/// How many marks there is room for at first.
+/// Room for marks at first.
 const FIRST: usize = 64;
 
-/// The marks of the accepted changes, in their order.
+/// Marks of the accepted changes, in order.
 #[derive(Drop)]
 pub(crate) struct Trail {
     alloc: Global,
@@ -27,7 +27,7 @@ pub(crate) struct Trail {
 impl Model for Trail {
     ghost use Rattle.std.specs.Prelude.{vec_len, vec_capacity};
     ghost use Rattle.bk_store.specs.Trail.{HeldTrail, held_trail_code};
-    ghost use Rattle.bk_store.specs.Spread.{IsSpread, room_of};
+    ghost use Rattle.bk_store.specs.TrailLayout.{IsSpread, room_of};
 
     ghost Value = { HeldTrail };
 
@@ -42,7 +42,7 @@ impl Model for Trail {
 }
 
 impl Trail {
-    /// No mark.
+    /// Returns an empty trail.
     pub fn new(alloc: Global) -> Trail
         ensures { result.marks ≡ [] }
     {
@@ -54,21 +54,21 @@ impl Trail {
         }
     }
 
-    /// The marks, in their order.
+    /// Returns the marks, in order.
     pub fn marks(&self) -> &[Mark]
         ensures { result.now ≡ self.now.marks }
     {
         self.marks.as_slice()
     }
 
-    /// How many marks there are.
+    /// Returns the number of marks.
     pub fn len(&self) -> u64
         ensures { result ≡ length self.now.marks }
     {
         self.marks.len() as u64
     }
 
-    /// Makes room for one mark more. The only error is want of memory; the marks stay.
+    /// Makes room for one more mark. Fails only if out of memory, and changes no mark.
     pub fn ready(&mut self) -> Result<(), AllocError>
         ensures same { self.new.marks ≡ self.old.marks }
         ensures ok { OnOk result (0 < self.new.room) }
@@ -88,7 +88,7 @@ impl Trail {
         Ok(())
     }
 
-    /// One mark more, for which there is room.
+    /// Appends a mark, for which there must be room.
     pub fn push(&mut self, mark: Mark)
         requires { 0 < self.old.room }
         ensures { self.new.marks ≡ self.old.marks ++ mark ∷ [] }
@@ -105,7 +105,7 @@ impl Trail {
     }
 }
 
-// Takes two marks more along, behind those that were taken.
+// Moves the next two marks.
 fn move_two(marks: &[Mark], next: &mut Vec<Mark>)
     requires first { next.old.items ≡ take (vec_len next.old) marks.now }
     requires left { vec_len next.old + 2 ≤ length marks.now }

@@ -1,45 +1,50 @@
-//! A record is put in a log, and a log is sealed.
+//! Appending the next entry of a flush, and sealing a log.
 //!
-//! What can be refused comes first: there is room for a place and in an account before the device is asked.
+//! What can fail in memory comes first: there is room for a place and in the account before the
+//! device is used.
 
-ghost use Rattle.std.specs.Prelude.{◌≡◌, Some};
-ghost use Rattle.std.specs.FinMap as map;
-ghost use Rattle.bk_cache.specs.Caches.{flush_of};
-ghost use Rattle.bk_store.specs.Kept.{Keeps};
-ghost use Rattle.bk_store.specs.Doors.{MayWrite, WriteTurn, MaySeal, Seals};
-ghost use Rattle.bk_store.specs.Beside.{WritesBeside, SealsBeside, KeepsOn, kept_as, unless_log, unless_failed};
+ghost use Rattle.std.specs.Prelude.{◌≡◌};
+ghost use Rattle.bk_store.specs.Invariant.{StoreInvariant};
+ghost use Rattle.bk_store.specs.Primitives.{CanSealLog, SealLogTransition};
+ghost use Rattle.bk_store.specs.Internals.{AppendNextParts, SealLogInternals, DurableNeverShrinks, with_durable_of, unless_log, unless_failed};
 
-use crate::LogState;
 use crate::fields::Fields;
+use crate::{Appended, LogState};
 use bk_disk::LogDisk;
 use bk_log::LogFault;
-use bk_record::{Key, Location};
 
 impl<D: LogDisk> Fields<D> {
-    /// Puts the flush's next entry, which has this payload, at the end of its log.
-    #[tactic(auto, using(bk_disk::proofs::KeepsMore::kept_rules))]
-    pub fn write(&mut self, log: u32, key: Key, payload: &[u8]) -> Result<Location, LogFault>
-        requires keeps { Keeps self.old }
-        requires may { MayWrite self.old.state log key }
-        requires flushing { map.get (flush_of self.old.state.caches) key ≡ Some payload.now }
-        ensures turn { WriteTurn self.old.state log key payload.now result self.new.state }
-        ensures beside { WritesBeside (kept_as self.old self.new) log key payload.now result self.new }
-        ensures kept { KeepsOn self.old self.new }
+    /// Appends the next entry of the flush to the Writing log.
+    #[tactic(auto, using(bk_disk::proofs::DurableGrows::kept_rules))]
+    pub fn append_next(&mut self) -> Result<Appended, LogFault>
+        requires { StoreInvariant self.old }
+        ensures parts { AppendNextParts (with_durable_of self.old self.new) result self.new }
+        ensures durable { DurableNeverShrinks self.old self.new }
     {
-        // Each payload stands under its own key: what the caches say of themselves.
-        let _ = self.caches.limit();
+        let Some(next) = self.caches.flushing_after(self.places.last()) else {
+            return Ok(Appended::AllPlaced);
+        };
+        let Some(log) = self.writing else {
+            return Ok(Appended::NeedsLog);
+        };
+        if self
+            .logs
+            .is_filled(log, next.1.len(), self.settings.log_limit)
+        {
+            return Ok(Appended::NeedsLog);
+        }
         let Ok(()) = self.places.make_room() else {
             return Err(LogFault::Memory);
         };
-        let Ok(()) = self.accounts.ready(log, key.ledger()) else {
+        let Ok(()) = self.accounts.ready(log, next.0.ledger()) else {
             return Err(LogFault::Memory);
         };
-        match self.logs.put(log, &mut self.disk, self.alloc, payload) {
+        match self.logs.put(log, &mut self.disk, self.alloc, next.1) {
             Ok(place) => {
-                let size = payload.len() as u32 + 4;
-                self.places.note(key, place);
-                self.accounts.count(log, key.ledger(), size);
-                Ok(place)
+                let size = next.1.len() as u32 + 4;
+                self.places.note(next.0, place);
+                self.accounts.count(log, next.0.ledger(), size);
+                Ok(Appended::At(place))
             }
             Err(fault) => {
                 stop(&mut self.writing, fault);
@@ -48,14 +53,14 @@ impl<D: LogDisk> Fields<D> {
         }
     }
 
-    /// Seals a log, which is in this state from then on, and written no more.
-    #[tactic(auto, using(bk_disk::proofs::KeepsMore::kept_rules))]
+    /// Seals a log, which has this state from then on and is written no more.
+    #[tactic(auto, using(bk_disk::proofs::DurableGrows::kept_rules))]
     pub fn seal(&mut self, log: u32, state: LogState) -> Result<(), LogFault>
-        requires keeps { Keeps self.old }
-        requires may { MaySeal self.old.state log state }
-        ensures turn { Seals self.old.state log state result self.new.state }
-        ensures beside { SealsBeside (kept_as self.old self.new) log self.new }
-        ensures kept { KeepsOn self.old self.new }
+        requires keeps { StoreInvariant self.old }
+        requires may { CanSealLog self.old.state log state }
+        ensures transition { SealLogTransition self.old.state log state result self.new.state }
+        ensures internals { SealLogInternals (with_durable_of self.old self.new) log self.new }
+        ensures durable { DurableNeverShrinks self.old self.new }
     {
         leave(&mut self.writing, log);
         let Some(writer) = self.logs.end_writing(log, state) else {
@@ -65,7 +70,7 @@ impl<D: LogDisk> Fields<D> {
     }
 }
 
-/// The log is not the one that flushes write any more.
+/// Forgets the Writing log if it is this one.
 fn leave(writing: &mut Option<u32>, log: u32)
     ensures { writing.new ≡ unless_log writing.old log }
 {
@@ -74,7 +79,7 @@ fn leave(writing: &mut Option<u32>, log: u32)
     }
 }
 
-/// After a write that failed no log is Writing; want of memory leaves all.
+/// Forgets the Writing log after a failed append, except if out of memory.
 fn stop(writing: &mut Option<u32>, fault: LogFault)
     ensures { writing.new ≡ unless_failed writing.old fault }
 {

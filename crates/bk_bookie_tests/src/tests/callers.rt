@@ -1,4 +1,4 @@
-//! Two callers at once, and the end of their bookie.
+//! Two concurrent callers, and the end of their bookie.
 
 ghost use Rattle.std.specs.Prelude.{◌≡◌, true};
 
@@ -18,7 +18,7 @@ use std::sync::ledger::Blank;
 use std::thread;
 use std::thread::Threads;
 
-/// A caller: its pass, its byte and the other caller's, and the receipts of its adds.
+/// A caller: its pass, its byte and that of the other caller, and its receipts.
 #[derive(Drop)]
 struct Caller<L: AddLedger> {
     pass: Pass<L>,
@@ -28,8 +28,8 @@ struct Caller<L: AddLedger> {
 }
 
 impl<L: AddLedger> Caller<L> {
-    /// Adds an entry of ledger 1 with the caller's own byte; the byte that it has then. Where the add was held, the entry is
-    /// the other caller's.
+    /// Adds an entry of ledger 1 with the caller's byte. Returns the byte of the entry, which is
+    /// the other caller's if the entry was held.
     fn add<R: Wait + Abort>(&mut self, rt: &R, bookie: &Bookie<L, MemDisk>, entry: u16) -> u8 {
         match add(rt, bookie, &mut self.pass, &payload(1, entry, self.own)) {
             AddTold::Accepted(receipt) => {
@@ -41,7 +41,7 @@ impl<L: AddLedger> Caller<L> {
         }
     }
 
-    /// Whether a take of this entry of ledger 1 gives this byte from a cache.
+    /// Returns whether a take of this entry of ledger 1 gives this byte from a cache.
     fn finds<R: Wait + Abort>(
         &mut self,
         rt: &R,
@@ -55,7 +55,7 @@ impl<L: AddLedger> Caller<L> {
         matches!(told, TakeTold::Cached)
     }
 
-    /// Whether the caller's receipt is read back with its byte, by its pass.
+    /// Returns whether a receipt is read back with the caller's byte.
     fn reads_back<R: Wait>(
         pass: &mut Pass<L>,
         rt: &R,
@@ -72,7 +72,7 @@ impl<L: AddLedger> Caller<L> {
     }
 }
 
-/// Adds entries 0 to 99, and takes each after its add.
+/// Adds entries 0 to 99 and takes each after its add.
 fn call<L: AddLedger, R: Wait + Abort>(
     rt: &R,
     alloc: Global,
@@ -89,7 +89,7 @@ fn call<L: AddLedger, R: Wait + Abort>(
     caller
 }
 
-/// The two callers that a bookie of two passes has.
+/// Returns the two callers of a bookie with two passes.
 fn two_callers<L: AddLedger, R: Wait + Abort>(
     rt: &R,
     alloc: Global,
@@ -111,7 +111,7 @@ fn two_callers<L: AddLedger, R: Wait + Abort>(
     (first, second)
 }
 
-/// Lets both call at once.
+/// Runs both callers at once.
 fn let_both_call<L: AddLedger + Send + Sync, R: Threads + Wait + Abort + Sync>(
     rt: &R,
     alloc: Global,
@@ -126,7 +126,7 @@ fn let_both_call<L: AddLedger + Send + Sync, R: Threads + Wait + Abort + Sync>(
     )
 }
 
-/// Notes that a number was found; whether it is below 100 and was not found before.
+/// Records a number. Returns whether it is below 100 and new.
 fn is_new(found: &mut [bool; 100], number: u64) -> bool {
     if number >= 100 {
         return false;
@@ -136,7 +136,7 @@ fn is_new(found: &mut [bool; 100], number: u64) -> bool {
     !was_found
 }
 
-/// Reads each receipt of a caller back, by any pass: its payload has the caller's byte. No number is below 100 twice.
+/// Reads back each receipt of a caller with any pass. The numbers are below 100 and differ.
 fn read_all<L: AddLedger, R: Wait + Abort>(
     rt: &R,
     alloc: Global,
@@ -151,7 +151,8 @@ fn read_all<L: AddLedger, R: Wait + Abort>(
     }
 }
 
-/// Whether strangers are told: a key of a dead ledger, a receipt past the trail, one with another digest.
+/// Returns whether these are refused: a key of a deleted ledger, a receipt past the trail, one with
+/// another digest.
 fn are_told<L: AddLedger, R: Wait + Abort>(
     rt: &R,
     alloc: Global,
@@ -168,7 +169,7 @@ fn are_told<L: AddLedger, R: Wait + Abort>(
     is_deleted(dead) && is_missing(missing, 100) && is_other(differs, &mark)
 }
 
-/// Refuses to end the bookie three times, the first with one pass kept back.
+/// Fails to end the bookie three times, first because a pass is missing.
 fn refuse_to_end<L: AddLedger, R: Abort>(
     rt: &R,
     held: Held<L>,
@@ -184,7 +185,7 @@ fn refuse_to_end<L: AddLedger, R: Abort>(
     held.is_refused(rt, &[*receipt, other], FinishFault::Differs(receipt.number))
 }
 
-/// All receipts of two callers.
+/// Returns all receipts of two callers.
 fn together<R: Abort>(
     rt: &R,
     alloc: Global,
@@ -196,14 +197,14 @@ fn together<R: Abort>(
     receipts
 }
 
-/// Whether the passes count what the callers have, 100 together.
+/// Returns whether the passes count the callers' receipts, 100 together.
 fn are_counted<L: AddLedger>(first: &Caller<L>, second: &Caller<L>) -> bool {
     first.pass.adds() == first.receipts.len() as u64
         && second.pass.adds() == second.receipts.len() as u64
         && first.pass.adds().saturating_add(second.pass.adds()) == 100
 }
 
-/// Reads back what two callers have, by one pass.
+/// Reads back the receipts of two callers with one pass.
 fn read_both<L: AddLedger, R: Wait + Abort>(
     rt: &R,
     alloc: Global,
@@ -217,7 +218,7 @@ fn read_both<L: AddLedger, R: Wait + Abort>(
     read_all(rt, alloc, bookie, pass, second, &mut found);
 }
 
-/// Ends the bookie, after three refusals.
+/// Ends the bookie after three refusals.
 fn end_at_last<L: AddLedger, R: Abort>(
     rt: &R,
     held: Held<L>,
@@ -228,7 +229,7 @@ fn end_at_last<L: AddLedger, R: Abort>(
     assert!(rt; has_ended_with(&held.end(rt, receipts), 100, 100));
 }
 
-/// Reads back what two callers have, and ends their bookie.
+/// Reads back the receipts of two callers and ends their bookie.
 fn end<L: AddLedger, R: Wait + Abort>(
     rt: &R,
     alloc: Global,
@@ -261,7 +262,7 @@ fn end<L: AddLedger, R: Wait + Abort>(
     end_at_last(rt, Held::new(rt, alloc, bookie, pass), kept_back, &receipts);
 }
 
-/// The whole life of a bookie with two callers.
+/// The life of a bookie with two callers.
 fn run<L: AddLedger + Send + Sync, R: Threads + Wait + Abort + Sync>(
     rt: &R,
     alloc: Global,

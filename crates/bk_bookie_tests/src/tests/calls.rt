@@ -1,5 +1,5 @@
-//! The calls of a bookie, each in a function that promises nothing: it tells what came of the call by a small enum, a number or
-//! a `bool`, so that what the call itself promises is in the proof of no other function.
+//! The calls of a bookie, each in a function without a contract, which returns a small enum, a
+//! number or a `bool`.
 
 use super::key;
 use bk_bookie::{
@@ -15,10 +15,10 @@ use std::alloc::Global;
 use std::process::Abort;
 use std::sync::Wait;
 
-/// What a reader of a log in memory has.
+/// A view of a log in memory.
 pub(super) type View = <MemDisk as LogDisk>::View;
 
-/// What an add answered.
+/// Answer of an add.
 #[derive(Clone, Copy)]
 pub(super) enum AddTold {
     Accepted(Receipt),
@@ -29,8 +29,8 @@ pub(super) enum AddTold {
     Other,
 }
 
-/// What a take or a read-back answered, beside the payload that was to be had: the ledger is deleted; the payload, from a
-/// cache or from a log by a lease; a fault; or anything else.
+/// Answer of a take or a read-back, compared with the expected payload: the ledger is deleted; the
+/// payload, from a cache or by a lease; a fault; or anything else.
 #[derive(Clone, Copy)]
 pub(super) enum TakeTold {
     Deleted,
@@ -42,12 +42,12 @@ pub(super) enum TakeTold {
     Other,
 }
 
-/// Whether the ledger was deleted.
+/// Returns whether the ledger is deleted.
 pub(super) fn is_deleted(told: TakeTold) -> bool {
     matches!(told, TakeTold::Deleted)
 }
 
-/// Whether the receipt was missing from a trail of so many marks.
+/// Returns whether the receipt is missing from a trail with this number of marks.
 pub(super) fn is_missing(told: TakeTold, marks: u64) -> bool {
     match told {
         TakeTold::Missing(front) => front == marks,
@@ -55,7 +55,7 @@ pub(super) fn is_missing(told: TakeTold, marks: u64) -> bool {
     }
 }
 
-/// Whether this mark was told, which is not the receipt's.
+/// Returns whether the trail has this mark in place of the receipt's.
 pub(super) fn is_other(told: TakeTold, mark: &Mark) -> bool {
     match told {
         TakeTold::Differs(found) => found == *mark,
@@ -63,7 +63,7 @@ pub(super) fn is_other(told: TakeTold, mark: &Mark) -> bool {
     }
 }
 
-/// The answer of an add.
+/// Converts the answer of an add.
 fn add_told(answer: Result<Added, CallFault<AddFault>>) -> AddTold {
     match answer {
         Ok(Added::Accepted(receipt)) => AddTold::Accepted(receipt),
@@ -75,7 +75,7 @@ fn add_told(answer: Result<Added, CallFault<AddFault>>) -> AddTold {
     }
 }
 
-/// An add.
+/// Adds an entry.
 pub(super) fn add<L: AddLedger, R: Wait>(
     rt: &R,
     bookie: &Bookie<L, MemDisk>,
@@ -85,7 +85,7 @@ pub(super) fn add<L: AddLedger, R: Wait>(
     add_told(bookie.add(rt, pass, payload))
 }
 
-/// A recovery add.
+/// Adds an entry as a recovery.
 pub(super) fn add_recovery<L: AddLedger, R: Wait>(
     rt: &R,
     bookie: &Bookie<L, MemDisk>,
@@ -95,7 +95,7 @@ pub(super) fn add_recovery<L: AddLedger, R: Wait>(
     add_told(bookie.add_recovery(rt, pass, payload))
 }
 
-/// The receipt of an add that was accepted.
+/// Returns the receipt of an accepted add.
 pub(super) fn accepted<R: Abort>(rt: &R, told: AddTold) -> Receipt {
     match told {
         AddTold::Accepted(receipt) => receipt,
@@ -103,7 +103,7 @@ pub(super) fn accepted<R: Abort>(rt: &R, told: AddTold) -> Receipt {
     }
 }
 
-/// Whether a lease shows this payload of a key at the location.
+/// Returns whether a lease shows this payload of a key at the location.
 pub(super) fn shows(
     alloc: Global,
     lease: &Lease<View>,
@@ -117,7 +117,7 @@ pub(super) fn shows(
     }
 }
 
-/// What was taken, beside the payload that was to be had.
+/// Compares the result of a take with the expected payload.
 fn taken_told(alloc: Global, taken: &Taken<View>, key: Key, payload: &[u8]) -> TakeTold {
     match taken {
         Taken::Deleted => TakeTold::Deleted,
@@ -139,7 +139,7 @@ fn taken_told(alloc: Global, taken: &Taken<View>, key: Key, payload: &[u8]) -> T
     }
 }
 
-/// A take of an entry that is to have this payload.
+/// Takes an entry with this expected payload.
 pub(super) fn take<L: AddLedger, R: Wait + Abort>(
     rt: &R,
     alloc: Global,
@@ -156,7 +156,7 @@ pub(super) fn take<L: AddLedger, R: Wait + Abort>(
     }
 }
 
-/// A read-back of a receipt that is to have this payload.
+/// Reads back a receipt with this expected payload.
 pub(super) fn read_back<L: AddLedger, R: Wait>(
     rt: &R,
     alloc: Global,
@@ -174,7 +174,7 @@ pub(super) fn read_back<L: AddLedger, R: Wait>(
     }
 }
 
-/// How many entries a deletion took, or `None` where it was refused.
+/// Returns the number of entries of a deletion, or `None` if it is refused.
 pub(super) fn delete<L: AddLedger, R: Wait>(
     rt: &R,
     bookie: &Bookie<L, MemDisk>,
@@ -187,7 +187,7 @@ pub(super) fn delete<L: AddLedger, R: Wait>(
     }
 }
 
-/// What a fence answered, or `None` where it was refused.
+/// Returns the answer of a fence, or `None` if it is refused.
 pub(super) fn fence<L: AddLedger, R: Wait>(
     rt: &R,
     bookie: &Bookie<L, MemDisk>,
@@ -200,7 +200,7 @@ pub(super) fn fence<L: AddLedger, R: Wait>(
     }
 }
 
-/// Takes these steps, whatever they answer.
+/// Performs steps, whatever they answer.
 pub(super) fn take_steps<L: AddLedger, R: Wait>(
     rt: &R,
     bookie: &Bookie<L, MemDisk>,
@@ -211,7 +211,7 @@ pub(super) fn take_steps<L: AddLedger, R: Wait>(
     }
 }
 
-/// A pass.
+/// Returns a pass.
 pub(super) fn pass<L: AddLedger, R: Wait + Abort>(rt: &R, bookie: &Bookie<L, MemDisk>) -> Pass<L> {
     match bookie.pass(rt) {
         Ok(pass) => pass,
@@ -219,12 +219,12 @@ pub(super) fn pass<L: AddLedger, R: Wait + Abort>(rt: &R, bookie: &Bookie<L, Mem
     }
 }
 
-/// Whether no pass is to be had any more.
+/// Returns whether all passes have been created.
 pub(super) fn has_no_pass<L: AddLedger, R: Wait>(rt: &R, bookie: &Bookie<L, MemDisk>) -> bool {
     matches!(bookie.pass(rt), Err(NoPass))
 }
 
-/// A bookie, and the passes that it is to be ended with.
+/// A bookie, and the passes to end it with.
 #[derive(Drop)]
 pub(super) struct Held<L: AddLedger> {
     pub bookie: Bookie<L, MemDisk>,
@@ -244,13 +244,13 @@ impl<L: AddLedger> Held<L> {
         Held { bookie, passes }
     }
 
-    /// With one pass more.
+    /// Adds a pass.
     pub fn with<R: Abort>(mut self, rt: &R, pass: Pass<L>) -> Held<L> {
         self.passes.push(pass).expect(rt, "memory");
         self
     }
 
-    /// Ends the bookie, which is refused and handed back.
+    /// Ends the bookie, which is refused, and returns it.
     fn refusal<R: Abort>(self, rt: &R, receipts: &[Receipt]) -> (FinishFault, Held<L>) {
         match self.bookie.finish(self.passes, receipts) {
             Ok(_) => panic!(rt; "ended"),
@@ -264,7 +264,7 @@ impl<L: AddLedger> Held<L> {
         }
     }
 
-    /// Ends the bookie, which is refused with this fault and handed back.
+    /// Ends the bookie, which is refused with this fault, and returns it.
     pub fn is_refused<R: Abort>(self, rt: &R, receipts: &[Receipt], fault: FinishFault) -> Held<L> {
         let (found, held) = self.refusal(rt, receipts);
         assert!(rt; found == fault);
@@ -280,12 +280,12 @@ impl<L: AddLedger> Held<L> {
     }
 }
 
-/// Whether a bookie ended with so many adds, and with a trail of so many marks.
+/// Returns whether a bookie ended with this number of adds and of marks.
 pub(super) fn has_ended_with(finished: &Finished<MemDisk>, adds: u64, marks: usize) -> bool {
     finished.adds == adds && finished.store.trail().len() == marks
 }
 
-/// The disk of a store of which no lease is out.
+/// Returns the disk of a store without leases.
 pub(super) fn disk_of<R: Abort>(rt: &R, store: Store<MemDisk>) -> MemDisk {
     match store.into_disk() {
         Ok(disk) => disk,

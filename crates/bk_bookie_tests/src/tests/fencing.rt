@@ -13,7 +13,7 @@ use std::process::Abort;
 use std::sync::Wait;
 use std::sync::ledger::Blank;
 
-/// Fences ledger 1, which no fence was for. Then an ordinary add is refused, and a recovery add of an entry that is there is
+/// Fences ledger 1. Then an ordinary add is refused, and a recovery add of an existing entry is
 /// held.
 fn is_fenced<L: AddLedger, R: Wait>(
     rt: &R,
@@ -28,7 +28,7 @@ fn is_fenced<L: AddLedger, R: Wait>(
         )
 }
 
-/// An ordinary add before the fence and a recovery add after it are accepted.
+/// Checks that an ordinary add before the fence and a recovery add after it are accepted.
 fn add_two<L: AddLedger, R: Wait + Abort>(
     rt: &R,
     bookie: &Bookie<L, MemDisk>,
@@ -41,12 +41,13 @@ fn add_two<L: AddLedger, R: Wait + Abort>(
     [first, second]
 }
 
-/// Whether a trail has these marks.
+/// Returns whether a trail has these marks.
 fn are_marks(trail: &[Mark], marks: &[Mark]) -> bool {
     trail == marks
 }
 
-/// Whether the receipts have numbers 0 and 2, and the trail has their marks and the fence's between them.
+/// Returns whether the receipts have numbers 0 and 2 and the trail has their marks, with the
+/// fence's between them.
 fn stand(finished: &Finished<MemDisk>, first: &Receipt, second: &Receipt) -> bool {
     let marks = [mark_of(first), Mark::Fence { ledger: 1 }, mark_of(second)];
     first.number == 0
@@ -68,7 +69,8 @@ fn live<L: AddLedger, R: Wait + Abort>(rt: &R, alloc: Global, bookie: Bookie<L, 
     end(rt, Held::new(rt, alloc, bookie, pass), &receipts);
 }
 
-/// An ordinary add before the fence and a recovery add after it are accepted; between them an ordinary one is refused.
+/// An ordinary add before the fence and a recovery add after it are accepted; an ordinary add
+/// between them is refused.
 fn run<L: AddLedger, R: Wait + Abort>(rt: &R, alloc: Global, blank: Blank)
     requires name { blank.name ≡ L.name }
     requires parts { blank.parts ≡ L.parts }

@@ -1,4 +1,4 @@
-//! Leases that outlive their bookie: two hundred and one of them on one log.
+//! Leases that outlive their bookie: 201 leases on one log.
 
 ghost use Rattle.std.specs.Prelude.{◌≡◌, true};
 
@@ -21,7 +21,7 @@ use std::thread::Threads;
 /// The payload of entry 0 of ledger 1.
 const HELLO: &[u8] = b"\0\0\0\0\0\0\0\x01\0\0\0\0\0\0\0\0hello";
 
-/// A lease of a log, and where the entry of this key stands in it.
+/// A lease, and the location and key of its entry.
 #[derive(Drop)]
 struct Leased {
     lease: Lease<View>,
@@ -30,13 +30,13 @@ struct Leased {
 }
 
 impl Leased {
-    /// Whether the entry is read by the lease.
+    /// Returns whether the entry is read by the lease.
     fn shows_hello(&self, alloc: Global) -> bool {
         shows(alloc, &self.lease, self.location, self.key, HELLO)
     }
 }
 
-/// A lease on entry 0 of ledger 1.
+/// Takes a lease on entry 0 of ledger 1.
 fn lease<L: AddLedger, R: Wait + Abort>(
     rt: &R,
     bookie: &Bookie<L, MemDisk>,
@@ -76,7 +76,7 @@ fn lease_many<L: AddLedger, R: Wait + Abort>(
     Caller { pass, leases }
 }
 
-/// Gives all leases back, one by one.
+/// Releases all leases, one by one.
 fn release_all(leases: Vec<Leased>) {
     for leased in leases {
         leased.lease.release().end();
@@ -87,7 +87,7 @@ fn release_all(leases: Vec<Leased>) {
 #[derive(Drop)]
 struct Read;
 
-/// Nothing where the entry is not read by the lease; else an error.
+/// Fails if the entry is read by the lease.
 fn is_not_read(leased: &Leased, alloc: Global) -> Result<(), Read> {
     if leased.shows_hello(alloc) {
         Err(Read)
@@ -96,14 +96,14 @@ fn is_not_read(leased: &Leased, alloc: Global) -> Result<(), Read> {
     }
 }
 
-/// Reads by the first lease, and leaves by `?`, which drops them all.
+/// Reads by the first lease and returns by `?`, which drops all leases.
 fn leave<R: Abort>(rt: &R, alloc: Global, leases: Vec<Leased>) -> Result<(), Read> {
     is_not_read(leases.first().expect(rt, "a lease"), alloc)?;
     release_all(leases);
     Ok(())
 }
 
-/// Whether the next step seals log 0.
+/// Returns whether the next step seals log 0.
 fn seals<L: AddLedger, R: Wait>(rt: &R, bookie: &Bookie<L, MemDisk>) -> bool {
     matches!(
         bookie.step(rt, Work::Roll),
@@ -111,7 +111,7 @@ fn seals<L: AddLedger, R: Wait>(rt: &R, bookie: &Bookie<L, MemDisk>) -> bool {
     )
 }
 
-/// Whether the next step retires log 0.
+/// Returns whether the next step retires log 0.
 fn retires<L: AddLedger, R: Wait>(rt: &R, bookie: &Bookie<L, MemDisk>) -> bool {
     matches!(
         bookie.step(rt, Work::Retire(0)),
@@ -119,7 +119,7 @@ fn retires<L: AddLedger, R: Wait>(rt: &R, bookie: &Bookie<L, MemDisk>) -> bool {
     )
 }
 
-/// How many leases of log 0 are out where it is to be closed.
+/// Returns the number of leases that keep log 0 from being closed.
 fn leases_out<L: AddLedger, R: Wait>(rt: &R, bookie: &Bookie<L, MemDisk>) -> Option<u64> {
     match bookie.step(rt, Work::Close(0)) {
         Answer::Close(CloseAnswer::Leased(count)) => Some(count),
@@ -127,14 +127,14 @@ fn leases_out<L: AddLedger, R: Wait>(rt: &R, bookie: &Bookie<L, MemDisk>) -> Opt
     }
 }
 
-/// Adds the entry, flushes it into log 0, and seals the log.
+/// Adds the entry, flushes it to log 0 and seals the log.
 fn fill<L: AddLedger, R: Wait + Abort>(rt: &R, bookie: &Bookie<L, MemDisk>, pass: &mut Pass<L>) {
     let _ = accepted(rt, add(rt, bookie, pass, HELLO));
     take_steps(rt, bookie, &[Work::Swap, Work::WriteOne, Work::Publish]);
     assert!(rt; seals(rt, bookie));
 }
 
-/// Asks for the disk while one lease is out, and is given the store.
+/// Asks for the disk while a lease is held. Returns the store.
 fn ask_in_vain<R: Abort>(rt: &R, store: Store<MemDisk>) -> Store<MemDisk> {
     match store.into_disk() {
         Ok(_) => panic!(rt; "the disk, with a lease out"),
@@ -145,7 +145,7 @@ fn ask_in_vain<R: Abort>(rt: &R, store: Store<MemDisk>) -> Store<MemDisk> {
     }
 }
 
-/// The store gives its disk back once the last lease is.
+/// Gets the disk after the last lease is released.
 fn ask_for_disk<R: Abort>(rt: &R, alloc: Global, store: Store<MemDisk>, last: Leased) {
     let store = ask_in_vain(rt, store);
     assert!(rt; last.shows_hello(alloc));
@@ -153,7 +153,7 @@ fn ask_for_disk<R: Abort>(rt: &R, alloc: Global, store: Store<MemDisk>, last: Le
     let _disk = disk_of(rt, store);
 }
 
-/// Two callers lease the entry a hundred times each, at once.
+/// Two concurrent callers take a hundred leases each.
 fn lease_by_both<L: AddLedger + Send + Sync, R: Threads + Wait + Abort + Sync>(
     rt: &R,
     alloc: Global,
@@ -168,7 +168,7 @@ fn lease_by_both<L: AddLedger + Send + Sync, R: Threads + Wait + Abort + Sync>(
     )
 }
 
-/// One caller gives its leases back, and one drops them, at once.
+/// One caller releases its leases and one drops them, concurrently.
 fn let_go<R: Threads + Wait + Abort + Sync>(
     rt: &R,
     alloc: Global,
@@ -183,14 +183,14 @@ fn let_go<R: Threads + Wait + Abort + Sync>(
     assert!(rt; left);
 }
 
-/// Whether the ledger goes with its entry and its log is retired, but not closed.
+/// Returns whether the ledger is deleted and its log retired but not closed.
 fn goes<L: AddLedger, R: Wait>(rt: &R, bookie: &Bookie<L, MemDisk>, pass: &mut Pass<L>) -> bool {
     matches!(delete(rt, bookie, pass, 1), Some(1))
         && retires(rt, bookie)
         && matches!(leases_out(rt, bookie), Some(201))
 }
 
-/// Adds the entry, and leases it for main from the log that it is flushed into.
+/// Adds the entry and takes a lease on it after it was flushed.
 fn lease_main<L: AddLedger, R: Wait + Abort>(
     rt: &R,
     bookie: &Bookie<L, MemDisk>,
@@ -202,7 +202,7 @@ fn lease_main<L: AddLedger, R: Wait + Abort>(
     main
 }
 
-/// Lets two callers have their leases while the ledger goes, and then give them back. Their passes.
+/// Two callers hold leases while the ledger is deleted, and then end them. Returns their passes.
 fn lend_to_both<L: AddLedger + Send + Sync, R: Threads + Wait + Abort + Sync>(
     rt: &R,
     alloc: Global,
@@ -223,7 +223,7 @@ fn lend_to_both<L: AddLedger + Send + Sync, R: Threads + Wait + Abort + Sync>(
     (one, other)
 }
 
-/// Whether main's lease is the only one, and the entry is read by it.
+/// Returns whether one lease is left and reads the entry.
 fn is_last<L: AddLedger, R: Wait>(
     rt: &R,
     alloc: Global,
@@ -233,15 +233,16 @@ fn is_last<L: AddLedger, R: Wait>(
     matches!(leases_out(rt, bookie), Some(1)) && main.shows_hello(alloc)
 }
 
-/// Ends the bookie while main has its lease.
+/// Ends the bookie while a lease is held.
 fn end<L: AddLedger, R: Abort>(rt: &R, alloc: Global, held: Held<L>, main: Leased) {
     let finished = held.end(rt, &[]);
     assert!(rt; finished.adds == 1);
     ask_for_disk(rt, alloc, finished.store, main);
 }
 
-/// Main leases the entry once, and two callers a hundred times each. Then the ledger goes and its log is retired; the callers
-/// give their leases back, and main's outlives the bookie.
+/// One lease is taken by the main thread and a hundred by each of two callers. The ledger is
+/// deleted and its log retired. The callers end their leases, and the first lease outlives the
+/// bookie.
 fn live<L: AddLedger + Send + Sync, R: Threads + Wait + Abort + Sync>(
     rt: &R,
     alloc: Global,
@@ -256,7 +257,7 @@ fn live<L: AddLedger + Send + Sync, R: Threads + Wait + Abort + Sync>(
     end(rt, alloc, held, main);
 }
 
-/// The whole run.
+/// The whole test.
 fn run<L: AddLedger + Send + Sync, R: Threads + Wait + Abort + Sync>(
     rt: &R,
     alloc: Global,

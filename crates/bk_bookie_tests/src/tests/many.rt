@@ -1,6 +1,6 @@
-//! Eight callers and two workers at once. The callers add entries of four ledgers and take them; the workers flush what comes
-//! in and compact the logs, and one of the ledgers is deleted meanwhile. At the end counts, receipts, read-backs, and what
-//! stands in the files, agree.
+//! Eight concurrent callers and two workers. The callers add entries of four ledgers and take them.
+//! The workers flush and compact, and one ledger is deleted meanwhile. At the end counts, receipts,
+//! read-backs and files agree.
 
 ghost use Rattle.std.specs.Prelude.{◌≡◌, true};
 
@@ -23,7 +23,7 @@ mod ending;
 
 use ending::end;
 
-/// Short logs; a compaction takes any log of which something is gone.
+/// Settings with short logs. Any log that is not entirely live is compacted.
 const SETTINGS: Settings = Settings {
     log_limit: 8192,
     cache_limit: 16_777_216,
@@ -34,7 +34,7 @@ const SETTINGS: Settings = Settings {
     major: 1000,
 };
 
-/// How many entries each caller adds. Two callers add the same ones.
+/// Number of entries of each caller. Two callers add the same entries.
 const ENTRIES: u16 = 600;
 
 /// The entry after which the last caller deletes its ledger.
@@ -43,7 +43,7 @@ const LAST: u16 = 400;
 /// The ledger that is deleted.
 const DELETED: u8 = 4;
 
-/// A gate that is always open.
+/// A gate that never waits.
 #[derive(Drop)]
 struct OpenGate;
 
@@ -53,7 +53,7 @@ impl Gate for OpenGate {
     fn leave(&self, _worker: u32) {}
 }
 
-/// What a caller adds: entries of this ledger with this byte. The other caller of the ledger has another byte.
+/// The entries of a caller: a ledger and a byte. The other caller of the ledger has another byte.
 #[derive(Clone, Copy)]
 struct Part {
     ledger: u8,
@@ -63,7 +63,7 @@ struct Part {
 }
 
 /// The parts of the callers.
-const PARTS: [Part; 8] = [
+static PARTS: [Part; 8] = [
     Part {
         ledger: 1,
         own: b'a',
@@ -114,14 +114,14 @@ const PARTS: [Part; 8] = [
     },
 ];
 
-/// A caller that has not called yet.
+/// A caller before its calls.
 #[derive(Drop)]
 struct Waiting<L: AddLedger> {
     pass: Pass<L>,
     part: Part,
 }
 
-/// A caller that has made its calls: its pass, the receipts of its adds, and how many works it asked for.
+/// A caller after its calls: its pass, its receipts, and the number of steps that it requested.
 #[derive(Drop)]
 struct Caller<L: AddLedger> {
     pass: Pass<L>,
@@ -131,7 +131,7 @@ struct Caller<L: AddLedger> {
 }
 
 impl<L: AddLedger> Caller<L> {
-    /// Adds an entry; the byte that it has then, the caller's own or the other's. `None` where its ledger was deleted.
+    /// Adds an entry. Returns the byte that it has then, or `None` if its ledger is deleted.
     fn add<R: Wait + Abort>(
         &mut self,
         rt: &R,
@@ -150,7 +150,7 @@ impl<L: AddLedger> Caller<L> {
         }
     }
 
-    /// Whether a take of an entry gives it with this byte, or tells that its ledger is the one which is deleted.
+    /// Returns whether a take gives the entry with this byte, or its ledger is the deleted one.
     fn finds<R: Wait + Abort>(
         &mut self,
         rt: &R,
@@ -168,7 +168,7 @@ impl<L: AddLedger> Caller<L> {
         }
     }
 
-    /// Adds an entry, and takes it.
+    /// Adds an entry and takes it.
     fn add_and_take<R: Wait + Abort>(
         &mut self,
         rt: &R,
@@ -181,7 +181,7 @@ impl<L: AddLedger> Caller<L> {
         }
     }
 
-    /// Whether the deletion of the ledger takes more than its first entries.
+    /// Returns whether the deletion removes more than the first entries.
     fn deletes<R: Wait>(&mut self, rt: &R, bookie: &Bookie<L, MemDisk>) -> bool {
         match delete(rt, bookie, &mut self.pass, DELETED) {
             Some(entries) => entries > u64::from(LAST),
@@ -189,13 +189,13 @@ impl<L: AddLedger> Caller<L> {
         }
     }
 
-    /// Asks the workers for a work.
+    /// Requests a step from the workers.
     fn ask<R: Wait + Abort>(&mut self, rt: &R, works: &Sender<Work>, work: Work) {
         assert!(rt; works.send(rt, work).is_ok());
         self.asked = self.asked.saturating_add(1);
     }
 
-    /// Asks for what is to be done after this entry.
+    /// Requests the steps that follow this entry.
     fn ask_on<R: Wait + Abort>(&mut self, rt: &R, works: &Sender<Work>, entry: u16) {
         self.ask(rt, works, Work::WriteOne);
         if let Some(work) = rare_work(entry) {
@@ -205,7 +205,7 @@ impl<L: AddLedger> Caller<L> {
     }
 }
 
-/// A step of a flush, of a new log or of a compaction, which is asked for now and then.
+/// Returns a step of a flush, a roll or a compaction, which some entries request.
 fn rare_work(entry: u16) -> Option<Work> {
     match entry % 32 {
         0 => Some(Work::Swap),
@@ -220,7 +220,7 @@ fn rare_work(entry: u16) -> Option<Work> {
     }
 }
 
-/// A step towards the removal of a log, which is asked for after each entry.
+/// Returns a step of the removal of a log, which each entry requests.
 fn last_work(entry: u16) -> Work {
     let log = u32::from(entry % 16);
     match entry % 3 {
@@ -254,7 +254,7 @@ fn call<L: AddLedger, R: Wait + Abort>(
     caller
 }
 
-/// Lets all callers call at once, and closes the channel behind them.
+/// Runs all callers at once, then closes the channel.
 fn call_all<L: AddLedger + Send + Sync, R: Threads + Wait + Abort + Sync>(
     rt: &R,
     alloc: Global,
@@ -271,7 +271,7 @@ fn call_all<L: AddLedger + Send + Sync, R: Threads + Wait + Abort + Sync>(
     .expect(rt, "memory")
 }
 
-/// The passes of all callers.
+/// Returns the passes of all callers.
 fn pass_all<L: AddLedger, R: Wait + Abort>(
     rt: &R,
     alloc: Global,
@@ -288,7 +288,7 @@ fn pass_all<L: AddLedger, R: Wait + Abort>(
     waiting
 }
 
-/// How many works all callers asked for.
+/// Returns the number of steps that all callers requested.
 fn asked_of<L: AddLedger>(callers: &[Caller<L>]) -> u64 {
     let mut asked = 0_u64;
     for caller in callers {
@@ -297,7 +297,7 @@ fn asked_of<L: AddLedger>(callers: &[Caller<L>]) -> u64 {
     asked
 }
 
-/// Lets all callers call, and two workers do the works that they ask for. Each is done, and none is answered by a fault.
+/// Runs all callers and two workers. Every requested step is performed, without a fault.
 fn let_all_call<L: AddLedger + Send + Sync, R: Threads + Wait + Abort + Sync>(
     rt: &R,
     alloc: Global,
@@ -317,7 +317,7 @@ fn let_all_call<L: AddLedger + Send + Sync, R: Threads + Wait + Abort + Sync>(
     callers
 }
 
-/// The whole run.
+/// The whole test.
 fn run<L: AddLedger + Send + Sync, R: Threads + Wait + Abort + Sync>(
     rt: &R,
     alloc: Global,

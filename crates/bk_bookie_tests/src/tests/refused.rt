@@ -1,7 +1,7 @@
-//! The life of a bookie on one thread, in which each allocation is refused in turn. A refused call is made again, and answers
-//! then what it answers where nothing is refused; so do all others.
+//! The life of a bookie on one thread, with each allocation refused in turn. A refused call is made
+//! again. All answers are those without a refusal.
 //!
-//! In a plain run no allocation is refused. `rt try --test --fail-alloc N -- each_allocation` refuses the Nth one.
+//! `rt try --test --fail-alloc N -- each_allocation` refuses the Nth allocation.
 
 ghost use Rattle.std.specs.Prelude.{◌≡◌, ◌+◌, true, IfErr};
 
@@ -19,7 +19,7 @@ use std::process::Abort;
 use std::sync::Wait;
 use std::sync::ledger::Blank;
 
-/// A bookie, the pass of its one caller, and how many calls were refused.
+/// A bookie, the pass of its caller, and the number of refused calls.
 #[derive(Drop)]
 struct Trial<L: AddLedger> {
     bookie: Bookie<L, MemDisk>,
@@ -27,7 +27,7 @@ struct Trial<L: AddLedger> {
     refused: u32,
 }
 
-/// A bookie of one pass over a new disk, where ledger 9 is dead.
+/// Opens a bookie with one pass over a new disk, with ledger 9 deleted.
 fn open<L: AddLedger>(alloc: Global, blank: Blank) -> Result<Bookie<L, MemDisk>, OpenRefused>
     requires name { blank.name ≡ L.name }
     requires parts { blank.parts ≡ L.parts }
@@ -38,7 +38,7 @@ fn open<L: AddLedger>(alloc: Global, blank: Blank) -> Result<Bookie<L, MemDisk>,
     Bookie::open(alloc, blank, 1, MemDisk::new(alloc), SETTINGS, &[9])
 }
 
-/// A bookie of one pass, and how many openings were refused: one that was is made again.
+/// Opens a bookie, again if it is refused. Returns it and the number of refusals.
 fn open_again<L: AddLedger, R: Abort>(
     rt: &R,
     alloc: Global,
@@ -61,7 +61,7 @@ fn open_again<L: AddLedger, R: Abort>(
 }
 
 impl<L: AddLedger> Trial<L> {
-    /// Notes that a call was refused.
+    /// Counts a refused call.
     fn note_refusal(&mut self) {
         self.refused = self.refused.saturating_add(1);
     }
@@ -105,13 +105,14 @@ impl<L: AddLedger> Trial<L> {
         read_back(rt, alloc, &self.bookie, &mut self.pass, receipt, payload)
     }
 
-    /// Whether a take of an entry of ledger 1 gives its first payload from a cache.
+    /// Returns whether a take of an entry of ledger 1 gives its first payload from a cache.
     fn finds<R: Wait + Abort>(&mut self, rt: &R, alloc: Global, entry: u16) -> bool {
         let told = self.take(rt, alloc, (1, entry), &payload(1, entry, b'a'));
         matches!(told, TakeTold::Cached)
     }
 
-    /// Adds an entry of ledger 1, which is accepted, and another one of the same key, which is held. A take gives the first.
+    /// Adds an entry of ledger 1, which is accepted, and another with the same key, which is held.
+    /// A take gives the first.
     fn add_twice<R: Wait + Abort>(&mut self, rt: &R, alloc: Global, entry: u16) -> Receipt {
         let receipt = accepted(rt, self.add(rt, &payload(1, entry, b'a')));
         assert!(rt; self.finds(rt, alloc, entry));
@@ -121,7 +122,7 @@ impl<L: AddLedger> Trial<L> {
         receipt
     }
 
-    /// Adds entries 0 to 99. Their receipts have the numbers 0 to 99.
+    /// Adds entries 0 to 99, whose receipts have the numbers 0 to 99.
     fn add_all<R: Wait + Abort>(&mut self, rt: &R, alloc: Global) -> [Receipt; 100] {
         let mut receipts = [self.add_twice(rt, alloc, 0); 100];
         for entry in 1..100 {
@@ -130,13 +131,13 @@ impl<L: AddLedger> Trial<L> {
         receipts
     }
 
-    /// Whether a receipt has this number, and is read back with the payload of its entry from a cache.
+    /// Returns whether a receipt has this number and is read back from a cache.
     fn reads_back<R: Wait>(&mut self, rt: &R, alloc: Global, receipt: Receipt, entry: u16) -> bool {
         let told = self.read_back(rt, alloc, &receipt, &payload(1, entry, b'a'));
         receipt.number == u64::from(entry) && matches!(told, TakeTold::Cached)
     }
 
-    /// Reads all receipts back.
+    /// Reads back all receipts.
     fn read_all<R: Wait + Abort>(&mut self, rt: &R, alloc: Global, receipts: &[Receipt; 100]) {
         for entry in 0..100 {
             let receipt = receipts[entry as usize];
@@ -144,7 +145,8 @@ impl<L: AddLedger> Trial<L> {
         }
     }
 
-    /// Whether the other answers of the run are right: a key of a dead ledger, receipts past the trail and of another digest.
+    /// Returns whether these are refused: a key of a deleted ledger, receipts past the trail and
+    /// with another digest.
     fn are_told<R: Wait + Abort>(&mut self, rt: &R, alloc: Global, receipt: &Receipt) -> bool {
         let past = beyond(receipt);
         let other = with_other_digest(receipt);
@@ -155,7 +157,7 @@ impl<L: AddLedger> Trial<L> {
         is_deleted(dead) && is_missing(missing, 100) && is_other(differs, &mark)
     }
 
-    /// Ends the bookie, after a refusal with no pass. Only the list of passes takes memory.
+    /// Ends the bookie, after a refusal without a pass. Only the list of passes allocates.
     fn end<R: Abort>(self, rt: &R, alloc: Global, receipts: &[Receipt; 100]) -> u32 {
         let Trial {
             bookie,
@@ -177,7 +179,7 @@ impl<L: AddLedger> Trial<L> {
     }
 }
 
-/// The run of an opened bookie.
+/// The life of an open bookie.
 fn try_all<L: AddLedger, R: Wait + Abort>(rt: &R, alloc: Global, mut trial: Trial<L>) {
     let receipts = trial.add_all(rt, alloc);
     trial.read_all(rt, alloc, &receipts);
@@ -186,7 +188,7 @@ fn try_all<L: AddLedger, R: Wait + Abort>(rt: &R, alloc: Global, mut trial: Tria
     assert!(rt; refused <= 1, "{refused} calls were refused");
 }
 
-/// The whole run.
+/// The whole test.
 fn run<L: AddLedger, R: Wait + Abort>(rt: &R, alloc: Global, blank: Blank)
     requires name { blank.name ≡ L.name }
     requires parts { blank.parts ≡ L.parts }

@@ -1,4 +1,4 @@
-//! Receipts of other bookies: a receipt names no bookie, and says only what stands at a number.
+//! Receipts of other bookies. A receipt names no bookie; it is valid if the trail has its mark.
 
 ghost use Rattle.std.specs.Prelude.{◌≡◌, true};
 
@@ -15,23 +15,23 @@ use std::sync::ledger::Blank;
 /// Entries 0 and 1 of ledger 1: number and byte of each.
 type Order = [(u16, u8); 2];
 
-/// One bookie accepts entry 0 first.
+/// A bookie accepts entry 0 first.
 const RISING: Order = [(0, b'a'), (1, b'b')];
 
-/// Another one accepts it last.
+/// Another accepts it last.
 const FALLING: Order = [(1, b'b'), (0, b'a')];
 
-/// A third one accepts it first, and then other bytes.
+/// A third accepts it first, then other bytes.
 const OTHER: Order = [(0, b'a'), (1, b'c')];
 
-/// A bookie with its one pass, and the receipt of the first of the two entries that it accepted.
+/// A bookie with one pass, and the receipt of its first entry.
 #[derive(Drop)]
 struct Opened<L: AddLedger> {
     held: Held<L>,
     first: Receipt,
 }
 
-/// A bookie that accepts two entries in this order.
+/// Opens a bookie that accepts two entries in this order.
 fn open_with<L: AddLedger, R: Wait + Abort>(
     rt: &R,
     alloc: Global,
@@ -54,7 +54,7 @@ fn open_with<L: AddLedger, R: Wait + Abort>(
     }
 }
 
-/// The first receipt of a bookie that accepts two entries in this order.
+/// Returns the first receipt of such a bookie.
 fn first_receipt<L: AddLedger, R: Wait + Abort>(
     rt: &R,
     alloc: Global,
@@ -69,8 +69,8 @@ fn first_receipt<L: AddLedger, R: Wait + Abort>(
     open_with::<L, R>(rt, alloc, blank, order).first
 }
 
-/// Ends a bookie with a receipt of another one, which it refuses, and then with its own first receipt twice and one of a third
-/// bookie, which are as good.
+/// Ends a bookie with a receipt of another one, which is refused, then with its own first receipt
+/// twice and one of a third bookie, which are valid.
 fn end<L: AddLedger, R: Abort>(rt: &R, opened: Opened<L>, strange: Receipt, same: Receipt) {
     let held = opened
         .held
@@ -79,7 +79,7 @@ fn end<L: AddLedger, R: Abort>(rt: &R, opened: Opened<L>, strange: Receipt, same
     assert!(rt; finished.adds == 2);
 }
 
-/// Opens a bookie, and ends it with receipts of two others.
+/// Opens a bookie and ends it with receipts of two others.
 fn run<L: AddLedger, R: Wait + Abort>(
     rt: &R,
     alloc: Global,

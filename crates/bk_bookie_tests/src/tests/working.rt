@@ -1,4 +1,4 @@
-//! Two workers at once.
+//! Two concurrent workers.
 
 ghost use Rattle.std.specs.Prelude.{◌≡◌, true};
 
@@ -17,7 +17,7 @@ use std::sync::ledger::Blank;
 use std::thread;
 use std::thread::Threads;
 
-/// A gate at which the first that comes waits until another has left.
+/// A gate at which the first worker waits until another has left.
 #[derive(Drop)]
 struct Turnstile {
     entered: AtomicU32,
@@ -44,7 +44,7 @@ impl Gate for Turnstile {
     }
 }
 
-/// A channel with so many swaps, which is closed.
+/// Returns a closed channel with N swaps.
 fn swaps<R: Wait + Abort>(rt: &R, alloc: Global, count: usize) -> Receiver<Work> {
     let (sender, works) = bounded(alloc, count).expect(rt, "memory");
     for _ in 0..count {
@@ -53,7 +53,7 @@ fn swaps<R: Wait + Abort>(rt: &R, alloc: Global, count: usize) -> Receiver<Work>
     works
 }
 
-/// How many works so many workers did; none where one of them was answered by a fault.
+/// Returns the number of steps that N workers performed, or none if one of them failed.
 fn work<L: AddLedger + Send + Sync, R: Threads + Wait + Sync, G: Gate>(
     rt: &R,
     alloc: Global,
@@ -68,7 +68,7 @@ fn work<L: AddLedger + Send + Sync, R: Threads + Wait + Sync, G: Gate>(
     }
 }
 
-/// A bookie with one entry, in its active cache.
+/// Opens a bookie with one entry in its active cache.
 fn open_with_entry<L: AddLedger, R: Wait + Abort>(
     rt: &R,
     alloc: Global,
@@ -85,7 +85,7 @@ fn open_with_entry<L: AddLedger, R: Wait + Abort>(
     bookie
 }
 
-/// Whether a flush runs: a swap says so.
+/// Returns whether a flush is running, by a swap.
 fn has_flush<L: AddLedger, R: Wait>(rt: &R, bookie: &Bookie<L, MemDisk>) -> bool {
     matches!(
         bookie.step(rt, Work::Swap),
@@ -93,7 +93,7 @@ fn has_flush<L: AddLedger, R: Wait>(rt: &R, bookie: &Bookie<L, MemDisk>) -> bool
     )
 }
 
-/// Whether no flush runs: a publication says so.
+/// Returns whether no flush is running, by a publish.
 fn has_no_flush<L: AddLedger, R: Wait>(rt: &R, bookie: &Bookie<L, MemDisk>) -> bool {
     matches!(
         bookie.step(rt, Work::Publish),
@@ -101,12 +101,12 @@ fn has_no_flush<L: AddLedger, R: Wait>(rt: &R, bookie: &Bookie<L, MemDisk>) -> b
     )
 }
 
-/// Whether an entry is written.
+/// Returns whether an entry is written.
 fn writes<L: AddLedger, R: Wait>(rt: &R, bookie: &Bookie<L, MemDisk>) -> bool {
     matches!(bookie.step(rt, Work::WriteOne), Answer::Write(Ok(_)))
 }
 
-/// Two workers do two swaps of a bookie of one entry, and meet at the gate.
+/// Two workers perform two swaps on a bookie of one entry and meet at the gate.
 fn work_by_two<L: AddLedger + Send + Sync, R: Threads + Wait + Abort + Sync>(
     rt: &R,
     alloc: Global,
@@ -123,7 +123,7 @@ fn work_by_two<L: AddLedger + Send + Sync, R: Threads + Wait + Abort + Sync>(
     assert!(rt; gate.left.load(Ordering::SeqCst) == 2);
 }
 
-/// Two workers do two swaps of one entry: one of them makes the flush, and it runs at the other.
+/// Two workers perform two swaps of one entry: one swaps, and the other finds the flush running.
 fn run<L: AddLedger + Send + Sync, R: Threads + Wait + Abort + Sync>(
     rt: &R,
     alloc: Global,
@@ -139,7 +139,8 @@ fn run<L: AddLedger + Send + Sync, R: Threads + Wait + Abort + Sync>(
     assert!(rt; has_flush(rt, &bookie) && writes(rt, &bookie));
 }
 
-/// A gate that looks at the bookie as a swap is done: no flush runs yet where the worker enters, and one does where it leaves.
+/// A gate that looks at the bookie around a swap: no flush runs when the worker enters, and one
+/// runs when it leaves.
 #[derive(Drop)]
 struct Witness<'a, L: AddLedger, R: Wait> {
     rt: &'a R,
@@ -162,7 +163,7 @@ impl<L: AddLedger + Send + Sync, R: Wait + Sync> Gate for Witness<'_, L, R> {
     }
 }
 
-/// One worker does a swap between its way in and its way out, and holds no lock on either.
+/// One worker performs a swap between entering and leaving, and holds no lock at either.
 fn work_watched<L: AddLedger + Send + Sync, R: Threads + Wait + Abort + Sync>(
     rt: &R,
     alloc: Global,
@@ -180,7 +181,7 @@ fn work_watched<L: AddLedger + Send + Sync, R: Threads + Wait + Abort + Sync>(
     assert!(rt; gate.after.load(Ordering::SeqCst) == 1);
 }
 
-/// A bookie of one entry, of which a swap is watched.
+/// Opens a bookie of one entry and watches a swap.
 fn run_watched<L: AddLedger + Send + Sync, R: Threads + Wait + Abort + Sync>(
     rt: &R,
     alloc: Global,

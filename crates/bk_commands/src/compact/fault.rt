@@ -1,37 +1,45 @@
-//! Why a compaction ends early, and how that is told.
+//! Why a compaction ends early, and its report.
 
 use super::rows::write_object;
-use crate::dead::DeadFault;
+use crate::dead::{DeadFault, LineEnd};
 use crate::way_on::WayOn;
-use bk_dir::Form;
-use bk_disk::{DiskFault, FolderFault};
+use bk_collect::CollectFault;
+use bk_disk::{DiskFault, FaultWatch, FileFault, FolderFault};
 use bk_drive::OpenFault;
-use bk_sweep::SweepFault;
+use bk_inspect::Form;
+use bk_offline_gc::SweepFault;
+use bk_store::StepFault;
 use serde::Serialize;
 use std::alloc::{AllocError, Global};
 use std::io;
 use std::io::Write;
 use thiserror::Error;
 
-/// Why a compaction ends early. Its text is what the program tells of it.
+/// Why a compaction ends early. Its text is what the program reports.
 #[derive(Debug, Error, Drop)]
 pub(super) enum CompactFault {
-    /// The folder is not opened.
+    /// The directory is not opened.
     #[error("{0}")]
     Folder(FolderFault),
-    /// The logs of the folder can't be listed, or not be cut to their marks.
+    /// The logs of the directory cannot be listed, or not be cut to their watermarks.
     #[error("{0}")]
     Disk(DiskFault),
-    /// A file does not tell the dead ledgers.
+    /// A file does not name deleted ledgers.
     #[error("{0}")]
     Dead(DeadFault),
+    /// The system does not tell whether a file is at this path.
+    #[error("disk: {path}: {reason}")]
+    Name { path: String, reason: io::Error },
+    /// The directory has a bookie's index, of which this path is one file.
+    #[error("bookie index: {0}")]
+    Index(String),
     /// The store is not opened, or a step of the compaction was refused.
     #[error("{0}")]
     Sweep(SweepFault),
-    /// No memory was to be had.
+    /// Out of memory.
     #[error("memory")]
     Memory,
-    /// The output could not be written.
+    /// The output cannot be written.
     #[error("output")]
     Output(io::Error),
 }
@@ -72,7 +80,7 @@ impl From<io::Error> for CompactFault {
     }
 }
 
-/// The object of such a fault: its words, what it is about, and the rest of its text.
+/// The object of a fault: its words, what it is about, and the rest of its text.
 #[derive(Drop, Serialize)]
 struct FaultRow<'a> {
     fault: &'a str,
@@ -85,12 +93,14 @@ struct FaultRow<'a> {
     #[serde(skip_serializing_if = "Option::is_none")]
     line: Option<u64>,
     #[serde(skip_serializing_if = "Option::is_none")]
+    operation: Option<String>,
+    #[serde(skip_serializing_if = "Option::is_none")]
     reason: Option<String>,
     #[serde(skip_serializing_if = "Option::is_none")]
     help: Option<String>,
 }
 
-/// A fault of which there is no more to tell than its words.
+/// Returns the object of a fault that has words only.
 fn named(fault: &str) -> FaultRow<'_> {
     FaultRow {
         fault,
@@ -98,54 +108,121 @@ fn named(fault: &str) -> FaultRow<'_> {
         folder: None,
         file: None,
         line: None,
+        operation: None,
         reason: None,
         help: None,
     }
 }
 
-/// The way on behind a refused opening, where there is one.
+/// Returns the way on after a fault, if there is one.
 fn way_on(fault: &CompactFault) -> Option<WayOn> {
     match fault {
         CompactFault::Sweep(SweepFault::Open(fault)) => WayOn::behind(fault),
+        CompactFault::Index(_) => Some(WayOn::RebuildIndex),
         CompactFault::Folder(_)
         | CompactFault::Disk(_)
         | CompactFault::Dead(_)
+        | CompactFault::Name { .. }
         | CompactFault::Sweep(_)
         | CompactFault::Memory
         | CompactFault::Output(_) => None,
     }
 }
 
-/// Tells why a compaction ends early, in a line on the error stream, and the way on where there is one, in another line or in
-/// the same object. Whether it comes through changes nothing.
-pub(super) fn tell<E: Write>(alloc: Global, form: Form, fault: &CompactFault, errors: &mut E) {
+/// Returns the call of the system on a directory that is the reason of a fault: the last one that
+/// failed, if the fault is one of the disk. `None` if there is none, or memory for its path is
+/// refused.
+pub(super) fn reason_of(
+    alloc: Global,
+    fault: &CompactFault,
+    watch: &Option<FaultWatch>,
+) -> Option<FileFault> {
+    if !is_of_disk(fault) {
+        return None;
+    }
+    watch.as_ref()?.last(alloc).ok()?
+}
+
+/// Returns whether the device failed, or the disk is odd.
+fn is_of_disk(fault: &CompactFault) -> bool {
+    match fault {
+        CompactFault::Disk(fault) => *fault != DiskFault::Memory,
+        CompactFault::Sweep(fault) => is_swept_disk(*fault),
+        _ => false,
+    }
+}
+
+/// Returns whether the device failed in a compaction, or the disk is odd.
+fn is_swept_disk(fault: SweepFault) -> bool {
+    match fault {
+        SweepFault::Disk | SweepFault::Odd => true,
+        SweepFault::Open(fault) => matches!(fault, OpenFault::Disk | OpenFault::Odd),
+        SweepFault::Step(fault) => matches!(fault, StepFault::Disk | StepFault::Odd),
+        SweepFault::Collect(fault) => matches!(fault, CollectFault::Disk | CollectFault::Odd),
+        SweepFault::JobRunning | SweepFault::Memory => false,
+    }
+}
+
+/// Reports why a compaction ends early, with the call of the system that is the reason, if it is
+/// known, and the way on if there is one: in two lines, or in one object. A failed write is ignored.
+pub(super) fn tell<E: Write>(
+    alloc: Global,
+    form: Form,
+    fault: &CompactFault,
+    call: &Option<FileFault>,
+    errors: &mut E,
+) {
     let _ = match form {
-        Form::Text => tell_text(fault, errors),
-        Form::Json => tell_object(alloc, fault, errors),
+        Form::Text => tell_text(fault, call, errors),
+        Form::Json => tell_object(alloc, fault, call, errors),
     };
 }
 
-/// Tells it as text.
-fn tell_text<E: Write>(fault: &CompactFault, errors: &mut E) -> Result<(), CompactFault> {
-    writeln!(errors, "fault {fault}")?;
+/// Reports it as text.
+fn tell_text<E: Write>(
+    fault: &CompactFault,
+    call: &Option<FileFault>,
+    errors: &mut E,
+) -> Result<(), CompactFault> {
+    match call {
+        Some(call) => writeln!(errors, "fault {fault}: {call}")?,
+        None => writeln!(errors, "fault {fault}")?,
+    }
     if let Some(way_on) = way_on(fault) {
         writeln!(errors, "help: {way_on}")?;
     }
     Ok(())
 }
 
-/// Tells it as an object.
+/// Reports it as an object.
 fn tell_object<E: Write>(
     alloc: Global,
     fault: &CompactFault,
+    call: &Option<FileFault>,
     errors: &mut E,
 ) -> Result<(), CompactFault> {
     let text = fault.to_string(alloc)?;
-    let row = row_of(alloc, fault, &text)?;
-    write_object(alloc, &row, errors)
+    match call {
+        Some(call) => write_object(alloc, &call_row(alloc, &text, call)?, errors),
+        None => write_object(alloc, &row_of(alloc, fault, &text)?, errors),
+    }
 }
 
-/// What an object tells of a fault with this text.
+/// Returns the object of a fault with this text, of which a failed call of the system is the reason.
+fn call_row<'f>(
+    alloc: Global,
+    text: &'f str,
+    call: &'f FileFault,
+) -> Result<FaultRow<'f>, AllocError> {
+    Ok(FaultRow {
+        file: Some(call.path()),
+        operation: Some(call.operation().to_string(alloc)?),
+        reason: Some(call.reason().to_string(alloc)?),
+        ..named(text)
+    })
+}
+
+/// Returns the object of a fault with this text.
 fn row_of<'f>(
     alloc: Global,
     fault: &'f CompactFault,
@@ -154,6 +231,16 @@ fn row_of<'f>(
     match fault {
         CompactFault::Folder(fault) => folder_row(alloc, fault),
         CompactFault::Dead(fault) => dead_row(alloc, fault),
+        CompactFault::Name { path, reason } => Ok(FaultRow {
+            file: Some(path),
+            reason: Some(reason.to_string(alloc)?),
+            ..named("disk")
+        }),
+        CompactFault::Index(file) => Ok(FaultRow {
+            file: Some(file),
+            help: Some(WayOn::RebuildIndex.to_string(alloc)?),
+            ..named("bookie index")
+        }),
         CompactFault::Sweep(SweepFault::Open(OpenFault::Log { id, cause })) => Ok(FaultRow {
             log: Some(*id),
             reason: Some(cause.to_string(alloc)?),
@@ -174,7 +261,7 @@ fn row_of<'f>(
     }
 }
 
-/// What an object tells of a folder that can't be opened, or that somebody writes in.
+/// Returns the object of a directory that cannot be opened, or that another program writes to.
 fn folder_row(alloc: Global, fault: &FolderFault) -> Result<FaultRow<'_>, AllocError> {
     Ok(match fault {
         FolderFault::InUse { .. } => FaultRow {
@@ -190,7 +277,7 @@ fn folder_row(alloc: Global, fault: &FolderFault) -> Result<FaultRow<'_>, AllocE
     })
 }
 
-/// What an object tells of a file that does not tell the dead ledgers.
+/// Returns the object of a file that does not name deleted ledgers.
 fn dead_row(alloc: Global, fault: &DeadFault) -> Result<FaultRow<'_>, AllocError> {
     Ok(match fault {
         DeadFault::Unread { path, reason } => FaultRow {
@@ -198,9 +285,13 @@ fn dead_row(alloc: Global, fault: &DeadFault) -> Result<FaultRow<'_>, AllocError
             reason: Some(reason.to_string(alloc)?),
             ..named("unread")
         },
-        DeadFault::Line { path, number } => FaultRow {
+        DeadFault::Line { path, number, end } => FaultRow {
             file: Some(path),
             line: Some(*number),
+            reason: match end {
+                LineEnd::Plain => None,
+                LineEnd::Return => Some(LineEnd::Return.to_string(alloc)?),
+            },
             ..named("bad line")
         },
         DeadFault::Memory => named("memory"),

@@ -1,14 +1,14 @@
-//! What a compaction shows: a line for each log that it would take, and what it did.
+//! The rows of a compaction: the logs that it would take, and the sums.
 
 use super::fault::CompactFault;
-use bk_dir::Form;
+use bk_inspect::Form;
 use serde::Serialize;
 use std::alloc::Global;
 use std::fmt;
 use std::fmt::{Display, Formatter};
 use std::io::Write;
 
-/// How many logs there are, and how many bytes their files have.
+/// The number of logs, and the bytes of their files.
 #[derive(Clone, Copy)]
 pub(super) struct Size {
     pub logs: u64,
@@ -30,7 +30,7 @@ pub(super) struct PlannedRow {
     pub length: u64,
     /// `compact` or `remove`.
     pub fate: &'static str,
-    /// How many entries would be copied.
+    /// The number of entries to copy.
     #[serde(skip_serializing_if = "Option::is_none")]
     pub entries: Option<u64>,
 }
@@ -40,12 +40,21 @@ pub(super) struct PlannedRow {
 struct SummaryRow {
     before: u64,
     after: u64,
-    /// How many bytes the files are shorter, below 0 where they are longer.
+    /// The bytes by which the files are shorter; negative if they are longer.
     freed: i64,
     moved: u64,
 }
 
-/// The line of a folder without logs.
+/// The row of a log that is kept.
+#[derive(Clone, Copy, Serialize)]
+pub(super) struct KeptRow<'a> {
+    pub note: &'static str,
+    pub log: u32,
+    pub length: u64,
+    pub file: &'a str,
+}
+
+/// The row of a directory without logs.
 #[derive(Clone, Copy, Serialize)]
 pub(super) struct EmptyRow<'a> {
     pub note: &'static str,
@@ -72,6 +81,16 @@ impl Display for SummaryRow {
     }
 }
 
+impl Display for KeptRow<'_> {
+    fn fmt<W: fmt::Write>(&self, f: &mut Formatter<W>) -> fmt::Result {
+        write!(
+            f,
+            "{} {}: {} bytes, less than a header; look at it, and remove it if it is of no use",
+            self.note, self.file, self.length
+        )
+    }
+}
+
 impl Display for EmptyRow<'_> {
     fn fmt<W: fmt::Write>(&self, f: &mut Formatter<W>) -> fmt::Result {
         write!(
@@ -82,7 +101,7 @@ impl Display for EmptyRow<'_> {
     }
 }
 
-/// How many bytes fewer the second size has: below 0 where it has more.
+/// Returns the bytes by which the second size is smaller; negative if it is larger.
 fn freed(before: Size, after: Size) -> i64 {
     let grown = after.bytes.saturating_sub(before.bytes);
     if grown > 0 {
@@ -92,7 +111,7 @@ fn freed(before: Size, after: Size) -> i64 {
     }
 }
 
-/// Writes the sums, and what the writer has kept back.
+/// Writes the sums and flushes.
 pub(super) fn write_summary<W: Write>(
     alloc: Global,
     form: Form,
@@ -110,7 +129,7 @@ pub(super) fn write_summary<W: Write>(
     Ok(())
 }
 
-/// Writes a row as a line of its own.
+/// Writes a row as a line.
 pub(super) fn write_row<R: Display + Serialize, W: Write>(
     alloc: Global,
     form: Form,
@@ -126,7 +145,7 @@ pub(super) fn write_row<R: Display + Serialize, W: Write>(
     }
 }
 
-/// Writes a row as an object of JSON, and the end of its line. Nothing is written where memory is refused.
+/// Writes a row as a JSON object, and the end of the line. Writes nothing if memory is refused.
 pub(super) fn write_object<R: Serialize, W: Write>(
     alloc: Global,
     row: &R,

@@ -1,6 +1,6 @@
 //! Compactions of real folders, which each test makes and takes away.
 
-use super::folder::{Row, anew, check, done, in_use, told};
+use super::folder::{DONE, Row, TOLD, anew, check, in_use};
 use super::run;
 use bk_disk::DirDisk;
 use std::fs;
@@ -24,191 +24,248 @@ pub(super) fn fill(rt: &HostRuntime, folder: &str) -> Result<(), Fail> {
 /// What is planned for them, and done, where ledger 2 is dead. The copy has a header, a record of 25 bytes and a map of 40.
 const PLANNED: &str = "0 1325 compact 1\n1 1085 remove\nbefore 3 after 2 freed 1321 moved 1\n";
 
+/// Compactions of these logs, and what each is to leave.
+const PLANS: [Row<'static>; 12] = [
+    // Without a dead ledger all lives.
+    Row {
+        words: &["bk_shell", "compact", "bk_shell_compact"],
+        output: "before 3 after 3 freed 0 moved 0\n",
+        ..DONE
+    },
+    Row {
+        words: &[
+            "bk_shell",
+            "compact",
+            "--dry-run",
+            "--dead",
+            "2",
+            "bk_shell_compact",
+        ],
+        output: PLANNED,
+        ..DONE
+    },
+    Row {
+        words: &[
+            "bk_shell",
+            "compact",
+            "--dry-run",
+            "--dead=2",
+            "--minor",
+            "bk_shell_compact",
+        ],
+        output: PLANNED,
+        ..DONE
+    },
+    Row {
+        words: &[
+            "bk_shell",
+            "compact",
+            "--dry-run",
+            "--dead=2",
+            "--below=103",
+            "bk_shell_compact",
+        ],
+        output: PLANNED,
+        ..DONE
+    },
+    // 25 of 245 bytes are more than 102 thousandths.
+    Row {
+        words: &[
+            "bk_shell",
+            "compact",
+            "--dry-run",
+            "--dead=2",
+            "--below=102",
+            "bk_shell_compact",
+        ],
+        output: "1 1085 remove\nbefore 3 after 2 freed 1085 moved 0\n",
+        ..DONE
+    },
+    Row {
+        words: &["bk_shell", "logs", "bk_shell_compact"],
+        output: "0 1325 sealed\n1 1085 sealed\n2 1048 open\n",
+        ..DONE
+    },
+    Row {
+        words: &["bk_shell", "compact", "--dead", "2", "bk_shell_compact"],
+        output: "before 3 after 2 freed 1321 moved 1\n",
+        ..DONE
+    },
+    Row {
+        words: &["bk_shell", "logs", "bk_shell_compact"],
+        output: "2 1048 open\n3 1089 sealed\n",
+        ..DONE
+    },
+    Row {
+        words: &["bk_shell", "find", "bk_shell_compact", "1", "0"],
+        output: "3 1028 68656c6c6f\n",
+        ..DONE
+    },
+    Row {
+        words: &["bk_shell", "find", "bk_shell_compact", "2", "0"],
+        output: "not found\n",
+        ..DONE
+    },
+    Row {
+        words: &["bk_shell", "find", "bk_shell_compact", "3", "0"],
+        output: "2 1028 6c697665\n",
+        ..DONE
+    },
+    Row {
+        words: &[
+            "bk_shell",
+            "compact",
+            "--dead",
+            "2",
+            "--major",
+            "bk_shell_compact",
+        ],
+        output: "before 2 after 2 freed 0 moved 0\n",
+        ..DONE
+    },
+];
+
 #[test]
 fn a_folder_is_compacted_as_planned(rt: HostRuntime) -> Result<(), Fail> {
     let folder = "bk_shell_compact";
-    let rows = [
-        // Without a dead ledger all lives.
-        done(
-            &["bk_shell", "compact", "bk_shell_compact"],
-            "before 3 after 3 freed 0 moved 0\n",
-        ),
-        done(
-            &[
-                "bk_shell",
-                "compact",
-                "--dry-run",
-                "--dead",
-                "2",
-                "bk_shell_compact",
-            ],
-            PLANNED,
-        ),
-        done(
-            &[
-                "bk_shell",
-                "compact",
-                "--dry-run",
-                "--dead=2",
-                "--minor",
-                "bk_shell_compact",
-            ],
-            PLANNED,
-        ),
-        done(
-            &[
-                "bk_shell",
-                "compact",
-                "--dry-run",
-                "--dead=2",
-                "--below=103",
-                "bk_shell_compact",
-            ],
-            PLANNED,
-        ),
-        // 25 of 245 bytes are more than 102 thousandths.
-        done(
-            &[
-                "bk_shell",
-                "compact",
-                "--dry-run",
-                "--dead=2",
-                "--below=102",
-                "bk_shell_compact",
-            ],
-            "1 1085 remove\nbefore 3 after 2 freed 1085 moved 0\n",
-        ),
-        done(
-            &["bk_shell", "logs", "bk_shell_compact"],
-            "0 1325 sealed\n1 1085 sealed\n2 1048 open\n",
-        ),
-        done(
-            &["bk_shell", "compact", "--dead", "2", "bk_shell_compact"],
-            "before 3 after 2 freed 1321 moved 1\n",
-        ),
-        done(
-            &["bk_shell", "logs", "bk_shell_compact"],
-            "2 1048 open\n3 1089 sealed\n",
-        ),
-        done(
-            &["bk_shell", "find", "bk_shell_compact", "1", "0"],
-            "3 1028 68656c6c6f\n",
-        ),
-        done(
-            &["bk_shell", "find", "bk_shell_compact", "2", "0"],
-            "not found\n",
-        ),
-        done(
-            &["bk_shell", "find", "bk_shell_compact", "3", "0"],
-            "2 1028 6c697665\n",
-        ),
-        done(
-            &[
-                "bk_shell",
-                "compact",
-                "--dead",
-                "2",
-                "--major",
-                "bk_shell_compact",
-            ],
-            "before 2 after 2 freed 0 moved 0\n",
-        ),
-    ];
     fill(&rt, folder)?;
-    check(&rt, &rt, &rows);
+    check(&rt, &rt, &PLANS);
     fs::remove_dir_all(&rt, folder)?;
     Ok(())
 }
 
+/// Compactions with files of deleted ledgers, and what each is to leave.
+const DEAD_FILES: [Row<'static>; 5] = [
+    Row {
+        words: &[
+            "bk_shell",
+            "compact",
+            "--dead-file",
+            "bk_shell_dead_no",
+            "bk_shell_dead",
+        ],
+        errors: "fault bk_shell_dead_no: No such file or directory (os error 2)\n",
+        ..TOLD
+    },
+    Row {
+        words: &[
+            "bk_shell",
+            "compact",
+            "--dead-file",
+            "bk_shell_dead_bad",
+            "bk_shell_dead",
+        ],
+        errors: "fault bk_shell_dead_bad: line 3: no number from 0 to 9223372036854775807 in plain digits\n",
+        ..TOLD
+    },
+    Row {
+        words: &[
+            "bk_shell",
+            "compact",
+            "--dead-file=bk_shell_dead_cr",
+            "bk_shell_dead",
+        ],
+        errors: "fault bk_shell_dead_cr: line 2: no number from 0 to 9223372036854775807 in plain digits; it ends in a carriage return, which tr -d '\\r' removes\n",
+        ..TOLD
+    },
+    Row {
+        words: &[
+            "bk_shell",
+            "--json",
+            "compact",
+            "--dead-file=bk_shell_dead_cr",
+            "bk_shell_dead",
+        ],
+        errors: "{\"fault\":\"bad line\",\"file\":\"bk_shell_dead_cr\",\"line\":2,\"reason\":\"it ends in a carriage return, which tr -d '\\\\r' removes\"}\n",
+        ..TOLD
+    },
+    Row {
+        words: &[
+            "bk_shell",
+            "compact",
+            "--dead=9",
+            "--dead-file=bk_shell_dead_list",
+            "bk_shell_dead",
+        ],
+        output: "before 3 after 2 freed 1321 moved 1\n",
+        ..DONE
+    },
+];
+
+/// Files of deleted ledgers: their names, and what is in them.
+const FILES: [(&str, &str); 3] = [
+    ("bk_shell_dead_bad", "2\n\n 7\n"),
+    ("bk_shell_dead_list", "7\n\n2"),
+    ("bk_shell_dead_cr", "7\n2\r\n"),
+];
+
 #[test]
 fn a_file_names_the_dead_ledgers(rt: HostRuntime) -> Result<(), Fail> {
-    let rows = [
-        told(
-            &[
-                "bk_shell",
-                "compact",
-                "--dead-file",
-                "bk_shell_dead_no",
-                "bk_shell_dead",
-            ],
-            "fault bk_shell_dead_no: No such file or directory (os error 2)\n",
-        ),
-        told(
-            &[
-                "bk_shell",
-                "compact",
-                "--dead-file",
-                "bk_shell_dead_bad",
-                "bk_shell_dead",
-            ],
-            "fault bk_shell_dead_bad: line 3: no number from 0 to 9223372036854775807 in plain digits\n",
-        ),
-        done(
-            &[
-                "bk_shell",
-                "compact",
-                "--dead=9",
-                "--dead-file=bk_shell_dead_list",
-                "bk_shell_dead",
-            ],
-            "before 3 after 2 freed 1321 moved 1\n",
-        ),
-    ];
     fill(&rt, "bk_shell_dead")?;
-    fs::write(&rt, "bk_shell_dead_bad", b"2\n\n 7\n".as_slice())?;
-    fs::write(&rt, "bk_shell_dead_list", b"7\n\n2".as_slice())?;
-    check(&rt, &rt, &rows);
-    fs::remove_file(&rt, "bk_shell_dead_bad")?;
-    fs::remove_file(&rt, "bk_shell_dead_list")?;
+    for (path, text) in FILES.iter() {
+        fs::write(&rt, *path, text.as_bytes())?;
+    }
+    check(&rt, &rt, &DEAD_FILES);
+    for (path, _) in FILES.iter() {
+        fs::remove_file(&rt, *path)?;
+    }
     fs::remove_dir_all(&rt, "bk_shell_dead")?;
     Ok(())
 }
 
+/// Compactions of what has no logs, and what each is to leave.
+const REFUSED: [Row<'static>; 3] = [
+    Row {
+        words: &["bk_shell", "compact", "bk_shell_lost"],
+        errors: "fault disk: bk_shell_lost: No such file or directory (os error 2)\n",
+        ..TOLD
+    },
+    Row {
+        words: &["bk_shell", "compact", "bk_shell_file"],
+        errors: "fault disk: bk_shell_file: Not a directory (os error 20)\n",
+        ..TOLD
+    },
+    Row {
+        words: &["bk_shell", "compact", "bk_shell_bare"],
+        status: 0,
+        output: "before 0 after 0 freed 0 moved 0\n",
+        errors: "no log found in bk_shell_bare: a log is a file named by its id in hexadecimal, such as 1f.log\n",
+    },
+];
+
 #[test]
 fn what_can_not_be_compacted_is_told(rt: HostRuntime) -> Result<(), Fail> {
-    let rows = [
-        told(
-            &["bk_shell", "compact", "bk_shell_lost"],
-            "fault disk: bk_shell_lost: No such file or directory (os error 2)\n",
-        ),
-        told(
-            &["bk_shell", "compact", "bk_shell_file"],
-            "fault disk: bk_shell_file: Not a directory (os error 20)\n",
-        ),
-        Row {
-            words: &["bk_shell", "compact", "bk_shell_bare"],
-            status: 0,
-            output: "before 0 after 0 freed 0 moved 0\n",
-            errors: "no log found in bk_shell_bare: a log is a file named by its id in hexadecimal, such as 1f.log\n",
-        },
-    ];
     let _ = fs::remove_dir_all(&rt, "bk_shell_lost");
     fs::write(&rt, "bk_shell_file", b"bytes".as_slice())?;
     anew(&rt, "bk_shell_bare")?;
-    check(&rt, &rt, &rows);
+    check(&rt, &rt, &REFUSED);
     assert!(rt; fs::metadata(&rt, "bk_shell_bare/writer.lock").is_err());
     fs::remove_file(&rt, "bk_shell_file")?;
     fs::remove_dir_all(&rt, "bk_shell_bare")?;
     Ok(())
 }
 
+/// The directory that another program writes to.
+const BUSY: &str = "bk_shell_busy";
+
+/// Whether a compaction is refused, since this process writes there.
+fn is_kept_out(rt: &HostRuntime) -> Result<bool, Fail> {
+    let shown = run(rt, &["bk_shell", "compact", "--dead=2", BUSY], "");
+    let busy = in_use(rt, BUSY)?;
+    let is_told = shown.errors.as_slice() == busy.as_bytes();
+    Ok(is_told && shown.status == 1 && shown.output.is_empty())
+}
+
 #[test]
 fn a_folder_that_is_written_is_not_compacted(rt: HostRuntime) -> Result<(), Fail> {
-    let folder = "bk_shell_busy";
-    fill(&rt, folder)?;
-    let writer = DirDisk::open_to_write(&rt, folder)?;
-    let shown = run(&rt, &["bk_shell", "compact", "--dead=2", folder], "");
-    assert!(rt; shown.status == 1 && shown.output.is_empty());
-    let busy = in_use(&rt, folder)?;
-    assert_eq!(rt; shown.errors.as_slice(), busy.as_bytes());
+    fill(&rt, BUSY)?;
+    let writer = DirDisk::open_to_write(&rt, BUSY)?;
+    assert!(rt; is_kept_out(&rt)?);
     // What would be done is told all the same.
-    let dry = run(
-        &rt,
-        &["bk_shell", "compact", "--dead=2", "--dry-run", folder],
-        "",
-    );
+    let words = ["bk_shell", "compact", "--dead=2", "--dry-run", BUSY];
+    let dry = run(&rt, &words, "");
     assert!(rt; dry.status == 0 && dry.output.as_slice() == PLANNED.as_bytes());
     drop(writer);
-    fs::remove_dir_all(&rt, folder)?;
+    fs::remove_dir_all(&rt, BUSY)?;
     Ok(())
 }

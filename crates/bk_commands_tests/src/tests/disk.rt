@@ -1,8 +1,8 @@
 //! A compaction of a disk in memory.
 
 use bk_commands::compact_disk;
-use bk_dir::Form;
 use bk_disk::{LogDisk, MemDisk};
+use bk_inspect::Form;
 use std::alloc::Global;
 use std::test::Fail;
 

@@ -38,22 +38,18 @@ pub(super) fn anew(rt: &HostRuntime, folder: &str) -> io::Result<()> {
     fs::create_dir(rt, folder)
 }
 
+/// Whether a call leaves just what its row says.
+fn is_as_told(rt: &HostRuntime, row: &Row<'_>) -> bool {
+    let shown = run(rt, row.words, "");
+    shown.status == row.status
+        && shown.output.as_slice() == row.output.as_bytes()
+        && shown.errors.as_slice() == row.errors.as_bytes()
+}
+
 /// Calls the program as a table says, and compares what it leaves.
 pub(super) fn check(rt: &impl Abort, host: &HostRuntime, rows: &[Row<'_>]) {
     for row in rows {
-        let words = row.words;
-        let shown = run(host, words, "");
-        assert_eq!(rt;
-            shown.output.as_slice(),
-            row.output.as_bytes(),
-            "the output of {words:?}"
-        );
-        assert_eq!(rt;
-            shown.errors.as_slice(),
-            row.errors.as_bytes(),
-            "the errors of {words:?}"
-        );
-        assert_eq!(rt; shown.status, row.status, "the status of {words:?}");
+        assert!(rt; is_as_told(host, row), "{:?}", row.words);
     }
 }
 
@@ -65,25 +61,21 @@ pub(super) fn in_use(rt: &HostRuntime, folder: &str) -> Result<String, AllocErro
     )
 }
 
-/// A call that is done.
-pub(super) fn done<'a>(words: &'a [&'a str], output: &'a str) -> Row<'a> {
-    Row {
-        words,
-        status: 0,
-        output,
-        errors: "",
-    }
-}
+/// A call that is done, but for its words and its output.
+pub(super) const DONE: Row<'static> = Row {
+    words: &[],
+    status: 0,
+    output: "",
+    errors: "",
+};
 
-/// A call that is told a fault, and shows nothing.
-pub(super) fn told<'a>(words: &'a [&'a str], errors: &'a str) -> Row<'a> {
-    Row {
-        words,
-        status: 1,
-        output: "",
-        errors,
-    }
-}
+/// A call that is told a fault and shows nothing, but for its words and that text.
+pub(super) const TOLD: Row<'static> = Row {
+    words: &[],
+    status: 1,
+    output: "",
+    errors: "",
+};
 
 /// Writes one sealed log with one entry into a folder: header, record and ledgers map.
 fn write_log(rt: &HostRuntime, folder: &str) -> Result<(), Fail> {
@@ -98,98 +90,131 @@ fn write_log(rt: &HostRuntime, folder: &str) -> Result<(), Fail> {
     Ok(())
 }
 
+/// Names that are no log's.
+const OTHERS: [&str; 7] = [
+    "01f.log",
+    "0.log.compacted",
+    "notes",
+    "00.log",
+    "1F.log",
+    "+1.log",
+    "80000000.log",
+];
+
+/// Writes a file of each of these names.
+fn write_others(rt: &HostRuntime, folder: &str) -> Result<(), Fail> {
+    for name in OTHERS.iter() {
+        let path = format!(in rt.alloc(); "{folder}/{name}")?;
+        fs::write(rt, path.as_str(), b"bytes".as_slice())?;
+    }
+    Ok(())
+}
+
+/// Calls on a directory with other files, and what each is to leave.
+const FILES: [Row<'static>; 15] = [
+    Row {
+        words: &["bk_shell", "logs", "bk_shell_files"],
+        output: "0 1089 sealed\n3 1089 sealed\n",
+        ..DONE
+    },
+    Row {
+        words: &["bk_shell", "header", "bk_shell_files", "0"],
+        output: "version 1 map 1049 count 1\n",
+        ..DONE
+    },
+    Row {
+        words: &["bk_shell", "map", "bk_shell_files", "0"],
+        output: "1 25\n",
+        ..DONE
+    },
+    Row {
+        words: &["bk_shell", "scan", "bk_shell_files", "0"],
+        output: "1028 1 0 25\nentries 1 foreign 1 torn 0\n",
+        ..DONE
+    },
+    Row {
+        words: &["bk_shell", "find", "bk_shell_files", "1", "0"],
+        output: "3 1028 68656c6c6f\n",
+        ..DONE
+    },
+    Row {
+        words: &["bk_shell", "find", "bk_shell_files", "1", "1"],
+        output: "not found\n",
+        ..DONE
+    },
+    Row {
+        words: &["bk_shell", "check", "bk_shell_files"],
+        output: "0 ok\n3 ok\n",
+        ..DONE
+    },
+    Row {
+        words: &["bk_shell", "stat", "bk_shell_files", "--dead", "1"],
+        output: "0 1089 1 25 0 0 sealed\n3 1089 1 25 0 0 sealed\nlogs 2 length 2178 entries 2 bytes 50 live 0 share 0\n",
+        ..DONE
+    },
+    Row {
+        words: &["bk_shell", "ledgers", "bk_shell_files"],
+        output: "1 2 50 0 0 2\n",
+        ..DONE
+    },
+    Row {
+        words: &["bk_shell", "entries", "bk_shell_files", "1"],
+        output: "0 3 1028 25\n",
+        ..DONE
+    },
+    Row {
+        words: &["bk_shell", "scan", "--data", "bk_shell_files", "3.log"],
+        output: "1028 1 0 25 68656c6c6f\nentries 1 foreign 1 torn 0\n",
+        ..DONE
+    },
+    Row {
+        words: &["bk_shell", "check", "--digest", "auto", "bk_shell_files"],
+        output: "0 ok\n3 ok\nunknown 1\n",
+        ..DONE
+    },
+    Row {
+        words: &["bk_shell", "check", "--digest", "crc32c", "bk_shell_files"],
+        status: 1,
+        output: "digest 1028 1 0\n0 ok\ndigest 1028 1 0\n3 ok\n",
+        errors: "",
+    },
+    Row {
+        words: &["bk_shell", "scan", "bk_shell_files", "2"],
+        errors: "fault no log\n",
+        ..TOLD
+    },
+    Row {
+        words: &["bk_shell", "header", "bk_shell_files", "31"],
+        errors: "fault no log\n",
+        ..TOLD
+    },
+];
+
 #[test]
 fn a_folder_with_other_files(rt: HostRuntime) -> Result<(), Fail> {
     let folder = "bk_shell_files";
-    let rows = [
-        done(
-            &["bk_shell", "logs", "bk_shell_files"],
-            "0 1089 sealed\n3 1089 sealed\n",
-        ),
-        done(
-            &["bk_shell", "header", "bk_shell_files", "0"],
-            "version 1 map 1049 count 1\n",
-        ),
-        done(&["bk_shell", "map", "bk_shell_files", "0"], "1 25\n"),
-        done(
-            &["bk_shell", "scan", "bk_shell_files", "0"],
-            "1028 1 0 25\nentries 1 foreign 1 torn 0\n",
-        ),
-        done(
-            &["bk_shell", "find", "bk_shell_files", "1", "0"],
-            "3 1028 68656c6c6f\n",
-        ),
-        done(
-            &["bk_shell", "find", "bk_shell_files", "1", "1"],
-            "not found\n",
-        ),
-        done(&["bk_shell", "check", "bk_shell_files"], "0 ok\n3 ok\n"),
-        done(
-            &["bk_shell", "stat", "bk_shell_files", "--dead", "1"],
-            "0 1089 1 25 0 0 sealed\n3 1089 1 25 0 0 sealed\nlogs 2 length 2178 entries 2 bytes 50 live 0 share 0\n",
-        ),
-        done(&["bk_shell", "ledgers", "bk_shell_files"], "1 2 50 0 0 2\n"),
-        done(
-            &["bk_shell", "entries", "bk_shell_files", "1"],
-            "0 3 1028 25\n",
-        ),
-        done(
-            &["bk_shell", "scan", "--data", "bk_shell_files", "3.log"],
-            "1028 1 0 25 68656c6c6f\nentries 1 foreign 1 torn 0\n",
-        ),
-        done(
-            &["bk_shell", "check", "--digest", "auto", "bk_shell_files"],
-            "0 ok\n3 ok\nunknown 1\n",
-        ),
-        Row {
-            words: &["bk_shell", "check", "--digest", "crc32c", "bk_shell_files"],
-            status: 1,
-            output: "digest 1028 1 0\n0 ok\ndigest 1028 1 0\n3 ok\n",
-            errors: "",
-        },
-        told(
-            &["bk_shell", "scan", "bk_shell_files", "2"],
-            "fault no log\n",
-        ),
-        told(
-            &["bk_shell", "header", "bk_shell_files", "31"],
-            "fault no log\n",
-        ),
-    ];
     anew(&rt, folder)?;
     write_log(&rt, folder)?;
-    for name in [
-        "01f.log",
-        "0.log.compacted",
-        "notes",
-        "00.log",
-        "1F.log",
-        "+1.log",
-        "80000000.log",
-    ] {
-        fs::write(
-            &rt,
-            format!(in rt.alloc(); "{folder}/{name}")?.as_str(),
-            b"bytes".as_slice(),
-        )?;
-    }
+    write_others(&rt, folder)?;
     fs::create_dir(&rt, "bk_shell_files/2.log")?;
     symlink(&rt, "0.log", "bk_shell_files/3.log")?;
-    check(&rt, &rt, &rows);
+    check(&rt, &rt, &FILES);
     fs::remove_dir_all(&rt, folder)?;
     Ok(())
 }
 
+/// A call on a directory without logs.
+const EMPTY: [Row<'static>; 1] = [Row {
+    words: &["bk_shell", "check", "bk_shell_none"],
+    status: 0,
+    output: "",
+    errors: "no log found in bk_shell_none: a log is a file named by its id in hexadecimal, such as 1f.log\n",
+}];
+
 #[test]
 fn a_folder_without_logs_is_told(rt: HostRuntime) -> Result<(), Fail> {
-    let rows = [Row {
-        words: &["bk_shell", "check", "bk_shell_none"],
-        status: 0,
-        output: "",
-        errors: "no log found in bk_shell_none: a log is a file named by its id in hexadecimal, such as 1f.log\n",
-    }];
     anew(&rt, "bk_shell_none")?;
-    check(&rt, &rt, &rows);
+    check(&rt, &rt, &EMPTY);
     fs::remove_dir_all(&rt, "bk_shell_none")?;
     Ok(())
 }
@@ -197,32 +222,75 @@ fn a_folder_without_logs_is_told(rt: HostRuntime) -> Result<(), Fail> {
 /// What is told of a folder that is not there.
 const GONE: &str = "fault disk: bk_shell_gone: No such file or directory (os error 2)\n";
 
+/// What is told of a link that leads nowhere.
+const UNREAD: &str = "fault log 5: disk: No such file or directory (os error 2)\n";
+
+/// Calls on a directory with such a link, and what each is to leave.
+const BROKEN: [Row<'static>; 3] = [
+    Row {
+        words: &["bk_shell", "logs", "bk_shell_gone"],
+        errors: UNREAD,
+        ..TOLD
+    },
+    Row {
+        words: &["bk_shell", "check", "bk_shell_gone"],
+        errors: UNREAD,
+        ..TOLD
+    },
+    Row {
+        words: &["bk_shell", "scan", "bk_shell_gone", "5"],
+        errors: "fault no log\n",
+        ..TOLD
+    },
+];
+
+/// Calls on a directory that is not there, and what each is to leave.
+const MISSING: [Row<'static>; 7] = [
+    Row {
+        words: &["bk_shell", "logs", "bk_shell_gone"],
+        errors: GONE,
+        ..TOLD
+    },
+    Row {
+        words: &["bk_shell", "header", "bk_shell_gone", "0"],
+        errors: GONE,
+        ..TOLD
+    },
+    Row {
+        words: &["bk_shell", "map", "bk_shell_gone", "0"],
+        errors: GONE,
+        ..TOLD
+    },
+    Row {
+        words: &["bk_shell", "scan", "bk_shell_gone", "0"],
+        errors: GONE,
+        ..TOLD
+    },
+    Row {
+        words: &["bk_shell", "find", "bk_shell_gone", "0", "0"],
+        errors: GONE,
+        ..TOLD
+    },
+    Row {
+        words: &["bk_shell", "check", "bk_shell_gone"],
+        errors: GONE,
+        ..TOLD
+    },
+    Row {
+        words: &["bk_shell", "seal", "bk_shell_gone", "0"],
+        errors: GONE,
+        ..TOLD
+    },
+];
+
 #[test]
 fn a_folder_that_is_gone(rt: HostRuntime) -> Result<(), Fail> {
-    const TOLD: &str = "fault log 5: disk: No such file or directory (os error 2)\n";
     let folder = "bk_shell_gone";
-    let broken = [
-        told(&["bk_shell", "logs", "bk_shell_gone"], TOLD),
-        told(&["bk_shell", "check", "bk_shell_gone"], TOLD),
-        told(
-            &["bk_shell", "scan", "bk_shell_gone", "5"],
-            "fault no log\n",
-        ),
-    ];
     anew(&rt, folder)?;
     symlink(&rt, "nowhere", "bk_shell_gone/5.log")?;
-    check(&rt, &rt, &broken);
+    check(&rt, &rt, &BROKEN);
     fs::remove_dir_all(&rt, folder)?;
-    let gone = [
-        told(&["bk_shell", "logs", "bk_shell_gone"], GONE),
-        told(&["bk_shell", "header", "bk_shell_gone", "0"], GONE),
-        told(&["bk_shell", "map", "bk_shell_gone", "0"], GONE),
-        told(&["bk_shell", "scan", "bk_shell_gone", "0"], GONE),
-        told(&["bk_shell", "find", "bk_shell_gone", "0", "0"], GONE),
-        told(&["bk_shell", "check", "bk_shell_gone"], GONE),
-        told(&["bk_shell", "seal", "bk_shell_gone", "0"], GONE),
-    ];
-    check(&rt, &rt, &gone);
+    check(&rt, &rt, &MISSING);
     Ok(())
 }
 
@@ -251,145 +319,192 @@ fn is_left(rt: &HostRuntime, call: &Call<'_>) -> bool {
         && shown.errors.as_slice() == call.errors.as_bytes()
 }
 
+/// Calls the program as a table says, and compares what it leaves.
+fn check_scripts(rt: &impl Abort, host: &HostRuntime, calls: &[Call<'_>]) {
+    for (number, call) in calls.iter().enumerate() {
+        assert!(rt; is_left(host, call), "call {number}");
+    }
+}
+
+/// The words of a script over a folder.
+const SCRIPT: &[&str] = &["bk_shell", "script", "--folder", "bk_shell_script"];
+
+/// Scripts over a folder, of which the first makes it.
+const SCRIPTS: [Call<'static>; 4] = [
+    Call {
+        words: SCRIPT,
+        input: FLUSHED,
+        status: 0,
+        output: FLUSHED_OUTPUT,
+        errors: "",
+    },
+    Call {
+        words: SCRIPT,
+        input: "take 0 1 0\nfetch 0\nadd 1 0 again\n",
+        status: 0,
+        output: "leased 1028\nbytes 68656c6c6f\nheld\n",
+        errors: "",
+    },
+    Call {
+        words: &["bk_shell", "script", "1", "--folder=bk_shell_script"],
+        input: "take 0 1 0\n",
+        status: 0,
+        output: "deleted\n",
+        errors: "",
+    },
+    Call {
+        words: SCRIPT,
+        input: "frob\n",
+        status: 1,
+        output: "",
+        errors: "line 1: bad command\n",
+    },
+];
+
 #[test]
 fn a_script_goes_on_in_its_folder(rt: HostRuntime) -> Result<(), Fail> {
-    let folder = &["bk_shell", "script", "--folder", "bk_shell_script"];
-    let calls = [
-        // The folder is made.
-        Call {
-            words: folder,
-            input: FLUSHED,
-            status: 0,
-            output: FLUSHED_OUTPUT,
-            errors: "",
-        },
-        Call {
-            words: folder,
-            input: "take 0 1 0\nfetch 0\nadd 1 0 again\n",
-            status: 0,
-            output: "leased 1028\nbytes 68656c6c6f\nheld\n",
-            errors: "",
-        },
-        Call {
-            words: &["bk_shell", "script", "1", "--folder=bk_shell_script"],
-            input: "take 0 1 0\n",
-            status: 0,
-            output: "deleted\n",
-            errors: "",
-        },
-        Call {
-            words: folder,
-            input: "frob\n",
-            status: 1,
-            output: "",
-            errors: "line 1: bad command\n",
-        },
-    ];
     let _ = fs::remove_dir_all(&rt, "bk_shell_script");
-    for (number, call) in calls.iter().enumerate() {
-        assert!(rt; is_left(&rt, call), "call {number}");
-    }
+    check_scripts(&rt, &rt, &SCRIPTS);
     fs::remove_dir_all(&rt, "bk_shell_script")?;
     Ok(())
 }
 
-/// What a script over a folder tells where a log of it ends in zeros, and where one has no header.
-const ENDS_IN_ZEROS: &str =
-    "fault log 0: bad length 1049 0\nhelp: 'bk_shell check' tells of all such logs, 'bk_shell seal --cut-torn' cuts one there and keeps a copy\n";
+/// The words of a script over a folder whose logs are damaged.
+const DAMAGED: &[&str] = &["bk_shell", "script", "--folder", "bk_shell_zeros"];
 
-const HAS_NO_HEADER: &str =
-    "fault log 1: bad magic\nhelp: where 'bk_shell scan' shows no entry in the log, a crash may have left it so, and its file can be moved away\n";
+/// What a script over a folder tells where a log of it ends in zeros.
+const ENDS_IN_ZEROS: Call<'static> = Call {
+    words: DAMAGED,
+    input: "take 0 1 0\n",
+    status: 1,
+    output: "",
+    errors: "fault log 0: bad length 1049 0\nhelp: 'bk_shell check' tells of all such logs, 'bk_shell seal --cut-torn' cuts one there and keeps a copy\n",
+};
 
-/// A call that is refused with this text.
-fn refused<'a>(words: &'a [&'a str], errors: &'a str) -> Call<'a> {
-    Call {
-        words,
-        input: "take 0 1 0\n",
-        status: 1,
-        output: "",
-        errors,
-    }
-}
+/// What it tells where a log has no header.
+const HAS_NO_HEADER: Call<'static> = Call {
+    words: DAMAGED,
+    input: "take 0 1 0\n",
+    status: 1,
+    output: "",
+    errors: "fault log 1: bad magic\nhelp: where 'bk_shell scan' shows no entry in the log, a crash may have left it so, and its file can be moved away\n",
+};
 
-#[test]
-fn the_way_on_behind_a_refused_opening_leads_on(rt: HostRuntime) -> Result<(), Fail> {
-    let words: &[&str] = &["bk_shell", "script", "--folder", "bk_shell_zeros"];
-    let _ = fs::remove_dir_all(&rt, "bk_shell_zeros");
-    assert!(rt; run(&rt, words, FLUSHED).status == 0);
-    let mut log = fs::read(&rt, "bk_shell_zeros/0.log")?;
+/// What it shows at last.
+const MENDED: Call<'static> = Call {
+    words: DAMAGED,
+    input: "take 0 1 0\nfetch 0\n",
+    status: 0,
+    output: "leased 1028\nbytes 68656c6c6f\n",
+    errors: "",
+};
+
+/// Puts zeros behind the records of log 0, and for log 1.
+fn put_zeros(rt: &HostRuntime) -> Result<(), Fail> {
+    let mut log = fs::read(rt, "bk_shell_zeros/0.log")?;
     log.extend_from_slice(&[0; 4000])?;
-    fs::write(&rt, "bk_shell_zeros/0.log", log.as_slice())?;
-    fs::write(&rt, "bk_shell_zeros/1.log", [0; 4096].as_slice())?;
-    assert!(rt; is_left(&rt, &refused(words, ENDS_IN_ZEROS)));
-    let cut = run(
-        &rt,
-        &["bk_shell", "seal", "--cut-torn", "bk_shell_zeros", "0"],
-        "",
-    );
-    assert!(rt; cut.status == 0);
-    assert!(rt; is_left(&rt, &refused(words, HAS_NO_HEADER)));
-    fs::remove_file(&rt, "bk_shell_zeros/1.log")?;
-    let shown = run(&rt, words, "take 0 1 0\nfetch 0\n");
-    assert!(rt;
-        shown.status == 0
-            && shown.output.as_slice() == b"leased 1028\nbytes 68656c6c6f\n".as_slice()
-    );
-    fs::remove_dir_all(&rt, "bk_shell_zeros")?;
+    fs::write(rt, "bk_shell_zeros/0.log", log.as_slice())?;
+    fs::write(rt, "bk_shell_zeros/1.log", [0; 4096].as_slice())?;
     Ok(())
 }
 
 #[test]
+fn the_way_on_behind_a_refused_opening_leads_on(rt: HostRuntime) -> Result<(), Fail> {
+    let _ = fs::remove_dir_all(&rt, "bk_shell_zeros");
+    assert!(rt; run(&rt, DAMAGED, FLUSHED).status == 0);
+    put_zeros(&rt)?;
+    assert!(rt; is_left(&rt, &ENDS_IN_ZEROS));
+    let cut = ["bk_shell", "seal", "--cut-torn", "bk_shell_zeros", "0"];
+    assert!(rt; run(&rt, &cut, "").status == 0);
+    assert!(rt; is_left(&rt, &HAS_NO_HEADER));
+    fs::remove_file(&rt, "bk_shell_zeros/1.log")?;
+    assert!(rt; is_left(&rt, &MENDED));
+    fs::remove_dir_all(&rt, "bk_shell_zeros")?;
+    Ok(())
+}
+
+/// Scripts where no folder can be.
+const NO_PLACE: [Call<'static>; 3] = [
+    Call {
+        words: &["bk_shell", "script", "--folder", "bk_shell_place"],
+        input: FLUSHED,
+        status: 1,
+        output: "",
+        errors: "fault disk: bk_shell_place: Not a directory (os error 20)\n",
+    },
+    Call {
+        words: &["bk_shell", "script", "--folder", "bk_shell_place/in"],
+        input: FLUSHED,
+        status: 1,
+        output: "",
+        errors: "fault disk: bk_shell_place/in: Not a directory (os error 20)\n",
+    },
+    Call {
+        words: &["bk_shell", "script", "--folder", "bk_shell_no/folder"],
+        input: FLUSHED,
+        status: 1,
+        output: "",
+        errors: "fault disk: bk_shell_no/folder: No such file or directory (os error 2)\n",
+    },
+];
+
+#[test]
 fn a_script_is_not_run_where_no_folder_can_be_written(rt: HostRuntime) -> Result<(), Fail> {
-    let calls = [
-        Call {
-            words: &["bk_shell", "script", "--folder", "bk_shell_place"],
-            input: FLUSHED,
-            status: 1,
-            output: "",
-            errors: "fault disk: bk_shell_place: Not a directory (os error 20)\n",
-        },
-        Call {
-            words: &["bk_shell", "script", "--folder", "bk_shell_place/in"],
-            input: FLUSHED,
-            status: 1,
-            output: "",
-            errors: "fault disk: bk_shell_place/in: Not a directory (os error 20)\n",
-        },
-        Call {
-            words: &["bk_shell", "script", "--folder", "bk_shell_no/folder"],
-            input: FLUSHED,
-            status: 1,
-            output: "",
-            errors: "fault disk: bk_shell_no/folder: No such file or directory (os error 2)\n",
-        },
-    ];
     fs::write(&rt, "bk_shell_place", b"bytes".as_slice())?;
-    for (number, call) in calls.iter().enumerate() {
-        assert!(rt; is_left(&rt, call), "call {number}");
-    }
+    check_scripts(&rt, &rt, &NO_PLACE);
     assert!(rt; fs::read_to_string(&rt, "bk_shell_place")?.as_str() == "bytes");
     fs::remove_file(&rt, "bk_shell_place")?;
     Ok(())
 }
 
+/// The words of a script over a folder that two programs want.
+const TWO: &[&str] = &["bk_shell", "script", "--folder", "bk_shell_two"];
+
+/// The first script there.
+const FIRST: Call<'static> = Call {
+    words: TWO,
+    input: FLUSHED,
+    status: 0,
+    output: FLUSHED_OUTPUT,
+    errors: "",
+};
+
+/// The script after the other program has ended.
+const LAST: Call<'static> = Call {
+    words: TWO,
+    input: "take 0 1 0\n",
+    status: 0,
+    output: "leased 1028\n",
+    errors: "",
+};
+
+/// A command that reads there.
+const READER: Call<'static> = Call {
+    words: &["bk_shell", "find", "bk_shell_two", "1", "0"],
+    input: "",
+    status: 0,
+    output: "0 1028 68656c6c6f\n",
+    errors: "",
+};
+
+/// Whether a script is refused, since this process writes in its folder.
+fn is_kept_out(rt: &HostRuntime) -> Result<bool, Fail> {
+    let shown = run(rt, TWO, FLUSHED);
+    let busy = in_use(rt, "bk_shell_two")?;
+    let is_told = shown.errors.as_slice() == busy.as_bytes();
+    Ok(is_told && shown.status == 1 && shown.output.is_empty())
+}
+
 #[test]
 fn one_program_writes_in_a_folder(rt: HostRuntime) -> Result<(), Fail> {
-    let words: &[&str] = &["bk_shell", "script", "--folder", "bk_shell_two"];
     anew(&rt, "bk_shell_two")?;
-    let shown = run(&rt, words, FLUSHED);
-    assert!(rt; shown.status == 0 && shown.output.as_slice() == FLUSHED_OUTPUT.as_bytes());
+    assert!(rt; is_left(&rt, &FIRST));
     let first = DirDisk::open_to_write(&rt, "bk_shell_two")?;
-    let shown = run(&rt, words, FLUSHED);
-    assert!(rt; shown.status == 1 && shown.output.is_empty());
-    let busy = in_use(&rt, "bk_shell_two")?;
-    assert_eq!(rt; shown.errors.as_slice(), busy.as_bytes());
+    assert!(rt; is_kept_out(&rt)?);
     // Readers are not hindered.
-    let found = "0 1028 68656c6c6f\n";
-    let find = &["bk_shell", "find", "bk_shell_two", "1", "0"];
-    check(&rt, &rt, &[done(find, found)]);
+    assert!(rt; is_left(&rt, &READER));
     drop(first);
-    let shown = run(&rt, words, "take 0 1 0\n");
-    assert!(rt; shown.status == 0 && shown.output.as_slice() == b"leased 1028\n".as_slice());
+    assert!(rt; is_left(&rt, &LAST));
     fs::remove_dir_all(&rt, "bk_shell_two")?;
     Ok(())
 }

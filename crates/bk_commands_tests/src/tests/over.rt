@@ -169,8 +169,13 @@ fn a_folder_is_taken_away(rt: HostRuntime) -> Result<(), Fail> {
     let (mut output, mut errors) = (Vec::new(alloc), Vec::new(alloc));
     let status = run_words(&rt, &words, &mut thief, &mut output, &mut errors);
     assert_eq!(rt; status, 1);
+    assert!(rt; output.is_empty());
     assert!(rt;
-        output.is_empty() && errors.starts_with(b"fault disk"),
+        errors.starts_with(b"fault disk\nbk_shell_taken"),
+        "{errors:?}"
+    );
+    assert!(rt;
+        errors.ends_with(b": No such file or directory (os error 2)\n"),
         "{errors:?}"
     );
     Ok(())

@@ -1,18 +1,18 @@
-//! One life of a store: it is opened, takes steps until the power of its disk goes, and leaves files. What it owes is told
-//! by its answers alone.
+//! One life of a store: it opens, performs steps until the power of its disk fails, and leaves
+//! files. Its answers alone determine what it must keep.
 
 use bk_crash::{Choices, File, PowerDisk, Written};
 use bk_disk::{LogDisk, MemDisk};
 use bk_drive::{Answer, OpenFault, PublishAnswer, Settings, Step, Store, SwapAnswer, Work, apply};
 use bk_log::fetch;
-use bk_mark::MarkedDisk;
 use bk_record::{Key, key_of};
 use bk_store::{Added, Taken};
+use bk_watermark::WatermarkedDisk;
 use rand_core::Rng;
 use rand_pcg::Pcg32;
 use std::alloc::{AllocError, Global};
 
-/// How far an entry has come.
+/// The stage of an entry.
 #[derive(Clone, Copy)]
 enum Stage {
     Added,
@@ -21,7 +21,7 @@ enum Stage {
     Deleted,
 }
 
-/// An entry that a store was given.
+/// An entry that was added.
 #[derive(Drop)]
 struct Entry {
     ledger: u64,
@@ -30,14 +30,14 @@ struct Entry {
     stage: Stage,
 }
 
-/// What a store was given and may not forget: its entries, and the ledgers that were deleted.
+/// What a store must keep: its entries, and the deleted ledgers.
 #[derive(Drop)]
 pub(super) struct Owed {
     entries: Vec<Entry>,
     dead: Vec<u64>,
 }
 
-/// Why a test could not go on: what is wrong, and with which ledger and entry, or with how many entries.
+/// Why a test stopped: the reason, with ledger and entry, or with a number of entries.
 #[derive(Clone, Copy)]
 pub(super) struct Stop {
     pub what: &'static str,
@@ -61,7 +61,7 @@ impl From<AllocError> for Stop {
     }
 }
 
-/// A store did not open on what a crash left.
+/// A store did not open after a crash.
 fn not_opened(fault: OpenFault) -> Stop {
     let what = match fault {
         OpenFault::Disk => "not opened: disk",
@@ -73,7 +73,7 @@ fn not_opened(fault: OpenFault) -> Stop {
     Stop::new(what, 0, 0)
 }
 
-/// Choices by chance.
+/// Random choices.
 #[derive(Drop)]
 pub(super) struct Chance(Pcg32);
 
@@ -111,7 +111,7 @@ impl Owed {
         }
     }
 
-    /// Whether an entry of this key was added.
+    /// Returns whether an entry with this key was added.
     fn has(&self, key: Key) -> bool {
         for entry in self.entries.iter() {
             if entry.ledger == key.ledger() && entry.entry == key.entry() {
@@ -148,7 +148,7 @@ impl Owed {
         Ok(())
     }
 
-    /// All entries of one stage are at another one.
+    /// Moves all entries of one stage to another.
     fn go_on(&mut self, from: Stage, to: Stage) {
         for entry in self.entries.iter_mut() {
             if entry.stage as u8 == from as u8 {
@@ -158,12 +158,12 @@ impl Owed {
     }
 }
 
-/// Puts a log on a disk. Whether it could be done.
+/// Puts a log on a disk. Returns whether it succeeds.
 fn put_log<D: LogDisk>(alloc: Global, disk: &mut D, log: u32, bytes: &[u8]) -> bool {
     log < 2_147_483_648 && disk.create(alloc, log).is_ok() && disk.append(alloc, log, bytes).is_ok()
 }
 
-/// A disk in memory with these files.
+/// Returns a disk in memory with these files.
 fn memory_of(alloc: Global, files: &[File]) -> Result<MemDisk, Stop> {
     let mut disk = MemDisk::new(alloc);
     for (log, bytes) in files {
@@ -174,7 +174,7 @@ fn memory_of(alloc: Global, files: &[File]) -> Result<MemDisk, Stop> {
     Ok(disk)
 }
 
-/// A disk with these files, which are on the device, and power for so many calls.
+/// Returns a disk with these durable files and power for N calls.
 fn disk_of(
     alloc: Global,
     files: &[File],
@@ -189,25 +189,26 @@ fn disk_of(
     Ok(PowerDisk::new(disk, written, calls, kept))
 }
 
-/// A disk for the next process, where the one before wrote this and ended while there was power.
+/// Returns the disk of the next process, after the one before wrote this and ended with power on.
 fn next_disk(alloc: Global, written: &Written) -> Result<PowerDisk<MemDisk>, Stop> {
     let disk = memory_of(alloc, &written.files(alloc)?)?;
     Ok(PowerDisk::new(disk, written.copy(alloc)?, u64::MAX, 0))
 }
 
-/// How the disk of a store stands over one whose power goes. (The bound of a disk stands where it is asked for.)
+/// How the disk of a store lies over one whose power fails. The bound of a disk is where it is
+/// needed.
 pub(super) trait Powered<D> {
-    /// The disk of a store over this one. `None` where the power goes meanwhile.
+    /// Returns the disk of a store over this one, or `None` if the power fails meanwhile.
     fn over(alloc: Global, disk: PowerDisk<MemDisk>) -> Option<D>;
 
-    /// The disk underneath.
+    /// Returns the disk below.
     fn power(disk: &D) -> &PowerDisk<MemDisk>;
 
-    /// Files that a loss of power leaves of what was written, as the next such disk shows them.
+    /// Returns files that a loss of power leaves, as the next such disk shows them.
     fn left(written: &Written, alloc: Global, chance: &mut Chance) -> Result<Vec<File>, AllocError>;
 }
 
-/// It is that disk.
+/// The store uses that disk directly.
 pub(super) struct Bare;
 
 impl Powered<PowerDisk<MemDisk>> for Bare {
@@ -228,15 +229,18 @@ impl Powered<PowerDisk<MemDisk>> for Bare {
     }
 }
 
-/// It marks its logs, and there is damage behind what was synced.
+/// The store uses a disk with watermarks, and bytes after the synced part are damaged.
 pub(super) struct Marked;
 
-impl Powered<MarkedDisk<PowerDisk<MemDisk>>> for Marked {
-    fn over(alloc: Global, disk: PowerDisk<MemDisk>) -> Option<MarkedDisk<PowerDisk<MemDisk>>> {
-        MarkedDisk::open(disk, alloc).ok()
+impl Powered<WatermarkedDisk<PowerDisk<MemDisk>>> for Marked {
+    fn over(
+        alloc: Global,
+        disk: PowerDisk<MemDisk>,
+    ) -> Option<WatermarkedDisk<PowerDisk<MemDisk>>> {
+        WatermarkedDisk::open(disk, alloc).ok()
     }
 
-    fn power(disk: &MarkedDisk<PowerDisk<MemDisk>>) -> &PowerDisk<MemDisk> {
+    fn power(disk: &WatermarkedDisk<PowerDisk<MemDisk>>) -> &PowerDisk<MemDisk> {
         disk.inner()
     }
 
@@ -249,8 +253,8 @@ impl Powered<MarkedDisk<PowerDisk<MemDisk>>> for Marked {
     }
 }
 
-/// Takes steps from files on, with power for so many calls on the disk, and answers the files that are left when it goes,
-/// and whether it went before the steps ended. Where it goes while the store is opened, the files are as they were.
+/// Performs steps on files, with power for N calls. Returns the files left and whether the power
+/// failed before the steps ended. If it fails while the store opens, the files are unchanged.
 pub(super) fn live<D: LogDisk, P: Powered<D>>(
     alloc: Global,
     owed: &mut Owed,
@@ -267,9 +271,9 @@ pub(super) fn live<D: LogDisk, P: Powered<D>>(
     left_by::<D, P>(alloc, &store, chance)
 }
 
-/// Takes steps on a new disk until so many calls on it are made, where the process ends. The next one opens a store on the files,
-/// all of which are there, and then the power goes. What the second store found is owed from then on. Answers the files that are
-/// left, and whether the first process ended before the steps did.
+/// Performs steps on a new disk until N calls are made, where the process ends. The next process
+/// opens a store on all files, then the power fails. What the second store found must be kept.
+/// Returns the files left and whether the first process ended before its steps.
 pub(super) fn live_twice<D: LogDisk, P: Powered<D>>(
     alloc: Global,
     owed: &mut Owed,
@@ -283,7 +287,7 @@ pub(super) fn live_twice<D: LogDisk, P: Powered<D>>(
     Ok((left, is_ended))
 }
 
-/// What a process wrote that took steps until the calls of its disk were made, and whether it ended before the steps did.
+/// Returns what a process wrote until N calls were made, and whether it ended before its steps.
 fn written_by<D: LogDisk, P: Powered<D>>(
     alloc: Global,
     owed: &mut Owed,
@@ -297,7 +301,7 @@ fn written_by<D: LogDisk, P: Powered<D>>(
     Ok((copy_of::<D, P>(alloc, &store)?, is_dead::<D, P>(&store)))
 }
 
-/// What was written to a store's files.
+/// Returns what was written to the files of a store.
 fn copy_of<D: LogDisk, P: Powered<D>>(
     alloc: Global,
     store: &Store<D>,
@@ -305,7 +309,7 @@ fn copy_of<D: LogDisk, P: Powered<D>>(
     P::power(store.disk()).written().copy(alloc)
 }
 
-/// Opens a store on what a process wrote, and answers the files that a loss of power leaves then.
+/// Opens a store on what a process wrote. Returns the files that a loss of power leaves then.
 fn left_behind<D: LogDisk, P: Powered<D>>(
     alloc: Global,
     owed: &mut Owed,
@@ -321,7 +325,7 @@ fn left_behind<D: LogDisk, P: Powered<D>>(
     Ok(left)
 }
 
-/// A store on the files of a disk; `None` where the power went while it was opened.
+/// Opens a store on the files of a disk, or returns `None` if the power failed meanwhile.
 fn opened<D: LogDisk, P: Powered<D>>(
     alloc: Global,
     disk: PowerDisk<MemDisk>,
@@ -337,7 +341,7 @@ fn opened<D: LogDisk, P: Powered<D>>(
     }
 }
 
-/// Takes steps until the power goes.
+/// Performs steps until the power fails.
 fn take_all<D: LogDisk, P: Powered<D>>(
     alloc: Global,
     store: &mut Store<D>,
@@ -353,12 +357,12 @@ fn take_all<D: LogDisk, P: Powered<D>>(
     Ok(())
 }
 
-/// Whether the power is gone.
+/// Returns whether the power is gone.
 fn is_dead<D: LogDisk, P: Powered<D>>(store: &Store<D>) -> bool {
     P::power(store.disk()).is_dead()
 }
 
-/// What a loss of power leaves of a store's files, and whether it was.
+/// Returns what a loss of power leaves of a store's files, and whether the power failed.
 fn left_by<D: LogDisk, P: Powered<D>>(
     alloc: Global,
     store: &Store<D>,
@@ -372,7 +376,7 @@ fn left_by<D: LogDisk, P: Powered<D>>(
     Ok((left, is_dead::<D, P>(store)))
 }
 
-/// Takes a step, and notes what is owed then. Readers are passed over.
+/// Performs a step and records what must be kept. Steps of a reader are skipped.
 fn take<D: LogDisk>(
     alloc: Global,
     store: &mut Store<D>,
@@ -400,29 +404,29 @@ fn take<D: LogDisk>(
     Ok(())
 }
 
-/// Whether an add is accepted.
+/// Returns whether an add is accepted.
 fn is_accepted<D: LogDisk>(store: &mut Store<D>, payload: &[u8]) -> bool {
     matches!(store.add(payload), Ok(Added::Accepted(_)))
 }
 
-/// Whether a ledger is deleted.
+/// Returns whether a ledger is deleted.
 fn is_deleted<D: LogDisk>(store: &mut Store<D>, ledger: u64) -> bool {
     store.delete(ledger).is_ok()
 }
 
-/// What a step does to what is owed.
+/// What a step changes of what must be kept.
 enum Done {
     Swapped,
     Published,
     Other,
 }
 
-/// Takes a step of the store alone.
+/// Performs a step of the store alone.
 fn work_done<D: LogDisk>(store: &mut Store<D>, work: Work) -> Done {
     done_by(&apply(store, work))
 }
 
-/// What a step did that gave this answer.
+/// Returns what a step with this answer changed.
 fn done_by(answer: &Answer) -> Done {
     match answer {
         Answer::Swap(SwapAnswer::Swapped(_)) => Done::Swapped,
@@ -431,8 +435,8 @@ fn done_by(answer: &Answer) -> Done {
     }
 }
 
-/// Opens a store on what a crash left, and compares: each published entry is found, with its bytes, and nothing is found
-/// that was not added. What is found is owed from then on, and nothing else is.
+/// Opens a store on what a crash left and compares: each published entry has its bytes, and nothing
+/// is found that was not added. What is found must be kept from then on.
 pub(super) fn compare<D: LogDisk, P: Powered<D>>(
     alloc: Global,
     owed: &mut Owed,
@@ -445,7 +449,7 @@ pub(super) fn compare<D: LogDisk, P: Powered<D>>(
     find_all(alloc, &mut store, owed)
 }
 
-/// Compares what a store has that was just opened.
+/// Compares what a store has after opening.
 fn find_all<D: LogDisk>(alloc: Global, store: &mut Store<D>, owed: &mut Owed) -> Result<(), Stop> {
     let found = found_in(alloc, store, &owed.entries)?;
     let more = keys_of(store).saturating_sub(found.len());
@@ -456,12 +460,12 @@ fn find_all<D: LogDisk>(alloc: Global, store: &mut Store<D>, owed: &mut Owed) ->
     Ok(())
 }
 
-/// How many keys a store has whose caches are empty.
+/// Returns the number of keys of a store with empty caches.
 fn keys_of<D: LogDisk>(store: &Store<D>) -> usize {
     store.index().len()
 }
 
-/// The entries that a store has, each of which is one of these.
+/// Returns the entries that a store has, each of which is one of these.
 fn found_in<D: LogDisk>(
     alloc: Global,
     store: &mut Store<D>,
@@ -477,13 +481,13 @@ fn found_in<D: LogDisk>(
     Ok(found)
 }
 
-/// Puts an entry at the end of a list.
+/// Appends an entry to a list.
 fn push(entries: &mut Vec<Entry>, entry: Entry) -> Result<(), AllocError> {
     entries.push(entry)?;
     Ok(())
 }
 
-/// An entry of which this was found, where something was: its bytes, and something at all where it was published.
+/// Checks an entry against what was found: its bytes, and something at all if it was published.
 fn judged(owed: &Entry, found: Option<Vec<u8>>) -> Result<Option<Entry>, Stop> {
     match found {
         Some(payload) if payload.as_slice() == owed.payload.as_slice() => Ok(Some(Entry {
@@ -500,7 +504,7 @@ fn judged(owed: &Entry, found: Option<Vec<u8>>) -> Result<Option<Entry>, Stop> {
     }
 }
 
-/// An add of so many equal bytes as this entry of this ledger.
+/// Returns the add of this entry with N equal bytes.
 pub(super) fn add_of(
     alloc: Global,
     ledger: u64,
@@ -516,13 +520,13 @@ pub(super) fn add_of(
     Ok(Step::Add(payload))
 }
 
-/// Puts a step at the end of a list.
+/// Appends a step to a list.
 pub(super) fn push_step(steps: &mut Vec<Step>, step: Step) -> Result<(), AllocError> {
     steps.push(step)?;
     Ok(())
 }
 
-/// The payload that a store has of an entry.
+/// Returns the payload of an entry in a store.
 fn read<D: LogDisk>(
     alloc: Global,
     store: &mut Store<D>,

@@ -1,14 +1,15 @@
-//! Lives by chance: a store takes steps until its power goes, is opened on what is left, goes on, and so on.
+//! Random lives: a store performs steps until its power fails, opens on what is left, and
+//! continues.
 
 use super::life::{Bare, Chance, Marked, Owed, Powered, Stop, add_of, compare, live, push_step};
 use bk_crash::{Choices, File, PowerDisk};
 use bk_disk::{LogDisk, MemDisk};
 use bk_drive::{Kind, Step, Work};
-use bk_mark::MarkedDisk;
+use bk_watermark::WatermarkedDisk;
 use std::alloc::{AllocError, Global};
 use std::process::Abort;
 
-/// A step by chance: half of them adds and writes.
+/// Returns a random step. Half of them are adds and writes.
 fn step(alloc: Global, chance: &mut Chance) -> Result<Step, AllocError> {
     let kind = chance.up_to(39);
     let number = chance.up_to(9) as u64;
@@ -24,7 +25,7 @@ fn step(alloc: Global, chance: &mut Chance) -> Result<Step, AllocError> {
     Ok(Step::Work(work_of(kind, number, log)))
 }
 
-/// A step of the store alone, for a number from 10 to 39.
+/// Returns a step of the store alone for a number from 10 to 39.
 fn work_of(kind: usize, number: u64, log: u32) -> Work {
     match kind {
         0..=12 => Work::Swap,
@@ -45,7 +46,7 @@ fn work_of(kind: usize, number: u64, log: u32) -> Work {
     }
 }
 
-/// The steps of a life.
+/// Returns the steps of a life.
 fn steps_of(alloc: Global, chance: &mut Chance) -> Result<Vec<Step>, AllocError> {
     let mut steps = Vec::new(alloc);
     for _ in 0..120 {
@@ -54,7 +55,7 @@ fn steps_of(alloc: Global, chance: &mut Chance) -> Result<Vec<Step>, AllocError>
     Ok(steps)
 }
 
-/// A life on these files. Answers what its crash left.
+/// Runs a life on these files. Returns what its crash left.
 fn life<D: LogDisk, P: Powered<D>>(
     alloc: Global,
     owed: &mut Owed,
@@ -68,7 +69,7 @@ fn life<D: LogDisk, P: Powered<D>>(
     Ok(left)
 }
 
-/// So many lives of one store, each on what the crash of the one before left.
+/// Runs N lives of one store, each on what the crash before it left.
 fn lives<D: LogDisk, P: Powered<D>>(alloc: Global, seed: u64, count: u32) -> Result<(), Stop> {
     let mut chance = Chance::new(seed);
     let mut owed = Owed::new(alloc);
@@ -79,7 +80,7 @@ fn lives<D: LogDisk, P: Powered<D>>(alloc: Global, seed: u64, count: u32) -> Res
     Ok(())
 }
 
-/// Two hundred stores live on through many crashes.
+/// Two hundred stores survive many crashes.
 fn all_live<D: LogDisk, P: Powered<D>>(rt: &impl Abort, alloc: Global) {
     for seed in 0..200 {
         if let Err(stop) = lives::<D, P>(alloc, seed, 20) {
@@ -99,5 +100,5 @@ fn a_store_lives_on_through_many_crashes(rt: HostRuntime) {
 
 #[test]
 fn a_store_with_marks_lives_on_through_crashes_that_leave_damage(rt: HostRuntime) {
-    all_live::<MarkedDisk<PowerDisk<MemDisk>>, Marked>(&rt, rt.alloc());
+    all_live::<WatermarkedDisk<PowerDisk<MemDisk>>, Marked>(&rt, rt.alloc());
 }

@@ -1,4 +1,5 @@
-//! Worked runs: the power goes at each call in turn, several times, with other files left each time.
+//! Fixed scripts: the power fails at each call in turn, several times, with other files left each
+//! time.
 
 use super::life::{
     Bare, Chance, Marked, Owed, Powered, Stop, add_of, compare, live, live_twice, push_step,
@@ -6,13 +7,13 @@ use super::life::{
 use bk_crash::PowerDisk;
 use bk_disk::{LogDisk, MemDisk};
 use bk_drive::{Kind, Step, Work};
-use bk_mark::MarkedDisk;
+use bk_watermark::WatermarkedDisk;
 use std::alloc::{AllocError, Global};
 use std::process::Abort;
 
-/// A step of a run.
+/// A step of a script.
 enum Plan {
-    /// An add of so many bytes as this entry of this ledger.
+    /// An add of N bytes as this entry of this ledger.
     Add(u64, u64, usize),
     Delete(u64),
     Do(Work),
@@ -34,7 +35,7 @@ const END: Plan = Do(Work::EndCopy);
 
 const FINISH: Plan = Do(Work::Finish);
 
-/// A flush of three entries, a roll, and a second flush with an add in it.
+/// A flush of three entries, a roll, and a second flush with an add during it.
 const FLUSHES: &[Plan] = &[
     Add(1, 0, 5),
     Add(2, 0, 7),
@@ -54,7 +55,7 @@ const FLUSHES: &[Plan] = &[
     PUBLISH,
 ];
 
-/// Logs that are full after two entries, so that a write seals one log and makes the next.
+/// Logs that are full after two entries, so that a write seals one log and creates the next.
 const FULL_LOGS: &[Plan] = &[
     Add(1, 0, 480),
     Add(1, 1, 480),
@@ -75,8 +76,8 @@ const FULL_LOGS: &[Plan] = &[
     ROLL,
 ];
 
-/// Two logs are compacted, retired, closed and removed, the copy of the first with them; entries are added and flushed
-/// between.
+/// Two logs are compacted, retired, closed and removed, with the copy of the first. Entries are
+/// added and flushed in between.
 const COMPACTIONS: &[Plan] = &[
     Add(1, 0, 5),
     Add(2, 0, 200),
@@ -114,7 +115,8 @@ const COMPACTIONS: &[Plan] = &[
     Do(Work::Remove(2)),
 ];
 
-/// A compaction is given up behind its end, the index is made anew, and the log that no key names goes.
+/// A compaction is given up after its copying, the index is rebuilt, and the unreferenced log is
+/// removed.
 const GIVEN_UP: &[Plan] = &[
     Add(1, 0, 5),
     Add(2, 0, 200),
@@ -142,7 +144,7 @@ const GIVEN_UP: &[Plan] = &[
     Do(Work::GiveUp),
 ];
 
-/// Ledgers are deleted while they are flushed, and while they are copied.
+/// Ledgers are deleted during a flush and during a copy.
 const DELETIONS: &[Plan] = &[
     Add(1, 0, 1),
     Add(2, 0, 1),
@@ -183,20 +185,20 @@ fn steps_of(alloc: Global, plans: &[Plan]) -> Result<Vec<Step>, AllocError> {
     Ok(steps)
 }
 
-/// How often the power goes at each call.
+/// How often the power fails at each call.
 const TIMES: u64 = 60;
 
-/// How the process ends that takes the steps.
+/// How the process ends that performs the steps.
 #[derive(Clone, Copy)]
 enum End {
-    /// The power goes.
+    /// The power fails.
     Power,
-    /// It is killed. A store is opened on its files, and then the power goes.
+    /// It is killed. A store opens on its files, then the power fails.
     Kill,
 }
 
-/// Takes steps until so many calls on the disk are made, and compares what is left, with other choices each time. Whether the
-/// process ended before the steps did.
+/// Performs steps until N calls are made, and compares what is left, with other choices each time.
+/// Returns whether the process ended before its steps.
 fn is_cut<D: LogDisk, P: Powered<D>>(
     alloc: Global,
     steps: &[Step],
@@ -215,7 +217,7 @@ fn is_cut<D: LogDisk, P: Powered<D>>(
     Ok(cut)
 }
 
-/// The same so often. Whether the process ended before the steps did the last time.
+/// Repeats this. Returns whether the process ended before its steps the last time.
 fn are_cut<D: LogDisk, P: Powered<D>>(
     alloc: Global,
     steps: &[Step],
@@ -229,7 +231,7 @@ fn are_cut<D: LogDisk, P: Powered<D>>(
     Ok(cut)
 }
 
-/// How many crashes of a run were compared: so many at each of its calls on the disk.
+/// Returns the number of crashes of a script that were compared.
 fn crashes<D: LogDisk, P: Powered<D>>(
     alloc: Global,
     plans: &[Plan],
@@ -244,8 +246,8 @@ fn crashes<D: LogDisk, P: Powered<D>>(
     Ok(999 * TIMES)
 }
 
-/// The runs, each with a name.
-const RUNS: [(&str, &[Plan]); 5] = [
+/// The scripts, with their names.
+static RUNS: [(&str, &[Plan]); 5] = [
     ("flushes", FLUSHES),
     ("full logs", FULL_LOGS),
     ("compactions", COMPACTIONS),
@@ -253,7 +255,7 @@ const RUNS: [(&str, &[Plan]); 5] = [
     ("deletions", DELETIONS),
 ];
 
-/// How many crashes of the runs were compared, or which run lost something.
+/// Returns the number of crashes compared, or the script that lost something.
 fn all_crashes<D: LogDisk, P: Powered<D>>(
     alloc: Global,
     end: End,
@@ -268,7 +270,7 @@ fn all_crashes<D: LogDisk, P: Powered<D>>(
     Ok(count)
 }
 
-/// Whether many crashes were compared, and nothing was lost.
+/// Checks that many crashes were compared and nothing was lost.
 fn is_kept<D: LogDisk, P: Powered<D>>(rt: &impl Abort, alloc: Global, end: End) {
     match all_crashes::<D, P>(alloc, end) {
         Ok(count) => assert!(rt; count > 100 * TIMES, "{count} crashes"),
@@ -292,5 +294,5 @@ fn what_a_killed_run_left_outlives_a_loss_of_power_once_it_is_opened(rt: HostRun
 
 #[test]
 fn a_worked_run_with_marks_loses_nothing_to_damage(rt: HostRuntime) {
-    is_kept::<MarkedDisk<PowerDisk<MemDisk>>, Marked>(&rt, rt.alloc(), End::Power);
+    is_kept::<WatermarkedDisk<PowerDisk<MemDisk>>, Marked>(&rt, rt.alloc(), End::Power);
 }

@@ -1,19 +1,10 @@
-//! A disk over a real folder, which each test makes and takes away.
+//! A disk over a real directory, which each test makes and removes.
 
-use super::table::{Call, Row, Want, check};
-use bk_disk::{DirDisk, DirView, DiskFault, LogDisk, LogView};
-use std::alloc::Global;
-use std::fs::{self, OpenOptions};
-use std::io;
-use std::os::unix::fs::symlink;
+use super::change::Change::{Cut, Directory, Fill, Link, RemoveAll, Twin, Write};
+use super::stage::{Act, run};
+use super::table::{Call, Row, Want};
+use bk_disk::{DirDisk, DiskFault};
 use std::process::Abort;
-
-// The disk of a new and empty folder.
-fn anew(rt: &HostRuntime, folder: &str) -> Result<DirDisk, DiskFault> {
-    let _ = fs::remove_dir_all(rt, folder);
-    let _ = fs::create_dir(rt, folder);
-    DirDisk::open(rt, folder)
-}
 
 const CALLS: [Row; 18] = [
     (Call::Create(31), Want::Done),
@@ -42,35 +33,11 @@ const CALLS: [Row; 18] = [
     (Call::List, Want::Ids(&[2])),
 ];
 
+const CALLED: [Act; 2] = [Act::Open, Act::Calls(&CALLS)];
+
 #[test]
-fn calls_on_a_folder(rt: HostRuntime) {
-    let mut disk = anew(&rt, "bk_disk_calls").expect(&rt, "a disk");
-    check(&rt, rt.alloc(), &mut disk, &CALLS);
-    fs::remove_dir_all(&rt, "bk_disk_calls").expect(&rt, "no folder");
-}
-
-const FILES: [&str; 11] = [
-    "bk_disk_names/0.log",
-    "bk_disk_names/1f.log",
-    "bk_disk_names/7fffffff.log",
-    "bk_disk_names/80000000.log",
-    "bk_disk_names/01f.log",
-    "bk_disk_names/00.log",
-    "bk_disk_names/1F.log",
-    "bk_disk_names/+1.log",
-    "bk_disk_names/.log",
-    "bk_disk_names/0.log.compacted",
-    "bk_disk_names/notes",
-];
-
-// Files of five bytes, a folder, and links to a file and to the folder.
-fn fill(rt: &HostRuntime) -> io::Result<()> {
-    for path in &FILES {
-        fs::write(rt, path, b"bytes".as_slice())?;
-    }
-    fs::create_dir(rt, "bk_disk_names/2.log")?;
-    symlink(rt, "1f.log", "bk_disk_names/3.log")?;
-    symlink(rt, "2.log", "bk_disk_names/4.log")
+fn calls_on_a_directory(rt: HostRuntime) {
+    run(&rt, &rt, "bk_disk_calls", &CALLED);
 }
 
 const LISTED: [Row; 4] = [
@@ -80,12 +47,29 @@ const LISTED: [Row; 4] = [
     (Call::View(4), Want::Fault(DiskFault::NoLog)),
 ];
 
+// Files of five bytes, a directory, and links to a file and to the directory.
+const FILES: [Act; 16] = [
+    Act::Open,
+    Act::Do(Write("0.log", b"bytes")),
+    Act::Do(Write("1f.log", b"bytes")),
+    Act::Do(Write("7fffffff.log", b"bytes")),
+    Act::Do(Write("80000000.log", b"bytes")),
+    Act::Do(Write("01f.log", b"bytes")),
+    Act::Do(Write("00.log", b"bytes")),
+    Act::Do(Write("1F.log", b"bytes")),
+    Act::Do(Write("+1.log", b"bytes")),
+    Act::Do(Write(".log", b"bytes")),
+    Act::Do(Write("0.log.compacted", b"bytes")),
+    Act::Do(Write("notes", b"bytes")),
+    Act::Do(Directory("2.log")),
+    Act::Do(Link("3.log", "1f.log")),
+    Act::Do(Link("4.log", "2.log")),
+    Act::Calls(&LISTED),
+];
+
 #[test]
 fn only_files_of_logs_are_listed(rt: HostRuntime) {
-    let mut disk = anew(&rt, "bk_disk_names").expect(&rt, "a disk");
-    fill(&rt).expect(&rt, "files");
-    check(&rt, rt.alloc(), &mut disk, &LISTED);
-    fs::remove_dir_all(&rt, "bk_disk_names").expect(&rt, "no folder");
+    run(&rt, &rt, "bk_disk_names", &FILES);
 }
 
 const REFUSED: [Row; 2] = [
@@ -98,24 +82,20 @@ const GONE: [Row; 2] = [
     (Call::Create(1), Want::Fault(DiskFault::Disk)),
 ];
 
+const NO_DIRECTORY: [Act; 6] = [
+    Act::Open,
+    Act::Do(Link("5.log", "nowhere")),
+    Act::Calls(&REFUSED),
+    Act::Do(RemoveAll("../bk_disk_refused")),
+    Act::Calls(&GONE),
+    Act::Do(Directory("")),
+];
+
 #[test]
 fn what_the_system_refuses_is_disk(rt: HostRuntime) {
-    let folder = "bk_disk_refused";
-    let mut disk = anew(&rt, folder).expect(&rt, "a disk");
-    symlink(&rt, "nowhere", "bk_disk_refused/5.log").expect(&rt, "a link");
-    check(&rt, rt.alloc(), &mut disk, &REFUSED);
-    fs::remove_dir_all(&rt, folder).expect(&rt, "no folder");
-    check(&rt, rt.alloc(), &mut disk, &GONE);
-    let opened = DirDisk::open(&rt, folder);
+    run(&rt, &rt, "bk_disk_refused", &NO_DIRECTORY);
+    let opened = DirDisk::open(&rt, "bk_disk_refused");
     assert!(rt; matches!(opened, Err(DiskFault::Disk)));
-}
-
-// What a read of so many bytes behind the header finds.
-fn finds(alloc: Global, view: &DirView, n: u64, want: Result<&[u8], DiskFault>) -> bool {
-    match view.read_at(alloc, 1024, n) {
-        Ok(bytes) => want == Ok(bytes.as_slice()),
-        Err(fault) => want.err() == Some(fault),
-    }
 }
 
 const GROWN_AND_GONE: [Row; 2] = [
@@ -123,21 +103,20 @@ const GROWN_AND_GONE: [Row; 2] = [
     (Call::Remove(9), Want::Done),
 ];
 
+const VIEWED: [Act; 10] = [
+    Act::Open,
+    Act::Do(Fill("9.log", 5, 1030)),
+    Act::View(9),
+    Act::Do(Twin("kept", "9.log")),
+    Act::Calls(&GROWN_AND_GONE),
+    Act::Ends(0, 1030),
+    Act::Reads(0, 1024, 6, Want::Bytes(&[5; 6])),
+    Act::Reads(0, 1024, 7, Want::Fault(DiskFault::PastEnd)),
+    Act::Do(Cut("kept", 1026)),
+    Act::Reads(0, 1024, 6, Want::Fault(DiskFault::Disk)),
+];
+
 #[test]
 fn a_view_keeps_its_file_and_its_end(rt: HostRuntime) {
-    let path = "bk_disk_views/9.log";
-    let mut disk = anew(&rt, "bk_disk_views").expect(&rt, "a disk");
-    fs::write(&rt, path, [5u8; 1030].as_slice()).expect(&rt, "a file");
-    let view = disk.view(rt.alloc(), 9).expect(&rt, "a view");
-    let file = OpenOptions::new()
-        .write(true)
-        .open(&rt, path)
-        .expect(&rt, "a file");
-    check(&rt, rt.alloc(), &mut disk, &GROWN_AND_GONE);
-    assert!(rt; view.end() == 1030);
-    assert!(rt; finds(rt.alloc(), &view, 6, Ok(&[5; 6])));
-    assert!(rt; finds(rt.alloc(), &view, 7, Err(DiskFault::PastEnd)));
-    file.set_len(1026).expect(&rt, "a shorter file");
-    assert!(rt; finds(rt.alloc(), &view, 6, Err(DiskFault::Disk)));
-    fs::remove_dir_all(&rt, "bk_disk_views").expect(&rt, "no folder");
+    run(&rt, &rt, "bk_disk_views", &VIEWED);
 }

@@ -88,7 +88,7 @@ fn a_view_of_hundreds_of_blocks_stays(rt: HostRuntime) {
 }
 
 // Makes a log of an id up to two thousand million, with two bytes.
-fn make_log(rt: &impl Abort, alloc: Global, disk: &mut MemDisk, number: u16) {
+fn create_log(rt: &impl Abort, alloc: Global, disk: &mut MemDisk, number: u16) {
     let id = u32::from(number) * 269 % 700 * 3_000_000;
     disk.create(alloc, id).expect(rt, "a log");
     disk.append(alloc, id, &number.to_be_bytes())
@@ -105,7 +105,7 @@ fn seven_hundred_logs(rt: HostRuntime) {
     let alloc = rt.alloc();
     let mut disk = MemDisk::new(alloc);
     for number in 0..700u16 {
-        make_log(&rt, alloc, &mut disk, number);
+        create_log(&rt, alloc, &mut disk, number);
     }
     let ids = disk.list(alloc).expect(&rt, "ids");
     assert!(rt; ids.len() == 700);

@@ -1,129 +1,112 @@
-//! The marks of the logs of a real folder.
+//! Watermarks of the logs of a real directory.
 
-use bk_disk::{DirDisk, LogDisk, MarkDisk};
-use std::alloc::Global;
-use std::fs;
-use std::process::Abort;
-use std::test::Fail;
+use super::change::Change::{Fill, Marked};
+use super::sight::Sight::HasAt;
+use super::stage::{Act, run};
+use super::table::{Call, Row, Want};
 
-// The disk of a new and empty folder.
-fn anew(rt: &HostRuntime, folder: &str) -> Result<DirDisk, Fail> {
-    let _ = fs::remove_dir_all(rt, folder);
-    fs::create_dir(rt, folder)?;
-    Ok(DirDisk::open(rt, folder)?)
-}
+const BEGUN: [Row; 2] = [
+    (Call::Create(1), Want::Done),
+    (Call::Append(1, &[0; 1024]), Want::Done),
+];
 
-// A file of so many bytes that has these at byte 20, and some in front of them.
-fn file_with(alloc: Global, at_20: &[u8], length: usize) -> Result<Vec<u8>, Fail> {
-    let mut file = vec![in alloc; 7u8; 20]?;
-    file.extend_from_slice(at_20)?;
-    file.resize(length, 9)?;
-    Ok(file)
-}
+const GROWN: [Row; 2] = [
+    (Call::Append(1, b"0123456789"), Want::Done),
+    (Call::Sync(1), Want::Done),
+];
 
-// What a file has at byte 20 to 32.
-fn mark_in(rt: &HostRuntime, path: &str) -> Result<[u8; 12], Fail> {
-    let file = fs::read(rt, path)?;
-    let mut mark = [0; 12];
-    match file.get(20..32) {
-        Some(found) => {
-            mark.copy_from_slice(found);
-            Ok(mark)
-        }
-        None => Err(Fail::new("a short file")),
-    }
-}
+const SEALED: [Row; 2] = [
+    (Call::Append(1, b"a map"), Want::Done),
+    (Call::Patch(1, b"twelve bytes"), Want::Done),
+];
 
-#[test]
-fn a_log_is_marked_when_it_is_made_and_when_it_is_told(rt: HostRuntime) -> Result<(), Fail> {
-    let (alloc, path) = (rt.alloc(), "bk_disk_marked/1.log");
-    let mut disk = anew(&rt, "bk_disk_marked")?;
-    disk.begin_marks(alloc)?;
-    disk.create(alloc, 1)?;
-    disk.append(alloc, 1, &[0; 1024])?;
-    assert!(rt; mark_in(&rt, path)? == *b"mark\x00\x00\x00\x00\x00\x00\x04\x00");
-    disk.append(alloc, 1, b"0123456789")?;
-    disk.sync(alloc, 1)?;
-    assert!(rt; mark_in(&rt, path)? == *b"mark\x00\x00\x00\x00\x00\x00\x04\x00");
-    disk.keep_mark(alloc, 1, 1034)?;
-    assert!(rt; mark_in(&rt, path)? == *b"mark\x00\x00\x00\x00\x00\x00\x04\x0a");
-    disk.append(alloc, 1, b"a map")?;
-    disk.patch(alloc, 1, b"twelve bytes")?;
-    assert!(rt; mark_in(&rt, path)? == *b"mark\x00\x00\x00\x00\x00\x00\x04\x0f");
-    assert!(rt; disk.has_marks(alloc)?);
-    fs::remove_dir_all(&rt, "bk_disk_marked")?;
-    Ok(())
-}
+const AT_1024: Act = Act::See(HasAt("1.log", 20, b"mark\x00\x00\x00\x00\x00\x00\x04\x00"));
 
-#[test]
-fn a_log_has_no_mark_unless_marks_were_begun(rt: HostRuntime) -> Result<(), Fail> {
-    let (alloc, path) = (rt.alloc(), "bk_disk_unmarked/1.log");
-    let mut disk = anew(&rt, "bk_disk_unmarked")?;
-    disk.create(alloc, 1)?;
-    disk.append(alloc, 1, &[0; 1024])?;
-    disk.patch(alloc, 1, b"twelve bytes")?;
-    assert!(rt; mark_in(&rt, path)? == [0; 12]);
-    assert!(rt; !disk.has_marks(alloc)?);
-    fs::remove_dir_all(&rt, "bk_disk_unmarked")?;
-    Ok(())
-}
-
-// Files, by what they have at byte 20 and their lengths, and their lengths once they are cut to their marks: one with bytes
-// behind its mark, one whose bytes end before it, one that ends there, one from elsewhere, one without a mark, one that is too
-// short for a mark, and one without a byte.
-const CUT: [(&[u8], usize, u64); 7] = [
-    (b"mark\x00\x00\x00\x00\x00\x00\x04\x06", 1040, 1030),
-    (b"mark\x00\x00\x00\x00\x00\x00\x04\x20", 1040, 1040),
-    (b"mark\x00\x00\x00\x00\x00\x00\x04\x10", 1040, 1040),
-    (b"something it", 1040, 1040),
-    (&[0; 12], 1040, 1040),
-    (b"mark", 31, 0),
-    (b"", 0, 0),
+const MARKED: [Act; 11] = [
+    Act::Open,
+    Act::Truncate,
+    Act::Calls(&BEGUN),
+    AT_1024,
+    Act::Calls(&GROWN),
+    AT_1024,
+    Act::Watermark(1, 1034),
+    Act::See(HasAt("1.log", 20, b"mark\x00\x00\x00\x00\x00\x00\x04\x0a")),
+    Act::Calls(&SEALED),
+    Act::See(HasAt("1.log", 20, b"mark\x00\x00\x00\x00\x00\x00\x04\x0f")),
+    Act::HasMarks(true),
 ];
 
 #[test]
-fn a_log_is_cut_to_its_mark(rt: HostRuntime) -> Result<(), Fail> {
-    let alloc = rt.alloc();
-    let mut disk = anew(&rt, "bk_disk_cut")?;
-    for (log, (at_20, length, _)) in CUT.iter().enumerate() {
-        let path = format!(in alloc; "bk_disk_cut/{log}.log")?;
-        fs::write(
-            &rt,
-            path.as_str(),
-            file_with(alloc, at_20, *length)?.as_slice(),
-        )?;
-    }
-    fs::write(&rt, "bk_disk_cut/7.log", [0u8; 2000].as_slice())?;
-    disk.begin_marks(alloc)?;
-    for (log, (_, _, left)) in CUT.iter().enumerate() {
-        assert!(rt; disk.length(alloc, log as u32) == Ok(*left), "{log}");
-    }
-    assert!(rt; disk.length(alloc, 7) == Ok(0));
-    fs::remove_dir_all(&rt, "bk_disk_cut")?;
-    Ok(())
+fn a_log_is_marked_when_it_is_made_and_when_it_is_asked_for(rt: HostRuntime) {
+    run(&rt, &rt, "bk_disk_marked", &MARKED);
 }
 
+const SEALED_AT_ONCE: [Row; 3] = [
+    (Call::Create(1), Want::Done),
+    (Call::Append(1, &[0; 1024]), Want::Done),
+    (Call::Patch(1, b"twelve bytes"), Want::Done),
+];
+
+const UNMARKED: [Act; 4] = [
+    Act::Open,
+    Act::Calls(&SEALED_AT_ONCE),
+    Act::See(HasAt("1.log", 20, &[0; 12])),
+    Act::HasMarks(false),
+];
+
 #[test]
-fn a_log_from_elsewhere_is_left_as_it_is(rt: HostRuntime) -> Result<(), Fail> {
-    let (alloc, path) = (rt.alloc(), "bk_disk_elsewhere/3.log");
-    let mut disk = anew(&rt, "bk_disk_elsewhere")?;
-    fs::write(
-        &rt,
-        path,
-        file_with(alloc, b"something it", 1040)?.as_slice(),
-    )?;
-    fs::write(
-        &rt,
-        "bk_disk_elsewhere/4.log",
-        file_with(alloc, &[0; 12], 1040)?.as_slice(),
-    )?;
-    disk.begin_marks(alloc)?;
-    disk.keep_mark(alloc, 3, 1040)?;
-    disk.keep_mark(alloc, 4, 1040)?;
-    assert!(rt; mark_in(&rt, path)? == *b"something it");
-    assert!(rt;
-        mark_in(&rt, "bk_disk_elsewhere/4.log")? == *b"mark\x00\x00\x00\x00\x00\x00\x04\x10"
-    );
-    fs::remove_dir_all(&rt, "bk_disk_elsewhere")?;
-    Ok(())
+fn a_log_has_no_mark_unless_marks_were_begun(rt: HostRuntime) {
+    run(&rt, &rt, "bk_disk_unmarked", &UNMARKED);
+}
+
+// The lengths of the logs once they are cut.
+const LEFT: [Row; 8] = [
+    (Call::Length(0), Want::Number(1030)),
+    (Call::Length(1), Want::Number(1040)),
+    (Call::Length(2), Want::Number(1040)),
+    (Call::Length(3), Want::Number(1040)),
+    (Call::Length(4), Want::Number(1040)),
+    (Call::Length(5), Want::Number(0)),
+    (Call::Length(6), Want::Number(0)),
+    (Call::Length(7), Want::Number(0)),
+];
+
+const CUT: [Act; 11] = [
+    Act::Open,
+    // Bytes after the mark.
+    Act::Do(Marked("0.log", b"mark\x00\x00\x00\x00\x00\x00\x04\x06", 1040)),
+    // An end before the mark, and one at it.
+    Act::Do(Marked("1.log", b"mark\x00\x00\x00\x00\x00\x00\x04\x20", 1040)),
+    Act::Do(Marked("2.log", b"mark\x00\x00\x00\x00\x00\x00\x04\x10", 1040)),
+    // A log from elsewhere, and one without a mark.
+    Act::Do(Marked("3.log", b"something it", 1040)),
+    Act::Do(Marked("4.log", &[0; 12], 1040)),
+    // Too short for a mark, and empty.
+    Act::Do(Marked("5.log", b"mark", 31)),
+    Act::Do(Marked("6.log", b"", 0)),
+    // A header that was not written.
+    Act::Do(Fill("7.log", 0, 2000)),
+    Act::Truncate,
+    Act::Calls(&LEFT),
+];
+
+#[test]
+fn a_log_is_cut_to_its_mark(rt: HostRuntime) {
+    run(&rt, &rt, "bk_disk_cut", &CUT);
+}
+
+const ELSEWHERE: [Act; 8] = [
+    Act::Open,
+    Act::Do(Marked("3.log", b"something it", 1040)),
+    Act::Do(Marked("4.log", &[0; 12], 1040)),
+    Act::Truncate,
+    Act::Watermark(3, 1040),
+    Act::Watermark(4, 1040),
+    Act::See(HasAt("3.log", 20, b"something it")),
+    Act::See(HasAt("4.log", 20, b"mark\x00\x00\x00\x00\x00\x00\x04\x10")),
+];
+
+#[test]
+fn a_log_from_elsewhere_is_left_as_it_is(rt: HostRuntime) {
+    run(&rt, &rt, "bk_disk_elsewhere", &ELSEWHERE);
 }

@@ -78,7 +78,7 @@ fn view_all<D: LogDisk>(alloc: Global, disk: &mut D, log: u32) -> Result<Vec<u8>
 pub(super) type Row = (Call<'static>, Want<'static>);
 
 /// Whether an answer is the one that is wanted.
-fn is_wanted(answer: &Answer, want: Want<'_>) -> bool {
+pub(super) fn is_wanted(answer: &Answer, want: Want<'_>) -> bool {
     match want {
         Want::Done => matches!(answer, Answer::Done(Ok(()))),
         Want::Number(number) => is_number(answer, number),

@@ -1,19 +1,12 @@
-//! The one writer of a real folder, and files that somebody else changes while they are written.
+//! The one writer of a real directory, and files that somebody else changes while they are written.
 
+use super::change::Change::{Cut, Directory, Grow, Remove, Rename, Write};
+use super::stage::{Act, begin, run};
 use super::table::{Call, Row, Want, check};
 use bk_disk::{DirDisk, DiskFault};
 use std::alloc::Global;
-use std::fs::{self, OpenOptions};
-use std::io::{self, Write};
-use std::process::{self, Abort};
-use std::test::Fail;
-
-// The disk of a new and empty folder.
-fn anew(rt: &HostRuntime, folder: &str) -> Result<DirDisk, Fail> {
-    let _ = fs::remove_dir_all(rt, folder);
-    fs::create_dir(rt, folder)?;
-    Ok(DirDisk::open(rt, folder)?)
-}
+use std::fs;
+use std::process::Abort;
 
 const DISK: Want<'static> = Want::Fault(DiskFault::Disk);
 
@@ -38,82 +31,48 @@ const FREE: [Row; 3] = [
     (Call::List, Want::Ids(&[2])),
 ];
 
-// What is told of a folder that is not to be written.
-fn refusal(rt: &HostRuntime, path: &str) -> Result<String, Fail> {
-    match DirDisk::open_to_write(rt, path) {
-        Ok(_) => Err(Fail::new("a writer")),
-        Err(fault) => Ok(format!(in rt.alloc(); "{fault}")?),
-    }
-}
-
-// Whether a text names this process as the one that holds the lock.
-fn names_this_process(rt: &HostRuntime, text: &str) -> Result<bool, Fail> {
-    let process = process::id(rt.process());
-    let begin = format!(in rt.alloc();
-        "in use: process {process} holds the lock of bk_disk_two_writers/writer.lock; one"
-    )?;
-    Ok(text.starts_with(begin.as_str()))
-}
+const TWO_WRITERS: [Act; 12] = [
+    Act::Open,
+    Act::Calls(&BEGIN),
+    Act::Swap,
+    Act::Open,
+    Act::Calls(&REFUSED),
+    Act::HeldHere,
+    Act::Swap,
+    Act::Close,
+    Act::OpenToWrite,
+    Act::Close,
+    Act::Swap,
+    Act::Calls(&FREE),
+];
 
 #[test]
-fn a_second_writer_is_refused_and_reads_on(rt: HostRuntime) -> Result<(), Fail> {
-    let folder = "bk_disk_two_writers";
-    let mut first = anew(&rt, folder)?;
-    let mut second = DirDisk::open(&rt, folder)?;
-    check(&rt, rt.alloc(), &mut first, &BEGIN);
-    check(&rt, rt.alloc(), &mut second, &REFUSED);
-    let text = refusal(&rt, folder)?;
-    assert!(rt; names_this_process(&rt, &text)?, "{text}");
-    drop(first);
-    drop(DirDisk::open_to_write(&rt, folder)?);
-    check(&rt, rt.alloc(), &mut second, &FREE);
-    fs::remove_dir_all(&rt, folder)?;
-    Ok(())
+fn a_second_writer_is_refused_and_reads_on(rt: HostRuntime) {
+    run(&rt, &rt, "bk_disk_two_writers", &TWO_WRITERS);
 }
 
-// Folders that are not to be written, and what is told of each.
-const TOLD: [(&str, &str); 3] = [
-    (
+// Directories that are not to be written, and what is reported of each.
+const NOT_WRITTEN: [Act; 6] = [
+    Act::Open,
+    Act::Do(Write("1.log", b"")),
+    Act::Do(Directory("writer.lock")),
+    Act::NotOpened(
         "bk_disk_no_lock/gone",
         "disk: bk_disk_no_lock/gone: No such file or directory (os error 2)",
     ),
-    (
+    Act::NotOpened(
         "bk_disk_no_lock/1.log",
         "disk: bk_disk_no_lock/1.log: Not a directory (os error 20)",
     ),
-    (
+    Act::NotOpened(
         "bk_disk_no_lock",
         "disk: bk_disk_no_lock/writer.lock: Is a directory (os error 21)",
     ),
 ];
 
 #[test]
-fn a_folder_that_is_not_to_be_written_is_told_with_the_reason(rt: HostRuntime) -> Result<(), Fail> {
-    let disk = anew(&rt, "bk_disk_no_lock")?;
-    fs::write(&rt, "bk_disk_no_lock/1.log", b"".as_slice())?;
-    fs::create_dir(&rt, "bk_disk_no_lock/writer.lock")?;
-    for (path, told) in &TOLD {
-        let text = refusal(&rt, path)?;
-        assert!(rt; text.as_str() == *told, "{text}");
-    }
-    drop(disk);
-    fs::remove_dir_all(&rt, "bk_disk_no_lock")?;
-    Ok(())
-}
-
-// What somebody else does: log 1 gets longer and log 2 shorter, log 3 is another file, and log 4 is gone.
-fn intrude(rt: &HostRuntime) -> io::Result<()> {
-    OpenOptions::new()
-        .append(true)
-        .open(rt, "bk_disk_intruder/1.log")?
-        .write_all(b"xy")?;
-    OpenOptions::new()
-        .write(true)
-        .open(rt, "bk_disk_intruder/2.log")?
-        .set_len(4)?;
-    fs::write(rt, "bk_disk_intruder/other", b"".as_slice())?;
-    fs::rename(rt, "bk_disk_intruder/other", "bk_disk_intruder/3.log")?;
-    fs::remove_file(rt, "bk_disk_intruder/4.log")
+fn a_directory_that_is_not_to_be_written_is_reported_with_the_reason(rt: HostRuntime) {
+    run(&rt, &rt, "bk_disk_no_lock", &NOT_WRITTEN);
 }
 
 const BEGUN: [Row; 7] = [
@@ -143,20 +102,25 @@ const SEEN: [Row; 13] = [
     (Call::Sync(4), Want::Done),
 ];
 
+// Somebody else makes log 1 longer and log 2 shorter, log 3 another file, and removes log 4.
+const INTRUDED: [Act; 8] = [
+    Act::Open,
+    Act::Calls(&BEGUN),
+    Act::Do(Grow("1.log", b"xy")),
+    Act::Do(Cut("2.log", 4)),
+    Act::Do(Write("other", b"")),
+    Act::Do(Rename("other", "3.log")),
+    Act::Do(Remove("4.log")),
+    Act::Calls(&SEEN),
+];
+
 #[test]
-fn what_somebody_else_wrote_is_seen_and_stays(rt: HostRuntime) -> Result<(), Fail> {
-    let alloc = rt.alloc();
-    let folder = "bk_disk_intruder";
-    let mut disk = anew(&rt, folder)?;
-    check(&rt, alloc, &mut disk, &BEGUN);
-    intrude(&rt)?;
-    check(&rt, alloc, &mut disk, &SEEN);
-    fs::remove_dir_all(&rt, folder)?;
-    Ok(())
+fn what_somebody_else_wrote_is_seen_and_stays(rt: HostRuntime) {
+    run(&rt, &rt, "bk_disk_intruder", &INTRUDED);
 }
 
 // Makes a log of two bytes.
-fn make_log(rt: &impl Abort, alloc: Global, disk: &mut DirDisk, log: u16) {
+fn create_log(rt: &impl Abort, alloc: Global, disk: &mut DirDisk, log: u16) {
     let calls = [
         (Call::Create(log), Want::Done),
         (Call::Append(log, b"ab"), Want::Done),
@@ -175,15 +139,21 @@ fn grow_log(rt: &impl Abort, alloc: Global, disk: &mut DirDisk, log: u16) {
     check(rt, alloc, disk, &calls);
 }
 
+// Writes 40 logs, each twice.
+fn write_logs(rt: &impl Abort, alloc: Global, disk: &mut DirDisk) {
+    for log in 0..40 {
+        create_log(rt, alloc, disk, log);
+    }
+    for log in 0..40 {
+        grow_log(rt, alloc, disk, log);
+    }
+}
+
 #[test]
-fn more_logs_are_written_than_files_are_kept(rt: HostRuntime) -> Result<(), Fail> {
-    let mut disk = anew(&rt, "bk_disk_many")?;
-    for log in 0..40 {
-        make_log(&rt, rt.alloc(), &mut disk, log);
-    }
-    for log in 0..40 {
-        grow_log(&rt, rt.alloc(), &mut disk, log);
-    }
-    fs::remove_dir_all(&rt, "bk_disk_many")?;
-    Ok(())
+fn more_logs_are_written_than_files_are_kept(rt: HostRuntime) {
+    assert!(rt; begin(&rt, "bk_disk_many"));
+    let mut disk = DirDisk::open(&rt, "bk_disk_many").expect(&rt, "a disk");
+    write_logs(&rt, rt.alloc(), &mut disk);
+    drop(disk);
+    assert!(rt; fs::remove_dir_all(&rt, "bk_disk_many").is_ok());
 }

@@ -1,51 +1,41 @@
-//! Calls that no script has: an index made anew over a log that is shown again, and the greatest number as a ledger.
+//! Calls that no script has: a rebuild over a log that is published again, and the largest ledger
+//! id.
 
-use super::series::{found, make};
-use super::{SETTINGS, Told, is_disk_fault, told, told_of_delete};
+use super::logs::{found, make};
+use super::{Disk, SETTINGS, Told, deleted, lend, opened, pass, worked};
 use bk_disk::{DiskFault, FaultDisk, LogDisk, MemDisk};
-use bk_drive::{Answer, CollectFault, DeleteFault, OpenFault, Settings, Store, Work, apply};
+use bk_drive::{Settings, Store, Work};
 use bk_record::Key;
-use bk_store::{LogState, Taken};
+use bk_store::LogState;
 use std::alloc::Global;
-use std::test::Fail;
 
-/// A disk of which a view is broken.
-type Disk = FaultDisk<MemDisk>;
+/// Settings of a store with eight slots.
+const EIGHT_SLOTS: Settings = Settings {
+    slots: 8,
+    ..SETTINGS
+};
 
 /// A call of a store.
 #[derive(Clone, Copy)]
 enum Call {
     /// A step of the store alone.
     Do(Work),
-    /// A take of entry 0 of this ledger, whose lease is given back at once.
+    /// A take of entry 0 of this ledger. The lease is dropped at once.
     Take(u64),
     Delete(u64),
-    /// Shows a log again that is read, where no compaction runs.
-    Show(u32),
+    /// Publishes a readable log again, if no compaction runs.
+    Publish(u32),
 }
 
 const REBUILD: Call = Call::Do(Work::Rebuild);
 
-/// What a call tells.
+/// Makes a call and returns its answer.
 fn told_by(store: &mut Store<Disk>, call: Call) -> Told {
     match call {
-        Call::Do(work) => worked(&applied(store, work)),
+        Call::Do(work) => worked(store, work),
         Call::Take(ledger) => taken(store, ledger),
-        Call::Delete(ledger) => told_of_delete(&deleted(store, ledger)),
-        Call::Show(log) => shown(store, log),
-    }
-}
-
-fn applied(store: &mut Store<Disk>, work: Work) -> Answer {
-    apply(store, work)
-}
-
-/// What a step tells, also where the device failed.
-fn worked(answer: &Answer) -> Told {
-    match answer {
-        Answer::Rebuild(Err(CollectFault::Disk)) => ("disk", 0),
-        _ if is_disk_fault(answer) => ("disk", 0),
-        _ => told(answer),
+        Call::Delete(ledger) => deleted(store, ledger),
+        Call::Publish(log) => published(store, log),
     }
 }
 
@@ -53,49 +43,53 @@ fn taken(store: &mut Store<Disk>, ledger: u64) -> Told {
     let Some(key) = Key::new(ledger, 0) else {
         return ("no key", 0);
     };
-    match &store.take(key) {
-        Ok(Taken::Leased(_, location)) => ("leased", location.value()),
-        _ => ("not leased", 0),
+    match lend(store, key) {
+        Ok(leased) => ("leased", leased.1.value()),
+        Err(told) => told,
     }
 }
 
-fn deleted(store: &mut Store<Disk>, ledger: u64) -> Result<u64, DeleteFault> {
-    store.delete(ledger)
-}
-
-fn shown(store: &mut Store<Disk>, log: u32) -> Told {
+fn published(store: &mut Store<Disk>, log: u32) -> Told {
     let None = store.job() else {
         return ("job running", 0);
     };
     match store.log_state(log) {
-        Some(LogState::Readable) if store.show(log).is_ok() => ("shown", 0),
-        _ => ("not shown", 0),
+        Some(LogState::Readable) if store.publish_log(log).is_ok() => ("published", 0),
+        _ => ("not published", 0),
     }
 }
 
-/// A store of eight slots.
-fn opened(alloc: Global, disk: Disk, dead: &[u64]) -> Result<Store<Disk>, OpenFault> {
-    let settings = Settings {
-        slots: 8,
-        ..SETTINGS
-    };
-    Store::open(alloc, disk, settings, dead)
-}
-
-/// The number of the first call that tells something else, counted from 1; 0 where none does.
-fn first_wrong(store: &mut Store<Disk>, calls: &[(Call, Told)]) -> usize {
+/// Returns the number of the first call whose answer differs, counted from 1.
+fn first_wrong(store: &mut Store<Disk>, calls: &[(Call, Told)]) -> Option<usize> {
     for (number, (call, expected)) in calls.iter().enumerate() {
         if told_by(store, *call) != *expected {
-            return number.saturating_add(1);
+            return Some(number.saturating_add(1));
         }
     }
-    0
+    None
+}
+
+/// The same for a store that is opened on this disk, or 0 if none is.
+fn first_wrong_on(
+    alloc: Global,
+    disk: Result<Disk, DiskFault>,
+    dead: &[u64],
+    calls: &[(Call, Told)],
+) -> Option<usize> {
+    let Ok(disk) = disk else {
+        return Some(0);
+    };
+    match opened(alloc, disk, EIGHT_SLOTS, dead) {
+        Ok(mut store) => first_wrong(&mut store, calls),
+        Err(_) => Some(0),
+    }
 }
 
 /// Entry 0 of ledger 7.
 const SEVENTH: &[u8] = b"\0\0\0\x11\0\0\0\0\0\0\0\x07\0\0\0\0\0\0\0\0d";
 
-/// A disk with logs 0 and 1, which both have entry 0 of ledger 7, and log 2, which has none. Its fourth view can't be read.
+/// Returns a disk with entry 0 of ledger 7 in logs 0 and 1, and log 2 empty. Its fourth view cannot
+/// be read.
 fn repeated(alloc: Global) -> Result<Disk, DiskFault> {
     let mut disk = MemDisk::new(alloc);
     for id in 0..3 {
@@ -107,9 +101,15 @@ fn repeated(alloc: Global) -> Result<Disk, DiskFault> {
     Ok(FaultDisk::broken_view(disk, 4))
 }
 
-/// The view of log 0 can't be read any more: all stays as it was, and once the log is retired it is not read.
-const UNBUILT: [(Call, Told); 8] = [
-    (Call::Show(0), ("shown", 0)),
+/// Returns the disk with the logs that are found, none of whose calls fails.
+fn sound(alloc: Global) -> Result<Disk, DiskFault> {
+    Ok(FaultDisk::new(found(alloc)?, 0, 0))
+}
+
+/// The view of log 0 cannot be read. A rebuild fails and changes nothing. After the log is retired,
+/// a rebuild does not read it.
+static UNBUILT: [(Call, Told); 8] = [
+    (Call::Publish(0), ("published", 0)),
     (REBUILD, ("disk", 0)),
     (Call::Take(7), ("leased", 4_294_968_324)),
     (Call::Do(Work::Retire(1)), ("still named", 1)),
@@ -119,40 +119,24 @@ const UNBUILT: [(Call, Told); 8] = [
     (Call::Take(7), ("leased", 4_294_968_324)),
 ];
 
-fn unbuilt(alloc: Global) -> Result<usize, OpenFault> {
-    let Ok(disk) = repeated(alloc) else {
-        return Err(OpenFault::Memory);
-    };
-    let mut store = opened(alloc, disk, &[])?;
-    Ok(first_wrong(&mut store, &UNBUILT))
-}
-
 #[test]
-fn a_log_that_is_retired_is_not_read(rt: HostRuntime) -> Result<(), Fail> {
-    let wrong = unbuilt(rt.alloc())?;
-    assert!(rt; wrong == 0, "call {wrong}");
-    Ok(())
+fn a_log_that_is_retired_is_not_read(rt: HostRuntime) {
+    let alloc = rt.alloc();
+    let wrong = first_wrong_on(alloc, repeated(alloc), &[], &UNBUILT);
+    pass(&rt, "unbuilt", wrong);
 }
 
-/// Any number may be deleted, also one that no entry can have.
-const GREATEST: [(Call, Told); 4] = [
+/// Any ledger id can be deleted, also one that no entry can have.
+static GREATEST: [(Call, Told); 4] = [
     (Call::Delete(1), ("dropped", 1)),
     (Call::Delete(u64::MAX), ("dropped", 0)),
     (Call::Delete(u64::MAX), ("already deleted", 0)),
     (Call::Take(2), ("leased", 1049)),
 ];
 
-fn greatest(alloc: Global) -> Result<usize, OpenFault> {
-    let Ok(disk) = found(alloc) else {
-        return Err(OpenFault::Memory);
-    };
-    let mut store = opened(alloc, FaultDisk::new(disk, 0, 0), &[4])?;
-    Ok(first_wrong(&mut store, &GREATEST))
-}
-
 #[test]
-fn any_number_is_deleted(rt: HostRuntime) -> Result<(), Fail> {
-    let wrong = greatest(rt.alloc())?;
-    assert!(rt; wrong == 0, "call {wrong}");
-    Ok(())
+fn any_number_is_deleted(rt: HostRuntime) {
+    let alloc = rt.alloc();
+    let wrong = first_wrong_on(alloc, sound(alloc), &[4], &GREATEST);
+    pass(&rt, "greatest", wrong);
 }

@@ -1,50 +1,49 @@
-//! Leases that a caller holds: entry 0 of ledger 2 stands in log 0, that of ledger 3 in log 1.
+//! Leases that a caller holds. Entry 0 of ledger 2 is in log 0, that of ledger 3 in log 1.
 
-use super::series::found;
-use super::{SETTINGS, Told};
-use bk_disk::{LogDisk, MemDisk};
-use bk_drive::{Lease, OpenFault, Settings, Store, TakeFault};
+use super::logs::found;
+use super::{Disk, Leased, SETTINGS, Told, lend, opened, pass};
+use bk_disk::FaultDisk;
+use bk_drive::{OpenFault, Settings, Store};
 use bk_record::Key;
-use bk_store::Taken;
 use std::alloc::Global;
-use std::test::Fail;
 
-/// How far apart the locations of two logs are.
+/// Distance between the locations of two logs.
 const LOG: u64 = 1 << 32;
 
-/// A view of a log.
-type View = <MemDisk as LogDisk>::View;
+/// Three logs with at most two leases per log.
+const TWO_LEASES: Settings = Settings {
+    slots: 3,
+    leases: 2,
+    ..SETTINGS
+};
 
-/// A store, which is gone once its disk is given back, and the leases of its logs that are out.
+/// A store, absent after its disk was returned, and the leases that are held.
 #[derive(Drop)]
 struct Lender {
-    store: Option<Store<MemDisk>>,
-    leases: Vec<Lease<View>>,
+    store: Option<Store<Disk>>,
+    leases: Vec<Leased>,
 }
 
-/// What is asked of it.
+/// An action on it.
 #[derive(Clone, Copy)]
 enum Asked {
-    /// A take of entry 0 of a ledger, whose lease is held.
+    /// Takes entry 0 of a ledger and holds the lease.
     Hold(u64),
-    /// The lease that was held last is given back.
+    /// Drops the lease taken last.
     GiveBack,
-    /// The store is to give its disk back.
+    /// Asks the store for its disk.
     Disk,
 }
 
-fn taken(store: &mut Store<MemDisk>, key: Key) -> Result<Taken<View>, TakeFault> {
-    store.take(key)
-}
-
-/// Where the disk is not given back, the store, and how many leases of the lowest leased log are out, and a hundred for each
-/// log below that one.
-fn given_back(store: Store<MemDisk>) -> Option<(Store<MemDisk>, u64)> {
+/// Asks a store for its disk. Returns the store if it is refused, with the number of leases on the
+/// lowest leased log, plus 100 for each log below it.
+fn given_back(store: Store<Disk>) -> (Option<Store<Disk>>, Told) {
     match store.into_disk() {
-        Ok(_) => None,
+        Ok(_) => (None, ("disk", 0)),
         Err(refused) => {
             let below = u64::from(refused.log).saturating_mul(100);
-            Some((refused.store, below.saturating_add(refused.count)))
+            let told = ("leases", below.saturating_add(refused.count));
+            (Some(refused.store), told)
         }
     }
 }
@@ -54,15 +53,15 @@ impl Lender {
         let (Some(store), Some(key)) = (&mut self.store, Key::new(ledger, 0)) else {
             return ("no store", 0);
         };
-        match taken(store, key) {
-            Ok(Taken::Leased(lease, location)) => self.keep(lease, location.value()),
-            Err(TakeFault::TooMany) => ("too many leases", 0),
-            _ => ("another fault", 0),
+        match lend(store, key) {
+            Ok(leased) => self.keep(leased),
+            Err(told) => told,
         }
     }
 
-    fn keep(&mut self, lease: Lease<View>, location: u64) -> Told {
-        match self.leases.push(lease) {
+    fn keep(&mut self, leased: Leased) -> Told {
+        let location = leased.1.value();
+        match self.leases.push(leased) {
             Ok(()) => ("leased", location),
             Err(_) => ("no memory", 0),
         }
@@ -79,13 +78,9 @@ impl Lender {
         let Some(store) = self.store.take() else {
             return ("no store", 0);
         };
-        match given_back(store) {
-            None => ("disk", 0),
-            Some((store, leases)) => {
-                self.store = Some(store);
-                ("leases", leases)
-            }
-        }
+        let (store, told) = given_back(store);
+        self.store = store;
+        told
     }
 
     fn told_by(&mut self, asked: Asked) -> Told {
@@ -97,39 +92,33 @@ impl Lender {
     }
 }
 
-/// A store on three logs, of each of which at most two leases are out.
-fn two_leases(alloc: Global, disk: MemDisk) -> Result<Store<MemDisk>, OpenFault> {
-    let settings = Settings {
-        slots: 3,
-        leases: 2,
-        ..SETTINGS
-    };
-    Store::open(alloc, disk, settings, &[])
-}
-
 fn make_lender(alloc: Global) -> Result<Lender, OpenFault> {
     let Ok(disk) = found(alloc) else {
         return Err(OpenFault::Memory);
     };
+    let disk = FaultDisk::new(disk, 0, 0);
     Ok(Lender {
-        store: Some(two_leases(alloc, disk)?),
+        store: Some(opened(alloc, disk, TWO_LEASES, &[])?),
         leases: Vec::new(alloc),
     })
 }
 
-/// The number of the first call that tells something else, counted from 1; 0 where none does.
-fn first_untold(alloc: Global, run: &[(Asked, Told)]) -> Result<usize, OpenFault> {
-    let mut lender = make_lender(alloc)?;
+/// Returns the number of the first action with another result, counted from 1, or 0 if no store
+/// opens.
+fn first_untold(alloc: Global, run: &[(Asked, Told)]) -> Option<usize> {
+    let Ok(mut lender) = make_lender(alloc) else {
+        return Some(0);
+    };
     for (number, (asked, expected)) in run.iter().enumerate() {
         if lender.told_by(*asked) != *expected {
-            return Ok(number.saturating_add(1));
+            return Some(number.saturating_add(1));
         }
     }
-    Ok(0)
+    None
 }
 
-/// As many leases of a log are out as are allowed, and another one once one is given back. No other log's leases count.
-const COUNTED: [(Asked, Told); 7] = [
+/// The limit of leases is per log, and a dropped lease makes room for another.
+static COUNTED: [(Asked, Told); 7] = [
     (Asked::Hold(2), ("leased", 1049)),
     (Asked::Hold(2), ("leased", 1049)),
     (Asked::Hold(2), ("too many leases", 0)),
@@ -139,8 +128,8 @@ const COUNTED: [(Asked, Told); 7] = [
     (Asked::Hold(2), ("leased", 1049)),
 ];
 
-/// The disk is given back once no lease is out; a refusal leaves the store as it was.
-const REFUSED: [(Asked, Told); 9] = [
+/// The disk is returned only when no lease is held. A refusal leaves the store unchanged.
+static REFUSED: [(Asked, Told); 9] = [
     (Asked::Hold(3), ("leased", LOG + 1028)),
     (Asked::Hold(3), ("leased", LOG + 1028)),
     (Asked::Disk, ("leases", 102)),
@@ -153,12 +142,7 @@ const REFUSED: [(Asked, Told); 9] = [
 ];
 
 #[test]
-fn leases_that_are_held_count(rt: HostRuntime) -> Result<(), Fail> {
-    let counted = first_untold(rt.alloc(), &COUNTED)?;
-    let refused = first_untold(rt.alloc(), &REFUSED)?;
-    assert!(rt;
-        counted == 0 && refused == 0,
-        "call {counted} of the first run, or {refused} of the second"
-    );
-    Ok(())
+fn leases_that_are_held_count(rt: HostRuntime) {
+    pass(&rt, "counted", first_untold(rt.alloc(), &COUNTED));
+    pass(&rt, "refused", first_untold(rt.alloc(), &REFUSED));
 }

@@ -1,5 +1,5 @@
-//! The example of docs/using.md: a store in the hands of Rust code. What stands between two marks here stands in the page,
-//! line by line.
+//! The example of the library guide: a store used from Rust. The text between two marks is quoted
+//! there.
 
 use bk_disk::{DirDisk, LogDisk, MemDisk};
 use bk_drive::{
@@ -129,45 +129,76 @@ fn has<D: LogDisk>(alloc: Global, store: &mut Store<D>, data: &[u8]) -> bool {
 }
 // end: has
 
+// begin: life
+/// Whether each call on an empty store answers so.
+fn answers<D: LogDisk>(alloc: Global, store: &mut Store<D>, hello: &[u8]) -> bool {
+    let is_added = matches!(add(store, hello), Ok(Added::Accepted(_)));
+    let is_held = matches!(add(store, hello), Ok(Added::Held));
+    let is_flushed = matches!(flush(store), Ok(1));
+    // From the log now, by a lease.
+    let is_read = has(alloc, store, b"hello");
+    // How many entries the ledger had; from here on none can be added to it.
+    let is_deleted = matches!(store.delete(1), Ok(1));
+    let is_over = matches!(add(store, hello), Err(AddFault::Deleted));
+    is_added && is_held && is_flushed && is_read && is_deleted && is_over
+}
+
+/// The length of log 0 on the disk of a store. The disk comes back where no lease is out; a refusal has the store as it was,
+/// and tells which log is read.
+fn length_left<D: LogDisk>(alloc: Global, store: Store<D>) -> Option<u64> {
+    match store.into_disk() {
+        Ok(mut disk) => disk.length(alloc, 0).ok(),
+        Err(_) => None,
+    }
+}
+// end: life
+
+/// What is left of the log of a store in memory after these calls.
+fn left_in_memory(alloc: Global, hello: &[u8]) -> Option<u64> {
+    let Ok(mut store) = open(alloc, MemDisk::new(alloc)) else {
+        return None;
+    };
+    let is_answered = answers(alloc, &mut store, hello);
+    let length = length_left(alloc, store);
+    if is_answered { length } else { None }
+}
+
 #[test]
 fn an_entry_goes_from_an_add_to_the_end_of_its_ledger(rt: HostRuntime) -> Result<(), Fail> {
-    // begin: life
-    let alloc = rt.alloc();
-    let mut store = open(alloc, MemDisk::new(alloc))?;
-    let hello = payload(alloc, 1, 0, b"hello")?;
-    assert!(rt; matches!(add(&mut store, &hello), Ok(Added::Accepted(_))));
-    assert!(rt; matches!(add(&mut store, &hello), Ok(Added::Held)));
-    assert!(rt; matches!(flush(&mut store), Ok(1)));
-    // From the log now, by a lease.
-    assert!(rt; has(alloc, &mut store, b"hello"));
-    // How many entries the ledger had; from here on none can be added to it.
-    assert!(rt; matches!(store.delete(1), Ok(1)));
-    assert!(rt; matches!(add(&mut store, &hello), Err(AddFault::Deleted)));
-    // The disk comes back where no lease is out; a refusal has the store as it was, and tells which log is read.
-    let Ok(mut disk) = store.into_disk() else {
-        return Err(Fail::new("a lease is out"));
-    };
-    // The log that was made stays: a header, and a record of 25 bytes.
-    assert!(rt; matches!(disk.length(alloc, 0), Ok(1049)));
-    // end: life
+    let hello = payload(rt.alloc(), 1, 0, b"hello")?;
+    // A header, and a record of 25 bytes.
+    assert!(rt; left_in_memory(rt.alloc(), &hello) == Some(1049));
     Ok(())
 }
+
+// begin: folder
+/// Adds an entry to a new store and flushes it. What is not flushed is gone with the store.
+fn leaves<D: LogDisk>(alloc: Global, disk: D, hello: &[u8]) -> bool {
+    match open(alloc, disk) {
+        Ok(mut store) => add(&mut store, hello).is_ok() && flush(&mut store).is_ok(),
+        Err(_) => false,
+    }
+}
+
+/// Whether the next store on the disk has the entry.
+fn finds<D: LogDisk>(alloc: Global, disk: D) -> bool {
+    match open(alloc, disk) {
+        Ok(mut store) => has(alloc, &mut store, b"hello"),
+        Err(_) => false,
+    }
+}
+// end: folder
 
 #[test]
 fn a_store_is_opened_again_on_its_folder(rt: HostRuntime) -> Result<(), Fail> {
     let _ = fs::remove_dir_all(&rt, "bookie_logs");
-    // begin: folder
     let alloc = rt.alloc();
+    let hello = payload(alloc, 1, 0, b"hello")?;
+    // begin: twice
     fs::create_dir(&rt, "bookie_logs")?;
-    let mut store = open(alloc, DirDisk::open(&rt, "bookie_logs")?)?;
-    add(&mut store, &payload(alloc, 1, 0, b"hello")?)?;
-    // What is not flushed is gone with the store.
-    flush(&mut store)?;
-    drop(store);
-    let mut again = open(alloc, DirDisk::open(&rt, "bookie_logs")?)?;
-    assert!(rt; has(alloc, &mut again, b"hello"));
-    // end: folder
-    drop(again);
+    assert!(rt; leaves(alloc, DirDisk::open(&rt, "bookie_logs")?, &hello));
+    assert!(rt; finds(alloc, DirDisk::open(&rt, "bookie_logs")?));
+    // end: twice
     fs::remove_dir_all(&rt, "bookie_logs")?;
     Ok(())
 }

@@ -1,5 +1,5 @@
-//! The keys of one ledger in the pages of the index. They stand in pages side by side, so that a search over the fences
-//! finds the first and the last of them, and no other page is looked at.
+//! The keys of one ledger. They are in adjacent pages, so a search over the fences finds the first
+//! and the last page, and no other page is visited.
 
 ghost use Rattle.std.specs.Prelude.{◌≡◌, ◌<◌, ◌≤◌, ◌+◌, ◌^◌, [], ◌++◌, length, take, drop, not, ◌==◌, filter, slice_index_or, sum_by, IsTrue};
 ghost use Rattle.std.specs.FinMap.{is_sorted};
@@ -11,7 +11,7 @@ use crate::Walk;
 use crate::page::Page;
 
 impl Pages {
-    /// The keys of a ledger and their locations, in the order of the keys.
+    /// Returns an iterator over the keys of a ledger and their locations, in key order.
     pub(crate) fn walk_ledger(&self, ledger: u64) -> Walk<'_>
         requires { IsTrue (is_sorted key_cmp (all_pairs self.now)) }
         ensures items { result ≡ filter (λ pair. pair.0.ledger == ledger) (all_pairs self.now) }
@@ -27,8 +27,7 @@ impl Pages {
         }
     }
 
-    /// Takes the keys of a ledger out, and answers how many there were. Only pages that can have such keys are looked
-    /// at, and of those between the first and the last of them no key.
+    /// Removes the keys of a ledger and returns their number.
     pub(crate) fn drop_ledger(&mut self, ledger: u64) -> usize
         requires { IsTrue (is_sorted key_cmp (all_pairs self.old)) }
         ensures left { all_pairs self.new ≡ filter (λ pair. not (pair.0.ledger == ledger)) (all_pairs self.old) }
@@ -47,7 +46,8 @@ impl Pages {
         last + between + first
     }
 
-    // The pages in which a ledger can have keys: from the first number up to the second, which is not among them.
+    // The pages that can have keys of a ledger, from the first number up to, not including, the
+    // second.
     fn pages_of(&self, ledger: u64) -> (usize, usize)
         requires { IsTrue (is_sorted key_cmp (all_pairs self.now)) }
         ensures { HoldsLedger self.now ledger result.0 result.1 }
@@ -59,7 +59,7 @@ impl Pages {
         (before.saturating_sub(1), to)
     }
 
-    // Takes the keys of a ledger out of a page, and the page out of the list where nothing is left of it.
+    // Removes the keys of a ledger from a page, and the page if it is then empty.
     fn thin(&mut self, at: usize, ledger: u64) -> usize
         requires { at < length self.old }
         ensures before { take at self.new ≡ take at self.old }
@@ -79,7 +79,7 @@ impl Pages {
         dropped
     }
 
-    // Takes whole pages out, and answers how many entries they had.
+    // Removes whole pages and returns their number of entries.
     fn cut(&mut self, from: usize, to: usize) -> usize
         requires order { from ≤ to }
         requires bound { to ≤ length self.old }
@@ -93,7 +93,6 @@ impl Pages {
     }
 }
 
-// How many pairs the pages have.
 fn count_pairs(pages: &[Page]) -> usize
     requires { sum_by length pages.now < 2 ^ 64 }
     ensures { result ≡ sum_by length pages.now }

@@ -9,11 +9,11 @@ use bk_disk::LogView;
 impl<'a, V: LogView> Scanner<'a, V> {
     ghost use Rattle.bk_log.specs.Scanning.{is_going, IsGiven, StepMoves};
 
-    /// Looks at what stands at the position: an entry, or a piece that is passed or ends the scan.
+    /// Parses the piece at the position: returns an entry, or passes a piece, or ends the scan.
     pub(super) fn step(&mut self) -> Option<Found>
         requires { IsTrue (is_going self.old) }
         ensures moves { StepMoves self.old result self.new }
-        ensures turn { IsTrue self.old.honest → IfSome result (λ found. IsGiven self.old found self.new.foreign) }
+        ensures transition { IsTrue self.old.honest → IfSome result (λ found. IsGiven self.old found self.new.foreign) }
     {
         let at = self.window.at();
         let left = self.end - at;

@@ -1,9 +1,10 @@
-//! Writing one record. What can be refused comes first, so that a refusal leaves the writer as it was.
+//! Appending one record. All steps that can fail without the disk precede its call, so such an
+//! error leaves the writer unchanged.
 
 ghost use Rattle.std.specs.Prelude.{◌≡◌, ◌+◌, ◌<◌, ◌^◌, false, IsTrue, IsSome, IsErrOf, OnOk, length};
 ghost use Rattle.bk_record.specs.Record.{IsPayload, key_of as payload_key, ledger_field, record_of};
-ghost use Rattle.bk_disk.specs.Disk.{IsCaused};
-ghost use Rattle.bk_disk.specs.Durable.{KeepsMore};
+ghost use Rattle.bk_disk.specs.Disk.{FailsExactlyIf};
+ghost use Rattle.bk_disk.specs.Durable.{DurableGrows};
 
 use crate::calls::append;
 use crate::{LogFault, LogWriter};
@@ -12,16 +13,23 @@ use bk_record::{Location, RecordFault, key_of, write_record};
 use std::alloc::Global;
 
 impl LogWriter {
-    ghost use Rattle.bk_log.specs.Writing.{Puts, AppendTurn, Writes};
+    ghost use Rattle.bk_log.specs.Writing.{Puts, WriterPutTransition, Writes};
 
-    /// Writes the record of a payload at the log's end and answers where it stands: the location of the payload, right
-    /// behind its length field.
+    /// Appends the record of a payload and returns the location of the payload, which is after its
+    /// length field.
     ///
-    /// The caller gives a payload of 16 to 2^31 - 1 bytes that has a key, and keeps the log at most 2^32 - 1 bytes.
-    /// Faults: `Failed`, where an earlier write failed, without a call on the disk; `Disk`, which may leave a part of
-    /// the record, and `Odd`, after both of which every further call answers `Failed`; `Memory`, which leaves the
-    /// writer and the file as they were.
-    #[tactic(auto, using(bk_disk::proofs::KeepsMore::kept_rules))]
+    /// Requires a payload of 16 to 2^31 - 1 bytes that has a key, and a log of at most 2^32 - 1
+    /// bytes after the call.
+    ///
+    /// # Errors
+    ///
+    /// In this order:
+    ///
+    /// - `Failed` if an earlier write failed; the disk is not called.
+    /// - `Memory`; writer and files are unchanged. Also possible from the disk.
+    /// - `Disk`; a prefix of the record may be written, and every further call fails with `Failed`.
+    /// - `Odd`, not on an honest disk; every further call fails with `Failed`.
+    #[tactic(auto, using(bk_disk::proofs::DurableGrows::kept_rules))]
     pub fn put<D: LogDisk>(
         &mut self,
         disk: &mut D,
@@ -33,12 +41,12 @@ impl LogWriter {
         requires fits { self.old.end + 4 + length payload.now < 2 ^ 32 }
         requires writes { IsTrue (D.honest disk.old) → self.old.failed ≡ false → Writes (D.files disk.old) self.old }
         ensures honest { D.honest disk.new ≡ D.honest disk.old }
-        ensures kept { IsTrue (D.honest disk.old) → KeepsMore (D.synced disk.old) (D.gone disk.old) (D.synced disk.new) (D.gone disk.new) }
-        ensures cause { IsCaused (D.failures disk.old) (D.failures disk.new) (IsErrOf result LogFault.Disk) }
+        ensures durable { IsTrue (D.honest disk.old) → DurableGrows (D.synced disk.old) (D.gone disk.old) (D.synced disk.new) (D.gone disk.new) }
+        ensures cause { FailsExactlyIf (D.failures disk.old) (D.failures disk.new) (IsErrOf result LogFault.Disk) }
         ensures writer { Puts self.old payload.now result self.new }
         ensures untouched { IsErrOf result LogFault.Failed → disk.new ≡ disk.old }
-        ensures turn { IsTrue (D.honest disk.old)
-            → AppendTurn (D.files disk.old) self.old payload.now result (D.files disk.new) }
+        ensures transition { IsTrue (D.honest disk.old)
+            → WriterPutTransition (D.files disk.old) self.old payload.now result (D.files disk.new) }
         ensures writes { IsTrue (D.honest disk.old) → self.new.failed ≡ false → Writes (D.files disk.new) self.new }
     {
         if self.failed {
@@ -64,7 +72,7 @@ impl LogWriter {
     }
 }
 
-/// The ledger of a payload that has a key.
+/// Returns the ledger of a payload that has a key.
 fn ledger_of(payload: &[u8]) -> u64
     requires payload { IsPayload payload.now }
     requires keyed { IsSome (payload_key payload.now) }
@@ -74,7 +82,7 @@ fn ledger_of(payload: &[u8]) -> u64
     key_of(payload).unwrap().ledger()
 }
 
-/// Puts the record of a payload in place of what the buffer has.
+/// Replaces the contents of the buffer by the record of a payload.
 fn set_record(buffer: &mut Vec<u8>, payload: &[u8]) -> Result<(), RecordFault>
     requires { IsPayload payload.now }
     ensures { OnOk result (buffer.new.items ≡ record_of payload.now) }

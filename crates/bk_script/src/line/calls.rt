@@ -1,4 +1,4 @@
-//! The lines that add an entry: what stands behind their first word and a space.
+//! Parses lines that add an entry.
 
 ghost use Rattle.std.specs.Prelude.{◌≡◌, ◌∷◌, ◌++◌, codes, All, IfOk, OnErr};
 ghost use Rattle.bk_script.specs.Line.{IsPrintable, Spells, add_word};
@@ -7,12 +7,12 @@ use crate::line::LineFault;
 use crate::line::numbers::Numbers;
 use crate::line::payload::{add, pad};
 use crate::line::words::{split_number, split_word};
-use bk_digits::number;
+use bk_decimal::number;
 use bk_drive::{AddKind, Step};
 use bk_record::{LAST_ID, MAX_PAD};
 use std::alloc::Global;
 
-/// The add of what follows the word of its kind and a space.
+/// Parses the rest of an add.
 pub(crate) fn read_add(
     alloc: Global,
     kind: AddKind,
@@ -37,7 +37,7 @@ pub(crate) fn read_add(
     }
 }
 
-/// The add of zero bytes of what follows `pad` and a space.
+/// Parses the rest of a `pad`, an add of zero bytes.
 pub(crate) fn read_pad(alloc: Global, text: &str, last_reader: u32) -> Result<Step, LineFault>
     ensures ok { IfOk result (Spells last_reader (codes "pad" ++ 32 ∷ text.now)) }
     ensures bad { result ≡ Err LineFault.Bad → (step : _) → ¬ (Spells last_reader (codes "pad" ++ 32 ∷ text.now) step) }

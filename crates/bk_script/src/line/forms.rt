@@ -1,4 +1,4 @@
-//! The lines whose step is made of numbers alone.
+//! Parses lines whose step is made of numbers only.
 
 ghost use Rattle.std.specs.Prelude.{◌≡◌, [], ◌∷◌, true, false, Some, None, slice_index, if◌then◌else◌, MatchOption};
 ghost use Rattle.bk_drive.specs.declared.step.Step.TheVariants as steps;
@@ -10,11 +10,10 @@ use crate::line::numbers::Numbers;
 use bk_drive::{Kind, Step, Work};
 use bk_record::{Key, LAST_ID, LAST_LOG};
 
-/// The most entries or moves that a line asks for (this project's rule).
+/// Largest number of entries or moves in a line (this project's rule).
 const MAX_COUNT: u64 = u32::MAX as u64;
 
-/// The step that a word and the numbers behind it ask for, with readers numbered up to `last_reader`. `None` where they
-/// ask for none.
+/// Returns the step of a word and its numbers, or `None`. Readers are numbered up to `last_reader`.
 pub(crate) fn step_of(name: &str, numbers: Numbers, last_reader: u32) -> Option<Step>
     ensures { result ≡ formed last_reader name.now (listed numbers) }
 {
@@ -43,14 +42,14 @@ pub(crate) fn step_of(name: &str, numbers: Numbers, last_reader: u32) -> Option<
     }
 }
 
-/// The step of a word alone.
+/// Returns the step of a word without numbers.
 fn alone(numbers: Numbers, work: Work) -> Option<Step>
     ensures { result ≡ (if fits 0 [] (listed numbers) then Some (steps.Work work) else None) }
 {
     numbers.are_none().then_some(Step::Work(work))
 }
 
-/// The log that the only number names.
+/// Returns the log id that the only number is.
 fn log(numbers: Numbers) -> Option<u32>
     ensures { MatchOption result (fits 0 (lines.log ∷ []) (listed numbers) ≡ false)
         (λ n. (fits 0 (lines.log ∷ []) (listed numbers) ≡ true) × (slice_index (listed numbers) 0 ≡ n)) }
@@ -61,7 +60,7 @@ fn log(numbers: Numbers) -> Option<u32>
     }
 }
 
-/// The reader that the only number names.
+/// Returns the reader that the only number is.
 fn reader(numbers: Numbers, last_reader: u32) -> Option<u32>
     ensures { MatchOption result (fits last_reader (lines.reader ∷ []) (listed numbers) ≡ false)
         (λ n. (fits last_reader (lines.reader ∷ []) (listed numbers) ≡ true) × (slice_index (listed numbers) 0 ≡ n)) }
@@ -72,7 +71,7 @@ fn reader(numbers: Numbers, last_reader: u32) -> Option<u32>
     }
 }
 
-/// The ledger that the only number names.
+/// Returns the ledger id that the only number is.
 fn ledger(numbers: Numbers) -> Option<u64>
     ensures { MatchOption result (fits 0 (lines.id ∷ []) (listed numbers) ≡ false)
         (λ n. (fits 0 (lines.id ∷ []) (listed numbers) ≡ true) × (slice_index (listed numbers) 0 ≡ n)) }
@@ -80,7 +79,7 @@ fn ledger(numbers: Numbers) -> Option<u64>
     numbers.one(LAST_ID)
 }
 
-/// The only number, where it says how many.
+/// Returns the count that the only number is.
 fn count(numbers: Numbers) -> Option<u64>
     ensures { MatchOption result (fits 0 (lines.count ∷ []) (listed numbers) ≡ false)
         (λ n. (fits 0 (lines.count ∷ []) (listed numbers) ≡ true) × (slice_index (listed numbers) 0 ≡ n)) }
@@ -88,7 +87,7 @@ fn count(numbers: Numbers) -> Option<u64>
     numbers.one(MAX_COUNT)
 }
 
-/// The take of a key by a reader, which three numbers name.
+/// Returns the take whose reader and key the three numbers are.
 fn take(numbers: Numbers, last_reader: u32) -> Option<Step>
     ensures { result ≡ (if fits last_reader (lines.reader ∷ lines.id ∷ lines.id ∷ []) (listed numbers)
         then Some (steps.Take (slice_index (listed numbers) 0)

@@ -1,4 +1,4 @@
-//! The numbers behind the first word of a line, with one space between.
+//! The numbers after the first word of a line.
 
 ghost use Rattle.std.specs.Prelude.{◌≡◌, ◌≢◌, ℕ, ◌<◌, ◌≤◌, ◌^◌, [], ◌∷◌, All, length, IfSome, IfNone, IsTrue, ◌↔◌};
 ghost use Rattle.std.specs.Option.{option_copied};
@@ -6,9 +6,9 @@ ghost use Rattle.bk_script.specs.Line.{numbered};
 ghost use Rattle.bk_script.specs.Numbers.{listed};
 
 use crate::line::words::split_number;
-use bk_digits::number;
+use bk_decimal::number;
 
-/// The numbers of a line, of which there are three at most.
+/// The numbers of a line, at most three.
 #[derive(Clone, Copy, Debug, PartialEq, Eq)]
 pub(crate) enum Numbers {
     Zero,
@@ -18,7 +18,8 @@ pub(crate) enum Numbers {
 }
 
 impl Numbers {
-    /// The numbers that a text is, or none where there is no text. `None` where the text is something else.
+    /// Parses numbers separated by single spaces. Without a text there are none. Returns `None` if
+    /// the text is anything else.
     pub(crate) fn read(text: Option<&str>) -> Option<Numbers>
         ensures value { IfSome result (λ numbers. option_copied text.entry ≡ numbered (listed numbers)) }
         ensures small { IfSome result (λ numbers. All (λ n. n < 2 ^ 64) (listed numbers)) }
@@ -37,14 +38,14 @@ impl Numbers {
         Some(Numbers::Three(first, second, number(text, u64::MAX)?))
     }
 
-    /// There is no number.
+    /// Returns whether there is no number.
     pub(crate) fn are_none(self) -> bool
         ensures { IsTrue result ↔ (listed self ≡ []) }
     {
         matches!(self, Numbers::Zero)
     }
 
-    /// The only number, where it is not past a bound.
+    /// Returns the only number, if it is at most `most`.
     pub(crate) fn one(self, most: u64) -> Option<u64>
         ensures value { IfSome result (λ n. (n ≤ most) × (listed self ≡ n ∷ [])) }
         ensures none { IfNone result ((n : ℕ) → n ≤ most → listed self ≢ n ∷ []) }
@@ -55,7 +56,7 @@ impl Numbers {
         }
     }
 
-    /// All three numbers, where none is past its bound.
+    /// Returns all three numbers, if none exceeds its bound.
     pub(crate) fn three(self, first: u64, second: u64, third: u64) -> Option<(u64, u64, u64)>
         ensures value { IfSome result (λ r. (r.0 ≤ first) × (r.1 ≤ second) × (r.2 ≤ third)
             × (listed self ≡ r.0 ∷ r.1 ∷ r.2 ∷ [])) }

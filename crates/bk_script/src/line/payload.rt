@@ -1,4 +1,4 @@
-//! The payloads that lines ask to be added. The room for one is asked for at once.
+//! Payloads of the entries that lines add. The room of a payload is one allocation.
 
 ghost use Rattle.std.specs.Prelude.{◌≡◌, ◌+◌, ◌≤◌, ◌++◌, ◌^◌, replicate, IfOk, MatchResult};
 ghost use Rattle.std.specs.Int.{w64, to_be_bytes};
@@ -9,10 +9,10 @@ use crate::line::LineFault;
 use bk_drive::{AddKind, Step};
 use std::alloc::{AllocError, Global};
 
-/// How many bytes the two ids at the front of a payload take.
+/// Size of the two ids at the front of a payload.
 const IDS: usize = 16;
 
-/// The add of an entry with these ids and this text as its data.
+/// Returns the add of an entry with these ids and this text as data.
 pub(crate) fn add(
     alloc: Global,
     kind: AddKind,
@@ -31,7 +31,8 @@ pub(crate) fn add(
     }
 }
 
-/// The add of an entry with these ids and `size` zero bytes as its data. At most 2^32 is the caller's condition.
+/// Returns the add of an entry with these ids and `size` zero bytes as data. `size` is at most
+/// 2^32.
 pub(crate) fn pad(alloc: Global, ledger: u64, entry: u64, size: usize) -> Result<Step, LineFault>
     requires { size ≤ 2 ^ 32 }
     ensures { MatchResult result (IsAdd Ordinary ledger entry (replicate size 0)) (λ fault. fault ≡ LineFault.Memory) }
@@ -42,7 +43,7 @@ pub(crate) fn pad(alloc: Global, ledger: u64, entry: u64, size: usize) -> Result
     }
 }
 
-/// The payload of an entry: the ledger id and the entry id, eight bytes each, big-endian, then the data.
+/// Returns the payload: ledger id and entry id, eight bytes each, big-endian, then the data.
 #[tactic(auto, unfolding(crate::specs::Line::payload_of))]
 fn text_payload(alloc: Global, ledger: u64, entry: u64, data: &[u8]) -> Result<Vec<u8>, AllocError>
     ensures { IfOk result (λ payload. payload.items ≡ payload_of ledger entry «data».now) }
@@ -52,7 +53,7 @@ fn text_payload(alloc: Global, ledger: u64, entry: u64, data: &[u8]) -> Result<V
     Ok(payload)
 }
 
-/// The payload of an entry of zero bytes.
+/// Returns the payload with zero bytes as data.
 #[tactic(auto, unfolding(crate::specs::Line::payload_of))]
 fn zero_payload(alloc: Global, ledger: u64, entry: u64, size: usize) -> Result<Vec<u8>, AllocError>
     requires { size ≤ 2 ^ 32 }
@@ -63,7 +64,7 @@ fn zero_payload(alloc: Global, ledger: u64, entry: u64, size: usize) -> Result<V
     Ok(payload)
 }
 
-/// The two ids at the front of a payload, with room for `room` bytes in all.
+/// Returns the two ids at the front of a payload, with room for `room` bytes in all.
 fn ids(alloc: Global, ledger: u64, entry: u64, room: usize) -> Result<Vec<u8>, AllocError>
     ensures { IfOk result (λ ids. ids.items ≡ to_be_bytes w64 ledger ++ to_be_bytes w64 entry) }
 {

@@ -1,4 +1,4 @@
-//! The texts of faults: those that the program prints are those that the faults have by themselves.
+//! Texts of faults: the program prints the text that a fault has by itself.
 
 use super::{DEFAULTS, is_shown, run_from};
 use bk_drive::{AddFault, CollectFault, DeleteFault, OpenFault, Settings, StepFault};
@@ -8,8 +8,8 @@ use bk_script::{ScriptFault, Text};
 use std::alloc::{AllocError, Global};
 use std::test::Fail;
 
-/// Why scripts are not run.
-const SCRIPTS: [ScriptFault; 7] = [
+/// Reasons why scripts are not run.
+static SCRIPTS: [ScriptFault; 7] = [
     ScriptFault::Read,
     ScriptFault::Bad(3),
     ScriptFault::Open(OpenFault::Disk),
@@ -19,7 +19,7 @@ const SCRIPTS: [ScriptFault; 7] = [
     ScriptFault::Memory,
 ];
 
-/// What is told of each.
+/// The line of each reason.
 const TOLD: &str = "\
 read fault
 line 3: bad command
@@ -30,7 +30,7 @@ fault settings
 fault memory
 ";
 
-/// The texts of why scripts are not run, a line each.
+/// Returns the texts of the reasons, one line each.
 fn of_scripts(alloc: Global) -> Result<String, AllocError> {
     let mut texts = String::new(alloc);
     for fault in &SCRIPTS {
@@ -39,7 +39,7 @@ fn of_scripts(alloc: Global) -> Result<String, AllocError> {
     Ok(texts)
 }
 
-/// No log is held, which no store allows.
+/// Settings without slots, which no store allows.
 const NO_SLOTS: Settings = Settings {
     slots: 0,
     ..DEFAULTS
@@ -54,14 +54,14 @@ fn why_a_script_is_not_run_goes_to_the_error_stream(rt: HostRuntime) -> Result<(
     Ok(())
 }
 
-const RECORDS: [RecordFault; 4] = [
+static RECORDS: [RecordFault; 4] = [
     RecordFault::Short(15),
     RecordFault::Negative,
     RecordFault::TooLong(5_000_001),
     RecordFault::Memory,
 ];
 
-const ADDS: [AddFault; 4] = [
+static ADDS: [AddFault; 4] = [
     AddFault::Bad(RecordFault::Short(15)),
     AddFault::Deleted,
     AddFault::Full {
@@ -71,16 +71,16 @@ const ADDS: [AddFault; 4] = [
     AddFault::Memory,
 ];
 
-const DELETIONS: [DeleteFault; 2] = [DeleteFault::AlreadyDeleted, DeleteFault::Memory];
+static DELETIONS: [DeleteFault; 2] = [DeleteFault::AlreadyDeleted, DeleteFault::Memory];
 
-const FETCHES: [FetchFault; 4] = [
+static FETCHES: [FetchFault; 4] = [
     FetchFault::Disk,
     FetchFault::NotThere,
     FetchFault::Memory,
     FetchFault::Odd,
 ];
 
-const STEPS: [StepFault; 5] = [
+static STEPS: [StepFault; 5] = [
     StepFault::Disk,
     StepFault::Memory { done: 7 },
     StepFault::LogsFull,
@@ -88,7 +88,7 @@ const STEPS: [StepFault; 5] = [
     StepFault::Odd,
 ];
 
-const COLLECTIONS: [CollectFault; 3] = [
+static COLLECTIONS: [CollectFault; 3] = [
     CollectFault::Disk,
     CollectFault::Memory,
     CollectFault::Odd,
@@ -162,7 +162,7 @@ fn push_collections(texts: &mut String) -> Result<(), AllocError> {
     Ok(())
 }
 
-/// The texts of all these faults, a line each.
+/// Returns the texts of all these faults, one line each.
 fn of_steps(alloc: Global) -> Result<String, AllocError> {
     let mut texts = String::new(alloc);
     push_records(&mut texts)?;

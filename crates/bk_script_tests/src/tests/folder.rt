@@ -1,4 +1,4 @@
-//! Scripts over folders, which each test makes and takes away.
+//! Scripts on directories, which each test creates and removes.
 
 use super::worked::{SCRIPTS, push_line, texts_of};
 use super::{DEFAULTS, Shown, is_shown};
@@ -9,7 +9,7 @@ use std::io::Write;
 use std::test::Fail;
 use std::{fs, io};
 
-/// Makes an empty folder.
+/// Creates an empty directory.
 fn anew(rt: &HostRuntime, folder: &str) -> io::Result<()> {
     let _ = fs::remove_dir_all(rt, folder);
     fs::create_dir(rt, folder)
@@ -41,7 +41,7 @@ fn run_over(
     }
 }
 
-/// The same over a folder, which it locks, and lets go at its end.
+/// Runs a script on a directory, which it locks until its end.
 fn run_in(
     rt: &HostRuntime,
     folder: &str,
@@ -53,7 +53,7 @@ fn run_in(
     Ok(run_over(rt, disk, settings, dead, script))
 }
 
-/// Whether each of these lines prints its answer over an empty folder.
+/// Returns whether each of these lines has its answer on an empty directory.
 fn are_answered_in(
     rt: &HostRuntime,
     folder: &str,
@@ -78,8 +78,9 @@ fn an_empty_folder_answers_as_a_disk_in_memory(rt: HostRuntime) -> Result<(), Fa
     Ok(())
 }
 
-/// A script with a flush, a log that is sealed, another flush, a deletion, and a compaction of the first log.
-const STEPS: [&str; 19] = [
+/// A script with a flush, a sealed log, another flush, a deletion, and a compaction of the first
+/// log.
+static STEPS: [&str; 19] = [
     "add 1 0 one",
     "add 2 0 two",
     "swap",
@@ -101,20 +102,20 @@ const STEPS: [&str; 19] = [
     "remove 0",
 ];
 
-/// Which entries are published after so many steps: the step, the entry, and what a read of it prints.
-const PUBLISHED: [(usize, &str, &str); 3] = [
+/// The entries that are published after N steps: the step, the entry, and the output of a read.
+static PUBLISHED: [(usize, &str, &str); 3] = [
     (6, "1 0", "bytes 6f6e65\nreleased\n"),
     (6, "2 0", "bytes 74776f\nreleased\n"),
     (11, "1 1", "bytes 7468726565\nreleased\n"),
 ];
 
-/// After so many steps ledger 2 is deleted: who opens the folder again has to say so.
+/// Number of steps after which ledger 2 is deleted. A later opening must list it.
 const DELETED: usize = 12;
 
-/// What a read of an entry of a deleted ledger prints.
+/// Output of a read of an entry of a deleted ledger.
 const GONE: &str = "deleted\nno lease\nno lease\n";
 
-/// Runs the first steps over an empty folder. Whether they ran.
+/// Runs the first steps on an empty directory. Returns whether they ran.
 fn run_first(rt: &HostRuntime, folder: &str, count: usize) -> Result<bool, Fail> {
     let mut script = String::new(rt.alloc());
     for line in STEPS.iter().take(count) {
@@ -125,7 +126,7 @@ fn run_first(rt: &HostRuntime, folder: &str, count: usize) -> Result<bool, Fail>
     Ok(ran.status == 0)
 }
 
-/// Whether a read of this entry over a store that is opened anew ends with this text, after so many steps.
+/// Returns whether a read of this entry, on a store opened after N steps, ends with this text.
 fn is_read(
     rt: &HostRuntime,
     folder: &str,
@@ -139,8 +140,8 @@ fn is_read(
     Ok(shown.status == 0 && shown.output.ends_with(end.as_bytes()))
 }
 
-/// Runs the first steps over an empty folder, and then reads each entry that was published: whether all are there, and those
-/// of the deleted ledger are not.
+/// Runs the first steps on an empty directory, then reads each published entry. Returns whether all
+/// are there, and none of the deleted ledger.
 fn is_all_there(rt: &HostRuntime, folder: &str, count: usize) -> Result<bool, Fail> {
     let mut is_there = run_first(rt, folder, count)?;
     for (since, entry, printed) in PUBLISHED.iter() {
@@ -163,8 +164,8 @@ fn what_was_published_is_there_after_each_step(rt: HostRuntime) -> Result<(), Fa
     Ok(())
 }
 
-/// Files beside the logs that are none, and stay as they are.
-const FOREIGN: [&str; 5] = [
+/// Files that are not logs and stay unchanged.
+static FOREIGN: [&str; 5] = [
     "notes",
     "01f.log",
     "1F.log",
@@ -172,7 +173,7 @@ const FOREIGN: [&str; 5] = [
     "80000000.log",
 ];
 
-/// Makes a folder with these files, and with a folder that has the name of a log's file.
+/// Creates a directory with these files and with a directory named like a log.
 fn make_foreign(rt: &HostRuntime, folder: &str) -> Result<(), Fail> {
     anew(rt, folder)?;
     for name in FOREIGN.iter() {
@@ -184,7 +185,7 @@ fn make_foreign(rt: &HostRuntime, folder: &str) -> Result<(), Fail> {
     Ok(())
 }
 
-/// How many of these files are as they were.
+/// Returns the number of these files that are unchanged.
 fn foreign_left(rt: &HostRuntime, folder: &str) -> Result<usize, Fail> {
     let mut left = 0usize;
     for name in FOREIGN.iter() {

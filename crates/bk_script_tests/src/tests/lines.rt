@@ -1,7 +1,7 @@
 use super::{is_shown, run};
 
-/// Scripts and what they print.
-const SCRIPTS: [(&str, &str); 15] = [
+/// Scripts and their output.
+static SCRIPTS: [(&str, &str); 15] = [
     ("", ""),
     ("\n\n", ""),
     ("swap", "nothing\n"),
@@ -45,8 +45,8 @@ fn lines_are_read_to_the_letter(rt: HostRuntime) {
     }
 }
 
-/// Lines that spell no step.
-const NO_STEPS: [&str; 105] = [
+/// Lines that encode no step.
+static NO_STEPS: [&str; 105] = [
     "add 1 0 ",
     "add 1",
     "add",
@@ -165,8 +165,8 @@ fn a_line_that_is_no_step_refuses_the_script(rt: HostRuntime) {
     }
 }
 
-/// Scripts with bad lines, and what is told of them.
-const BAD: [(&str, &str); 3] = [
+/// Scripts with bad lines, and the reported line.
+static BAD: [(&str, &str); 3] = [
     ("add 1 0 a\n\nfrob\nfrob\n", "line 3: bad command\n"),
     ("\n\n\n \n", "line 4: bad command\n"),
     ("swap\nswap\nswap x", "line 3: bad command\n"),

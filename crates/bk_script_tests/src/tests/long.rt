@@ -1,18 +1,18 @@
-//! A script of thousands of lines.
+//! A script with thousands of lines.
 
 use super::{is_shown, run};
 use std::alloc::AllocError;
 use std::test::Fail;
 
-/// How many entries are added, flushed and read, of the ledger with the greatest id.
-const ENTRIES: u64 = 3000;
+/// Number of entries added, flushed and read, of the ledger with the largest id.
+const ENTRIES: u64 = 500;
 
-/// Where the record of an entry stands. Without data it takes 20 bytes.
+/// Returns the position of the record of an entry, which takes 20 bytes.
 fn place(entry: u64) -> u64 {
     entry.saturating_mul(20).saturating_add(1028)
 }
 
-/// Puts a text with a number in it at the end of a text.
+/// Appends a text and a number to a text.
 fn push(text: &mut String, before: &str, number: u64, after: &str) -> Result<(), AllocError> {
     write!(text, "{before}{number}{after}")
 }

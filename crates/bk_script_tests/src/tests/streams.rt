@@ -1,55 +1,10 @@
-use super::{DEFAULTS, is_shown, run_from};
+//! Writers that fail.
+
+use super::DEFAULTS;
 use bk_script::run_script;
 use std::alloc::Global;
 use std::io;
-use std::io::{Read, Write};
-
-/// Gives line feeds, at most `most` a read, and then ends, or fails where it is to.
-#[derive(Drop)]
-struct Feeds {
-    left: usize,
-    most: usize,
-    fails: bool,
-}
-
-impl Read for Feeds {
-    fn read(&mut self, buf: &mut [u8]) -> io::Result<usize> {
-        if self.left == 0 && self.fails {
-            return Err(io::Error::from(io::ErrorKind::Other));
-        }
-        let count = buf.len().min(self.most).min(self.left);
-        buf[..count].fill(b'\n');
-        self.left -= count;
-        Ok(count)
-    }
-}
-
-/// How many bytes are given, how many a read at most, whether the reads then fail, and the status.
-const INPUTS: [(usize, usize, bool, u8); 6] = [
-    (16_777_216, 65_536, false, 0),
-    (16_777_217, 65_536, false, 1),
-    (1_048_575, 1, false, 0),
-    (1_048_576, 1, false, 1),
-    (0, 1, true, 1),
-    (100, 7, true, 1),
-];
-
-#[test]
-fn the_input_has_bounds(rt: HostRuntime) {
-    for (left, most, fails, status) in &INPUTS {
-        let mut feeds = Feeds {
-            left: *left,
-            most: *most,
-            fails: *fails,
-        };
-        let shown = run_from(rt.alloc(), DEFAULTS, &[], &mut feeds);
-        let errors = if *status == 0 { "" } else { "read fault\n" };
-        assert!(rt;
-            is_shown(&shown, *status, "", errors),
-            "{left} bytes, {most} a read"
-        );
-    }
-}
+use std::io::Write;
 
 /// Fails at a write, counted from 0, or at the flush.
 #[derive(Drop)]
@@ -77,7 +32,7 @@ impl Write for FailsAt {
     }
 }
 
-/// What a script of two lines prints.
+/// Output of a script of two lines.
 const OUTPUT: &[u8] = b"accepted\nno flush\n";
 
 #[test]
@@ -88,7 +43,7 @@ fn a_write_that_fails_ends_the_program(rt: HostRuntime) {
     assert!(rt; status == 1, "status {status} where the flush fails");
 }
 
-/// How many writes the script needs, fewer than 20, where the status with fewer is 1; else 20.
+/// Returns the number of writes that the script needs, if the status is 1 with fewer; otherwise 20.
 fn writes_needed(alloc: Global) -> usize {
     for write in 0..20 {
         match status_with(alloc, write, false) {
@@ -100,8 +55,8 @@ fn writes_needed(alloc: Global) -> usize {
     20
 }
 
-/// The status of the script on a writer that takes so many writes; 2 where the writer was given something else than a
-/// beginning of the output, or a status of 0 and not all of it.
+/// Returns the status of the script on a writer that takes N writes, or 2 if the writer got
+/// anything but a prefix of the output, or not all of it with status 0.
 fn status_with(alloc: Global, write: usize, flush: bool) -> u8 {
     let (status, taken) = run_on(alloc, write, flush);
     let is_right = match status {
@@ -111,7 +66,7 @@ fn status_with(alloc: Global, write: usize, flush: bool) -> u8 {
     if is_right { status } else { 2 }
 }
 
-/// Runs the script on a writer that takes so many writes, and gives the status and what was written.
+/// Runs the script on a writer that takes N writes. Returns the status and what was written.
 fn run_on(alloc: Global, write: usize, flush: bool) -> (u8, Vec<u8>) {
     let mut errors = Vec::new(alloc);
     let mut writer = FailsAt {

@@ -1,14 +1,14 @@
-//! Worked scripts: each line with its answer, written by hand.
+//! Scripts with the answer of each line, written by hand.
 
 use super::{DEFAULTS, is_shown, run_from};
 use bk_drive::Settings;
 use std::alloc::{AllocError, Global};
 use std::test::Fail;
 
-/// The lines of a script, each with its answer.
+/// The lines of a script with their answers.
 type Worked = &'static [(&'static str, &'static str)];
 
-/// An entry is read from the cache, and then from its log.
+/// An entry is read from the cache, then from its log.
 const READ: Worked = &[
     ("add 1 0 hello", "accepted"),
     ("take 0 1 0", "cached 68656c6c6f"),
@@ -41,7 +41,7 @@ const HELD: Worked = &[
     ("pad 1 0 1", "held"),
 ];
 
-/// A flush that runs keeps its entries cached and its log open.
+/// A running flush keeps its entries cached and its log open.
 const FLUSHING: Worked = &[
     ("add 1 0 a", "accepted"),
     ("add 1 1 b", "accepted"),
@@ -55,7 +55,7 @@ const FLUSHING: Worked = &[
     ("take 0 9 9", "not held"),
 ];
 
-/// A payload has at most 5000000 bytes.
+/// A payload has at most 5,000,000 bytes.
 const LONGEST: Worked = &[
     ("pad 1 0 1048560", "accepted"),
     ("pad 1 1 1048561", "accepted"),
@@ -65,7 +65,7 @@ const LONGEST: Worked = &[
     ("pad 1 3 0", "accepted"),
 ];
 
-/// Each reader holds a lease of its own.
+/// Each reader holds its own lease.
 const READERS: Worked = &[
     ("add 1 0 hello", "accepted"),
     ("swap", "swapped 1"),
@@ -85,7 +85,7 @@ const READERS: Worked = &[
     ("take 3 1 0", "leased 1028"),
 ];
 
-/// A fetch reads the data behind the ids.
+/// A fetch returns the data after the ids.
 const DATA: Worked = &[
     ("add 1 0", "accepted"),
     ("pad 1 1 2", "accepted"),
@@ -99,7 +99,8 @@ const DATA: Worked = &[
     ("fetch 1", "bytes 0000"),
 ];
 
-/// A deletion takes the entries of a ledger from the cache, from a flush and from the logs; the ledger stays deleted.
+/// A deletion removes a ledger from the cache, from a flush and from the logs. The ledger stays
+/// deleted.
 const DELETED: Worked = &[
     ("add 1 0 hello", "accepted"),
     ("swap", "swapped 1"),
@@ -112,7 +113,7 @@ const DELETED: Worked = &[
     ("publish", "no flush"),
 ];
 
-/// A lease that was taken before a deletion reads on.
+/// A lease granted before a deletion still reads.
 const DELETED_UNDER_A_LEASE: Worked = &[
     ("add 1 0 hello", "accepted"),
     ("swap", "swapped 1"),
@@ -127,7 +128,7 @@ const DELETED_UNDER_A_LEASE: Worked = &[
     ("fetch 0", "no lease"),
 ];
 
-/// A deletion counts each entry of its ledger once, wherever it is kept, and leaves other ledgers alone.
+/// A deletion counts each entry of its ledger once and leaves other ledgers unchanged.
 const DELETED_EVERYWHERE: Worked = &[
     ("add 1 0 a", "accepted"),
     ("add 2 0 b", "accepted"),
@@ -145,7 +146,7 @@ const DELETED_EVERYWHERE: Worked = &[
     ("take 1 9223372036854775807 0", "deleted"),
 ];
 
-/// The active cache has room for 100 payload bytes, and what is held already needs no room.
+/// The active cache has room for 100 payload bytes. A held entry needs no room.
 const FULL_CACHE: Worked = &[
     ("pad 1 0 44", "accepted"),
     ("pad 1 1 24", "accepted"),
@@ -155,7 +156,7 @@ const FULL_CACHE: Worked = &[
     ("add 1 2", "accepted"),
 ];
 
-/// The entry that was flushed last is read from memory, the one before it from its log.
+/// The entry flushed last is read from memory, the one before it from its log.
 const RECENT: Worked = &[
     ("add 1 0 a", "accepted"),
     ("add 1 1 b", "accepted"),
@@ -176,7 +177,7 @@ const DEAD_FROM_THE_START: Worked = &[
     ("take 0 8 0", "cached 78"),
 ];
 
-/// Steps without a flush say so.
+/// Steps of a flush without a flush.
 const NO_FLUSH: Worked = &[
     ("publish", "no flush"),
     ("write", "no flush"),
@@ -201,7 +202,8 @@ const NO_SECOND_LOG: Worked = &[
     ("fetch 0", "bytes 68656c6c6f"),
 ];
 
-/// A record past the log limit goes to the next log. Of records of 500 bytes two take a log to 2024 bytes.
+/// A record past the log limit goes to the next log. Two records of 500 bytes fill a log to 2024
+/// bytes.
 const NEXT_LOG: Worked = &[
     ("pad 1 0 480", "accepted"),
     ("pad 1 1 480", "accepted"),
@@ -221,8 +223,8 @@ const NEXT_LOG: Worked = &[
     ("roll", "nothing open"),
 ];
 
-/// A key is read from where it was published, also by an index that was made anew. What is written and not published is read
-/// from the flush.
+/// A key is read from where it was published, also after a rebuild. Entries that are written but
+/// not published are read from the flush.
 const REBUILT: Worked = &[
     ("add 1 0 a", "accepted"),
     ("add 1 1 b", "accepted"),
@@ -243,7 +245,7 @@ const REBUILT: Worked = &[
     ("fetch 0", "bytes 62"),
 ];
 
-/// A log that is read under a lease is not closed, and one that is closed stays so.
+/// A leased log is not closed, and a closed log stays closed.
 const CLOSED: Worked = &[
     ("add 1 0 hello", "accepted"),
     ("swap", "swapped 1"),
@@ -267,7 +269,7 @@ const CLOSED: Worked = &[
     ("rebuild", "rebuilt 0"),
 ];
 
-/// One lease of the log is out at once.
+/// The log has at most one lease at a time.
 const LEASED_ONCE: Worked = &[
     ("add 1 0 hello", "accepted"),
     ("swap", "swapped 1"),
@@ -280,8 +282,8 @@ const LEASED_ONCE: Worked = &[
     ("take 1 1 0", "leased 1028"),
 ];
 
-/// A log may be as long as the log limit and no longer. The first record takes its log to 1524 bytes, the second to 2048;
-/// the third is past the limit alone.
+/// A log may reach the log limit exactly. The first record fills it to 1524 bytes, the second to
+/// 2048; the third alone exceeds the limit.
 const FULL_LOG: Worked = &[
     ("pad 1 0 480", "accepted"),
     ("pad 1 1 504", "accepted"),
@@ -295,8 +297,8 @@ const FULL_LOG: Worked = &[
     ("publish", "published 4"),
 ];
 
-/// Whether each of these lines prints its answer, on a store with these settings, of which these ledgers were deleted
-/// before.
+/// Returns whether each of these lines has its answer, on a store with these settings and deleted
+/// ledgers.
 fn are_answered(
     alloc: Global,
     settings: Settings,
@@ -308,7 +310,7 @@ fn are_answered(
     Ok(is_shown(&shown, 0, &output, ""))
 }
 
-/// The script of these lines, and what it prints.
+/// Returns the script of these lines and its output.
 pub(super) fn texts_of(
     alloc: Global,
     steps: &[(&str, &str)],
@@ -322,14 +324,14 @@ pub(super) fn texts_of(
     Ok((script, output))
 }
 
-/// Puts a line at the end of a text.
+/// Appends a line to a text.
 pub(super) fn push_line(text: &mut String, line: &str) -> Result<(), AllocError> {
     text.push_str(line)?;
     text.push('\n')?;
     Ok(())
 }
 
-/// With one slot there is one log.
+/// One slot, so one log.
 const ONE_SLOT: Settings = Settings {
     slots: 1,
     ..DEFAULTS
@@ -345,20 +347,20 @@ const SMALL_CACHE: Settings = Settings {
     ..DEFAULTS
 };
 
-/// One lease of a log is out at once.
+/// One lease per log.
 const ONE_LEASE: Settings = Settings {
     leases: 1,
     ..DEFAULTS
 };
 
-/// The entry that was flushed last is kept in memory.
+/// The entry flushed last is kept in memory.
 const ONE_RECENT: Settings = Settings {
     recent: 1,
     ..DEFAULTS
 };
 
-/// Scripts, with the settings of their stores and the ledgers that were deleted before.
-pub(super) const SCRIPTS: [(Settings, &[u64], Worked); 20] = [
+/// Scripts, with the settings of their stores and the ledgers deleted earlier.
+pub(super) static SCRIPTS: [(Settings, &[u64], Worked); 20] = [
     (DEFAULTS, &[], READ),
     (DEFAULTS, &[], HELD),
     (DEFAULTS, &[], FLUSHING),

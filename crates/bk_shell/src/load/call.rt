@@ -1,51 +1,55 @@
-//! How `load` is called, and what is told of it.
+//! The command line of `load`, and its help.
 
 #[cfg(test)]
 mod tests;
 
 use bk_commands::{form_of, json_arg};
-use bk_digits::number;
-use bk_dir::Form;
+use bk_decimal::number;
+use bk_inspect::Form;
 use bk_load::{Load, Until};
 use clap::error::ErrorKind;
 use clap::{Arg, ArgAction, ArgMatches, Command, Error};
 use std::alloc::{AllocError, Global};
 use std::convert::AsStr;
 
-/// What `load` does, in a line.
-const ABOUT_LOAD: &str = "Puts a load of many callers on a bookie, and checks what it leaves";
+/// What `load` does: one line in the imperative.
+const ABOUT_LOAD: &str = "Load a bookie from many threads, and check its files";
 
-/// What the program tells of `load`.
+/// The output of `load`, its exit status and an example.
 const LOAD_HELP: &str = "\
-Opens a bookie, in memory or with --folder on the logs of DIR, and lets N threads call it at once. Each adds entries of
-17 to 256 bytes to eight ledgers, the next eight after a thousand adds, and takes one of its entries back after every fourth;
-one of the eight is deleted each time. Two workers flush meanwhile, and a keeper compacts the logs and removes those that are
-not read. Then the bookie is ended with the receipts of all adds, and its files are opened and searched for each entry that
-was accepted. Where the error stream is a terminal, a line there tells how far it is; how far an opening of DIR is, once that
-takes longer than a second.
+Opens a bookie, in memory or with --folder on the logs of DIR, and lets N threads call it at once.
+Each thread adds entries of 17 to 256 bytes to eight ledgers, and to the next eight after a thousand
+adds, when it deletes one of the eight. After every fourth add it reads one of its entries back. Two
+workers flush, and a third thread compacts logs and removes those that no entry needs. Then the bookie
+is ended with the receipts of all adds, and its files are opened and searched for each accepted entry.
+If the error stream is a terminal, a line there shows the progress.
 
-Printed is
-  adds N bytes N held N refused N milliseconds N   adds that were accepted, and their bytes; those that found their entry
-                                                   there, and those to a ledger that was deleted; how long all took
-  takes N wrong N ledgers deleted N                entries that were taken back, and those that were not as added
-  logs made N compacted N removed N                what became of the logs
-  works N faults N                                 steps of the workers, and those that were answered by a fault
-  latency 50% N 99% N 99.9% N nanoseconds          how long the adds took: so many of a hundred no longer than that
-  receipts N                                       adds that stand in the bookie's trail, each at its receipt's number
+Output:
+  adds N bytes N held N refused N milliseconds N   adds accepted, and their bytes; adds that found
+                                                   their entry there; adds to a deleted ledger;
+                                                   time of all
+  takes N wrong N ledgers deleted N                entries read back; entries that were not as added
+  logs made N compacted N removed N                the logs
+  works N faults N                                 steps of the workers; steps that met a fault
+  latency 50% N 99% N 99.9% N nanoseconds          time of an add, by percentile
+  receipts N                                       adds in the bookie's trail, each at its receipt's
+                                                   number
   files found N deleted N lost N unknown N earlier N of N
-                                                   accepted entries that the files have, whose ledger was deleted, and
-                                                   that they have not; entries that nobody added; entries of ledgers that
-                                                   were there before, and how many these were
-  good | bad                                       good where something was added, there are as many adds as receipts,
-                                                   nothing is held, wrong, lost or unknown, no work has a fault, and the
-                                                   entries that were there before are there
+                                                   accepted entries in the files; of deleted ledgers;
+                                                   missing; entries that nobody added; entries that
+                                                   were there before, of how many
+  good | bad                                       good if something was added, adds equal receipts,
+                                                   nothing is held, wrong, lost or unknown, no step
+                                                   met a fault, and all earlier entries are there
 
-In a folder, which is made where nothing is there, the ledgers are those behind the last that has an entry, and the
-entries stay. A folder does not tell which ledgers were deleted: at the next call they live, unless they were compacted away.
-One program writes in a folder at a time. With --json the numbers are one object.
+With --folder the directory is created if it does not exist. The ledgers are those after the last one
+with an entry, and the entries stay. A directory does not record which ledgers are deleted: the next
+call takes them as live, unless they were compacted away. One program at a time writes to a directory.
+With --json the numbers are one object.
 
-The status is 0 exactly where the load was good. It is 1 where it was bad, ended early, with a line `fault TEXT` on the error
-stream, or could not be printed; and 2 where the command line is wrong.
+Exit status: 0 if and only if the load was good; 1 if it was bad, ended early, with `fault TEXT` on
+the error stream, or could not be printed; 2 if the command line is wrong. Each call of the system
+that fails on DIR is reported once on the error stream, `FILE: OPERATION: REASON`, the first first.
 
 Example:
   $ bk_shell load --threads 2 --adds 1
@@ -65,28 +69,28 @@ const USUAL: Load = Load {
     until: Until::Adds(100_000),
 };
 
-/// As many threads may be asked for.
+/// The greatest number of threads.
 const MOST_THREADS: u64 = 256;
 
-/// As many adds.
+/// The greatest number of adds.
 const MOST_ADDS: u64 = 1_000_000_000;
 
-/// As many seconds.
+/// The greatest number of seconds.
 const MOST_SECONDS: u64 = 1_000_000;
 
-/// What a load is asked for.
+/// A call of `load`.
 #[derive(Debug, PartialEq, Eq, Drop)]
 pub(super) struct LoadCall<'a> {
-    /// How it is shown.
+    /// The form of the output.
     pub form: Form,
     pub load: Load,
-    /// The folder on whose logs it is made; in memory where there is none.
+    /// The path of the directory; `None` for a new disk in memory.
     pub folder: Option<&'a str>,
-    /// Whether its logs get marks.
+    /// Whether its logs get durability watermarks.
     pub marks: bool,
 }
 
-/// The value of an option is no number of its range.
+/// A value that is not a number in its range.
 #[derive(Debug, thiserror::Error, Drop)]
 #[error("invalid value '{text}' for '--{name} <N>': not a number from 1 to {most} in plain digits")]
 struct BadNumber<'a> {
@@ -95,8 +99,15 @@ struct BadNumber<'a> {
     most: u64,
 }
 
-/// The load that words call. An error is a wrong command line, help that was asked for, or want of memory, as its kind
-/// says.
+/// Parses a command line to a call of `load`. The first word is the program's name.
+///
+/// # Errors
+///
+/// By the kind of the error:
+///
+/// - `OutOfMemory`: an allocation failed.
+/// - `DisplayHelp`: help was requested.
+/// - any other kind: the command line is invalid.
 pub(super) fn load_call<'a, S: AsStr>(
     alloc: Global,
     words: &'a [S],
@@ -117,7 +128,7 @@ pub(super) fn load_call<'a, S: AsStr>(
     }
 }
 
-/// The program's command line, as far as it is about `load`.
+/// Returns the part of the program's command line that concerns `load`.
 fn commands<'a>(alloc: Global) -> Result<Command<'a>, AllocError> {
     Command::new(alloc, "bk_shell")
         .about("Entry log storage of a bookie")
@@ -126,14 +137,14 @@ fn commands<'a>(alloc: Global) -> Result<Command<'a>, AllocError> {
         .subcommand(load_command(alloc)?)
 }
 
-/// What is told of an option's value that is no number of its range.
+/// Returns the error of a value that is out of its range.
 fn bad_value(alloc: Global, bad: &BadNumber<'_>) -> Result<Error, AllocError> {
     let told = format!(in alloc; "{bad}")?;
     let mut command = Command::new(alloc, "bk_shell").override_usage("bk_shell load [OPTIONS]");
     command.error(ErrorKind::ValueValidation, &told)
 }
 
-/// The command `load`.
+/// Returns the command `load`.
 fn load_command<'a>(alloc: Global) -> Result<Command<'a>, AllocError> {
     Command::new(alloc, "load")
         .about(ABOUT_LOAD)
@@ -142,7 +153,7 @@ fn load_command<'a>(alloc: Global) -> Result<Command<'a>, AllocError> {
             Arg::new(alloc, "threads")
                 .long("threads")
                 .value_name("N")
-                .help("Lets so many threads call at once: 1 to 256 [default: 8]"),
+                .help("Call from this many threads at once: 1 to 256 [default: 8]"),
         )?
         .arg(
             Arg::new(alloc, "adds")
@@ -150,32 +161,34 @@ fn load_command<'a>(alloc: Global) -> Result<Command<'a>, AllocError> {
                 .value_name("N")
                 .conflicts_with("seconds")?
                 .help(
-                    "Makes so many adds, by all threads together: 1 to 1000000000 [default: 100000]",
+                    "Make this many adds, all threads together: 1 to 1000000000 [default: 100000]",
                 ),
         )?
         .arg(
             Arg::new(alloc, "seconds")
                 .long("seconds")
                 .value_name("N")
-                .help("Makes adds for so many seconds: 1 to 1000000"),
+                .help("Make adds for this many seconds: 1 to 1000000"),
         )?
         .arg(
             Arg::new(alloc, "folder")
                 .long("folder")
                 .value_name("DIR")
                 .help(
-                    "Writes in this folder of logs, made where it is not there, and not in memory",
+                    "Write to this directory of logs, created if it does not exist, and not in memory",
                 ),
         )?
         .arg(
             Arg::new(alloc, "marks")
                 .long("marks")
                 .action(ArgAction::SetTrue)
-                .help("Marks how far each log of the folder is to be believed after a crash"),
+                .help(
+                    "Write durability watermarks, which tell after a crash how far each log is valid",
+                ),
         )
 }
 
-/// The load that the options ask for.
+/// Returns the load that the options select.
 fn read_load<'a>(found: &ArgMatches<'a>) -> Result<Load, BadNumber<'a>> {
     let mut load = USUAL;
     if let Some(threads) = read_option(found, "threads", MOST_THREADS)? {
@@ -190,7 +203,7 @@ fn read_load<'a>(found: &ArgMatches<'a>) -> Result<Load, BadNumber<'a>> {
     Ok(load)
 }
 
-/// The number, from 1 on, behind an option; `None` where the option isn't given.
+/// Returns the value of an option, at least 1, or `None` if the option is not given.
 fn read_option<'a>(
     found: &ArgMatches<'a>,
     name: &'static str,

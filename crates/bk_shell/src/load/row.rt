@@ -1,29 +1,41 @@
-//! What a load shows: the lines of its report, or one object, and why it ended early.
+//! The report of a load, as lines or as one JSON object, and why a load stopped early.
 
 use bk_commands::OpeningFault;
-use bk_dir::Form;
+use bk_inspect::Form;
 use bk_load::Report;
 use serde::Serialize;
-use std::alloc::Global;
+use std::alloc::{AllocError, Global};
 use std::io;
 use std::io::Write;
 use thiserror::Error;
 
-/// Why a load ends early. Its text is what the program tells of it.
+/// Why a load stopped early. Its text is what the program reports.
 #[derive(Debug, Error, Drop)]
 pub(super) enum LoadFault {
-    /// The folder is not opened.
+    /// The directory could not be opened.
     #[error("{0}")]
     Folder(OpeningFault),
     /// There is no report.
     #[error("{0}")]
     Load(bk_load::LoadFault),
-    /// No memory was to be had.
+    /// Out of memory.
     #[error("memory")]
     Memory,
     /// The output could not be written.
     #[error("output")]
     Output(io::Error),
+}
+
+impl From<OpeningFault> for LoadFault {
+    fn from(fault: OpeningFault) -> LoadFault {
+        LoadFault::Folder(fault)
+    }
+}
+
+impl From<AllocError> for LoadFault {
+    fn from(_: AllocError) -> LoadFault {
+        LoadFault::Memory
+    }
 }
 
 impl From<io::Error> for LoadFault {
@@ -32,7 +44,7 @@ impl From<io::Error> for LoadFault {
     }
 }
 
-/// The object of a report. The members of its parts are its own.
+/// JSON object of a report, composed of its parts.
 #[derive(Clone, Copy, Serialize)]
 struct ReportRow {
     good: bool,
@@ -50,7 +62,7 @@ struct ReportRow {
     files: FilesRow,
 }
 
-/// What it says of adds.
+/// The part on adds.
 #[derive(Clone, Copy, Serialize)]
 struct AddsRow {
     adds: u64,
@@ -61,7 +73,7 @@ struct AddsRow {
     milliseconds: u64,
 }
 
-/// Of takes and deletions.
+/// The part on takes and deletions.
 #[derive(Clone, Copy, Serialize)]
 struct TakesRow {
     takes: u64,
@@ -69,7 +81,7 @@ struct TakesRow {
     deletes: u64,
 }
 
-/// Of logs.
+/// The part on logs.
 #[derive(Clone, Copy, Serialize)]
 struct LogsRow {
     made: u64,
@@ -77,14 +89,14 @@ struct LogsRow {
     removed: u64,
 }
 
-/// Of the workers.
+/// The part on the workers.
 #[derive(Clone, Copy, Serialize)]
 struct WorksRow {
     works: u64,
     faults: u64,
 }
 
-/// Of the times of adds.
+/// The part on the latencies of adds.
 #[derive(Clone, Copy, Serialize)]
 struct LatenciesRow {
     at_500: u32,
@@ -92,7 +104,7 @@ struct LatenciesRow {
     at_999: u32,
 }
 
-/// Of the files that were opened again.
+/// The part on the files at the end.
 #[derive(Clone, Copy, Serialize)]
 struct FilesRow {
     found: u64,
@@ -103,13 +115,13 @@ struct FilesRow {
     earlier: u64,
 }
 
-/// The object of a fault.
+/// JSON object of a fault.
 #[derive(Clone, Copy, Serialize)]
 struct FaultRow<'a> {
     fault: &'a str,
 }
 
-/// The object of this report.
+/// Returns the JSON object of a report.
 fn row_of(report: &Report) -> ReportRow {
     ReportRow {
         good: report.is_good(),
@@ -155,7 +167,7 @@ fn files_row(report: &Report) -> FilesRow {
     }
 }
 
-/// Writes a report, and what the writer has kept back.
+/// Writes a report and flushes.
 pub(super) fn write_report<W: Write>(
     alloc: Global,
     form: Form,
@@ -173,7 +185,7 @@ pub(super) fn write_report<W: Write>(
     Ok(())
 }
 
-/// Tells why a load ends early, in a line on the error stream. Whether it comes through changes nothing.
+/// Reports on the error stream why a load stopped early. A failed write is ignored.
 pub(super) fn tell_fault<E: Write>(alloc: Global, form: Form, fault: &LoadFault, errors: &mut E) {
     let _ = match form {
         Form::Text => writeln!(errors, "fault {fault}").map_err(LoadFault::Output),
@@ -181,7 +193,7 @@ pub(super) fn tell_fault<E: Write>(alloc: Global, form: Form, fault: &LoadFault,
     };
 }
 
-/// Tells it as an object.
+/// Reports it as a JSON object.
 fn tell_object<E: Write>(
     alloc: Global,
     fault: &LoadFault,
@@ -193,7 +205,7 @@ fn tell_object<E: Write>(
     write_object(alloc, &FaultRow { fault: &text }, errors)
 }
 
-/// Writes an object, and the end of its line. Nothing is written where memory is refused.
+/// Writes a JSON object and a line feed. Writes nothing if an allocation fails.
 fn write_object<R: Serialize, W: Write>(
     alloc: Global,
     row: &R,

@@ -99,3 +99,39 @@ fn a_load_where_no_folder_can_be_is_refused(rt: HostRuntime) -> Result<(), Fail>
     fs::remove_file(&rt, path)?;
     Ok(())
 }
+
+/// What a call of `load` leaves: its status, and the text on the error stream.
+fn told_of<T: Threads + Wait + Clock + Sync>(
+    rt: &HostRuntime,
+    threads: &T,
+    words: &[&str],
+) -> (u8, Vec<u8>) {
+    let mut output = Vec::new(rt.alloc());
+    let mut errors = Vec::new(rt.alloc());
+    let status = load_as_asked(rt, threads, words, &mut output, &mut errors);
+    (status, errors)
+}
+
+/// A load over a directory that has the name of the first log for a directory.
+const TAKEN: [&str; 5] = [
+    "bk_shell",
+    "load",
+    "--adds=3",
+    "--folder",
+    "bk_shell_load_name",
+];
+
+#[test]
+fn a_load_names_the_file_that_fails(rt: HostRuntime) -> Result<(), Fail> {
+    let _ = fs::remove_dir_all(&rt, "bk_shell_load_name");
+    fs::create_dir(&rt, "bk_shell_load_name")?;
+    fs::create_dir(&rt, "bk_shell_load_name/0.log")?;
+    let (status, errors) = told_of(&rt, &rt, &TAKEN);
+    fs::remove_dir_all(&rt, "bk_shell_load_name")?;
+    let is_named = match str::from_utf8(&errors) {
+        Ok(text) => text.contains("bk_shell_load_name/0.log: "),
+        Err(_) => false,
+    };
+    assert!(rt; status == 1 && is_named);
+    Ok(())
+}

@@ -1,28 +1,44 @@
-//! What a refused call on the disk, or a scan that ended early, means for an opening.
+//! Faults of an opening, from those of the disk, of memory and of a scan.
 
 ghost use Rattle.std.specs.Prelude.{◌≡◌};
-ghost use Rattle.bk_store.specs.Found.{open_fault_of, scan_told};
+ghost use Rattle.bk_store.specs.Found.{open_fault_of_scan};
 
 use crate::{LogCause, OpenFault};
 use bk_disk::DiskFault;
 use bk_log::ScanFault;
+use std::alloc::AllocError;
 
-/// Want of memory and a failing device are told as they are, all else is odd.
-pub(super) fn open_fault(fault: DiskFault) -> OpenFault
-    ensures { result ≡ open_fault_of fault }
-{
-    match fault {
-        DiskFault::Disk => OpenFault::Disk,
-        DiskFault::Memory => OpenFault::Memory,
-        DiskFault::Exists | DiskFault::NoLog | DiskFault::PastEnd | DiskFault::TooLong => {
-            OpenFault::Odd
+impl From<DiskFault> for OpenFault {
+    ghost use Rattle.std.specs.Prelude.{◌≡◌};
+    ghost use Rattle.bk_store.specs.Found.{open_fault_of};
+
+    ghost from_gives = { λ fault e. e ≡ open_fault_of fault };
+
+    fn from(fault: DiskFault) -> OpenFault {
+        match fault {
+            DiskFault::Disk => OpenFault::Disk,
+            DiskFault::Memory => OpenFault::Memory,
+            DiskFault::Exists | DiskFault::NoLog | DiskFault::PastEnd | DiskFault::TooLong => {
+                OpenFault::Odd
+            }
         }
     }
 }
 
-/// A bad length is the log's of this id.
+impl From<AllocError> for OpenFault {
+    ghost use Rattle.std.specs.Prelude.{◌≡◌};
+    ghost use Rattle.bk_store.specs.declared.answer.OpenFault.TheVariants.{Memory};
+
+    ghost from_gives = { λ _ e. e ≡ Memory };
+
+    fn from(_error: AllocError) -> OpenFault {
+        OpenFault::Memory
+    }
+}
+
+/// Returns the fault of an opening for a fault of the scan of log `id`.
 pub(super) fn scan_fault(id: u32, fault: ScanFault) -> OpenFault
-    ensures { result ≡ scan_told id fault }
+    ensures { result ≡ open_fault_of_scan id fault }
 {
     match fault {
         ScanFault::BadLength { at, length } => OpenFault::Log {

@@ -1,14 +1,13 @@
-//! One log that was found: it is synced; then its length, its header, its view, its entries.
+//! Reading one log at opening: sync, length, header, view, entries.
 
 ghost use Rattle.std.specs.Prelude.{◌≡◌, ◌<◌, ◌^◌, ℕ, List, IsTrue, IsErrOf, IfOk, IfErr, OnOk, length};
 ghost use Rattle.bk_record.specs.Files.{file_of};
-ghost use Rattle.bk_disk.specs.Disk.{IsCaused, IsFile};
-ghost use Rattle.bk_disk.specs.Durable.{HasKept, KeepsMore};
+ghost use Rattle.bk_disk.specs.Disk.{FailsExactlyIf, IsFile};
+ghost use Rattle.bk_disk.specs.Durable.{IsDurable, DurableGrows};
 ghost use Rattle.bk_accounts.specs.Book.{IsNotOpen};
 ghost use Rattle.bk_store.specs.Opening.{IsHeaded, FileFails};
 ghost use Rattle.bk_store.specs.Found.{IsTaken};
 
-use super::fault::open_fault;
 use super::header::check_header;
 use super::scan::scan;
 use super::tally::Tally;
@@ -19,9 +18,9 @@ use bk_record::{HEADER_LENGTH, MAX_LOG_LENGTH};
 use std::alloc::Global;
 use std::sync::Arc;
 
-/// Reads a log, which is to stand in this slot: its entries are taken in, and it is held as one that is written no more,
-/// with a view of its whole file, which was synced.
-#[tactic(auto, using(bk_disk::proofs::KeepsMore::kept_rules))]
+/// Reads a log for this slot: tallies its entries, and returns it as a Readable log with a view of
+/// its whole file.
+#[tactic(auto, using(bk_disk::proofs::DurableGrows::kept_rules))]
 pub(super) fn find<D: LogDisk>(
     disk: &mut D,
     alloc: Global,
@@ -32,8 +31,8 @@ pub(super) fn find<D: LogDisk>(
     requires id { id < 2 ^ 31 }
     requires closed { IsNotOpen tally.old.accounts id }
     ensures honest { D.honest disk.new ≡ D.honest disk.old }
-    ensures kept { IsTrue (D.honest disk.old) → KeepsMore (D.synced disk.old) (D.gone disk.old) (D.synced disk.new) (D.gone disk.new) }
-    ensures synced { IsTrue (D.honest disk.old) → OnOk result (HasKept (D.synced disk.new) id (file_of (D.files disk.old) id)) }
+    ensures durable { IsTrue (D.honest disk.old) → DurableGrows (D.synced disk.old) (D.gone disk.old) (D.synced disk.new) (D.gone disk.new) }
+    ensures synced { IsTrue (D.honest disk.old) → OnOk result (IsDurable (D.synced disk.new) id (file_of (D.files disk.old) id)) }
     ensures failures { OnOk result (D.failures disk.new ≡ D.failures disk.old) }
     ensures never { ¬ (IsErrOf result OpenFault.Settings) }
     ensures files { IsTrue (D.honest disk.old) → D.files disk.new ≡ D.files disk.old }
@@ -42,10 +41,7 @@ pub(super) fn find<D: LogDisk>(
         → IfErr result (FileFails id file) }
 {
     check_file(disk, alloc, id)?;
-    let view = match disk.view(alloc, id) {
-        Ok(view) => view,
-        Err(fault) => return Err(open_fault(fault)),
-    };
+    let view = disk.view(alloc, id)?;
     let end = view.end();
     if end < HEADER_LENGTH as u64 || end > MAX_LOG_LENGTH {
         return Err(OpenFault::Odd);
@@ -66,48 +62,47 @@ pub(super) fn find<D: LogDisk>(
     })
 }
 
-/// Syncs a log, then judges it.
-#[tactic(auto, using(bk_disk::proofs::KeepsMore::kept_rules))]
+/// Syncs a log, then checks its length and its header.
+#[tactic(auto, using(bk_disk::proofs::DurableGrows::kept_rules))]
 fn check_file<D: LogDisk>(disk: &mut D, alloc: Global, id: u32) -> Result<(), OpenFault>
     ensures honest { D.honest disk.new ≡ D.honest disk.old }
-    ensures kept { IsTrue (D.honest disk.old) → KeepsMore (D.synced disk.old) (D.gone disk.old) (D.synced disk.new) (D.gone disk.new) }
-    ensures cause { IsCaused (D.failures disk.old) (D.failures disk.new) (IsErrOf result OpenFault.Disk) }
+    ensures durable { IsTrue (D.honest disk.old) → DurableGrows (D.synced disk.old) (D.gone disk.old) (D.synced disk.new) (D.gone disk.new) }
+    ensures cause { FailsExactlyIf (D.failures disk.old) (D.failures disk.new) (IsErrOf result OpenFault.Disk) }
     ensures never { ¬ (IsErrOf result OpenFault.Settings) }
     ensures files { IsTrue (D.honest disk.old) → D.files disk.new ≡ D.files disk.old }
     ensures ok { (file : List ℕ) → IsTrue (D.honest disk.old) → IsFile (D.files disk.old) id file
         → OnOk result ((length file < 2 ^ 32) × IsHeaded file) }
     ensures err { (file : List ℕ) → IsTrue (D.honest disk.old) → IsFile (D.files disk.old) id file
         → IfErr result (FileFails id file) }
-    ensures synced { IsTrue (D.honest disk.old) → OnOk result (HasKept (D.synced disk.new) id (file_of (D.files disk.old) id)) }
+    ensures synced { IsTrue (D.honest disk.old) → OnOk result (IsDurable (D.synced disk.new) id (file_of (D.files disk.old) id)) }
 {
     keep(disk, alloc, id)?;
     judge_file(disk, alloc, id)
 }
 
-/// Syncs a log that was found: what it has may be in the system's memory alone, and it is named only once it is on the device.
-#[tactic(auto, using(bk_disk::proofs::KeepsMore::kept_rules))]
+/// Syncs a log. Its bytes may be in the page cache only, and the index must point only to bytes on
+/// the device.
+#[tactic(auto, using(bk_disk::proofs::DurableGrows::kept_rules))]
 fn keep<D: LogDisk>(disk: &mut D, alloc: Global, id: u32) -> Result<(), OpenFault>
     ensures honest { D.honest disk.new ≡ D.honest disk.old }
-    ensures kept { IsTrue (D.honest disk.old) → KeepsMore (D.synced disk.old) (D.gone disk.old) (D.synced disk.new) (D.gone disk.new) }
-    ensures synced { IsTrue (D.honest disk.old) → OnOk result (HasKept (D.synced disk.new) id (file_of (D.files disk.old) id)) }
-    ensures cause { IsCaused (D.failures disk.old) (D.failures disk.new) (IsErrOf result OpenFault.Disk) }
+    ensures durable { IsTrue (D.honest disk.old) → DurableGrows (D.synced disk.old) (D.gone disk.old) (D.synced disk.new) (D.gone disk.new) }
+    ensures synced { IsTrue (D.honest disk.old) → OnOk result (IsDurable (D.synced disk.new) id (file_of (D.files disk.old) id)) }
+    ensures cause { FailsExactlyIf (D.failures disk.old) (D.failures disk.new) (IsErrOf result OpenFault.Disk) }
     ensures never { ¬ (IsErrOf result OpenFault.Settings) }
     ensures files { IsTrue (D.honest disk.old) → D.files disk.new ≡ D.files disk.old }
     ensures err { (file : List ℕ) → IsTrue (D.honest disk.old) → IsFile (D.files disk.old) id file
         → IfErr result (FileFails id file) }
 {
-    match disk.sync(alloc, id) {
-        Ok(()) => Ok(()),
-        Err(fault) => Err(open_fault(fault)),
-    }
+    disk.sync(alloc, id)?;
+    Ok(())
 }
 
-/// Judges a log's length, and its header where it has one.
-#[tactic(auto, using(bk_disk::proofs::KeepsMore::kept_rules))]
+/// Checks the length of a log, and its header if it has one.
+#[tactic(auto, using(bk_disk::proofs::DurableGrows::kept_rules))]
 fn judge_file<D: LogDisk>(disk: &mut D, alloc: Global, id: u32) -> Result<(), OpenFault>
     ensures honest { D.honest disk.new ≡ D.honest disk.old }
-    ensures kept { IsTrue (D.honest disk.old) → KeepsMore (D.synced disk.old) (D.gone disk.old) (D.synced disk.new) (D.gone disk.new) }
-    ensures cause { IsCaused (D.failures disk.old) (D.failures disk.new) (IsErrOf result OpenFault.Disk) }
+    ensures durable { IsTrue (D.honest disk.old) → DurableGrows (D.synced disk.old) (D.gone disk.old) (D.synced disk.new) (D.gone disk.new) }
+    ensures cause { FailsExactlyIf (D.failures disk.old) (D.failures disk.new) (IsErrOf result OpenFault.Disk) }
     ensures never { ¬ (IsErrOf result OpenFault.Settings) }
     ensures files { IsTrue (D.honest disk.old) → D.files disk.new ≡ D.files disk.old }
     ensures ok { (file : List ℕ) → IsTrue (D.honest disk.old) → IsFile (D.files disk.old) id file
@@ -115,10 +110,7 @@ fn judge_file<D: LogDisk>(disk: &mut D, alloc: Global, id: u32) -> Result<(), Op
     ensures err { (file : List ℕ) → IsTrue (D.honest disk.old) → IsFile (D.files disk.old) id file
         → IfErr result (FileFails id file) }
 {
-    let length = match disk.length(alloc, id) {
-        Ok(length) => length,
-        Err(fault) => return Err(open_fault(fault)),
-    };
+    let length = disk.length(alloc, id)?;
     if length > MAX_LOG_LENGTH {
         return Err(OpenFault::TooLong(id));
     }

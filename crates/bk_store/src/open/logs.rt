@@ -1,11 +1,11 @@
-//! All logs that were found, one after another.
+//! Reading all logs at opening.
 
 ghost use Rattle.std.specs.Prelude.{◌≡◌, ◌≤◌, IsTrue, IsErrOf, IfOk, IfErr, OnOk, length, replicate};
 ghost use Rattle.std.specs.FinMap as map;
-ghost use Rattle.bk_disk.specs.Durable.{KeepsMore};
+ghost use Rattle.bk_disk.specs.Durable.{DurableGrows};
 ghost use Rattle.bk_store.specs.Opening.{FirstFails};
-ghost use Rattle.bk_store.specs.Found.{AreTaken, AllKept};
-ghost use Rattle.bk_store.specs.Seated.{AreSeated, IsSameTable};
+ghost use Rattle.bk_store.specs.Found.{AreTaken, AllDurable};
+ghost use Rattle.bk_store.specs.SlotAssignment.{AreSeated, IsSameTable};
 ghost use Rattle.bk_lease.specs.declared.slot.Slot.TheVariants.{Free};
 
 use super::found::find;
@@ -17,9 +17,9 @@ use bk_lease::Keeper;
 use bk_record::LAST_LOG;
 use std::alloc::Global;
 
-/// Reads the logs of these ids, which are seated one behind the other, the first in slot 0. It answers the next id that is
-/// free: one more than the greatest, 0 where there is none. Each log was synced then.
-#[tactic(auto, using(bk_disk::proofs::KeepsMore::kept_rules))]
+/// Reads the logs of these ids, and seats them in slots 0, 1, and so on. Returns the next free id:
+/// one more than the largest, or 0.
+#[tactic(auto, using(bk_disk::proofs::DurableGrows::kept_rules))]
 pub(super) fn find_all<D: LogDisk>(
     disk: &mut D,
     alloc: Global,
@@ -34,8 +34,8 @@ pub(super) fn find_all<D: LogDisk>(
     requires free { keeper.old.slots ≡ replicate (length keeper.old.slots) Free }
     requires room { length ids.now ≤ length keeper.old.slots }
     ensures honest { D.honest disk.new ≡ D.honest disk.old }
-    ensures kept { IsTrue (D.honest disk.old) → KeepsMore (D.synced disk.old) (D.gone disk.old) (D.synced disk.new) (D.gone disk.new) }
-    ensures synced { IsTrue (D.honest disk.old) → OnOk result (AllKept (D.files disk.old) (D.synced disk.new) ids.now) }
+    ensures durable { IsTrue (D.honest disk.old) → DurableGrows (D.synced disk.old) (D.gone disk.old) (D.synced disk.new) (D.gone disk.new) }
+    ensures synced { IsTrue (D.honest disk.old) → OnOk result (AllDurable (D.files disk.old) (D.synced disk.new) ids.now) }
     ensures failures { OnOk result (D.failures disk.new ≡ D.failures disk.old) }
     ensures never { ¬ (IsErrOf result OpenFault.Settings) }
     ensures files { IsTrue (D.honest disk.old) → D.files disk.new ≡ D.files disk.old }
@@ -52,9 +52,7 @@ pub(super) fn find_all<D: LogDisk>(
             return Err(OpenFault::Odd);
         }
         let log = find(disk, alloc, *id, slot, tally)?;
-        if logs.hold(*id, log).is_err() {
-            return Err(OpenFault::Memory);
-        }
+        logs.insert(*id, log)?;
         keeper.open(slot, *id);
         slot += 1;
         next = *id + 1;

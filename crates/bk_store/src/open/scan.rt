@@ -1,4 +1,4 @@
-//! The scan of a log that was found: each entry is taken in as it comes, so no file is held in memory.
+//! Scanning a log at opening, entry by entry, so no log is held in memory.
 
 ghost use Rattle.std.specs.Prelude.{◌≡◌, ◌<◌, ◌≤◌, ◌^◌, IsTrue, IsErrOf, Some, IfErr, OnOk};
 ghost use Rattle.bk_record.specs.Files.{header_length};
@@ -15,8 +15,8 @@ use bk_log::Scanner;
 use bk_record::HEADER_LENGTH;
 use std::alloc::Global;
 
-/// Takes the entries of a log in, from its header to its end. Foreign records are passed over, and so is what is torn at
-/// the end.
+/// Tallies the entries of a log from its header to its end. Ignores foreign records and a torn
+/// record at the end.
 pub(super) fn scan<V: LogView>(
     view: &V,
     alloc: Global,

@@ -1,4 +1,4 @@
-//! What the entries of the logs read so far come to: the index and the accounts.
+//! The tally of the logs read so far: the index and the accounts.
 
 ghost use Rattle.std.specs.Prelude.{◌≡◌, ◌+◌, ◌<◌, ◌≤◌, ◌^◌, IfSome, OnOk, IsOkUnless};
 ghost use Rattle.std.specs.FinMap as map;
@@ -13,7 +13,7 @@ use bk_log::Found;
 use bk_record::Location;
 use std::alloc::Global;
 
-/// The index of the entries of live ledgers, the accounts of all entries, and the ledgers that are dead.
+/// The index of the entries of live ledgers, the accounts of all entries, and the deleted ledgers.
 #[derive(Drop)]
 pub(super) struct Tally {
     pub index: Index,
@@ -22,7 +22,7 @@ pub(super) struct Tally {
 }
 
 impl Tally {
-    /// No log was read yet.
+    /// Returns the tally of no logs.
     pub fn new(alloc: Global, dead: LedgerSet) -> Tally
         ensures { result ≡ record { index = map.empty; accounts = map.empty; dead = dead } }
     {
@@ -33,8 +33,8 @@ impl Tally {
         }
     }
 
-    /// Takes the next entry of a log in: its record is counted, and where its ledger lives, its key is sent to it. The
-    /// only fault is `Memory`.
+    /// Tallies the next entry of a log: counts its record and, if its ledger is live, points its
+    /// key to it. Fails only with `Memory`.
     pub fn add(&mut self, log: u32, found: &Found) -> Result<(), OpenFault>
         requires id { log < 2 ^ 31 }
         requires begins { 1028 ≤ found.now.at }
@@ -53,14 +53,12 @@ impl Tally {
             return Err(OpenFault::Memory);
         }
         let place = Location::pack(log, found.at as u32).unwrap();
-        if self.index.insert(found.key, place).is_err() {
-            return Err(OpenFault::Memory);
-        }
+        self.index.insert(found.key, place)?;
         self.accounts.count(log, ledger, found.size);
         Ok(())
     }
 
-    /// Counts for each log the keys that the index sends to it. It takes no memory.
+    /// Counts the index entries of each log. Does not allocate.
     pub fn name_all(&mut self)
         requires { AreUnnamed self.old.accounts }
         ensures { self.new ≡ with_names self.old }
@@ -69,7 +67,7 @@ impl Tally {
     }
 }
 
-/// Names for each key of an index the log that it is sent to.
+/// Counts each entry of an index in the account of its log.
 pub(crate) fn name_each(index: &Index, accounts: &mut Accounts)
     requires { AreUnnamed accounts.old }
     ensures { accounts.new ≡ named_by (map.entries index.now) accounts.old }

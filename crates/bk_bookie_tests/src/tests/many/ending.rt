@@ -1,4 +1,4 @@
-//! What a run of many callers leaves: receipts, counts, and what stands in the files.
+//! The check after many callers: receipts, counts and files.
 
 use super::super::calls::{Held, TakeTold, View, disk_of, read_back, take_steps};
 use super::super::payload;
@@ -13,11 +13,11 @@ use std::alloc::Global;
 use std::process::Abort;
 use std::sync::Wait;
 
-/// How many entries of the ledgers that live there are.
+/// Number of entries of live ledgers.
 const LIVING: usize = 3 * ENTRIES as usize;
 
-/// The steps that bring a compaction that runs to its end.
-const JOB: [Work; 5] = [
+/// The steps that complete a running compaction.
+static JOB: [Work; 5] = [
     Work::Copy(100_000),
     Work::Copy(1),
     Work::EndCopy,
@@ -25,7 +25,7 @@ const JOB: [Work; 5] = [
     Work::Finish,
 ];
 
-/// Whether an entry was written.
+/// Returns whether an entry was written.
 fn writes<L: AddLedger, R: Wait>(rt: &R, bookie: &Bookie<L, MemDisk>) -> bool {
     matches!(
         bookie.step(rt, Work::WriteOne),
@@ -33,7 +33,7 @@ fn writes<L: AddLedger, R: Wait>(rt: &R, bookie: &Bookie<L, MemDisk>) -> bool {
     )
 }
 
-/// Writes all that a flush has.
+/// Writes all entries of a flush.
 fn write_all<L: AddLedger, R: Wait>(rt: &R, bookie: &Bookie<L, MemDisk>) {
     for _ in 0..100_000 {
         if !writes(rt, bookie) {
@@ -42,7 +42,7 @@ fn write_all<L: AddLedger, R: Wait>(rt: &R, bookie: &Bookie<L, MemDisk>) {
     }
 }
 
-/// Whether no flush runs.
+/// Returns whether no flush is running.
 fn has_no_flush<L: AddLedger, R: Wait>(rt: &R, bookie: &Bookie<L, MemDisk>) -> bool {
     matches!(
         bookie.step(rt, Work::Publish),
@@ -50,7 +50,7 @@ fn has_no_flush<L: AddLedger, R: Wait>(rt: &R, bookie: &Bookie<L, MemDisk>) -> b
     )
 }
 
-/// Writes what comes in to the logs: a flush that runs, and the next one.
+/// Completes a running flush and the next one.
 fn flush<L: AddLedger, R: Wait + Abort>(rt: &R, bookie: &Bookie<L, MemDisk>) {
     for _ in 0..2 {
         write_all(rt, bookie);
@@ -60,7 +60,7 @@ fn flush<L: AddLedger, R: Wait + Abort>(rt: &R, bookie: &Bookie<L, MemDisk>) {
     take_steps(rt, bookie, &[Work::Roll]);
 }
 
-/// Whether a compaction began; `None` where there was a fault.
+/// Returns whether a compaction began, or `None` on a fault.
 fn begins<L: AddLedger, R: Wait>(rt: &R, bookie: &Bookie<L, MemDisk>) -> Option<bool> {
     match bookie.step(rt, Work::Begin(Kind::Major)) {
         Answer::Begin(Ok(BeginAnswer::NothingToDo)) => Some(false),
@@ -69,7 +69,7 @@ fn begins<L: AddLedger, R: Wait>(rt: &R, bookie: &Bookie<L, MemDisk>) -> Option<
     }
 }
 
-/// Compacts until nothing is left to be done, at most a thousand times.
+/// Compacts until nothing is left to do, at most a thousand times.
 fn compact<L: AddLedger, R: Wait + Abort>(rt: &R, bookie: &Bookie<L, MemDisk>) {
     for _ in 0..1000 {
         if !begins(rt, bookie).expect(rt, "a compaction, or none") {
@@ -79,7 +79,7 @@ fn compact<L: AddLedger, R: Wait + Abort>(rt: &R, bookie: &Bookie<L, MemDisk>) {
     }
 }
 
-/// Removes all logs that no key names.
+/// Removes all logs that no index entry references.
 fn remove_all<L: AddLedger, R: Wait>(rt: &R, bookie: &Bookie<L, MemDisk>) {
     for log in 0..1000 {
         take_steps(
@@ -90,7 +90,8 @@ fn remove_all<L: AddLedger, R: Wait>(rt: &R, bookie: &Bookie<L, MemDisk>) {
     }
 }
 
-/// Whether a receipt has its caller's ledger and is read back: its payload has the byte of the caller, where its ledger lives.
+/// Returns whether a receipt has its caller's ledger and is read back with the caller's byte, if
+/// its ledger is live.
 fn is_read<L: AddLedger, R: Wait>(
     rt: &R,
     alloc: Global,
@@ -113,7 +114,7 @@ fn is_read<L: AddLedger, R: Wait>(
     }
 }
 
-/// Whether each receipt of a caller is read back, and its pass counts as many.
+/// Returns whether each receipt of a caller is read back and its pass counts as many.
 fn are_read<L: AddLedger, R: Wait>(
     rt: &R,
     alloc: Global,
@@ -129,7 +130,7 @@ fn are_read<L: AddLedger, R: Wait>(
     caller.pass.adds() == caller.receipts.len() as u64
 }
 
-/// The receipts of all callers; each is read back.
+/// Reads back the receipts of all callers and returns them.
 fn read_all<L: AddLedger, R: Wait + Abort>(
     rt: &R,
     alloc: Global,
@@ -147,12 +148,12 @@ fn read_all<L: AddLedger, R: Wait + Abort>(
     receipts
 }
 
-/// Whether a key's ledger lives.
+/// Returns whether the ledger of a key is live.
 fn lives(key: Key) -> bool {
     key.ledger() != u64::from(DELETED)
 }
 
-/// How many receipts are of ledgers that live.
+/// Returns the number of receipts of live ledgers.
 fn count_living(receipts: &[Receipt]) -> usize {
     let mut living = 0_usize;
     for receipt in receipts {
@@ -163,14 +164,14 @@ fn count_living(receipts: &[Receipt]) -> usize {
     living
 }
 
-/// Whether the receipts are of all entries that live, and of those which were added before their ledger was deleted.
+/// Returns whether the receipts are of all live entries and of those added before the deletion.
 fn are_all(receipts: &[Receipt]) -> bool {
     count_living(receipts) == LIVING
         && receipts.len() > LIVING + LAST as usize
         && receipts.len() <= LIVING + ENTRIES as usize
 }
 
-/// How many entries stand in a log, all of ledgers that live.
+/// Returns the number of entries in a log, all of live ledgers.
 fn scan<R: Abort>(rt: &R, alloc: Global, view: &View) -> usize {
     let mut found = 0_usize;
     let mut scanner = Scanner::new(view, alloc, HEADER_LENGTH as u64, view.end());
@@ -184,7 +185,7 @@ fn scan<R: Abort>(rt: &R, alloc: Global, view: &View) -> usize {
     found
 }
 
-/// The view of a log.
+/// Returns the view of a log.
 fn view_of<D: LogDisk, R: Abort>(rt: &R, alloc: Global, disk: &mut D, log: u32) -> D::View {
     match disk.view(alloc, log) {
         Ok(view) => view,
@@ -192,7 +193,7 @@ fn view_of<D: LogDisk, R: Abort>(rt: &R, alloc: Global, disk: &mut D, log: u32) 
     }
 }
 
-/// The logs of a disk.
+/// Returns the logs of a disk.
 fn logs_of<D: LogDisk, R: Abort>(rt: &R, alloc: Global, disk: &mut D) -> Vec<u32> {
     match disk.list(alloc) {
         Ok(logs) => logs,
@@ -200,7 +201,7 @@ fn logs_of<D: LogDisk, R: Abort>(rt: &R, alloc: Global, disk: &mut D) -> Vec<u32
     }
 }
 
-/// How many entries stand in the logs, all of ledgers that live.
+/// Returns the number of entries in all logs, all of live ledgers.
 fn scan_all<R: Abort>(rt: &R, alloc: Global, disk: &mut MemDisk) -> usize {
     let mut found = 0_usize;
     for log in logs_of(rt, alloc, disk) {
@@ -210,7 +211,8 @@ fn scan_all<R: Abort>(rt: &R, alloc: Global, disk: &mut MemDisk) -> usize {
     found
 }
 
-/// Whether a take of the store gives a lease on an entry that lives, and tells that the ledger of another one is deleted.
+/// Returns whether a take gives a lease on a live entry, or reports the ledger of another one
+/// deleted.
 fn is_found(store: &mut Store<MemDisk>, key: Key) -> bool {
     match store.take(key) {
         Ok(Taken::Deleted) => !lives(key),
@@ -219,7 +221,7 @@ fn is_found(store: &mut Store<MemDisk>, key: Key) -> bool {
     }
 }
 
-/// Whether each receipt of a ledger that lives is of an entry of the store, and each other one of none.
+/// Returns whether the store has the entry of each receipt of a live ledger, and no other.
 fn are_found(store: &mut Store<MemDisk>, receipts: &[Receipt]) -> bool {
     for receipt in receipts {
         if !is_found(store, receipt.key) {
@@ -229,7 +231,7 @@ fn are_found(store: &mut Store<MemDisk>, receipts: &[Receipt]) -> bool {
     true
 }
 
-/// Whether the trail has a mark for each receipt, and one of the deletion.
+/// Returns whether the trail has a mark for each receipt, and one of the deletion.
 fn has_marks(trail: &[Mark], receipts: usize) -> bool {
     let mut adds = 0_usize;
     let mut deletes = 0_usize;
@@ -248,7 +250,7 @@ fn has_marks(trail: &[Mark], receipts: usize) -> bool {
     adds == receipts && deletes == 1
 }
 
-/// The passes of the callers.
+/// Returns the passes of the callers.
 fn passes_of<L: AddLedger, R: Abort>(
     rt: &R,
     alloc: Global,
@@ -261,7 +263,7 @@ fn passes_of<L: AddLedger, R: Abort>(
     passes
 }
 
-/// A store that is opened on the logs of a disk.
+/// Opens a store on the logs of a disk.
 fn open_again<R: Abort>(rt: &R, alloc: Global, disk: MemDisk) -> Store<MemDisk> {
     match Store::open(alloc, disk, SETTINGS, &[u64::from(DELETED)]) {
         Ok(store) => store,
@@ -269,14 +271,14 @@ fn open_again<R: Abort>(rt: &R, alloc: Global, disk: MemDisk) -> Store<MemDisk> 
     }
 }
 
-/// Whether the bookie counted the receipts, and its trail and its index have them.
+/// Returns whether the bookie counted the receipts, and its trail and index have them.
 fn is_left(finished: &Finished<MemDisk>, receipts: &[Receipt]) -> bool {
     finished.adds == receipts.len() as u64
         && has_marks(finished.store.trail(), receipts.len())
         && finished.store.index().len() == LIVING
 }
 
-/// Looks at what stands in the files of a store, and opens a store on them.
+/// Checks the files of a store and opens a store on them.
 fn look_at_files<R: Abort>(rt: &R, alloc: Global, store: Store<MemDisk>, receipts: &[Receipt]) {
     let mut disk = disk_of(rt, store);
     assert!(rt; scan_all(rt, alloc, &mut disk) == LIVING);
@@ -285,7 +287,7 @@ fn look_at_files<R: Abort>(rt: &R, alloc: Global, store: Store<MemDisk>, receipt
     assert!(rt; are_found(&mut again, receipts));
 }
 
-/// Brings the bookie to rest.
+/// Completes flushes and compactions and removes logs.
 fn settle<L: AddLedger, R: Wait + Abort>(rt: &R, bookie: &Bookie<L, MemDisk>) {
     take_steps(rt, bookie, &JOB);
     flush(rt, bookie);
@@ -293,14 +295,14 @@ fn settle<L: AddLedger, R: Wait + Abort>(rt: &R, bookie: &Bookie<L, MemDisk>) {
     remove_all(rt, bookie);
 }
 
-/// Ends the bookie, and looks at what it left.
+/// Ends the bookie and checks what it left.
 fn look_at_end<L: AddLedger, R: Abort>(rt: &R, alloc: Global, held: Held<L>, receipts: &[Receipt]) {
     let finished = held.end(rt, receipts);
     assert!(rt; is_left(&finished, receipts));
     look_at_files(rt, alloc, finished.store, receipts);
 }
 
-/// Brings the bookie to rest and ends it; then looks at what it left.
+/// Completes all work, ends the bookie and checks what it left.
 pub(super) fn end<L: AddLedger, R: Wait + Abort>(
     rt: &R,
     alloc: Global,

@@ -16,7 +16,7 @@ loop-log-preserved g c =
           let shown = sym w.in-Some-shown.ensures
           ∙ ap (λ v. Some (view_of g.D.View.LogView.bytes g.D.View.LogView.honest g.D.View.LogView.sound v)) (sym w.deref.ensures) in
           subst (IsReading s (log + 1)) (sym w.index-is)
-          (reading_on s c.loop-log.from c.loop-log.index c.loop-log.invariant log c.in-Some.ensures.value c.promise.ensures _ shown w.take_in.new.index
+          (reading_on s c.loop-log.from c.loop-log.index c.loop-log.invariant log c.in-Some.ensures.value c.reveal_invariant.ensures _ shown w.take_in.new.index
           w.in_ok-take_in.ensures.ok)
       | in_default-shown w ↦
           subst (IsReading s (log + 1)) (sym w.index-is)

@@ -1,4 +1,4 @@
-use Rattle.bk_dir.specs.Reading.{OnlyReads}
+use Rattle.bk_inspect.specs.Reading.{OnlyReads}
 use Rattle.bk_commands.proofs.compact.lengths_of.Given as goal
 
 abbrev pub invariant-loop-log : goal.invariant-loop-log

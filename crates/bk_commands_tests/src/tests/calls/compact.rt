@@ -1,7 +1,7 @@
 //! Calls of `compact`.
 
 use super::folder::told_of_folder;
-use bk_commands::{FolderAsk, folder_call, is_folder_call};
+use bk_commands::{CompactAsk, folder_call, is_folder_call};
 use std::alloc::Global;
 use std::test::Fail;
 
@@ -28,15 +28,16 @@ const CALLS: [(&[&str], u32, &[u64], bool); 6] = [
 /// Whether words ask for this compaction of the folder `logs`.
 fn is_asked(alloc: Global, words: &[&str], below: u32, dead: &[u64], is_dry: bool) -> bool {
     match folder_call(alloc, words) {
-        Ok(call) => match &call.ask {
-            FolderAsk::Compact(ask) => {
+        Ok(call) => match CompactAsk::of(alloc, &call) {
+            Ok(ask) => {
                 call.path == "logs"
+                    && call.name() == "compact"
                     && ask.below == below
                     && ask.dead.as_slice() == dead
                     && ask.dead_files.is_empty()
                     && ask.is_dry == is_dry
             }
-            _ => false,
+            Err(_) => false,
         },
         Err(_) => false,
     }

@@ -1,8 +1,14 @@
 //! Calls of the commands that read a folder.
 
-use bk_commands::{COMMANDS, FolderAsk, folder_call, is_folder_call, text_of};
-use bk_dir::{Digest, DigestChoice, DirCommand, EntryRange, Form, ScanChoice};
+use super::super::folder::anew;
+use super::super::{holds, run};
+use bk_commands::words::{CUT_TORN, DEAD};
+use bk_commands::{
+    CommandRow, READING, WRITING, dir_command, folder_call, is_folder_call, text_of,
+};
+use bk_inspect::{Digest, DigestChoice, DirCommand, EntryRange, Form, ScanChoice};
 use std::alloc::Global;
+use std::fs;
 use std::process::Abort;
 use std::test::Fail;
 
@@ -99,111 +105,111 @@ const WRONG_FOLDERS: [(&[&str], &str); 25] = [
 
 #[test]
 fn a_wrong_call_on_a_folder_is_told(rt: HostRuntime) {
-    for (words, part) in WRONG_FOLDERS {
+    for (words, part) in WRONG_FOLDERS.iter() {
         let text = told_of_folder(&rt, rt.alloc(), words);
         assert!(rt; text.contains(part), "{part:?} in {text:?}");
     }
 }
 
+/// Calls on the directory `folder`, and the command that each is.
+const COMMANDS: [(&[&str], DirCommand); 15] = [
+    (&["bk_shell", "logs", "folder"], DirCommand::Logs),
+    (
+        &["bk_shell", "header", "folder", "0"],
+        DirCommand::Header(0),
+    ),
+    (
+        &["bk_shell", "map", "folder", "2147483647"],
+        DirCommand::Map(2_147_483_647),
+    ),
+    (&["bk_shell", "scan", "folder", "31"], DirCommand::Scan(31)),
+    (
+        &["bk_shell", "scan", "folder", "1f.log"],
+        DirCommand::Scan(31),
+    ),
+    (
+        &["bk_shell", "scan", "--data", "folder", "0"],
+        DirCommand::ScanPart(
+            0,
+            ScanChoice {
+                ledger: None,
+                from: 0,
+                data: true,
+            },
+        ),
+    ),
+    (
+        &[
+            "bk_shell",
+            "scan",
+            "folder",
+            "0",
+            "--ledger",
+            "7",
+            "--from=1028",
+        ],
+        DirCommand::ScanPart(
+            0,
+            ScanChoice {
+                ledger: Some(7),
+                from: 1028,
+                data: false,
+            },
+        ),
+    ),
+    (&["bk_shell", "ledgers", "folder"], DirCommand::Ledgers),
+    (
+        &["bk_shell", "entries", "folder", "7"],
+        DirCommand::Entries(EntryRange {
+            ledger: 7,
+            first: 0,
+            last: 9_223_372_036_854_775_807,
+        }),
+    ),
+    (
+        &["bk_shell", "entries", "folder", "7", "2"],
+        DirCommand::Entries(EntryRange {
+            ledger: 7,
+            first: 2,
+            last: 9_223_372_036_854_775_807,
+        }),
+    ),
+    (
+        &["bk_shell", "entries", "folder", "7", "2", "5"],
+        DirCommand::Entries(EntryRange {
+            ledger: 7,
+            first: 2,
+            last: 5,
+        }),
+    ),
+    (&["bk_shell", "check", "folder"], DirCommand::Check),
+    (
+        &["bk_shell", "check", "--digest", "crc32c", "folder"],
+        DirCommand::CheckDigests(DigestChoice::One(Digest::Crc32c)),
+    ),
+    (
+        &["bk_shell", "check", "folder", "--digest", "crc32"],
+        DirCommand::CheckDigests(DigestChoice::One(Digest::Crc32)),
+    ),
+    (
+        &["bk_shell", "check", "--digest=auto", "folder"],
+        DirCommand::CheckDigests(DigestChoice::Auto),
+    ),
+];
+
+/// Whether words are a call of this command on the directory `folder`.
+fn is_command(alloc: Global, words: &[&str], command: DirCommand) -> bool {
+    match folder_call(alloc, words) {
+        Ok(call) => call.path == "folder" && dir_command(&call) == Some(command),
+        Err(_) => false,
+    }
+}
+
 #[test]
 fn a_call_on_a_folder(rt: HostRuntime) {
-    let lines: [(&[&str], DirCommand); 15] = [
-        (&["bk_shell", "logs", "folder"], DirCommand::Logs),
-        (
-            &["bk_shell", "header", "folder", "0"],
-            DirCommand::Header(0),
-        ),
-        (
-            &["bk_shell", "map", "folder", "2147483647"],
-            DirCommand::Map(2_147_483_647),
-        ),
-        (&["bk_shell", "scan", "folder", "31"], DirCommand::Scan(31)),
-        (
-            &["bk_shell", "scan", "folder", "1f.log"],
-            DirCommand::Scan(31),
-        ),
-        (
-            &["bk_shell", "scan", "--data", "folder", "0"],
-            DirCommand::ScanPart(
-                0,
-                ScanChoice {
-                    ledger: None,
-                    from: 0,
-                    data: true,
-                },
-            ),
-        ),
-        (
-            &[
-                "bk_shell",
-                "scan",
-                "folder",
-                "0",
-                "--ledger",
-                "7",
-                "--from=1028",
-            ],
-            DirCommand::ScanPart(
-                0,
-                ScanChoice {
-                    ledger: Some(7),
-                    from: 1028,
-                    data: false,
-                },
-            ),
-        ),
-        (&["bk_shell", "ledgers", "folder"], DirCommand::Ledgers),
-        (
-            &["bk_shell", "entries", "folder", "7"],
-            DirCommand::Entries(EntryRange {
-                ledger: 7,
-                first: 0,
-                last: 9_223_372_036_854_775_807,
-            }),
-        ),
-        (
-            &["bk_shell", "entries", "folder", "7", "2"],
-            DirCommand::Entries(EntryRange {
-                ledger: 7,
-                first: 2,
-                last: 9_223_372_036_854_775_807,
-            }),
-        ),
-        (
-            &["bk_shell", "entries", "folder", "7", "2", "5"],
-            DirCommand::Entries(EntryRange {
-                ledger: 7,
-                first: 2,
-                last: 5,
-            }),
-        ),
-        (&["bk_shell", "check", "folder"], DirCommand::Check),
-        (
-            &["bk_shell", "check", "--digest", "crc32c", "folder"],
-            DirCommand::CheckDigests(DigestChoice::One(Digest::Crc32c)),
-        ),
-        (
-            &["bk_shell", "check", "folder", "--digest", "crc32"],
-            DirCommand::CheckDigests(DigestChoice::One(Digest::Crc32)),
-        ),
-        (
-            &["bk_shell", "check", "--digest=auto", "folder"],
-            DirCommand::CheckDigests(DigestChoice::Auto),
-        ),
-    ];
-    for (words, command) in lines {
+    for (words, command) in COMMANDS.iter() {
         assert!(rt; is_folder_call(words), "{words:?}");
-        match folder_call(rt.alloc(), words) {
-            Ok(call) => {
-                assert_eq!(rt; call.path, "folder", "the folder of {words:?}");
-                assert_eq!(rt;
-                    call.ask,
-                    FolderAsk::Dir(command),
-                    "the command of {words:?}"
-                );
-            }
-            Err(error) => assert!(rt; false, "{words:?}: {error}"),
-        }
+        assert!(rt; is_command(rt.alloc(), words, *command), "{words:?}");
     }
 }
 
@@ -227,29 +233,63 @@ const FOLDER_HELP: [(&str, &str); 11] = [
 
 #[test]
 fn help_shows_each_command_on_a_folder(rt: HostRuntime) {
-    for (name, part) in FOLDER_HELP {
+    for (name, part) in FOLDER_HELP.iter() {
         let text = told_of_folder(&rt, rt.alloc(), &["bk_shell", "help", name]);
         assert!(rt; text.contains(part), "{part:?} in {text:?}");
-        assert!(rt; COMMANDS.contains(name), "{name} in the list of commands");
+    }
+}
+
+/// The operands of a command on a directory without logs.
+const OPERANDS: [&str; 4] = ["bk_shell_rows_of", "0", "0", "0"];
+
+/// Whether a row of the table is in the list of commands, and a function runs it on a directory
+/// without logs.
+fn is_served(rt: &HostRuntime, list: &[u8], row: &CommandRow) -> Result<bool, Fail> {
+    let mut words = vec![in rt.alloc(); "bk_shell", row.name]?;
+    let count = row.operands.len().saturating_add(1);
+    for operand in OPERANDS.iter().take(count) {
+        words.push(*operand)?;
+    }
+    let shown = run(rt, &words, "");
+    Ok(holds(list, row.summary) && shown.status < 2 && !holds(&shown.errors, "function"))
+}
+
+#[test]
+fn each_row_is_listed_and_has_a_function(rt: HostRuntime) -> Result<(), Fail> {
+    let list = run(&rt, &["bk_shell", "help"], "").output;
+    anew(&rt, "bk_shell_rows_of")?;
+    for row in READING.iter().chain(WRITING) {
+        assert!(rt; is_served(&rt, &list, row)?, "{}", row.name);
+    }
+    fs::remove_dir_all(&rt, "bk_shell_rows_of")?;
+    Ok(())
+}
+
+/// Calls of `stat`, and the ledgers that they name.
+const DEAD_LEDGERS: [(&[&str], &[u64]); 3] = [
+    (&["bk_shell", "stat", "folder"], &[]),
+    (&["bk_shell", "stat", "--dead", "3", "folder"], &[3]),
+    (
+        &["bk_shell", "stat", "--dead", "3", "folder", "--dead=0"],
+        &[3, 0],
+    ),
+];
+
+/// Whether words call `stat` with these ledgers.
+fn is_stat(alloc: Global, words: &[&str], dead: &[u64]) -> Result<bool, Fail> {
+    match folder_call(alloc, words) {
+        Ok(call) => {
+            let named = call.numbers(alloc, &DEAD)?;
+            Ok(call.name() == "stat" && named.as_slice() == dead)
+        }
+        Err(_) => Ok(false),
     }
 }
 
 #[test]
 fn a_call_of_stat_names_the_dead_ledgers(rt: HostRuntime) -> Result<(), Fail> {
-    let lines: [(&[&str], &[u64]); 3] = [
-        (&["bk_shell", "stat", "folder"], &[]),
-        (&["bk_shell", "stat", "--dead", "3", "folder"], &[3]),
-        (
-            &["bk_shell", "stat", "--dead", "3", "folder", "--dead=0"],
-            &[3, 0],
-        ),
-    ];
-    for (words, dead) in lines {
-        let asked = FolderAsk::Stat(Vec::from_slice(rt.alloc(), dead)?);
-        match folder_call(rt.alloc(), words) {
-            Ok(call) => assert_eq!(rt; call.ask, asked, "the ledgers of {words:?}"),
-            Err(error) => assert!(rt; false, "{words:?}: {error}"),
-        }
+    for (words, dead) in DEAD_LEDGERS.iter() {
+        assert!(rt; is_stat(rt.alloc(), words, dead)?, "{words:?}");
     }
     Ok(())
 }
@@ -272,38 +312,47 @@ const FORMS: [(&[&str], Form, Option<u32>); 6] = [
     ),
 ];
 
+/// Whether words call this command, in this form, on this log.
+fn is_formed(alloc: Global, words: &[&str], name: &str, form: Form, log: Option<u32>) -> bool {
+    match folder_call(alloc, words) {
+        Ok(call) => call.form == form && call.log() == log && call.name() == name,
+        Err(_) => false,
+    }
+}
+
 #[test]
 fn a_call_names_a_form(rt: HostRuntime) {
     for (words, form, sealed) in FORMS.iter() {
-        let ask = match sealed {
-            Some(log) => FolderAsk::Seal(*log),
-            None => FolderAsk::Dir(DirCommand::Logs),
+        let name = match sealed {
+            Some(_) => "seal",
+            None => "logs",
         };
-        let is_asked = match folder_call(rt.alloc(), words) {
-            Ok(call) => call.form == *form && call.ask == ask,
-            Err(_) => false,
-        };
+        let is_asked = is_formed(rt.alloc(), words, name, *form, *sealed);
         assert!(rt; is_asked && is_folder_call(words), "{words:?}");
+    }
+}
+
+/// Calls of `seal` on log 31, and whether they cut.
+const CUTS: [(&[&str], bool); 3] = [
+    (
+        &["bk_shell", "seal", "--cut-torn", "folder", "1f.log"],
+        true,
+    ),
+    (&["bk_shell", "seal", "folder", "31", "--cut-torn"], true),
+    (&["bk_shell", "seal", "folder", "31"], false),
+];
+
+/// Whether words are a call on log 31 that cuts, or does not.
+fn is_cut(alloc: Global, words: &[&str], cuts: bool) -> bool {
+    match folder_call(alloc, words) {
+        Ok(call) => call.has(&CUT_TORN) == cuts && call.log() == Some(31),
+        Err(_) => false,
     }
 }
 
 #[test]
 fn a_call_of_seal_may_ask_for_a_cut(rt: HostRuntime) {
-    let lines: [(&[&str], FolderAsk); 3] = [
-        (
-            &["bk_shell", "seal", "--cut-torn", "folder", "1f.log"],
-            FolderAsk::CutAndSeal(31),
-        ),
-        (
-            &["bk_shell", "seal", "folder", "31", "--cut-torn"],
-            FolderAsk::CutAndSeal(31),
-        ),
-        (&["bk_shell", "seal", "folder", "31"], FolderAsk::Seal(31)),
-    ];
-    for (words, asked) in lines.iter() {
-        match folder_call(rt.alloc(), words) {
-            Ok(call) => assert_eq!(rt; &call.ask, asked, "what {words:?} asks for"),
-            Err(error) => assert!(rt; false, "{words:?}: {error}"),
-        }
+    for (words, cuts) in CUTS.iter() {
+        assert!(rt; is_cut(rt.alloc(), words, *cuts), "{words:?}");
     }
 }

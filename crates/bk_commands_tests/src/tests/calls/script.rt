@@ -2,6 +2,7 @@
 
 use bk_commands::{DEFAULTS, script_call};
 use bk_drive::Settings;
+use std::alloc::Global;
 use std::test::Fail;
 
 /// Words behind the program's name, and the folder that they ask for.
@@ -12,16 +13,20 @@ const FOLDERS: [(&[&str], Option<&str>); 4] = [
     (&["script", "--", "4"], None),
 ];
 
+/// Whether words behind the program's name ask for this folder.
+fn is_folder(alloc: Global, behind: &[&str], folder: Option<&str>) -> Result<bool, Fail> {
+    let mut words = vec![in alloc; "any name"]?;
+    words.extend_from_slice(behind)?;
+    match script_call(alloc, &words) {
+        Ok(call) => Ok(call.folder == folder),
+        Err(_) => Ok(false),
+    }
+}
+
 #[test]
 fn words_give_the_folder(rt: HostRuntime) -> Result<(), Fail> {
     for (behind, folder) in FOLDERS.iter() {
-        let mut words = vec![in rt.alloc(); "any name"]?;
-        words.extend_from_slice(behind)?;
-        let is_given = match script_call(rt.alloc(), &words) {
-            Ok(call) => call.folder == *folder,
-            Err(_) => false,
-        };
-        assert!(rt; is_given, "the folder of {behind:?}");
+        assert!(rt; is_folder(rt.alloc(), behind, *folder)?, "{behind:?}");
     }
     Ok(())
 }
@@ -126,18 +131,25 @@ const CALLS: [(&[&str], Settings, &[u64]); 12] = [
     (&["script", "--", "3", "2"], DEFAULTS, &[3, 2]),
 ];
 
+/// Whether words behind the program's name ask for these settings and ledgers.
+fn is_asked(
+    alloc: Global,
+    behind: &[&str],
+    settings: &Settings,
+    dead: &[u64],
+) -> Result<bool, Fail> {
+    let mut words = vec![in alloc; "any name"]?;
+    words.extend_from_slice(behind)?;
+    match script_call(alloc, &words) {
+        Ok(call) => Ok(call.settings == *settings && call.dead.as_slice() == dead),
+        Err(_) => Ok(false),
+    }
+}
+
 #[test]
 fn words_give_the_settings_and_the_dead_ledgers(rt: HostRuntime) -> Result<(), Fail> {
-    for (behind, settings, dead) in CALLS {
-        let mut words = vec![in rt.alloc(); "any name"]?;
-        words.extend_from_slice(behind)?;
-        match script_call(rt.alloc(), &words) {
-            Ok(call) => {
-                assert_eq!(rt; call.settings, settings, "the settings of {behind:?}");
-                assert_eq!(rt; call.dead.as_slice(), dead, "the ledgers of {behind:?}");
-            }
-            Err(error) => assert!(rt; false, "{behind:?}: {error}"),
-        }
+    for (behind, settings, dead) in CALLS.iter() {
+        assert!(rt; is_asked(rt.alloc(), behind, settings, dead)?, "{behind:?}");
     }
     Ok(())
 }

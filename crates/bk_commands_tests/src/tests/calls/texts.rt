@@ -63,7 +63,7 @@ const TOLD: [(&[&str], &str, &str); 11] = [
 
 #[test]
 fn a_wrong_word_is_told_and_no_other_option_is_named(rt: HostRuntime) {
-    for (words, part, other) in TOLD {
+    for (words, part, other) in TOLD.iter() {
         let text = told(&rt, rt.alloc(), words);
         assert!(rt; text.contains(part), "{part:?} in {text:?}");
         assert!(rt; !text.contains(other), "{other:?} in {text:?}");
@@ -113,7 +113,7 @@ const SHOWN: [&str; 36] = [
 #[test]
 fn help_shows_each_step_and_option(rt: HostRuntime) {
     let text = told(&rt, rt.alloc(), &["bk_shell", "help", "script"]);
-    for part in SHOWN {
+    for part in SHOWN.iter() {
         assert!(rt; text.contains(part), "{part:?} in the help");
     }
 }

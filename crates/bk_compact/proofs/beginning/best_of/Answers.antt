@@ -1,5 +1,5 @@
 use Rattle.std.proofs.Common.{◌≡◌, true, false, subst}
-use Rattle.bk_compact.specs.Going.{IsBetter}
+use Rattle.bk_compact.specs.JobSteps.{IsBetter}
 use Rattle.bk_compact.proofs.Chosen.{candidate_held, choosing_taken, choosing_spared, choosing_past}
 use Rattle.bk_compact.proofs.beginning.best_of.Goals as goal
 use Rattle.bk_compact.proofs.beginning.best_of.Goals.{else-is_better-via-then-is_better+else-is_candidate, else-is_better-via-else-is_better}

@@ -1,5 +1,5 @@
 use Rattle.std.proofs.Common.{◌-◌}
-use Rattle.bk_compact.specs.Going.{IsChoosing}
+use Rattle.bk_compact.specs.JobSteps.{IsChoosing}
 use Rattle.bk_compact.proofs.beginning.chosen.Given as goal
 
 abbrev pub invariant-loop-log : goal.invariant-loop-log

@@ -2,13 +2,13 @@ use Rattle.std.proofs.Common.{◌≡◌, ℕ, ◌+◌, ◌<◌, IsTrue, Bool, Op
 use Rattle.bk_log.specs.declared.found.Found.{Found}
 use Rattle.bk_log.specs.declared.fault.ScanFault.{ScanFault}
 use Rattle.bk_log.specs.declared.fault.ScanFault.TheVariants as scans
-use Rattle.bk_log.specs.Scanning.{Scan, NextMoves, NextTurn}
+use Rattle.bk_log.specs.Scanning.{Scan, NextMoves, ScanNextTransition}
 use Rattle.bk_store.specs.Logs.{View, view_of}
 use Rattle.bk_compact.specs.declared.entries.Stopped.{Stopped}
 use Rattle.bk_disk.specs.Disk.{view_end}
-use Rattle.bk_store.proofs.SameMeaning.{stays_on}
+use Rattle.bk_store.proofs.SameContents.{stays_on}
 use Rattle.bk_compact.specs.Compacting.{with_job}
-use Rattle.bk_compact.specs.Going.{CopiesAll, ScansFrom}
+use Rattle.bk_compact.specs.JobSteps.{CopiesAll, ScansFrom}
 use Rattle.bk_compact.proofs.Stepping.{IsGoing, going_starts, going_ahead, going_on, going_stops, going_done, going_ends, going_some, going_none}
 use Rattle.bk_compact.proofs.Examined.{copied_few}
 use Rattle.bk_compact.proofs.Stepping.{going_memory, going_unread, going_odd, never_bad, never_odd}
@@ -17,18 +17,18 @@ use Rattle.bk_compact.proofs.SteppingEnds.{short_odd}
 use Rattle.bk_compact.proofs.entries.copy_entries.Goals as goal
 use Rattle.bk_compact.proofs.entries.copy_entries.Goals.{then-is_copied, else-is_copied}
 
-pub returns-in_default-clause-turn : goal.returns-in_default-clause-turn
-returns-in_default-clause-turn g c =
+pub returns-in_default-clause-transition : goal.returns-in_default-clause-transition
+returns-in_default-clause-transition g c =
     let view : View = view_of g.D.View.LogView.bytes g.D.View.LogView.honest g.D.View.LogView.sound c.args.view.now in
     subst (λ (r : Stopped). CopiesAll c.args.store.now c.args.job.now c.args.count (Err r) c.odd.new.store c.args.job.now) (sym c.odd.ensures.value)
-    (short_odd view c.args.store.now c.promise.ensures c.args.job.now c.requires.copying c.requires.view
+    (short_odd view c.args.store.now c.reveal_invariant.ensures c.args.job.now c.requires.copying c.requires.view
     (λ truth. subst (λ n. view_end view.bytes < n) c.at.ensures (c.in_default.ensures.none truth))
-    c.args.count c.odd.new.store c.args.job.now c.odd.ensures.turn)
+    c.args.count c.odd.new.store c.args.job.now c.odd.ensures.transition)
 
 pub loop-number-init : goal.loop-number-init
 loop-number-init g c =
     let view : View = view_of g.D.View.LogView.bytes g.D.View.LogView.honest g.D.View.LogView.sound c.args.view.now in
-    going_starts view c.args.store.now c.promise.ensures c.args.job.now c.requires.copying c.requires.view c.in-Some.scanner
+    going_starts view c.args.store.now c.reveal_invariant.ensures c.args.job.now c.requires.copying c.requires.view c.in-Some.scanner
     (subst (λ (n : ℕ). ScansFrom view.bytes view.is_honest view.is_sound n c.in-Some.scanner) c.at.ensures c.in-Some.ensures.some)
 
 pub loop-number-preserved : goal.loop-number-preserved
@@ -36,11 +36,11 @@ loop-number-preserved g c =
     let view : View = view_of g.D.View.LogView.bytes g.D.View.LogView.honest g.D.View.LogView.sound c.args.view.now in
     let is : c.in-Ok-Some.field-0 ≡ Some c.in-Ok-Some.found = c.in-Ok-Some.field-0-is in
     let moves = subst (λ (o : Option Found). NextMoves c.loop-number.scanner (Ok o) c.next.new.self) is c.in-Ok-Some.ensures.moves in
-    let turn = subst (λ (o : Option Found). IsTrue c.loop-number.scanner.honest → NextTurn c.loop-number.scanner (Ok o) c.next.new.self) is
-    c.in-Ok-Some.ensures.turn in
+    let turn = subst (λ (o : Option Found). IsTrue c.loop-number.scanner.honest → ScanNextTransition c.loop-number.scanner (Ok o) c.next.new.self) is
+    c.in-Ok-Some.ensures.transition in
     let on = going_on view c.args.store.now c.args.job.now c.loop-number.number c.loop-number.scanner c.loop-number.copied c.loop-number.store
-    c.promise-in-loop-number.ensures c.loop-number.job c.loop-number.invariant
-    c.in-Ok-Some.found c.next.new.self moves turn c.in-Ok.is_copied c.examine.new.store c.examine.new.job c.in-Ok.ensures.turn c.examine.ensures.stays in
+    c.reveal_invariant-in-loop-number.ensures c.loop-number.job c.loop-number.invariant
+    c.in-Ok-Some.found c.next.new.self moves turn c.in-Ok.is_copied c.examine.new.store c.examine.new.job c.in-Ok.ensures.transition c.examine.ensures.frame in
     let count : c.if-is_copied.copied ≡ c.loop-number.copied + one c.in-Ok.is_copied = elim c.if-is_copied.branch [
       | then-is_copied w ↦ w.copied-is ∙ ap (λ (b : Bool). c.loop-number.copied + one b) (sym w.if-is_copied.true)
       | else-is_copied w ↦ w.copied-is ∙ none c.loop-number.copied ∙ ap (λ (b : Bool). c.loop-number.copied + one b) (sym w.if-is_copied.false)
@@ -51,36 +51,36 @@ loop-number-preserved g c =
     none : (n : ℕ) → n ≡ n + 0
     none n = omega arith
 
-pub returns-then-number-eq0-clause-turn : goal.returns-then-number-eq0-clause-turn
-returns-then-number-eq0-clause-turn g c =
+pub returns-then-number-eq0-clause-transition : goal.returns-then-number-eq0-clause-transition
+returns-then-number-eq0-clause-transition g c =
     let view : View = view_of g.D.View.LogView.bytes g.D.View.LogView.honest g.D.View.LogView.sound c.args.view.now in
     let is : c.in-Ok-None.field-0 ≡ None = c.in-Ok-None.field-0-is in
     let moves = subst (λ (o : Option Found). NextMoves c.loop-number.scanner (Ok o) c.next.new.self) is c.in-Ok-None.ensures.moves in
-    let turn = subst (λ (o : Option Found). IsTrue c.loop-number.scanner.honest → NextTurn c.loop-number.scanner (Ok o) c.next.new.self) is
-    c.in-Ok-None.ensures.turn in
+    let turn = subst (λ (o : Option Found). IsTrue c.loop-number.scanner.honest → ScanNextTransition c.loop-number.scanner (Ok o) c.next.new.self) is
+    c.in-Ok-None.ensures.transition in
     going_none view c.args.store.now c.args.job.now c.loop-number.number c.loop-number.scanner c.loop-number.copied c.loop-number.store
-    c.promise-in-loop-number.ensures c.loop-number.job c.loop-number.invariant
+    c.reveal_invariant-in-loop-number.ensures c.loop-number.job c.loop-number.invariant
     c.args.count (omega arith) (omega arith) c.requires.copying.out.none c.next.new.self moves turn
 
-pub returns-then-number-eq0-clause-stays : goal.returns-then-number-eq0-clause-stays
-returns-then-number-eq0-clause-stays g c = c.loop-number.invariant.stays
+pub returns-then-number-eq0-clause-frame : goal.returns-then-number-eq0-clause-frame
+returns-then-number-eq0-clause-frame g c = c.loop-number.invariant.stays
 
-pub returns-in-Ok-None-clause-turn : goal.returns-in-Ok-None-clause-turn
-returns-in-Ok-None-clause-turn g c =
+pub returns-in-Ok-None-clause-transition : goal.returns-in-Ok-None-clause-transition
+returns-in-Ok-None-clause-transition g c =
     let view : View = view_of g.D.View.LogView.bytes g.D.View.LogView.honest g.D.View.LogView.sound c.args.view.now in
     let is : c.in-Ok-None.field-0 ≡ None = c.in-Ok-None.field-0-is in
     let moves = subst (λ (o : Option Found). NextMoves c.loop-number.scanner (Ok o) c.next.new.self) is c.in-Ok-None.ensures.moves in
-    let turn = subst (λ (o : Option Found). IsTrue c.loop-number.scanner.honest → NextTurn c.loop-number.scanner (Ok o) c.next.new.self) is
-    c.in-Ok-None.ensures.turn in
+    let turn = subst (λ (o : Option Found). IsTrue c.loop-number.scanner.honest → ScanNextTransition c.loop-number.scanner (Ok o) c.next.new.self) is
+    c.in-Ok-None.ensures.transition in
     going_some view c.args.store.now c.args.job.now c.loop-number.number c.loop-number.scanner c.loop-number.copied c.loop-number.store
-    c.promise-in-loop-number.ensures c.loop-number.job c.loop-number.invariant
+    c.reveal_invariant-in-loop-number.ensures c.loop-number.job c.loop-number.invariant
     c.args.count (omega arith) (omega arith)
     (going_ends view c.args.store.now c.args.job.now c.loop-number.number c.loop-number.scanner c.loop-number.copied c.loop-number.store
-    c.promise-in-loop-number.ensures c.loop-number.job c.loop-number.invariant
+    c.reveal_invariant-in-loop-number.ensures c.loop-number.job c.loop-number.invariant
     c.args.count (omega arith) c.next.new.self moves turn)
 
-pub returns-in-Ok-None-clause-stays : goal.returns-in-Ok-None-clause-stays
-returns-in-Ok-None-clause-stays g c = c.loop-number.invariant.stays
+pub returns-in-Ok-None-clause-frame : goal.returns-in-Ok-None-clause-frame
+returns-in-Ok-None-clause-frame g c = c.loop-number.invariant.stays
 
 pub examine-requires-clause-copying : goal.examine-requires-clause-copying
 examine-requires-clause-copying g c κs within = c.loop-number.invariant.copying
@@ -102,10 +102,10 @@ examine-requires-clause-ahead g c κs within =
     let view : View = view_of g.D.View.LogView.bytes g.D.View.LogView.honest g.D.View.LogView.sound c.args.view.now in
     let is : c.in-Ok-Some.field-0 ≡ Some c.in-Ok-Some.found = c.in-Ok-Some.field-0-is in
     let moves = subst (λ (o : Option Found). NextMoves c.loop-number.scanner (Ok o) c.next.new.self) is c.in-Ok-Some.ensures.moves in
-    let turn = subst (λ (o : Option Found). IsTrue c.loop-number.scanner.honest → NextTurn c.loop-number.scanner (Ok o) c.next.new.self) is
-    c.in-Ok-Some.ensures.turn in
+    let turn = subst (λ (o : Option Found). IsTrue c.loop-number.scanner.honest → ScanNextTransition c.loop-number.scanner (Ok o) c.next.new.self) is
+    c.in-Ok-Some.ensures.transition in
     going_ahead view c.args.store.now c.args.job.now c.loop-number.number c.loop-number.scanner c.loop-number.copied c.loop-number.store
-    c.promise-in-loop-number.ensures c.loop-number.job c.loop-number.invariant
+    c.reveal_invariant-in-loop-number.ensures c.loop-number.job c.loop-number.invariant
     c.in-Ok-Some.found c.next.new.self moves turn
 
 pub overflow_add-copied : goal.overflow_add-copied
@@ -115,95 +115,95 @@ overflow_add-copied g c =
     c.loop-number.job so_far.steps.examined in
     omega (arith, few, so_far.long, c.loop-number-test.true, c.ranges.count.fits)
 
-pub returns-in-Err-clause-turn : goal.returns-in-Err-clause-turn
-returns-in-Err-clause-turn g c =
+pub returns-in-Err-clause-transition : goal.returns-in-Err-clause-transition
+returns-in-Err-clause-transition g c =
     let view : View = view_of g.D.View.LogView.bytes g.D.View.LogView.honest g.D.View.LogView.sound c.args.view.now in
     let is : c.in-Ok-Some.field-0 ≡ Some c.in-Ok-Some.found = c.in-Ok-Some.field-0-is in
     let moves = subst (λ (o : Option Found). NextMoves c.loop-number.scanner (Ok o) c.next.new.self) is c.in-Ok-Some.ensures.moves in
-    let turn = subst (λ (o : Option Found). IsTrue c.loop-number.scanner.honest → NextTurn c.loop-number.scanner (Ok o) c.next.new.self) is
-    c.in-Ok-Some.ensures.turn in
+    let turn = subst (λ (o : Option Found). IsTrue c.loop-number.scanner.honest → ScanNextTransition c.loop-number.scanner (Ok o) c.next.new.self) is
+    c.in-Ok-Some.ensures.transition in
     subst (λ (r : Stopped). CopiesAll c.args.store.now c.args.job.now c.args.count (Err r) c.examine.new.store c.examine.new.job) (sym c.after.ensures)
     (going_stops view c.args.store.now c.args.job.now c.loop-number.number c.loop-number.scanner c.loop-number.copied c.loop-number.store
-    c.promise-in-loop-number.ensures c.loop-number.job c.loop-number.invariant
-    c.in-Ok-Some.found c.next.new.self moves turn c.in-Err.stopped c.examine.new.store c.examine.new.job c.args.count (omega arith) c.in-Err.ensures.turn)
+    c.reveal_invariant-in-loop-number.ensures c.loop-number.job c.loop-number.invariant
+    c.in-Ok-Some.found c.next.new.self moves turn c.in-Err.stopped c.examine.new.store c.examine.new.job c.args.count (omega arith) c.in-Err.ensures.transition)
 
-pub returns-in-Err-clause-stays : goal.returns-in-Err-clause-stays
-returns-in-Err-clause-stays g c = stays_on _ _ _ c.loop-number.invariant.stays c.examine.ensures.stays
+pub returns-in-Err-clause-frame : goal.returns-in-Err-clause-frame
+returns-in-Err-clause-frame g c = stays_on _ _ _ c.loop-number.invariant.stays c.examine.ensures.frame
 
-pub returns-in-Err-Memory-clause-turn : goal.returns-in-Err-Memory-clause-turn
-returns-in-Err-Memory-clause-turn g c =
+pub returns-in-Err-Memory-clause-transition : goal.returns-in-Err-Memory-clause-transition
+returns-in-Err-Memory-clause-transition g c =
     let view : View = view_of g.D.View.LogView.bytes g.D.View.LogView.honest g.D.View.LogView.sound c.args.view.now in
     going_memory view c.args.store.now c.args.job.now c.loop-number.number c.loop-number.scanner c.loop-number.copied c.loop-number.store
-    c.promise-in-loop-number.ensures c.loop-number.job c.loop-number.invariant
+    c.reveal_invariant-in-loop-number.ensures c.loop-number.job c.loop-number.invariant
     c.args.count (omega arith)
 
-pub returns-in-Err-Memory-clause-stays : goal.returns-in-Err-Memory-clause-stays
-returns-in-Err-Memory-clause-stays g c = c.loop-number.invariant.stays
+pub returns-in-Err-Memory-clause-frame : goal.returns-in-Err-Memory-clause-frame
+returns-in-Err-Memory-clause-frame g c = c.loop-number.invariant.stays
 
-pub returns-in-Err-Disk-clause-turn : goal.returns-in-Err-Disk-clause-turn
-returns-in-Err-Disk-clause-turn g c =
+pub returns-in-Err-Disk-clause-transition : goal.returns-in-Err-Disk-clause-transition
+returns-in-Err-Disk-clause-transition g c =
     let view : View = view_of g.D.View.LogView.bytes g.D.View.LogView.honest g.D.View.LogView.sound c.args.view.now in
     going_unread view c.args.store.now c.args.job.now c.loop-number.number c.loop-number.scanner c.loop-number.copied c.loop-number.store
-    c.promise-in-loop-number.ensures c.loop-number.job c.loop-number.invariant
+    c.reveal_invariant-in-loop-number.ensures c.loop-number.job c.loop-number.invariant
     c.args.count (omega arith) (c.in-Err-Disk.ensures.cause (ap Err c.in-Err-Disk.field-0-is))
 
-pub returns-in-Err-Disk-clause-stays : goal.returns-in-Err-Disk-clause-stays
-returns-in-Err-Disk-clause-stays g c = c.loop-number.invariant.stays
+pub returns-in-Err-Disk-clause-frame : goal.returns-in-Err-Disk-clause-frame
+returns-in-Err-Disk-clause-frame g c = c.loop-number.invariant.stays
 
 pub odd-requires-in-Err-BadLength-after_bounds : goal.odd-requires-in-Err-BadLength-after_bounds
 odd-requires-in-Err-BadLength-after_bounds g c κs within = c.loop-number.invariant.copying
 
-pub returns-in-Err-BadLength-clause-turn : goal.returns-in-Err-BadLength-clause-turn
-returns-in-Err-BadLength-clause-turn g c =
+pub returns-in-Err-BadLength-clause-transition : goal.returns-in-Err-BadLength-clause-transition
+returns-in-Err-BadLength-clause-transition g c =
     let view : View = view_of g.D.View.LogView.bytes g.D.View.LogView.honest g.D.View.LogView.sound c.args.view.now in
     let bad = scans.BadLength c.in-Err-BadLength.field-0-0 c.in-Err-BadLength.field-0-1 in
     let is : c.in-Err-BadLength.field-0 ≡ bad = c.in-Err-BadLength.field-0-is in
     let moves = subst (λ (o : ScanFault). NextMoves c.loop-number.scanner (Err o) c.next.new.self) is c.in-Err-BadLength.ensures.moves in
-    let turn = subst (λ (o : ScanFault). IsTrue c.loop-number.scanner.honest → NextTurn c.loop-number.scanner (Err o) c.next.new.self) is
-    c.in-Err-BadLength.ensures.turn in
+    let turn = subst (λ (o : ScanFault). IsTrue c.loop-number.scanner.honest → ScanNextTransition c.loop-number.scanner (Err o) c.next.new.self) is
+    c.in-Err-BadLength.ensures.transition in
     subst (λ (r : Stopped). CopiesAll c.args.store.now c.args.job.now c.args.count (Err r) c.odd-in-Err-BadLength.new.store c.loop-number.job)
     (sym c.odd-in-Err-BadLength.ensures.value)
     (going_odd view c.args.store.now c.args.job.now c.loop-number.number c.loop-number.scanner c.loop-number.copied c.loop-number.store
-    c.promise-in-loop-number.ensures c.loop-number.job c.loop-number.invariant
+    c.reveal_invariant-in-loop-number.ensures c.loop-number.job c.loop-number.invariant
     c.args.count (omega arith) c.odd-in-Err-BadLength.new.store c.loop-number.job
     (never_bad view c.args.store.now c.args.job.now c.loop-number.number c.loop-number.scanner c.loop-number.copied c.loop-number.store
-    c.promise-in-loop-number.ensures c.loop-number.job c.loop-number.invariant c.in-Err-BadLength.field-0-0 c.in-Err-BadLength.field-0-1
+    c.reveal_invariant-in-loop-number.ensures c.loop-number.job c.loop-number.invariant c.in-Err-BadLength.field-0-0 c.in-Err-BadLength.field-0-1
     c.next.new.self moves turn)
-    c.odd-in-Err-BadLength.ensures.turn)
+    c.odd-in-Err-BadLength.ensures.transition)
 
-pub returns-in-Err-BadLength-clause-stays : goal.returns-in-Err-BadLength-clause-stays
-returns-in-Err-BadLength-clause-stays g c = stays_on _ _ _ c.loop-number.invariant.stays c.odd-in-Err-BadLength.ensures.stays
+pub returns-in-Err-BadLength-clause-frame : goal.returns-in-Err-BadLength-clause-frame
+returns-in-Err-BadLength-clause-frame g c = stays_on _ _ _ c.loop-number.invariant.stays c.odd-in-Err-BadLength.ensures.frame
 
 pub odd-requires-in-Err-Odd-after_bounds : goal.odd-requires-in-Err-Odd-after_bounds
 odd-requires-in-Err-Odd-after_bounds g c κs within = c.loop-number.invariant.copying
 
-pub returns-in-Err-Odd-clause-turn : goal.returns-in-Err-Odd-clause-turn
-returns-in-Err-Odd-clause-turn g c =
+pub returns-in-Err-Odd-clause-transition : goal.returns-in-Err-Odd-clause-transition
+returns-in-Err-Odd-clause-transition g c =
     let view : View = view_of g.D.View.LogView.bytes g.D.View.LogView.honest g.D.View.LogView.sound c.args.view.now in
     let is : c.in-Err-Odd.field-0 ≡ scans.Odd = c.in-Err-Odd.field-0-is in
     let moves = subst (λ (o : ScanFault). NextMoves c.loop-number.scanner (Err o) c.next.new.self) is c.in-Err-Odd.ensures.moves in
-    let turn = subst (λ (o : ScanFault). IsTrue c.loop-number.scanner.honest → NextTurn c.loop-number.scanner (Err o) c.next.new.self) is
-    c.in-Err-Odd.ensures.turn in
+    let turn = subst (λ (o : ScanFault). IsTrue c.loop-number.scanner.honest → ScanNextTransition c.loop-number.scanner (Err o) c.next.new.self) is
+    c.in-Err-Odd.ensures.transition in
     subst (λ (r : Stopped). CopiesAll c.args.store.now c.args.job.now c.args.count (Err r) c.odd-in-Err-Odd.new.store c.loop-number.job)
     (sym c.odd-in-Err-Odd.ensures.value)
     (going_odd view c.args.store.now c.args.job.now c.loop-number.number c.loop-number.scanner c.loop-number.copied c.loop-number.store
-    c.promise-in-loop-number.ensures c.loop-number.job c.loop-number.invariant
+    c.reveal_invariant-in-loop-number.ensures c.loop-number.job c.loop-number.invariant
     c.args.count (omega arith) c.odd-in-Err-Odd.new.store c.loop-number.job
     (never_odd view c.args.store.now c.args.job.now c.loop-number.number c.loop-number.scanner c.loop-number.copied c.loop-number.store
-    c.promise-in-loop-number.ensures c.loop-number.job c.loop-number.invariant c.next.new.self turn)
-    c.odd-in-Err-Odd.ensures.turn)
+    c.reveal_invariant-in-loop-number.ensures c.loop-number.job c.loop-number.invariant c.next.new.self turn)
+    c.odd-in-Err-Odd.ensures.transition)
 
-pub returns-in-Err-Odd-clause-stays : goal.returns-in-Err-Odd-clause-stays
-returns-in-Err-Odd-clause-stays g c = stays_on _ _ _ c.loop-number.invariant.stays c.odd-in-Err-Odd.ensures.stays
+pub returns-in-Err-Odd-clause-frame : goal.returns-in-Err-Odd-clause-frame
+returns-in-Err-Odd-clause-frame g c = stays_on _ _ _ c.loop-number.invariant.stays c.odd-in-Err-Odd.ensures.frame
 
-pub returns-clause-turn : goal.returns-clause-turn
-returns-clause-turn g c =
+pub returns-clause-transition : goal.returns-clause-transition
+returns-clause-transition g c =
     let view : View = view_of g.D.View.LogView.bytes g.D.View.LogView.honest g.D.View.LogView.sound c.args.view.now in
     going_some view c.args.store.now c.args.job.now c.loop-number.number c.loop-number.scanner c.loop-number.copied c.loop-number.store
-    c.promise-2.ensures c.loop-number.job c.loop-number.invariant c.args.count (omega arith) (omega (arith, c.requires.some))
+    c.reveal_invariant-2.ensures c.loop-number.job c.loop-number.invariant c.args.count (omega arith) (omega (arith, c.requires.some))
     (going_done view c.args.store.now c.args.job.now c.loop-number.number c.loop-number.scanner c.loop-number.copied c.loop-number.store
-    c.promise-2.ensures c.loop-number.job
+    c.reveal_invariant-2.ensures c.loop-number.job
     c.loop-number.invariant c.args.count (omega arith) (omega arith))
 
-pub returns-clause-stays : goal.returns-clause-stays
-returns-clause-stays g c = c.loop-number.invariant.stays
+pub returns-clause-frame : goal.returns-clause-frame
+returns-clause-frame g c = c.loop-number.invariant.stays

@@ -7,14 +7,14 @@ use Rattle.bk_compact.proofs.entries.place_in.Goals as goal
 pub unreachable-requires : goal.unreachable-requires
 unreachable-requires g c =
     let s = c.args.store.now in
-    let has = copy_writer s c.promise.ensures c.args.copy c.requires.copying in
+    let has = copy_writer s c.reveal_invariant.ensures c.args.copy c.requires.copying in
     let none = rw c.in_default.is at c.writer.ensures.value in
     none-some has.w (none ∙ writer_is s.logs c.args.copy has.log has.held ∙ has.writer)
 
 pub unwrap-requires : goal.unwrap-requires
 unwrap-requires g c =
     let s = c.args.store.now in
-    let has = copy_writer s c.promise.ensures c.args.copy c.requires.copying in
+    let has = copy_writer s c.reveal_invariant.ensures c.args.copy c.requires.copying in
     let some = rw c.in-Some.is at c.writer.ensures.value in
     let one = same_Some _ has.w (some ∙ writer_is s.logs c.args.copy has.log has.held ∙ has.writer) in
     let end = ap (λ w. w.end) one in
@@ -23,7 +23,7 @@ unwrap-requires g c =
 pub returns : goal.returns
 returns g c =
     let s = c.args.store.now in
-    let has = copy_writer s c.promise.ensures c.args.copy c.requires.copying in
+    let has = copy_writer s c.reveal_invariant.ensures c.args.copy c.requires.copying in
     let some = rw c.in-Some.is at c.writer.ensures.value in
     let there = writer_is s.logs c.args.copy has.log has.held ∙ has.writer in
     let one = same_Some _ has.w (some ∙ there) in

@@ -1,13 +1,14 @@
-use Rattle.std.proofs.Common.{◌≡◌, ℕ, Some, Err, sym, ap, subst, ◌∙◌}
+use Rattle.std.proofs.Common.{◌≡◌, ℕ, Some, Err, IfErr, sym, ap, subst, ◌∙◌}
+use Rattle.std.proofs.lemmas.Result.{err_from_is_err_and}
 use Rattle.bk_store.specs.Logs.{View, view_of, last_view}
 use Rattle.bk_compact.specs.declared.scanning.Unread.{Unread}
 use Rattle.bk_compact.specs.Compacting.{SourceFails}
-use Rattle.bk_compact.specs.Going.{ScansFrom, told_unread}
+use Rattle.bk_compact.specs.JobSteps.{ScansFrom, fault_of_unread}
 use Rattle.bk_compact.proofs.SteppingEnds.{at_end, read_fails}
 use Rattle.bk_compact.proofs.scanning.is_at_end.Goals as goal
 
-pub returns-in-Ok-clause-ok : goal.returns-in-Ok-clause-ok
-returns-in-Ok-clause-ok g c =
+pub returns-clause-ok : goal.returns-clause-ok
+returns-clause-ok g c =
     let s = c.args.store.now in
     let job = c.args.job.now in
     let view : View = view_of g.D.View.LogView.bytes g.D.View.LogView.honest g.D.View.LogView.sound c.deref.result.now in
@@ -16,11 +17,11 @@ returns-in-Ok-clause-ok g c =
     (sym c.in-Some.ensures ∙ ap (λ v. Some (view_of g.D.View.LogView.bytes g.D.View.LogView.honest g.D.View.LogView.sound v)) (sym c.deref.ensures)) in
     let scans = subst (λ (n : ℕ). ScansFrom view.bytes view.is_honest view.is_sound n c.in-Some-scan_from.scanner) c.at.ensures
     c.in-Some-scan_from.ensures.some in
-    at_end view s c.promise.ensures job c.requires last c.in-Some-scan_from.scanner scans c.in-Ok.found c.is_none.result c.is_none.ensures c.next.new.self
-    c.in-Ok.ensures.moves c.in-Ok.ensures.turn
+    at_end view s c.reveal_invariant.ensures job c.requires last c.in-Some-scan_from.scanner scans c.in_ok-found.found c.is_none.result c.is_none.ensures c.next.new.self
+    c.in_ok-found.ensures.moves c.in_ok-found.ensures.transition
 
-pub returns-clause-fails : goal.returns-clause-fails
-returns-clause-fails g c =
+pub returns-in_err-found-clause-fails : goal.returns-in_err-found-clause-fails
+returns-in_err-found-clause-fails g c =
     let s = c.args.store.now in
     let job = c.args.job.now in
     let view : View = view_of g.D.View.LogView.bytes g.D.View.LogView.honest g.D.View.LogView.sound c.deref.result.now in
@@ -29,6 +30,7 @@ returns-clause-fails g c =
     (sym c.in-Some.ensures ∙ ap (λ v. Some (view_of g.D.View.LogView.bytes g.D.View.LogView.honest g.D.View.LogView.sound v)) (sym c.deref.ensures)) in
     let scans = subst (λ (n : ℕ). ScansFrom view.bytes view.is_honest view.is_sound n c.in-Some-scan_from.scanner) c.at.ensures
     c.in-Some-scan_from.ensures.some in
-    subst (λ (r : Unread). SourceFails s job (told_unread r)) (sym c.scan_fault.ensures)
-    (read_fails view s c.promise.ensures job c.requires last c.in-Some-scan_from.scanner scans c.in-Err.fault c.next.new.self
-    c.in-Err.ensures.moves c.in-Err.ensures.turn (λ disk. c.in-Err.ensures.cause (ap Err disk)))
+    let told = err_from_is_err_and c.from_residual.result c.from_residual.ensures.1 in
+    subst (λ r. IfErr r (λ unread. SourceFails s job (fault_of_unread unread))) (sym (told.1 ∙ ap Err told.2))
+    (read_fails view s c.reveal_invariant.ensures job c.requires last c.in-Some-scan_from.scanner scans c.in_err-found.field-0.0 c.next.new.self
+    c.in_err-found.ensures.moves c.in_err-found.ensures.transition (λ disk. c.in_err-found.ensures.cause (ap Err disk)))

@@ -3,19 +3,19 @@ use Rattle.bk_store.specs.Jobs.{Job}
 use Rattle.bk_store.specs.State.{State}
 use Rattle.bk_compact.specs.Compacting.{TakesMoves}
 use Rattle.bk_compact.proofs.Finished.{taken_out}
-use Rattle.bk_compact.proofs.Still.{switch_still}
+use Rattle.bk_compact.proofs.CompactFrames.{switch_still}
 use Rattle.bk_compact.specs.declared.answer.SwitchAnswer.TheVariants.{Moved}
 use Rattle.bk_compact.proofs.switching.switch.Goals as goal
 
 pub take_moves-moved-requires-clause-out : goal.take_moves-moved-requires-clause-out
 take_moves-moved-requires-clause-out g c = λ κs within.
-    taken_out c.args.store.now c.take_job.new.self c.promise.ensures c.in-Some-take_job.taken.job (sym c.in-Some-take_job.ensures.job)
+    taken_out c.args.store.now c.take_job.new.self c.reveal_invariant.ensures c.in-Some-take_job.taken.job (sym c.in-Some-take_job.ensures.job)
     c.take_job.ensures.left
 
-pub returns-clause-turn : goal.returns-clause-turn
-returns-clause-turn g c =
+pub returns-clause-transition : goal.returns-clause-transition
+returns-clause-transition g c =
     let job = c.in-Some-take_job.taken.job in
-    let turn = c.take_moves-moved.ensures.turn in (
+    let turn = c.take_moves-moved.ensures.transition in (
       job,
       record { runs = sym c.in-Some-take_job.ensures.job; phase_is = search rules },
       c.left-left.ensures ∙ ap (λ (j : Job). length j.moves) turn.left,
@@ -27,6 +27,6 @@ returns-clause-turn g c =
       ),
     )
 
-pub returns-clause-stays : goal.returns-clause-stays
-returns-clause-stays g c =
-    switch_still c.args.store.now c.set_job.new.self c.args.count (Moved c.take_moves-moved.result c.left-left.result) (returns-clause-turn g c)
+pub returns-clause-frame : goal.returns-clause-frame
+returns-clause-frame g c =
+    switch_still c.args.store.now c.set_job.new.self c.args.count (Moved c.take_moves-moved.result c.left-left.result) (returns-clause-transition g c)

@@ -1,5 +1,5 @@
 use Rattle.std.proofs.Common.{refl}
-use Rattle.bk_disk.specs.Marks.{mark_of}
+use Rattle.bk_disk.specs.Watermarks.{mark_of}
 use Rattle.bk_disk.proofs.mark.mark_bytes.Goals as goal
 
 pub returns : goal.returns

@@ -1,4 +1,4 @@
-use Rattle.std.proofs.Common.{ap, Some, ◌∙◌, sym}
+use Rattle.std.proofs.Common.{ap, Some}
 use Rattle.bk_disk.proofs.Marks.{mark_read, tag_stands}
 use Rattle.bk_disk.proofs.mark.mark_in.Goals as goal
 

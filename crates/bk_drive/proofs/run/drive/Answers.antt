@@ -33,12 +33,12 @@ loop-step-preserved g c =
       closed = shut_on _ _ _ _ c.step-item.result c.turn.result c.loop-step.invariant.even more items c.loop-step.store c.turn.new.store
           c.loop-step.invariant.closed c.turn.ensures.closes c.turn.ensures.closed;
       driven = λ honest. driven_on _ _ _ _ _ _ _ _ _ _ _ c.step-item.result c.turn.result (c.loop-step.invariant.driven honest) c.turn.ensures.honest
-          c.turn.ensures.settings c.turn.ensures.turn c.turn.ensures.plain more items;
+          c.turn.ensures.settings c.turn.ensures.transition c.turn.ensures.plain more items;
     }
 
 pub returns-clause-headline : goal.returns-clause-headline
 returns-clause-headline g c = λ honest.
-    driven_last _ _ _ _ _ _ _ _ (c.loop-step.invariant.driven honest) c.promise-2.ensures c.loop-step.invariant.leases c.loop-step.invariant.closed
+    driven_last _ _ _ _ _ _ _ _ (c.loop-step.invariant.driven honest) c.reveal_invariant-2.ensures c.loop-step.invariant.leases c.loop-step.invariant.closed
     (sym (take_all _ _ c.loop-step-test.false))
 
 pub returns-clause-unfailing : goal.returns-clause-unfailing

@@ -1,6 +1,6 @@
 use Rattle.std.proofs.Common.{◌≡◌, ◌≤◌, IsTrue, length, take, vec_len, vec_capacity}
 use Rattle.bk_disk.specs.Disk.{AreSound}
-use Rattle.bk_drive.specs.Leased.{AreOpenLeases}
+use Rattle.bk_drive.specs.ReaderLeases.{AreOpenLeases}
 use Rattle.bk_drive.proofs.Driving.{IsDriven, AreCounted, AllShut}
 use Rattle.bk_drive.proofs.run.drive.Given as goal
 

@@ -1,37 +1,37 @@
 use Rattle.std.proofs.Common.{subst}
-use Rattle.bk_store.specs.Turns.{AddTurn}
+use Rattle.bk_store.specs.Transitions.{AddTransition}
 use Rattle.bk_store.specs.declared.adding.AddKind.TheVariants.{Ordinary, Recovery}
-use Rattle.bk_drive.specs.Machine.Turn.{added, recovered, deleted, fenced, taken, fetched, released}
+use Rattle.bk_drive.specs.Machine.MachineTransition.{added, recovered, deleted, fenced, taken, fetched, released}
 use Rattle.bk_drive.proofs.Leases.{leases_same, shut_same, take_leases, take_shut, release_leases}
 use Rattle.bk_drive.proofs.Runs.{add_logs, delete_logs, fence_logs}
-use Rattle.bk_drive.proofs.PlainTurns.{turn_worked, goes_worked, goes_added, goes_recovered, goes_deleted, goes_fenced, goes_taken, goes_fetched, goes_released}
+use Rattle.bk_drive.proofs.Simulation.{turn_worked, goes_worked, goes_added, goes_recovered, goes_deleted, goes_fenced, goes_taken, goes_fetched, goes_released}
 use Rattle.bk_drive.proofs.run.turn.Goals as goal
 
-pub returns-in-Work-clause-turn : goal.returns-in-Work-clause-turn
-returns-in-Work-clause-turn g c = rw c.in-Work.is (turn_worked _ _ _ _ _ _ c.work_on.ensures.readers c.work_on.ensures.turn c.work_on.ensures.unread)
+pub returns-in-Work-clause-transition : goal.returns-in-Work-clause-transition
+returns-in-Work-clause-transition g c = rw c.in-Work.is (turn_worked _ _ _ _ _ _ c.work_on.ensures.readers c.work_on.ensures.transition c.work_on.ensures.unread)
 
-pub returns-in-Add-clause-turn : goal.returns-in-Add-clause-turn
-returns-in-Add-clause-turn g c =
-    rw c.in-Add.is (added (subst (λ payload. AddTurn c.args.store.now Ordinary payload c.add.result c.add.new.store) c.deref.ensures.value c.add.ensures))
+pub returns-in-Add-clause-transition : goal.returns-in-Add-clause-transition
+returns-in-Add-clause-transition g c =
+    rw c.in-Add.is (added (subst (λ payload. AddTransition c.args.store.now Ordinary payload c.add.result c.add.new.store) c.deref.ensures.value c.add.ensures))
 
-pub returns-in-AddRecovery-clause-turn : goal.returns-in-AddRecovery-clause-turn
-returns-in-AddRecovery-clause-turn g c =
-    rw c.in-AddRecovery.is (recovered (subst (λ payload. AddTurn c.args.store.now Recovery payload c.add-in-AddRecovery.result c.add-in-AddRecovery.new.store) c.deref-in-AddRecovery.ensures.value c.add-in-AddRecovery.ensures))
+pub returns-in-AddRecovery-clause-transition : goal.returns-in-AddRecovery-clause-transition
+returns-in-AddRecovery-clause-transition g c =
+    rw c.in-AddRecovery.is (recovered (subst (λ payload. AddTransition c.args.store.now Recovery payload c.add-in-AddRecovery.result c.add-in-AddRecovery.new.store) c.deref-in-AddRecovery.ensures.value c.add-in-AddRecovery.ensures))
 
-pub returns-in-Delete-clause-turn : goal.returns-in-Delete-clause-turn
-returns-in-Delete-clause-turn g c = rw c.in-Delete.is (deleted c.delete.ensures)
+pub returns-in-Delete-clause-transition : goal.returns-in-Delete-clause-transition
+returns-in-Delete-clause-transition g c = rw c.in-Delete.is (deleted c.delete.ensures)
 
-pub returns-in-Fence-clause-turn : goal.returns-in-Fence-clause-turn
-returns-in-Fence-clause-turn g c = rw c.in-Fence.is (fenced c.fence.ensures)
+pub returns-in-Fence-clause-transition : goal.returns-in-Fence-clause-transition
+returns-in-Fence-clause-transition g c = rw c.in-Fence.is (fenced c.fence.ensures)
 
-pub returns-in-Take-clause-turn : goal.returns-in-Take-clause-turn
-returns-in-Take-clause-turn g c = rw c.in-Take.is (taken c.take.ensures)
+pub returns-in-Take-clause-transition : goal.returns-in-Take-clause-transition
+returns-in-Take-clause-transition g c = rw c.in-Take.is (taken c.take.ensures)
 
-pub returns-in-Fetch-clause-turn : goal.returns-in-Fetch-clause-turn
-returns-in-Fetch-clause-turn g c = rw c.in-Fetch.is (fetched c.fetch_by.ensures.turn)
+pub returns-in-Fetch-clause-transition : goal.returns-in-Fetch-clause-transition
+returns-in-Fetch-clause-transition g c = rw c.in-Fetch.is (fetched c.fetch_by.ensures.transition)
 
-pub returns-in-Release-clause-turn : goal.returns-in-Release-clause-turn
-returns-in-Release-clause-turn g c = rw c.in-Release.is (released c.release.ensures)
+pub returns-in-Release-clause-transition : goal.returns-in-Release-clause-transition
+returns-in-Release-clause-transition g c = rw c.in-Release.is (released c.release.ensures)
 
 pub returns-in-Add-clause-leases : goal.returns-in-Add-clause-leases
 returns-in-Add-clause-leases g c = leases_same _ _ (add_logs c.args.store.now c.add.new.store Ordinary _ _ c.add.ensures).keeper _ c.requires
@@ -46,7 +46,7 @@ pub returns-in-Fence-clause-leases : goal.returns-in-Fence-clause-leases
 returns-in-Fence-clause-leases g c = leases_same _ _ (fence_logs c.args.store.now c.fence.new.self _ _ c.fence.ensures).keeper _ c.requires
 
 pub returns-in-Take-clause-leases : goal.returns-in-Take-clause-leases
-returns-in-Take-clause-leases g c = take_leases _ _ _ _ _ c.promise.ensures c.take.ensures c.requires
+returns-in-Take-clause-leases g c = take_leases _ _ _ _ _ c.reveal_invariant.ensures c.take.ensures c.requires
 
 pub returns-in-Release-clause-leases : goal.returns-in-Release-clause-leases
 returns-in-Release-clause-leases g c = release_leases _ _ _ _ _ c.release.ensures c.requires
@@ -71,36 +71,36 @@ returns-in-Work-clause-closes g c = rw c.in-Work.is c.work_on.ensures.closes
 
 pub returns-in-Work-clause-plain : goal.returns-in-Work-clause-plain
 returns-in-Work-clause-plain g c = λ honest.
-    rw c.in-Work.is (goes_worked _ _ _ _ _ _ c.work_on.ensures.readers c.work_on.ensures.turn (c.work_on.ensures.plain honest) c.work_on.ensures.leases)
+    rw c.in-Work.is (goes_worked _ _ _ _ _ _ c.work_on.ensures.readers c.work_on.ensures.transition (c.work_on.ensures.plain honest) c.work_on.ensures.leases)
 
 pub returns-in-Add-clause-plain : goal.returns-in-Add-clause-plain
 returns-in-Add-clause-plain g c = λ honest.
-    rw c.in-Add.is (goes_added _ _ c.promise.ensures honest _
+    rw c.in-Add.is (goes_added _ _ c.reveal_invariant.ensures honest _
     (leases_same _ _ (add_logs c.args.store.now c.add.new.store Ordinary _ _ c.add.ensures).keeper _ c.requires) _ _
-    (subst (λ payload. AddTurn c.args.store.now Ordinary payload c.add.result c.add.new.store) c.deref.ensures.value c.add.ensures))
+    (subst (λ payload. AddTransition c.args.store.now Ordinary payload c.add.result c.add.new.store) c.deref.ensures.value c.add.ensures))
 
 pub returns-in-AddRecovery-clause-plain : goal.returns-in-AddRecovery-clause-plain
 returns-in-AddRecovery-clause-plain g c = λ honest.
-    rw c.in-AddRecovery.is (goes_recovered _ _ c.promise.ensures honest _
+    rw c.in-AddRecovery.is (goes_recovered _ _ c.reveal_invariant.ensures honest _
     (leases_same _ _ (add_logs c.args.store.now c.add-in-AddRecovery.new.store Recovery _ _ c.add-in-AddRecovery.ensures).keeper _ c.requires) _ _
-    (subst (λ payload. AddTurn c.args.store.now Recovery payload c.add-in-AddRecovery.result c.add-in-AddRecovery.new.store) c.deref-in-AddRecovery.ensures.value c.add-in-AddRecovery.ensures))
+    (subst (λ payload. AddTransition c.args.store.now Recovery payload c.add-in-AddRecovery.result c.add-in-AddRecovery.new.store) c.deref-in-AddRecovery.ensures.value c.add-in-AddRecovery.ensures))
 
 pub returns-in-Delete-clause-plain : goal.returns-in-Delete-clause-plain
 returns-in-Delete-clause-plain g c = λ honest.
-    rw c.in-Delete.is (goes_deleted _ _ c.promise.ensures honest _
+    rw c.in-Delete.is (goes_deleted _ _ c.reveal_invariant.ensures honest _
     (leases_same _ _ (delete_logs c.args.store.now c.delete.new.self _ _ c.delete.ensures).keeper _ c.requires) _ _ c.delete.ensures)
 
 pub returns-in-Fence-clause-plain : goal.returns-in-Fence-clause-plain
 returns-in-Fence-clause-plain g c = λ honest.
-    rw c.in-Fence.is (goes_fenced _ _ c.promise.ensures honest _
+    rw c.in-Fence.is (goes_fenced _ _ c.reveal_invariant.ensures honest _
     (leases_same _ _ (fence_logs c.args.store.now c.fence.new.self _ _ c.fence.ensures).keeper _ c.requires) _ _ c.fence.ensures)
 
 pub returns-in-Take-clause-plain : goal.returns-in-Take-clause-plain
 returns-in-Take-clause-plain g c = λ honest.
-    rw c.in-Take.is (goes_taken _ _ _ _ _ _ _ c.promise.ensures honest c.take.ensures (take_leases _ _ _ _ _ c.promise.ensures c.take.ensures c.requires))
+    rw c.in-Take.is (goes_taken _ _ _ _ _ _ _ c.reveal_invariant.ensures honest c.take.ensures (take_leases _ _ _ _ _ c.reveal_invariant.ensures c.take.ensures c.requires))
 
 pub returns-in-Fetch-clause-plain : goal.returns-in-Fetch-clause-plain
-returns-in-Fetch-clause-plain g c = λ honest. rw c.in-Fetch.is (goes_fetched _ _ _ _ c.fetch_by.ensures.turn)
+returns-in-Fetch-clause-plain g c = λ honest. rw c.in-Fetch.is (goes_fetched _ _ _ _ c.fetch_by.ensures.transition)
 
 pub returns-in-Release-clause-plain : goal.returns-in-Release-clause-plain
 returns-in-Release-clause-plain g c = λ honest.

@@ -1,8 +1,8 @@
-use Rattle.bk_step.proofs.Doors.{seals_still}
+use Rattle.bk_store.proofs.PrimitiveFrames.{seals_still}
 use Rattle.bk_flush.proofs.sealing.roll.Goals as goal
 
-pub returns-in-Ok-clause-stays : goal.returns-in-Ok-clause-stays
-returns-in-Ok-clause-stays g c = seals_still c.in-Ok.ensures.turn
+pub returns-clause-frame : goal.returns-clause-frame
+returns-clause-frame g c = seals_still c.in_ok-seal.ensures.transition
 
-pub returns-in-Err-clause-stays : goal.returns-in-Err-clause-stays
-returns-in-Err-clause-stays g c = seals_still c.in-Err.ensures.turn
+pub returns-in_err-seal-clause-frame : goal.returns-in_err-seal-clause-frame
+returns-in_err-seal-clause-frame g c = seals_still c.in_err-seal.ensures.transition

@@ -2,7 +2,7 @@ use Rattle.std.proofs.Common.{◌-◌, ◌≤◌, length, take}
 use Rattle.bk_head.specs.Ledgers.{map_of, SpellsMap}
 use Rattle.bk_head.proofs.reading.read_batches.Given as goal
 
--- the bytes so far spell the map so far
+-- loop invariant: the bytes so far parse as the map so far
 abbrev pub invariant-loop-at : goal.invariant-loop-at
 invariant-loop-at l = (l.at ≤ length l.tail) × SpellsMap (take l.at l.tail) (map_of l.map)
 

@@ -53,7 +53,7 @@ append-requires c =
     c.loop-ledger.invariant.fits in
     omega (arith, fits, c.loop-ledger.out.ok.0)
 
--- where the two branches meet a batch is begun
+-- after both branches a batch has begun
 wants : (c : After-pair_bytes) → Wants c.if-room-eq0.out.items c.args.out.now.items c.if-room-eq0.room c.loop-ledger.left
     c.loop-ledger.ledger-iterator c.args.map.now.entries (vec_capacity c.if-room-eq0.out)
 wants c = elim c.if-room-eq0.branch [

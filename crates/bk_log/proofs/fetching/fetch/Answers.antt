@@ -9,15 +9,15 @@ use Rattle.bk_log.proofs.fetching.fetch.Goals as goal
 use Rattle.bk_log.proofs.fetching.fetch.Goals.{then-not-is_payload_length-via-then-not-is_payload_length}
 use Rattle.bk_log.proofs.fetching.fetch.Goals.{then-not-is_payload_length-via-else-not-is_payload_length+then-not-is_of_key}
 
-pub returns-in-Err-clause-turn : goal.returns-in-Err-clause-turn
-returns-in-Err-clause-turn g c = λ h.
+pub returns-in-Err-clause-transition : goal.returns-in-Err-clause-transition
+returns-in-Err-clause-transition g c = λ h.
     subst (λ f. FetchFails (g.V.LogView.bytes c.args.view.now) c.args.location.at c.args.key f) (sym c.fetch_fault.ensures)
     (head_refused (g.V.LogView.bytes c.args.view.now) c.args.location.at c.from-at.result c.args.key c.in-Err.fault c.read_front.new.out
-    (c.from-at.ensures ∙ c.at.ensures.value) (c.in-Err.ensures.turn h))
+    (c.from-at.ensures ∙ c.at.ensures.value) (c.in-Err.ensures.transition h))
 
-pub returns-then-not-is_payload_length-clause-turn : goal.returns-then-not-is_payload_length-clause-turn
-returns-then-not-is_payload_length-clause-turn g c = λ h.
-    let shown = c.in-Ok.ensures.turn h in
+pub returns-then-not-is_payload_length-clause-transition : goal.returns-then-not-is_payload_length-clause-transition
+returns-then-not-is_payload_length-clause-transition g c = λ h.
+    let shown = c.in-Ok.ensures.transition h in
     let read = head_of_front _ c.read_front.new.out c.args.location.at c.from-at.result c.length_in-length.result c.in-Ok.front c.in-Ok.ensures.fits.0
     shown.0 shown.1 (c.from-at.ensures ∙ c.at.ensures.value) c.length_in-length.ensures.value c.length_in-length.ensures.written in
     elim c.then-not-is_payload_length.branch [
@@ -29,9 +29,9 @@ returns-then-not-is_payload_length-clause-turn g c = λ h.
           (λ keyed. absurd (false≢true (w.if-not-is_of_key.ensures.1 (ap key_of (ids_of_front c.read_front.new.out) ∙ keyed))))
     ]
 
-pub returns-in-Ok-from_slice-clause-turn : goal.returns-in-Ok-from_slice-clause-turn
-returns-in-Ok-from_slice-clause-turn g c = λ h.
-    let shown = c.in-Ok.ensures.turn h in
+pub returns-in-Ok-from_slice-clause-transition : goal.returns-in-Ok-from_slice-clause-transition
+returns-in-Ok-from_slice-clause-transition g c = λ h.
+    let shown = c.in-Ok.ensures.transition h in
     let out = c.read_front.new.out in
     let file = g.V.LogView.bytes c.args.view.now in
     let read = head_of_front file out c.args.location.at c.from-at.result c.length_in-length.result c.in-Ok.front c.in-Ok.ensures.fits.0
@@ -42,9 +42,9 @@ returns-in-Ok-from_slice-clause-turn g c = λ h.
     let count : 4 + c.length_in-length.result - 4 ≡ c.length_in-length.result = omega arith in
     subst (HasEntryAt file c.args.location.at c.args.key) (sym (c.in-Ok-from_slice.ensures.items ∙ ap (λ k. take k (drop 4 out)) count)) entry
 
-pub returns-in-Err-from_slice-clause-turn : goal.returns-in-Err-from_slice-clause-turn
-returns-in-Err-from_slice-clause-turn g c = λ h.
-    let shown = c.in-Ok.ensures.turn h in
+pub returns-in-Err-from_slice-clause-transition : goal.returns-in-Err-from_slice-clause-transition
+returns-in-Err-from_slice-clause-transition g c = λ h.
+    let shown = c.in-Ok.ensures.transition h in
     let out = c.read_front.new.out in
     let file = g.V.LogView.bytes c.args.view.now in
     let read = head_of_front file out c.args.location.at c.from-at.result c.length_in-length.result c.in-Ok.front c.in-Ok.ensures.fits.0
@@ -55,20 +55,20 @@ returns-in-Err-from_slice-clause-turn g c = λ h.
           (ap key_of (sym (ids_of_front out)) ∙ c.if-not-is_of_key.ensures.0 refl) c.if-length-front.true,
     )
 
-pub returns-in-Ok-read-clause-turn : goal.returns-in-Ok-read-clause-turn
-returns-in-Ok-read-clause-turn g c = λ h.
-    let shown = c.in-Ok.ensures.turn h in
+pub returns-in-Ok-read-clause-transition : goal.returns-in-Ok-read-clause-transition
+returns-in-Ok-read-clause-transition g c = λ h.
+    let shown = c.in-Ok.ensures.transition h in
     let number = c.from.ensures ∙ c.length_in-length.ensures.value in
     let written = subst (λ n. to_be_bytes w32 n ≡ take 4 (take 20 c.read_front.new.out)) (sym c.from.ensures) c.length_in-length.ensures.written in
     let read = head_of_front _ c.read_front.new.out c.args.location.at c.from-at.result c.from.result c.in-Ok.front c.in-Ok.ensures.fits.0
     shown.0 shown.1 (c.from-at.ensures ∙ c.at.ensures.value) number written in
     fetch_found _ (take 20 c.read_front.new.out) _ _ _ c.from.result _ (omega (arith, c.at.ensures.value, c.at.ensures.bound)) read
     (rw c.from.ensures (c.if-not-is_payload_length.ensures.0 refl))
-    (ap key_of (sym (ids_of_front c.read_front.new.out)) ∙ c.if-not-is_of_key.ensures.0 refl) (c.in-Ok-read.ensures.turn h)
+    (ap key_of (sym (ids_of_front c.read_front.new.out)) ∙ c.if-not-is_of_key.ensures.0 refl) (c.in-Ok-read.ensures.transition h)
 
-pub returns-in-Err-read-clause-turn : goal.returns-in-Err-read-clause-turn
-returns-in-Err-read-clause-turn g c = λ h.
-    let shown = c.in-Ok.ensures.turn h in
+pub returns-in-Err-read-clause-transition : goal.returns-in-Err-read-clause-transition
+returns-in-Err-read-clause-transition g c = λ h.
+    let shown = c.in-Ok.ensures.transition h in
     let number = c.from.ensures ∙ c.length_in-length.ensures.value in
     let written = subst (λ n. to_be_bytes w32 n ≡ take 4 (take 20 c.read_front.new.out)) (sym c.from.ensures) c.length_in-length.ensures.written in
     let read = head_of_front _ c.read_front.new.out c.args.location.at c.from-at.result c.from.result c.in-Ok.front c.in-Ok.ensures.fits.0
@@ -76,4 +76,4 @@ returns-in-Err-read-clause-turn g c = λ h.
     subst (λ f. FetchFails (g.V.LogView.bytes c.args.view.now) c.args.location.at c.args.key f) (sym c.fetch_fault-in-Err-read.ensures)
     (payload_refused _ (take 20 c.read_front.new.out) _ _ c.from.result _ c.in-Err-read.fault (omega (arith, c.at.ensures.value, c.at.ensures.bound)) read
     (rw c.from.ensures (c.if-not-is_payload_length.ensures.0 refl))
-    (ap key_of (sym (ids_of_front c.read_front.new.out)) ∙ c.if-not-is_of_key.ensures.0 refl) (c.in-Err-read.ensures.turn h))
+    (ap key_of (sym (ids_of_front c.read_front.new.out)) ∙ c.if-not-is_of_key.ensures.0 refl) (c.in-Err-read.ensures.transition h))

@@ -1,5 +1,5 @@
 use Rattle.std.proofs.Common.{◌≡◌, true, false, is_some, length, not, refl, ap, ◌∙◌, arith}
-use Rattle.bk_cache.specs.Caches.{held}
+use Rattle.bk_cache.specs.Caches.{write_cached_payload}
 use Rattle.bk_store.proofs.Unnaming.{one_if, goes_first, goes_on, alone-le, alone-more, all_counted}
 use Rattle.bk_store.proofs.deleting.unname_ledger.Goals as goal
 
@@ -8,7 +8,7 @@ loop-key-init c =
     rw (c.into_iter-key-iterator.ensures.into_iter_gives, c.walk_ledger-key-items.ensures.items)
     (goes_first c.args.index.now c.args.caches.now c.args.ledger c.args.accounts.now c.requires)
 
-counted : (c : goal.After-from-alone) → c.from-alone.result ≡ one_if (not (is_some (held c.args.caches.now c.in-Some.key)))
+counted : (c : goal.After-from-alone) → c.from-alone.result ≡ one_if (not (is_some (write_cached_payload c.args.caches.now c.in-Some.key)))
 counted c =
     elim c.holds.result as (λ b. c.holds.result ≡ b → c.from-alone.result ≡ one_if (not b)) [
       | true ↦ λ is. rw is at c.from-alone.ensures

@@ -1,11 +1,11 @@
 use Rattle.std.proofs.Common.{subst}
 use Rattle.bk_store.specs.State.{State}
-use Rattle.bk_store.specs.Ledgers.{FollowsTrail}
+use Rattle.bk_store.specs.Ledgers.{LedgersMatchTrail}
 use Rattle.bk_store.proofs.Replaying.{replay_has, kept_replays}
 use Rattle.bk_store.proofs.laws.trail_is_kept.Goals as goal
 
 pub returns-clause-follows : goal.returns-clause-follows
-returns-clause-follows c = λ s kept. subst (λ (x : State). FollowsTrail x.ledgers) kept.seen kept.keeps.fits.ledgers
+returns-clause-follows c = λ s kept. subst (λ (x : State). LedgersMatchTrail x.ledgers) kept.seen kept.keeps.fits.ledgers
 
 pub returns-clause-replays : goal.returns-clause-replays
 returns-clause-replays c = kept_replays

@@ -1,7 +1,7 @@
 use Rattle.std.proofs.Common.{ap, ◌∙◌}
 use Rattle.std.specs.FinMap as map
 use Rattle.bk_store.proofs.Unnaming.{unnamed}
-use Rattle.bk_store.proofs.KeptReplace.{unnaming_done}
+use Rattle.bk_store.proofs.InvariantReplaceIndex.{unnaming_done}
 use Rattle.bk_store.proofs.replacing.unname_each.Goals as goal
 
 pub loop-place-preserved : goal.loop-place-preserved

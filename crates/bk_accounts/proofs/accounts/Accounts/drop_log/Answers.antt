@@ -1,6 +1,6 @@
 use Rattle.std.proofs.Common.{sym, ap, subst, ◌∙◌}
 use Rattle.std.specs.FinMap.{from_entries, remove}
-use Rattle.bk_accounts.specs.Listed.{AreListed}
+use Rattle.bk_accounts.specs.Listed.{AreListedRooms}
 use Rattle.bk_accounts.proofs.Maps.{get-found, removed}
 use Rattle.bk_accounts.proofs.Listings.{AreLeft, left_first, left_less, left_none, left_there, one_less}
 use Rattle.bk_accounts.proofs.accounts.Accounts.drop_log.Goals as goal
@@ -35,10 +35,10 @@ loop-ledger-preserved c = (
   c.loop-ledger.invariant.1,
 )
 
--- the loop ends where the account has no room left
+-- the loop ends if the account has no room left
 pub invariant_of-self-in_default-pop : goal.invariant_of-self-in_default-pop
 invariant_of-self-in_default-pop c =
-    subst (λ b. AreListed b c.loop-ledger.self-inside.rooms) (sym c.loop-ledger.invariant.1)
+    subst (λ b. AreListedRooms b c.loop-ledger.self-inside.rooms) (sym c.loop-ledger.invariant.1)
     (left_none c.args.self.now c.args.log c.loop-ledger.account c.loop-ledger.self-inside.rooms
     (subst (λ b. AreLeft b c.args.log c.loop-ledger.account c.loop-ledger.self-inside.rooms) c.loop-ledger.invariant.1 c.loop-ledger.invariant.0)
     c.in_default-pop.ensures.none)

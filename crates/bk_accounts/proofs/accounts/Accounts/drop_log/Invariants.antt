@@ -5,7 +5,8 @@ use Rattle.bk_accounts.specs.Book.{after_drop}
 use Rattle.bk_accounts.proofs.Listings.{AreLeft}
 use Rattle.bk_accounts.proofs.accounts.Accounts.drop_log.Given as goal
 
--- the log is out of the book, and of its rooms those are listed that the account still has
+-- Loop invariant: the log is removed from the book, and those of its rooms are listed that the
+-- account still has.
 abbrev pub invariant-loop-ledger : goal.invariant-loop-ledger
 invariant-loop-ledger l = AreLeft (from_entries l.self-inside.logs.entries) l.log l.account l.self-inside.rooms
     × (from_entries l.self-inside.logs.entries ≡ after_drop l.fn.self l.log)

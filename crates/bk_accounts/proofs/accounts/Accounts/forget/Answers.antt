@@ -24,7 +24,7 @@ loop-log-preserved c =
     forgotten_one book _ (from_entries c.self.inside.logs.entries) c.loop-log.self-inside.rooms c.remove.new.self c.in-Some.log c.args.ledger
     c.loop-log.invariant.0 c.loop-log.invariant.1 c.remove.ensures.updates made
 
--- the loop ends where no log has room for the ledger
+-- the loop ends if no log has room for the ledger
 pub returns : goal.returns
 returns c =
     sym (unready-forget (from_entries c.loop-log.self-inside.logs.entries) c.args.ledger

@@ -3,7 +3,7 @@ use Rattle.std.specs.FinMap.{from_entries}
 use Rattle.std.specs.Option.{option_map_or}
 use Rattle.bk_accounts.specs.Account.{has_room, with_room}
 use Rattle.bk_accounts.specs.Book.{IsReady}
-use Rattle.bk_accounts.specs.Listed.{AreListed}
+use Rattle.bk_accounts.specs.Listed.{AreListedRooms}
 use Rattle.bk_accounts.specs.declared.fault.AccountFault.TheVariants.{Memory, NoLog}
 use Rattle.bk_accounts.proofs.Books.{account_lent, none_lent, changed_through, kept_through, ready_open, ready_account, memory_is, no_log_closed, no_log_open}
 use Rattle.bk_accounts.proofs.Books.{on_err, in_success, in_fault, ready_made}
@@ -22,12 +22,12 @@ returns-in_default-clause-room c = λ room.
     let there = ready_open c.args.self.now c.args.log c.args.ledger room in
     rw none at there
 
--- the room was there
+-- the room existed
 pub invariant_of-self-then-has_room : goal.invariant_of-self-then-has_room
 invariant_of-self-then-has_room c =
     let book = from_entries c.self.inside.logs.entries in
     let found = account_lent c.self.inside.logs.entries book c.args.log c.get_mut.result c.in-Some.account refl c.get_mut.ensures.value c.in-Some.is in
-    subst (λ b. AreListed b c.self.inside.rooms)
+    subst (λ b. AreListedRooms b c.self.inside.rooms)
     (sym (kept_through c.self.inside.logs (c.get_mut.follows.lender c.in-Some.account.now) book c.args.log c.in-Some.account.now
     c.in-Some.account.now refl found
     (c.get_mut.follows.holds c.in-Some.account.now) refl)) c.self.invariant
@@ -54,12 +54,12 @@ returns-then-has_room-clause-ready c =
     subst (λ b. IsReady b c.args.log c.args.ledger) (sym (returns-then-has_room-clause-ok c))
     (ready_made c.args.self.now c.args.log c.args.ledger c.in-Some.account.now found)
 
--- no memory for the list
+-- an allocation for the list failed
 pub invariant_of-self-in_err-insert : goal.invariant_of-self-in_err-insert
 invariant_of-self-in_err-insert c =
     let book = from_entries c.self.inside.logs.entries in
     let found = account_lent c.self.inside.logs.entries book c.args.log c.get_mut.result c.in-Some.account refl c.get_mut.ensures.value c.in-Some.is in
-    subst (λ b. AreListed b c.insert.new.self)
+    subst (λ b. AreListedRooms b c.insert.new.self)
     (sym (kept_through c.self.inside.logs (c.get_mut.follows.lender c.in-Some.account.now) book c.args.log c.in-Some.account.now
     c.in-Some.account.now refl found
     (c.get_mut.follows.holds c.in-Some.account.now) refl))
@@ -80,14 +80,14 @@ returns-in_err-insert-clause-err c =
     (kept_through c.self.inside.logs (c.get_mut.follows.lender c.in-Some.account.now) c.args.self.now c.args.log c.in-Some.account.now c.in-Some.account.now
     c.self.view_is found (c.get_mut.follows.holds c.in-Some.account.now) refl)
 
--- no memory for the sum: the list is as it was
+-- an allocation for the sum failed: the list is unchanged
 pub invariant_of-self-then-is_err : goal.invariant_of-self-then-is_err
 invariant_of-self-then-is_err c =
     let book = from_entries c.self.inside.logs.entries in
     let found = account_lent c.self.inside.logs.entries book c.args.log c.get_mut.result c.in-Some.account refl c.get_mut.ensures.value c.in-Some.is in
     let same = in_fault c.add_room.result _ c.if-is_err.ensures.value c.add_room.ensures.err in
     let absent = ap (λ o. option_map_or (λ a. has_room a c.args.ledger) o false) found ∙ sym c.if-has_room.ensures in
-    subst (λ b. AreListed b c.remove.new.self)
+    subst (λ b. AreListedRooms b c.remove.new.self)
     (sym (kept_through c.self.inside.logs (c.get_mut.follows.lender c.add_room.new.self) book c.args.log c.in-Some.account.now c.add_room.new.self refl found
     (c.get_mut.follows.holds c.add_room.new.self) same))
     (listed_again book c.self.inside.rooms c.insert.new.self c.remove.new.self c.args.log c.args.ledger c.self.invariant absent
@@ -119,7 +119,7 @@ invariant_of-self-else-is_err c =
     let book = from_entries c.self.inside.logs.entries in
     let found = account_lent c.self.inside.logs.entries book c.args.log c.get_mut.result c.in-Some.account refl c.get_mut.ensures.value c.in-Some.is in
     let made = in_success c.add_room.result _ c.if-is_err.ensures.value c.add_room.ensures.ok in
-    subst (λ b. AreListed b c.insert.new.self)
+    subst (λ b. AreListedRooms b c.insert.new.self)
     (sym (changed_through c.self.inside.logs (c.get_mut.follows.lender c.add_room.new.self) book c.args.log c.in-Some.account.now c.add_room.new.self
     (with_room c.args.ledger) refl found (c.get_mut.follows.holds c.add_room.new.self) made))
     (listed_room book c.self.inside.rooms c.insert.new.self c.args.log c.args.ledger c.in-Some.account.now c.self.invariant found

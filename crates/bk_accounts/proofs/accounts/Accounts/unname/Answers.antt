@@ -2,7 +2,7 @@ use Rattle.std.proofs.Common.{refl, sym, ap, subst, ◌∙◌, ◌<◌}
 use Rattle.std.specs.FinMap.{from_entries}
 use Rattle.bk_accounts.specs.Account.{without_name}
 use Rattle.bk_accounts.proofs.Books.{account_lent, none_lent, changed_through, unchanged, of_account}
-use Rattle.bk_accounts.specs.Listed.{AreListed}
+use Rattle.bk_accounts.specs.Listed.{AreListedRooms}
 use Rattle.bk_accounts.proofs.Listings.{listed_through}
 use Rattle.bk_accounts.proofs.accounts.Accounts.unname.Goals as goal
 use Rattle.bk_accounts.proofs.accounts.Accounts.unname.Goals.{in-Some, in_default}
@@ -35,10 +35,10 @@ invariant_of-self c =
       | in-Some w ↦
           let found = account_lent c.self.inside.logs.entries (from_entries c.self.inside.logs.entries) c.args.log c.get_mut.result w.in-Some.account refl
           c.get_mut.ensures.value w.in-Some.is in
-          subst (λ s. AreListed (from_entries s.logs.entries) s.rooms) (sym w.self-inside-is)
+          subst (λ s. AreListedRooms (from_entries s.logs.entries) s.rooms) (sym w.self-inside-is)
           (listed_through c.self.inside.logs (c.get_mut.follows.lender w.unname.new.self) c.self.inside.rooms c.args.log w.in-Some.account.now w.unname.new.self
           without_name c.self.invariant found (c.get_mut.follows.holds w.unname.new.self) w.unname.ensures (λ _. refl))
       | in_default w ↦
-          subst (λ s. AreListed (from_entries s.logs.entries) s.rooms) (sym w.self-inside-is)
-          (subst (λ m. AreListed (from_entries m.entries) c.self.inside.rooms) (sym c.get_mut.follows.holds-at-none) c.self.invariant)
+          subst (λ s. AreListedRooms (from_entries s.logs.entries) s.rooms) (sym w.self-inside-is)
+          (subst (λ m. AreListedRooms (from_entries m.entries) c.self.inside.rooms) (sym c.get_mut.follows.holds-at-none) c.self.invariant)
     ]

@@ -9,40 +9,40 @@ overflow_add-self c =
     let used = used_seen (λ p. p.value.items) _ _ c.self.invariant _ c.self.view_is in
     omega (arith, used, c.requires.fits)
 
--- there is no room for the pair
+-- an allocation for the pair failed
 pub returns-in_err-self-inside : goal.returns-in_err-self-inside
 returns-in_err-self-inside c =
     let told = err_from_is_err_and c.from_residual.result c.from_residual.ensures.1 in
     rw told.1
     (record {
-      turn = (
+      transition = (
         absent_view (λ p. p.value.items) _ _ c.self.invariant _ c.self.view_is c.args.key (search rules),
         view_same (λ p. p.value.items) _ _ c.self.invariant _ c.self.view_is _ (search rules),
       );
     })
 
--- there is room, and no memory for the payload
+-- an allocation for the payload failed
 pub returns-in_err-share-in-Vacant : goal.returns-in_err-share-in-Vacant
 returns-in_err-share-in-Vacant c =
     let told = err_from_is_err_and c.from_residual-in_err-share-in-Vacant.result c.from_residual-in_err-share-in-Vacant.ensures.1 in
     rw told.1
     (record {
-      turn = (
+      transition = (
         absent_view (λ p. p.value.items) _ _ c.self.invariant _ c.self.view_is c.args.key (search rules),
         view_same (λ p. p.value.items) _ _ c.self.invariant _ c.self.view_is _ (search rules),
       );
     })
 
--- the key is held
+-- the cache has the key
 pub returns-in-Occupied : goal.returns-in-Occupied
 returns-in-Occupied c = record {
-  turn = (
+  transition = (
     held_view (λ p. p.value.items) _ _ c.self.invariant _ c.self.view_is c.args.key (search rules),
     view_same (λ p. p.value.items) _ _ c.self.invariant _ c.self.view_is _ (search rules),
   );
 }
 
--- the pair comes in
+-- the pair is added
 pub invariant_of-self-in-Vacant : goal.invariant_of-self-in-Vacant
 invariant_of-self-in-Vacant c =
     let absent = absent_view (λ p. p.value.items) _ _ c.self.invariant _ c.self.view_is c.args.key (search rules) in
@@ -52,7 +52,7 @@ invariant_of-self-in-Vacant c =
 
 pub returns-in_ok-share-in-Vacant : goal.returns-in_ok-share-in-Vacant
 returns-in_ok-share-in-Vacant c = record {
-  turn = (
+  transition = (
     absent_view (λ p. p.value.items) _ _ c.self.invariant _ c.self.view_is c.args.key (search rules),
     view_inserted (λ p. p.value.items) _ _ c.self.invariant _ c.self.view_is c.args.key c.in_ok-share-in-Vacant.field-0 _ (search rules)
         ∙ ap (map.insert c.args.self.now c.args.key) c.in_ok-share-in-Vacant.ensures,

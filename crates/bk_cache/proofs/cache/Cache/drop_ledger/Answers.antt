@@ -14,7 +14,7 @@ loop-key-preserved c =
     ap (λ m. without_ledger m c.args.ledger) c.remove.ensures
     ∙ without_ledger-remove c.loop-key.self c.in-Some.key c.args.ledger c.in-Some.ensures.some.0 ∙ c.loop-key.invariant
 
--- the loop ends where no key of the ledger is left
+-- the loop ends if no key of the ledger is left
 pub overflow_sub-result : goal.overflow_sub-result
 overflow_sub-result c =
     let left = ap map.len (sym c.in_default.ensures.none ∙ c.loop-key.invariant) in

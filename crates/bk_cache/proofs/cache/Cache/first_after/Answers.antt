@@ -6,7 +6,7 @@ use Rattle.bk_cache.specs.Caches.{first_after}
 use Rattle.bk_cache.proofs.FirstAfter.{first_of_all, first_behind, first_after_keyed}
 use Rattle.bk_cache.proofs.cache.Cache.first_after.Goals as goal
 
--- no key is given
+-- without a key
 pub returns-in_default-clause-value : goal.returns-in_default-clause-value
 returns-in_default-clause-value c =
     ap (option_map (λ e. (e.0, e.1.value.items))) (sym c.in_ok-first.ensures.first)
@@ -24,7 +24,7 @@ returns-in_err-first-clause-value c =
     rw c.from_residual.ensures (ap (option_map (λ e. (e.0, e.1.value.items))) (sym none)
     ∙ first_of_all (λ p. p.value.items) _ _ c.self.invariant _ c.self.view_is ∙ ap (λ key. first_after key c.args.self.now) (sym c.in_default.is))
 
--- a key is given
+-- after a key
 pub returns-clause-value : goal.returns-clause-value
 returns-clause-value c =
     let first = sym c.in_ok-next.ensures.steps ∙ c.range.ensures.between tt in

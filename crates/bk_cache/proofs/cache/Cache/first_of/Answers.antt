@@ -1,4 +1,4 @@
--- Each ends in what the pairs from the ledger's least key on begin with.
+-- Each case follows from the first of the pairs from the ledger's least key on.
 use Rattle.std.proofs.Common.{slice_get, sym, ap, ◌∙◌}
 use Rattle.std.specs.declared.ops.Bound.TheVariants.{Included, Unbounded}
 use Rattle.std.specs.BTreeMap.Range.{entries_between}

@@ -9,28 +9,28 @@ overflow_add-self c =
     let used = used_seen (λ p. p.value.items) _ _ c.self.invariant _ c.self.view_is in
     omega (arith, used, c.requires.fits, ap (λ v. length v.items) c.deref.ensures)
 
--- there is no room for the pair
+-- an allocation for the pair failed
 pub returns-in_err-self-inside : goal.returns-in_err-self-inside
 returns-in_err-self-inside c =
     let told = err_from_is_err_and c.from_residual.result c.from_residual.ensures.1 in
     rw told.1
     (record {
-      turn = (
+      transition = (
         absent_view (λ p. p.value.items) _ _ c.self.invariant _ c.self.view_is c.args.key (search rules),
         view_same (λ p. p.value.items) _ _ c.self.invariant _ c.self.view_is _ (search rules),
       );
     })
 
--- the key is held
+-- the cache has the key
 pub returns-in-Occupied : goal.returns-in-Occupied
 returns-in-Occupied c = record {
-  turn = (
+  transition = (
     held_view (λ p. p.value.items) _ _ c.self.invariant _ c.self.view_is c.args.key (search rules),
     view_same (λ p. p.value.items) _ _ c.self.invariant _ c.self.view_is _ (search rules),
   );
 }
 
--- the pair comes in
+-- the pair is added
 pub invariant_of-self-in-Vacant : goal.invariant_of-self-in-Vacant
 invariant_of-self-in-Vacant c =
     let absent = absent_view (λ p. p.value.items) _ _ c.self.invariant _ c.self.view_is c.args.key (search rules) in
@@ -40,7 +40,7 @@ invariant_of-self-in-Vacant c =
 
 pub returns-in-Vacant : goal.returns-in-Vacant
 returns-in-Vacant c = record {
-  turn = (
+  transition = (
     absent_view (λ p. p.value.items) _ _ c.self.invariant _ c.self.view_is c.args.key (search rules),
     view_inserted (λ p. p.value.items) _ _ c.self.invariant _ c.self.view_is c.args.key c.args.payload _ (search rules),
   );

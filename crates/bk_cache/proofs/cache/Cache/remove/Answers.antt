@@ -2,7 +2,7 @@ use Rattle.std.proofs.Common.{length, option_map, unwrap_or, sym, ap, ◌∙◌,
 use Rattle.bk_cache.proofs.RemovedPairs.{removed-le, kept_removed, view_removed}
 use Rattle.bk_cache.proofs.cache.Cache.remove.Goals as goal
 
--- the payload that went has no more bytes than were counted
+-- the removed payload has no more bytes than were counted
 pub overflow_sub-self : goal.overflow_sub-self
 overflow_sub-self c =
     let size = c.len.ensures ∙ c.deref.result.now.ok.0 ∙ ap (λ v. length v.items) c.deref.ensures in

@@ -8,7 +8,7 @@ pub invariant_of-self : goal.invariant_of-self
 invariant_of-self c =
     sound_added _ c.args.key c.args.payload.now c.add.result c.add.new.self c.self.invariant c.requires
     (ap (λ s. map.get (flush_of s) c.args.key) c.self.view_is ∙ c.in_default.ensures.absent)
-    (subst (λ s. used_of s.active + length c.args.payload.now ≤ s.limit) (sym c.self.view_is) c.in_default.ensures.fits) c.add.ensures.turn
+    (subst (λ s. used_of s.active + length c.args.payload.now ≤ s.limit) (sym c.self.view_is) c.in_default.ensures.fits) c.add.ensures.transition
 
 pub returns-clause-sound : goal.returns-clause-sound
 returns-clause-sound c = invariant_of-self c

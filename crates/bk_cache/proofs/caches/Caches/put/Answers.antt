@@ -10,7 +10,7 @@ invariant_of-self c =
     sound_added _ c.args.key c.args.payload.value.items c.put.result c.put.new.self c.self.invariant c.requires
     (ap (λ s. map.get (flush_of s) c.args.key) c.self.view_is ∙ c.in_default.ensures.absent)
     (subst (λ s. used_of s.active + length c.args.payload.value.items ≤ s.limit) (sym c.self.view_is)
-    (subst (λ b. used_of c.args.self.now.active + length b ≤ c.args.self.now.limit) bytes c.in_default.ensures.fits)) c.put.ensures.turn
+    (subst (λ b. used_of c.args.self.now.active + length b ≤ c.args.self.now.limit) bytes c.in_default.ensures.fits)) c.put.ensures.transition
 
 pub returns-clause-sound : goal.returns-clause-sound
 returns-clause-sound c = invariant_of-self c

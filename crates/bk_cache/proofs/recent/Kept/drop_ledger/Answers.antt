@@ -13,7 +13,7 @@ loop-entry-preserved c =
     one_dropped c.self.inside.entries before.entries c.pop.new.self before.pairs c.remove.new.self c.args.ledger c.in-Some.entry c.pop.ensures.entries
     c.len.ensures.valid.0 c.remove.ensures.updates c.loop-entry.invariant.0 c.loop-entry.invariant.1 c.loop-entry.invariant.2
 
--- the loop ends where no entry is of the ledger
+-- the loop ends if no entry of the ledger is left
 pub returns : goal.returns
 returns c =
     let last = c.loop-entry.self-inside in

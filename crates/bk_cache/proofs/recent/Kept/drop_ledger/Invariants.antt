@@ -1,12 +1,12 @@
 use Rattle.std.proofs.Common.{◌≡◌, not, ◌==◌}
 use Rattle.std.specs.BTreeSet.{btree_set_len}
 use Rattle.std.specs.List.{filter}
-use Rattle.bk_cache.specs.Recents.{AreListed}
+use Rattle.bk_cache.specs.Recents.{AreListedRecents}
 use Rattle.bk_cache.proofs.recent.Kept.drop_ledger.Given as goal
 
--- the entries of other ledgers are those that were, in their order
+-- loop invariant: the entries of other ledgers are unchanged, in the same order
 abbrev pub invariant-loop-entry : goal.invariant-loop-entry
-invariant-loop-entry l = AreListed l.self-inside.entries.entries l.self-inside.pairs
+invariant-loop-entry l = AreListedRecents l.self-inside.entries.entries l.self-inside.pairs
     × (filter (λ e. not (e.0.ledger == l.ledger)) l.self-inside.entries.entries
     ≡ filter (λ e. not (e.0.ledger == l.ledger)) l.initial.self-inside.entries.entries)
     × (l.self-inside.entries.cap ≡ l.initial.self-inside.entries.cap)

@@ -4,7 +4,7 @@ use Rattle.bk_cache.proofs.RecentPuts.{put-or_same, put-renews}
 use Rattle.bk_cache.proofs.RecentPairs.{pair_of, comes_itself, listed_same, listed_more, listed_again, listed_in, listed_pushed_in, recent_listed}
 use Rattle.bk_cache.proofs.recent.Kept.remember.Goals as goal
 
--- no memory for the pair
+-- an allocation for the pair failed
 pub invariant_of-self : goal.invariant_of-self
 invariant_of-self c = listed_same c.self.inside.entries.entries c.self.inside.pairs c.insert.new.self c.self.invariant c.in_default.ensures.err
 
@@ -14,7 +14,7 @@ returns-in_default-clause-replaced c = λ held.
     held in
     absurd (false≢true (sym (rw (c.ledger.ensures.value, c.entry.ensures.value) at c.in_default.ensures.absent) ∙ there))
 
--- another entry went for it, or its own payload
+-- another entry, or the key's own payload, was replaced
 pub invariant_of-self-in-Ok-Some : goal.invariant_of-self-in-Ok-Some
 invariant_of-self-in-Ok-Some c =
     let pair = pair_of c.args.key.now in
@@ -35,7 +35,7 @@ returns-in-Ok-Some-clause-replaced c =
     put-renews (λ p. p.value.items) c.self.inside.entries c.args.key.now c.args.payload c.args.self.now c.self.view_is c.push.new.self c.push.result
     (rw c.of.ensures at c.push.ensures.entries) (rw c.of.ensures at c.push.ensures.succeeds)
 
--- there was room
+-- the table had room
 pub invariant_of-self-in-Ok-None : goal.invariant_of-self-in-Ok-None
 invariant_of-self-in-Ok-None c =
     let pair = pair_of c.args.key.now in
@@ -55,7 +55,7 @@ returns-in-Ok-None-clause-replaced c =
     put-renews (λ p. p.value.items) c.self.inside.entries c.args.key.now c.args.payload c.args.self.now c.self.view_is c.push.new.self c.push.result
     (rw c.of.ensures at c.push.ensures.entries) (rw c.of.ensures at c.push.ensures.succeeds)
 
--- no memory for the entry: its pair goes again, where it was not there before
+-- An allocation for the entry failed: its pair is removed again, if it is new.
 pub invariant_of-self-then-is_new : goal.invariant_of-self-then-is_new
 invariant_of-self-then-is_new c =
     let pair = pair_of c.args.key.now in

@@ -7,19 +7,19 @@ use Rattle.bk_disk.specs.Logs.{files_of}
 use Rattle.bk_disk.proofs.Answered.{answer_of-map_err}
 use Rattle.bk_record.proofs.NumberMaps.{insert_same}
 use Rattle.bk_disk.proofs.FileMaps.{written, grown_there}
-use Rattle.bk_disk.proofs.KeepsMore.{equal_keeps, appends_keep}
+use Rattle.bk_disk.proofs.DurableGrows.{equal_keeps, appends_keep}
 use Rattle.bk_disk.proofs.Bounds.{AreLogFiles-same, AreLogFiles-written, IsLogFile-append, each_byte, on_answer}
 use Rattle.bk_disk.proofs.mem_disk.MemDiskLogDisk.append.Goals as goal
 
-pub returns-then-bytes-len-clause-turn : goal.returns-then-bytes-len-clause-turn
-returns-then-bytes-len-clause-turn c = λ _.
+pub returns-then-bytes-len-clause-transition : goal.returns-then-bytes-len-clause-transition
+returns-then-bytes-len-clause-transition c = λ _.
     let file = c.in-Some.file.now in
     let wrote = written c.self.inside.logs (c.get_mut.follows.lender file) c.args.log file file c.self.view_is c.in-Some.ensures.value
     (c.get_mut.follows.holds file) in
     (file, wrote.0, omega (arith, c.len.ensures.value), wrote.1 ∙ insert_same _ _ _ wrote.0)
 
-pub returns-clause-turn : goal.returns-clause-turn
-returns-clause-turn c = λ _.
+pub returns-clause-transition : goal.returns-clause-transition
+returns-clause-transition c = λ _.
     let file = c.in-Some.file.now in
     let now = c.append.new.self in
     let old = c.args.self.now in
@@ -52,8 +52,8 @@ invariant_of-self-2 c =
     (λ one. on_answer (IsLogFile c.args.log) now (file ++ bytes) file c.append.result c.append.ensures.ok c.append.ensures.err
     (IsLogFile-append c.args.log file bytes one (each_byte bytes (λ i. Fits-lt-pow (c.type_inv.bytes i))) short) one) c.self.invariant
 
-pub returns-then-bytes-len-clause-kept : goal.returns-then-bytes-len-clause-kept
-returns-then-bytes-len-clause-kept c = λ h. equal_keeps _ _ (returns-then-bytes-len-clause-turn c h).3
+pub returns-then-bytes-len-clause-durable : goal.returns-then-bytes-len-clause-durable
+returns-then-bytes-len-clause-durable c = λ h. equal_keeps _ _ (returns-then-bytes-len-clause-transition c h).3
 
-pub returns-clause-kept : goal.returns-clause-kept
-returns-clause-kept c = λ h. appends_keep _ _ _ _ _ (returns-clause-turn c h)
+pub returns-clause-durable : goal.returns-clause-durable
+returns-clause-durable c = λ h. appends_keep _ _ _ _ _ (returns-clause-transition c h)

@@ -1,5 +1,5 @@
 use Rattle.std.proofs.Common.{rules, Ok, Err}
-use Rattle.bk_disk.proofs.KeepsMore.{creates_keep}
+use Rattle.bk_disk.proofs.DurableGrows.{creates_keep}
 use Rattle.bk_disk.proofs.FileMaps.{file_maps}
 use Rattle.bk_disk.specs.Logs.{files_of}
 use Rattle.bk_disk.specs.declared.fault.DiskFault.TheVariants.{Memory}
@@ -16,8 +16,8 @@ invariant_of-self-2 c =
     AreLogFiles-updates c.self.inside.logs c.insert.new.self c.args.log c.new.result c.insert.result c.insert.ensures.updates c.insert.ensures.err
     (rw c.new.ensures (IsLogFile-none c.args.log c.requires)) c.self.invariant
 
-pub returns-in_err-map_err-clause-kept : goal.returns-in_err-map_err-clause-kept
-returns-in_err-map_err-clause-kept c = λ h. creates_keep {T = Unit {0}} c.args.self.now (files_of c.insert.new.self) c.args.log (Err Memory) (search (rules, file_maps))
+pub returns-in_err-map_err-clause-durable : goal.returns-in_err-map_err-clause-durable
+returns-in_err-map_err-clause-durable c = λ h. creates_keep {T = Unit {0}} c.args.self.now (files_of c.insert.new.self) c.args.log (Err Memory) (search (rules, file_maps))
 
-pub returns-clause-kept : goal.returns-clause-kept
-returns-clause-kept c = λ h. creates_keep {T = Unit {0}} c.args.self.now (files_of c.insert.new.self) c.args.log (Ok tt) (search (rules, file_maps))
+pub returns-clause-durable : goal.returns-clause-durable
+returns-clause-durable c = λ h. creates_keep {T = Unit {0}} c.args.self.now (files_of c.insert.new.self) c.args.log (Ok tt) (search (rules, file_maps))

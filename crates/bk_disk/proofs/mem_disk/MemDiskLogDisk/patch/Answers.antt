@@ -3,22 +3,22 @@ use Rattle.std.specs.FinMap as files
 use Rattle.bk_disk.specs.Disk.{Patches, IsLogFile}
 use Rattle.bk_disk.specs.declared.fault.DiskFault.TheVariants.{Memory}
 use Rattle.bk_disk.specs.Logs.{files_of}
-use Rattle.bk_disk.proofs.KeepsMore.{equal_keeps, patches_keep}
+use Rattle.bk_disk.proofs.DurableGrows.{equal_keeps, patches_keep}
 use Rattle.bk_disk.proofs.Answered.{answer_of-map_err}
 use Rattle.bk_record.proofs.NumberMaps.{insert_same}
 use Rattle.bk_disk.proofs.FileMaps.{written, patched_there}
 use Rattle.bk_disk.proofs.Bounds.{AreLogFiles-same, AreLogFiles-written, IsLogFile-patch, each_byte, on_answer}
 use Rattle.bk_disk.proofs.mem_disk.MemDiskLogDisk.patch.Goals as goal
 
-pub returns-then-len-lt20-clause-turn : goal.returns-then-len-lt20-clause-turn
-returns-then-len-lt20-clause-turn c = λ _.
+pub returns-then-len-lt20-clause-transition : goal.returns-then-len-lt20-clause-transition
+returns-then-len-lt20-clause-transition c = λ _.
     let file = c.in-Some.file.now in
     let wrote = written c.self.inside.logs (c.get_mut.follows.lender file) c.args.log file file c.self.view_is c.in-Some.ensures.value
     (c.get_mut.follows.holds file) in
     (file, wrote.0, omega (arith, c.len.ensures.value), wrote.1 ∙ insert_same _ _ _ wrote.0)
 
-pub returns-clause-turn : goal.returns-clause-turn
-returns-clause-turn c = λ _.
+pub returns-clause-transition : goal.returns-clause-transition
+returns-clause-transition c = λ _.
     let file = c.in-Some.file.now in
     let now = c.patch.new.self in
     let old = c.args.self.now in
@@ -52,8 +52,8 @@ invariant_of-self-2 c =
     (λ one. on_answer (IsLogFile c.args.log) now (take 8 file ++ bytes ++ drop 20 file) file c.patch.result c.patch.ensures.ok c.patch.ensures.err
     (IsLogFile-patch c.args.log file bytes one (each_byte bytes c.fits-bytes) c.told-bytes long) one) c.self.invariant
 
-pub returns-then-len-lt20-clause-kept : goal.returns-then-len-lt20-clause-kept
-returns-then-len-lt20-clause-kept c = λ h. equal_keeps _ _ (returns-then-len-lt20-clause-turn c h).3
+pub returns-then-len-lt20-clause-durable : goal.returns-then-len-lt20-clause-durable
+returns-then-len-lt20-clause-durable c = λ h. equal_keeps _ _ (returns-then-len-lt20-clause-transition c h).3
 
-pub returns-clause-kept : goal.returns-clause-kept
-returns-clause-kept c = λ h. patches_keep _ _ _ _ _ (search rules) (returns-clause-turn c h)
+pub returns-clause-durable : goal.returns-clause-durable
+returns-clause-durable c = λ h. patches_keep _ _ _ _ _ (search rules) (returns-clause-transition c h)

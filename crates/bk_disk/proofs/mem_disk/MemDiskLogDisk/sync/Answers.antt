@@ -1,7 +1,6 @@
 use Rattle.std.proofs.Common.{rules}
-use Rattle.bk_disk.proofs.KeepsMore.{syncs_keep}
+use Rattle.bk_disk.proofs.DurableGrows.{syncs_keep}
 use Rattle.bk_disk.proofs.FileMaps.{file_maps}
-use Rattle.bk_disk.specs.Logs.{files_of}
 use Rattle.bk_disk.proofs.mem_disk.MemDiskLogDisk.sync.Goals as goal
 
 pub returns-clause-syncs : goal.returns-clause-syncs

@@ -3,13 +3,13 @@ use mathlib.Core.Bool.{false≢true}
 use Rattle.bk_index.proofs.CountedPages.{get_seen, insert_seen, counted_put, length_new, length_held}
 use Rattle.bk_index.proofs.index.Index.insert.Goals as goal
 
--- memory was refused: the key is new
+-- the allocation failed, so the key is new
 pub returns-in_err-before-clause-held : goal.returns-in_err-before-clause-held
 returns-in_err-before-clause-held c held =
     absurd (false≢true (c.in_err-before.ensures.held (rw (get_seen c.self.inside.pages c.self.invariant.sorted c.args.self.now c.self.view_is c.args.key)
     held)))
 
--- the key was held
+-- the index had the key
 pub invariant_of-self-in-Some : goal.invariant_of-self-in-Some
 invariant_of-self-in-Some c =
     let pages = c.self.inside.pages in

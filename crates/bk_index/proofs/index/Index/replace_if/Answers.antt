@@ -9,7 +9,7 @@ use Rattle.bk_index.proofs.index.Index.replace_if.Goals as goal
 pub invariant_of-self : goal.invariant_of-self
 invariant_of-self c =
     counted_either c.self.inside.pages c.self.invariant.sorted c.args.key.now c.replace_if.result c.args.to c.replace_if.new.self c.self.inside.len
-    c.replace_if.ensures.replaced c.replace_if.ensures.kept c.self.invariant.counted c.replace_if.ensures.len
+    c.replace_if.ensures.replaced c.replace_if.ensures.unchanged c.self.invariant.counted c.replace_if.ensures.len
 
 pub returns-clause-condition : goal.returns-clause-condition
 returns-clause-condition c =

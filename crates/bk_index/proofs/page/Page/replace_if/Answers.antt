@@ -5,7 +5,7 @@ use Rattle.bk_index.proofs.PagePairs.{find_held, find_absent, put_held, is_sorte
 use Rattle.bk_index.proofs.PlaceEq.{place_eq_decides}
 use Rattle.bk_index.proofs.page.Page.replace_if.Goals as goal
 
--- the key is sent to `from`
+-- the location of the key is `from`
 pub invariant_of-self : goal.invariant_of-self
 invariant_of-self c =
     let here = rw (← c.self.view_is) at c.in-Ok.ensures.found in
@@ -29,7 +29,7 @@ returns-in-Ok-clause-condition c =
     in
     (λ _. held ∙ ap Some ((place_eq_decides c.index.result.now.1 c.args.from).0 (sym c.if-eq.ensures)), λ _. refl)
 
--- it is sent elsewhere
+-- it is another location
 pub returns-in_default-clause-condition : goal.returns-in_default-clause-condition
 returns-in_default-clause-condition c =
     let here = rw (← c.self.view_is) at c.in-Ok.ensures.found in

@@ -3,7 +3,7 @@ use Rattle.std.proofs.lemmas.List.{take_rest}
 use Rattle.bk_index.proofs.PagePairs.{put_lower, put_upper, sorted_lower, sorted_upper}
 use Rattle.bk_index.proofs.page.Page.split.Goals as goal
 
--- the key goes to the lower half
+-- the key is inserted in the lower half
 pub invariant_of-result : goal.invariant_of-result
 invariant_of-result c =
     let pairs = c.self.inside.pairs.items in
@@ -36,7 +36,7 @@ returns-in_ok-insert-clause-ok c =
     )
     (put_lower pairs c.self.invariant c.args.key c.args.place gap c.args.location 127 (omega arith) (omega arith))
 
--- the key goes to the upper half
+-- the key is inserted in the upper half
 pub invariant_of-result-else-place-lt-LOWER : goal.invariant_of-result-else-place-lt-LOWER
 invariant_of-result-else-place-lt-LOWER c =
     let pairs = c.self.inside.pairs.items in

@@ -6,7 +6,7 @@ use Rattle.bk_index.proofs.FencedPages.{fenced_over, countable}
 use Rattle.bk_index.proofs.HomePages.{read_page, sorted_held, find_there, put_there}
 use Rattle.bk_index.proofs.pages.Pages.insert.Goals as goal
 
--- the key is held: its pair is written over
+-- the page has the key, so its pair is overwritten
 pub invariant_of-self : goal.invariant_of-self
 invariant_of-self c =
     let pages = c.self.inside.list.items in

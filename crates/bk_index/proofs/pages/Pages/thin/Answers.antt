@@ -3,7 +3,7 @@ use Rattle.bk_index.proofs.FencedPages.{fenced_set, fenced_remove, length_set, l
 use Rattle.bk_index.proofs.HomePages.{read_page}
 use Rattle.bk_index.proofs.pages.Pages.thin.Goals as goal
 
--- nothing is left of the page
+-- the page is empty afterwards
 pub invariant_of-self : goal.invariant_of-self
 invariant_of-self c =
     rw (c.remove.ensures.items, c.remove-then-len-eq0.ensures.items)

@@ -18,7 +18,7 @@ invariant_of-self g c =
     subst (λ (w : Ahead). KeepsScan w s.from s.end s.given (s.foreign + 1) s.torn s.ended s.fault)
     (sym (skipped_window s.window _ _ _ c.front.ensures.same c.skip.ensures))
     (kept_foreign s.window _ _ _ _ _ _ _ _ _ _ c.self.invariant made going.0 going.1 fits.0 fits.1
-    (front_here s.window s.end _ _ _ c.at-at.ensures shown c.in-Ok-Record.ensures.turn))
+    (front_here s.window s.end _ _ _ c.at-at.ensures shown c.in-Ok-Record.ensures.transition))
 
 pub invariant_of-self-in-Ok-Record : goal.invariant_of-self-in-Ok-Record
 invariant_of-self-in-Ok-Record g c =
@@ -30,14 +30,14 @@ invariant_of-self-in-Ok-Record g c =
     subst (λ (w : Ahead). KeepsScan w s.from s.end (s.given + 1) s.foreign s.torn s.ended s.fault)
     (sym (skipped_window s.window _ _ _ c.front.ensures.same c.skip.ensures))
     (kept_entry s.window _ _ _ _ _ _ _ _ _ _ _ c.self.invariant made going.0 going.1 fits.0 fits.1
-    (front_here s.window s.end _ _ _ c.at-at.ensures shown c.in-Ok-Record.ensures.turn))
+    (front_here s.window s.end _ _ _ c.at-at.ensures shown c.in-Ok-Record.ensures.transition))
 
-pub returns-in-Some-clause-turn : goal.returns-in-Some-clause-turn
-returns-in-Some-clause-turn g c = λ h.
+pub returns-in-Some-clause-transition : goal.returns-in-Some-clause-transition
+returns-in-Some-clause-transition g c = λ h.
     let s = c.self.inside in
     let shown = c.in-Ok-Record.field-0-is ∙ ap (Record c.in-Ok-Record.size) c.in-Some.is in
     let honest = ap (λ (v : Scan). v.honest) c.self.view_is ∙ h in
-    let front = front_here s.window s.end _ _ _ c.at-at.ensures shown c.in-Ok-Record.ensures.turn honest in
+    let front = front_here s.window s.end _ _ _ c.at-at.ensures shown c.in-Ok-Record.ensures.transition honest in
     let fits = fits_here s.window s.end _ _ _ c.at-at.ensures shown c.in-Ok-Record.ensures.fits in
     subst (λ (v : Scan). IsGiven v (record { key = c.in-Some.key; at = c.at-at.result + 4; size = c.in-Ok-Record.size }) s.foreign) c.self.view_is
     (subst (λ n. IsGiven (window_scan s.window s.from s.end s.given s.foreign s.torn s.ended s.fault)
@@ -52,7 +52,7 @@ invariant_of-self-in-Ok-Rest g c =
     (subst (λ n. KeepsScan (record s.window { ready = c.front.new.self.ready; room = c.front.new.self.room }) s.from s.end s.given s.foreign (s.end - n) true
     s.fault) (sym c.at-at.ensures)
     (kept_rest s.window _ _ _ _ _ _ _ _ _ c.self.invariant going.1 (front_here s.window s.end _ _ _ c.at-at.ensures c.in-Ok-Rest.field-0-is
-    c.in-Ok-Rest.ensures.turn)))
+    c.in-Ok-Rest.ensures.transition)))
 
 pub invariant_of-self-in-Ok-Bad : goal.invariant_of-self-in-Ok-Bad
 invariant_of-self-in-Ok-Bad g c =
@@ -63,4 +63,4 @@ invariant_of-self-in-Ok-Bad g c =
     (subst (λ n. KeepsScan (record s.window { ready = c.front.new.self.ready; room = c.front.new.self.room }) s.from s.end s.given s.foreign s.torn s.ended
     (Some (BadLength n (cast_signed w32 (cast_unsigned w32 c.in-Ok-Bad.length))))) (sym c.at-at.ensures)
     (kept_bad s.window _ _ _ _ _ _ _ _ _ _ c.self.invariant going.0 (front_here s.window s.end _ _ _ c.at-at.ensures c.in-Ok-Bad.field-0-is
-    c.in-Ok-Bad.ensures.turn)))
+    c.in-Ok-Bad.ensures.transition)))

@@ -4,7 +4,7 @@ use Rattle.bk_log.proofs.Sums.{size_in-with_bytes}
 use Rattle.bk_log.proofs.Tallies.{counted, counts_next}
 use Rattle.bk_log.proofs.sizes.LedgerSizes.count.Goals as goal
 
--- the ledger is the entry's
+-- the last ledger is the entry's
 ready : (c : goal.After-add) → c.turn_to.new.self ≡ record c.args.self.now { ledger = c.args.found.key.ledger }
 ready c = c.in_ok-turn_to.ensures.ok ∙ ap (λ l. record c.args.self.now { ledger = l }) c.ledger.ensures.value
 

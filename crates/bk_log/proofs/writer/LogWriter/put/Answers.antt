@@ -17,14 +17,14 @@ returns-in-Err-clause-writer g c =
     puts_refused _ _ c.args.payload.now _ _ _ c.self.view_is (ap (λ t. t.sizes) c.in-Ok-turn_to.ensures.ok)
     c.is_lasting-self-inside.ensures c.if-self.false (λ e. c.in-Err.ensures.never (ap Err e))
 
-pub returns-in-Err-clause-turn : goal.returns-in-Err-clause-turn
-returns-in-Err-clause-turn g c = λ h.
-    turn_refused _ _ _ _ _ _ _ c.self.view_is (c.deref.ensures.value ∙ c.in-Ok.ensures) (c.in-Err.ensures.turn h)
+pub returns-in-Err-clause-transition : goal.returns-in-Err-clause-transition
+returns-in-Err-clause-transition g c = λ h.
+    turn_refused _ _ _ _ _ _ _ c.self.view_is (c.deref.ensures.value ∙ c.in-Ok.ensures) (c.in-Err.ensures.transition h)
 
 pub returns-in-Err-clause-writes : goal.returns-in-Err-clause-writes
 returns-in-Err-clause-writes g c = λ h whole.
     let before = sym (ap (λ w. w.failed) c.self.view_is) ∙ c.if-self.false in
-    writes_refused _ _ _ _ c.args.payload.now _ (c.requires.writes h before) (returns-in-Err-clause-writer g c) (returns-in-Err-clause-turn g c h) whole
+    writes_refused _ _ _ _ c.args.payload.now _ (c.requires.writes h before) (returns-in-Err-clause-writer g c) (returns-in-Err-clause-transition g c h) whole
 
 pub invariant_of-self-2 : goal.invariant_of-self-2
 invariant_of-self-2 g c =
@@ -35,6 +35,6 @@ pub returns-clause-writes : goal.returns-clause-writes
 returns-clause-writes g c = λ h whole.
     let before = sym (ap (λ w. w.failed) c.self.view_is) ∙ c.if-self.false in
     writes_ok _ _ _ _ _ _ _ c.self.view_is (c.requires.writes h before) c.requires.payload c.requires.keyed (c.deref.ensures.value ∙ c.in-Ok.ensures)
-    (c.in_default-append.ensures.turn h)
+    (c.in_default-append.ensures.transition h)
     (after_put _ _ _ _ _ _ c.self.view_is c.ledger_of-ledger.ensures.value c.from.ensures
     (counted c.self.inside.sizes _ _ _ _ _ c.in-Ok-turn_to.ensures.ok c.add.ensures refl))

@@ -8,7 +8,7 @@ use Rattle.bk_log.proofs.Sealed.{seal_keeps}
 use Rattle.bk_log.proofs.MapStands.{seal_map}
 use Rattle.bk_log.proofs.SealGains.{seal_gains_of}
 use Rattle.bk_log.proofs.Seals.{seal_room, header_there, seal_append, seal_patch}
-use Rattle.bk_disk.proofs.KeepsMore.{keeps_trans}
+use Rattle.bk_disk.proofs.DurableGrows.{keeps_trans}
 use Rattle.bk_log.proofs.writer.LogWriter.seal.Goals as goal
 
 pub append_any-requires-after_bounds : goal.append_any-requires-after_bounds
@@ -24,25 +24,25 @@ append_any-requires-after_bounds g c = λ ls bounds h.
       ap (λ w. w.end) c.self.view_is,
     ))
 
-pub returns-in-Err-clause-turn : goal.returns-in-Err-clause-turn
-returns-in-Err-clause-turn g c = λ h.
+pub returns-in-Err-clause-transition : goal.returns-in-Err-clause-transition
+returns-in-Err-clause-transition g c = λ h.
     seal_append _ _ _ _ _ _ c.self.view_is (c.deref.ensures.value ∙ c.in-Ok-map_bytes.ensures ∙ ap written_map c.in-Ok.ensures)
     (omega (arith, c.deref.ensures.len, c.len.ensures, c.length-end.ensures.value, c.from.ensures, c.if-end-len.false, ap (λ w. w.end) c.self.view_is))
-    (c.in-Err.ensures.turn h)
+    (c.in-Err.ensures.transition h)
 
 pub patch-requires-after_bounds : goal.patch-requires-after_bounds
 patch-requires-after_bounds g c = λ ls bounds h.
     let whole = sym (ap (λ w. w.failed) c.self.view_is) ∙ c.if-self.false in
     let honest = sym c.in_default-append_any.ensures.honest ∙ h in
-    header_there _ _ _ _ _ c.self.view_is (c.requires honest whole) (c.in_default-append_any.ensures.turn honest)
+    header_there _ _ _ _ _ c.self.view_is (c.requires honest whole) (c.in_default-append_any.ensures.transition honest)
 
-pub returns-clause-turn : goal.returns-clause-turn
-returns-clause-turn g c = λ h.
+pub returns-clause-transition : goal.returns-clause-transition
+returns-clause-transition g c = λ h.
     seal_patch _ _ _ _ _ _ _ _ c.self.view_is (c.deref.ensures.value ∙ c.in-Ok-map_bytes.ensures ∙ ap written_map c.in-Ok.ensures)
     (omega (arith, c.deref.ensures.len, c.len.ensures, c.length-end.ensures.value, c.from.ensures, c.if-end-len.false, ap (λ w. w.end) c.self.view_is))
-    (c.in_default-append_any.ensures.turn h)
+    (c.in_default-append_any.ensures.transition h)
     (c.header_patch-header.ensures ∙ ap (λ n. patch_of n (map.len (map_of c.in-Ok.sizes))) (c.length-end.ensures.value ∙ sym (ap (λ w. w.end) c.self.view_is))
-    ∙ ap (λ m. patch_of c.self.inside.end (map.len m)) c.in-Ok.ensures) (c.patch.ensures.turn (c.in_default-append_any.ensures.honest ∙ h))
+    ∙ ap (λ m. patch_of c.self.inside.end (map.len m)) c.in-Ok.ensures) (c.patch.ensures.transition (c.in_default-append_any.ensures.honest ∙ h))
 
 pub returns-in-Err-clause-entries : goal.returns-in-Err-clause-entries
 returns-in-Err-clause-entries g c = λ h.
@@ -53,7 +53,7 @@ returns-in-Err-clause-entries g c = λ h.
       c.length-end.ensures.bound,
       ap (λ w. w.end) c.self.view_is,
     )) in
-    seal_keeps _ _ _ _ (Err c.in-Err.fault) c.self.view_is (c.requires h whole) writable (returns-in-Err-clause-turn g c h)
+    seal_keeps _ _ _ _ (Err c.in-Err.fault) c.self.view_is (c.requires h whole) writable (returns-in-Err-clause-transition g c h)
 
 pub returns-clause-entries : goal.returns-clause-entries
 returns-clause-entries g c = λ h.
@@ -64,7 +64,7 @@ returns-clause-entries g c = λ h.
       c.length-end.ensures.bound,
       ap (λ w. w.end) c.self.view_is,
     )) in
-    seal_keeps _ _ _ _ c.patch.result c.self.view_is (c.requires h whole) writable (returns-clause-turn g c h)
+    seal_keeps _ _ _ _ c.patch.result c.self.view_is (c.requires h whole) writable (returns-clause-transition g c h)
 
 pub returns-clause-map : goal.returns-clause-map
 returns-clause-map g c = λ h fits.
@@ -75,7 +75,7 @@ returns-clause-map g c = λ h fits.
       c.length-end.ensures.bound,
       ap (λ w. w.end) c.self.view_is,
     )) in
-    seal_map _ _ _ _ _ c.self.view_is (c.requires h whole) writable (returns-clause-turn g c h) fits
+    seal_map _ _ _ _ _ c.self.view_is (c.requires h whole) writable (returns-clause-transition g c h) fits
 
 pub returns-in-Err-clause-gains : goal.returns-in-Err-clause-gains
 returns-in-Err-clause-gains g c = λ h.
@@ -86,7 +86,7 @@ returns-in-Err-clause-gains g c = λ h.
       c.length-end.ensures.bound,
       ap (λ w. w.end) c.self.view_is,
     )) in
-    seal_gains_of _ _ _ _ (Err c.in-Err.fault) c.self.view_is (c.requires h whole) writable (returns-in-Err-clause-turn g c h)
+    seal_gains_of _ _ _ _ (Err c.in-Err.fault) c.self.view_is (c.requires h whole) writable (returns-in-Err-clause-transition g c h)
 
 pub returns-clause-gains : goal.returns-clause-gains
 returns-clause-gains g c = λ h.
@@ -97,8 +97,8 @@ returns-clause-gains g c = λ h.
       c.length-end.ensures.bound,
       ap (λ w. w.end) c.self.view_is,
     )) in
-    seal_gains_of _ _ _ _ c.patch.result c.self.view_is (c.requires h whole) writable (returns-clause-turn g c h)
+    seal_gains_of _ _ _ _ c.patch.result c.self.view_is (c.requires h whole) writable (returns-clause-transition g c h)
 
-pub returns-clause-kept : goal.returns-clause-kept
-returns-clause-kept g c = λ h.
-    keeps_trans _ _ _ _ _ _ (c.in_default-append_any.ensures.kept h) (c.patch.ensures.kept (c.in_default-append_any.ensures.honest ∙ h))
+pub returns-clause-durable : goal.returns-clause-durable
+returns-clause-durable g c = λ h.
+    keeps_trans _ _ _ _ _ _ (c.in_default-append_any.ensures.durable h) (c.patch.ensures.durable (c.in_default-append_any.ensures.honest ∙ h))

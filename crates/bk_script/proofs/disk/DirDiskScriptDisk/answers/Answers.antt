@@ -1,4 +1,9 @@
+use denote.Param.Send.{sendable}
+use Rattle.bk_disk.proofs.dir_disk.DirDisk.TheSendSync.{the_send}
 use Rattle.bk_script.proofs.disk.DirDiskScriptDisk.answers.Goals as goal
+
+pub drive-requires-send-D : goal.drive-requires-send-D
+drive-requires-send-D c κs = search (the_send, sendable)
 
 pub returns : goal.returns
 returns c =

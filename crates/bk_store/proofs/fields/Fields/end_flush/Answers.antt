@@ -1,10 +1,10 @@
 use Rattle.std.proofs.Common.{sym, ap, ◌∙◌, rules}
-use Rattle.bk_store.specs.State.{Parts}
+use Rattle.bk_store.specs.State.{StoreParts}
 use Rattle.bk_store.proofs.fields.Fields.end_flush.Goals as goal
 
-pub returns-clause-beside : goal.returns-clause-beside
-returns-clause-beside g c = record {
+pub returns-clause-internals : goal.returns-clause-internals
+returns-clause-internals g c = record {
   parts = search rules;
   still = search rules;
-  alone = λ id there. sym (ap (λ (p : Parts). p.writing) c.self.view_is) ∙ c.keep_written.ensures.alone id there;
+  alone = λ id there. sym (ap (λ (p : StoreParts). p.writing) c.self.view_is) ∙ c.keep_written.ensures.alone id there;
 }

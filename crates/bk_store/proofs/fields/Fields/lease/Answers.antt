@@ -9,8 +9,8 @@ pub pin-requires : goal.pin-requires
 pin-requires g c =
     pin_open _ c.args.self.now c.self.view_is c.requires.keeps c.args.log _ (sym c.in-Some.ensures ∙ ap (λ l. Some l) (sym c.held.view_is)) c.requires.shown
 
-pub returns-in-Ok-pin-clause-turn : goal.returns-in-Ok-pin-clause-turn
-returns-in-Ok-pin-clause-turn g c =
+pub returns-in-Ok-pin-clause-transition : goal.returns-in-Ok-pin-clause-transition
+returns-in-Ok-pin-clause-transition g c =
     let seen = view_of g.D.View.LogView.bytes g.D.View.LogView.honest g.D.View.LogView.sound in
     let given = lease_given _ c.args.self.now c.self.view_is c.requires.keeps c.args.log _
     (sym c.in-Some.ensures ∙ ap (λ l. Some l) (sym c.held.view_is)) c.requires.shown c.pin.new.self c.in-Ok-pin.seat (seen c.in-Ok.view.value)

@@ -2,7 +2,7 @@ use Rattle.std.proofs.Common.{◌≡◌, ◌<◌, ◌+◌, ◌^◌, Option, Some
 use Rattle.std.specs.FinMap as finite
 use Rattle.bk_record.specs.Location.{Place}
 use Rattle.bk_accounts.specs.Book.{named_in, after_unname}
-use Rattle.bk_store.specs.Kept.{Keeps}
+use Rattle.bk_store.specs.Invariant.{StoreInvariant}
 use Rattle.bk_store.proofs.Named.{unname_fits, unnamed, name_fits}
 use Rattle.bk_store.proofs.fields.Fields.send.Goals as goal
 use Rattle.bk_store.proofs.fields.Fields.send.Goals.{in-Some, in_default}
@@ -10,11 +10,11 @@ use Rattle.bk_store.proofs.fields.Fields.send.Goals.{in-Some, in_default}
 pub unname-requires : goal.unname-requires
 unname-requires g c =
     subst (λ n. IfSome (named_in c.self.inside.accounts n) (λ named. 0 < named)) (sym c.log.ensures.value)
-    (unname_fits _ (subst Keeps (sym c.self.view_is) c.requires) c.args.key c.in-Some.before (sym c.in_ok-before.ensures.before ∙ c.in-Some.is))
+    (unname_fits _ (subst StoreInvariant (sym c.self.view_is) c.requires) c.args.key c.in-Some.before (sym c.in_ok-before.ensures.before ∙ c.in-Some.is))
 
 pub name-requires : goal.name-requires
 name-requires g c =
-    let keeps = subst Keeps (sym c.self.view_is) c.requires in
+    let keeps = subst StoreInvariant (sym c.self.view_is) c.requires in
     let few : finite.len (finite.insert c.self.inside.index c.args.key c.args.place) < 2 ^ 64 =
     subst (λ n. n < 2 ^ 64) (c.len-keys.ensures ∙ ap finite.len c.in_ok-before.ensures.ok) c.len-keys.type_inv in
     let owed : (was : Option Place) → finite.get c.self.inside.index c.args.key ≡ was

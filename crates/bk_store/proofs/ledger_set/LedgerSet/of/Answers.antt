@@ -1,7 +1,7 @@
 use Rattle.std.proofs.Common.{◌≡◌, ◌^◌, nat_lt, true, false, sym, ap, ◌∙◌, take, get_or, arith}
 use Rattle.std.proofs.lemmas.Bool.{lt-ltb}
 use Rattle.std.specs.FinSet as set
-use Rattle.bk_store.specs.Turns.{valid_ledgers}
+use Rattle.bk_store.specs.Transitions.{valid_ledgers}
 use Rattle.bk_store.proofs.Ledgers.{ledgers-insert, listed_push, listed_skip, one_more, below_false}
 use Rattle.bk_store.proofs.ledger_set.LedgerSet.of.Goals as goal
 use Rattle.bk_store.proofs.ledger_set.LedgerSet.of.Goals.{then-ledger-le-LAST_ID+in_ok-insert, else-ledger-le-LAST_ID}

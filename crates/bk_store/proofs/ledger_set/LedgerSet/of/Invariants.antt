@@ -1,6 +1,6 @@
 use Rattle.std.proofs.Common.{◌≡◌, take}
 use Rattle.std.specs.FinSet as set
-use Rattle.bk_store.specs.Turns.{valid_ledgers}
+use Rattle.bk_store.specs.Transitions.{valid_ledgers}
 use Rattle.bk_store.proofs.ledger_set.LedgerSet.of.Given as goal
 
 abbrev pub invariant-loop-ledger : goal.invariant-loop-ledger

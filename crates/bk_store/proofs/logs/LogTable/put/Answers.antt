@@ -1,6 +1,6 @@
 use Rattle.std.proofs.Common.{◌≡◌, Some, sym, ap, ◌∙◌}
 use Rattle.std.specs.FinMap as map
-use Rattle.bk_store.specs.Putting.{put_log}
+use Rattle.bk_store.specs.Appending.{put_log}
 use Rattle.bk_store.proofs.Tables.{is_lent, lent_at, changed_at}
 use Rattle.bk_store.proofs.logs.LogTable.put.Goals as goal
 
@@ -32,9 +32,9 @@ returns-clause-place g c = λ log w held writes.
     let same : c.unwrap.result.now ≡ log = cc in
     c.put.ensures.place w (ap (λ l. l.writer) same ∙ writes)
 
-pub returns-clause-turn : goal.returns-clause-turn
-returns-clause-turn g c = λ log w held writes.
+pub returns-clause-transition : goal.returns-clause-transition
+returns-clause-transition g c = λ log w held writes.
     let found = lent_at c.self.inside.logs c.args.self.now c.args.id c.self.view_is c.get_mut.result c.unwrap.result c.get_mut.ensures.value c.unwrap.ensures in
     let both : Some c.unwrap.result.now ≡ Some log = sym found ∙ held in
     let same : c.unwrap.result.now ≡ log = cc in
-    c.put.ensures.turn w (ap (λ l. l.writer) same ∙ writes)
+    c.put.ensures.transition w (ap (λ l. l.writer) same ∙ writes)

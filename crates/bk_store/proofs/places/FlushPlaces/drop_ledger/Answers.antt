@@ -5,7 +5,7 @@ use Rattle.bk_record.specs.Key.{key_cmp}
 use Rattle.bk_record.specs.Keyed.{without_ledger}
 use Rattle.bk_record.proofs.Keys.{key_cmp_total, key_cmp_antisymmetric}
 use Rattle.bk_record.proofs.SortedMaps.{is_sorted-filter, retain_keys-sorted}
-use Rattle.bk_store.specs.Placed.{HeldPlaces}
+use Rattle.bk_store.specs.FlushPlaces.{HeldPlaces}
 use Rattle.bk_store.proofs.places.FlushPlaces.drop_ledger.Goals as goal
 
 -- `retain` leaves the pairs of other ledgers

@@ -5,7 +5,7 @@ use Rattle.bk_record.specs.Key.{EntryKey}
 use Rattle.bk_record.specs.Location.{Place}
 use Rattle.std.proofs.lemmas.List.Sorted.{IsPartitionPoint-from_clause, IsPartitionedBy-ltb}
 use Rattle.bk_index.proofs.LedgerPairs.{ledgers_rise}
-use Rattle.bk_store.specs.Placed.{HeldPlaces}
+use Rattle.bk_store.specs.FlushPlaces.{HeldPlaces}
 use Rattle.bk_store.proofs.PlacedLedgers.{none_placed}
 use Rattle.bk_store.proofs.places.FlushPlaces.has_ledger.Goals as goal
 

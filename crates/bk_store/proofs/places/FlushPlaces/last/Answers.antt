@@ -1,6 +1,6 @@
 use Rattle.std.proofs.Common.{◌-◌, length, slice_get, ap, ◌∙◌}
 use Rattle.std.specs.Option.{option_map}
-use Rattle.bk_store.specs.Placed.{HeldPlaces}
+use Rattle.bk_store.specs.FlushPlaces.{HeldPlaces}
 use Rattle.bk_store.proofs.Noted.{last_of}
 use Rattle.bk_store.proofs.places.FlushPlaces.last.Goals as goal
 

@@ -1,7 +1,7 @@
 use Rattle.std.proofs.Common.{ap, ◌∙◌, arith}
 use Rattle.std.specs.FinMap.{from_sorted}
 use Rattle.std.proofs.lemmas.Result.{on_ok_weaker}
-use Rattle.bk_store.specs.Placed.{HeldPlaces}
+use Rattle.bk_store.specs.FlushPlaces.{HeldPlaces}
 use Rattle.bk_store.proofs.places.FlushPlaces.make_room.Goals as goal
 
 pub invariant_of-self : goal.invariant_of-self

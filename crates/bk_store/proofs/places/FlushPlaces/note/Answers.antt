@@ -1,5 +1,5 @@
 use Rattle.std.proofs.Common.{ap, arith}
-use Rattle.bk_store.specs.Placed.{HeldPlaces}
+use Rattle.bk_store.specs.FlushPlaces.{HeldPlaces}
 use Rattle.bk_store.proofs.Noted.{noted, noted_sorted}
 use Rattle.bk_store.proofs.places.FlushPlaces.note.Goals as goal
 

@@ -2,8 +2,8 @@ use Rattle.std.proofs.Common.{Option, option_map, sym, ap, subst, ◌∙◌}
 use Rattle.bk_record.proofs.ReadKeys.{addable}
 use Rattle.bk_cache.specs.Caches.{flush_of, first_after}
 use Rattle.bk_cache.specs.Recents.{Entry}
-use Rattle.bk_store.specs.Doors.{IsNextEntry}
-use Rattle.bk_store.specs.Placed.{last_key}
+use Rattle.bk_store.specs.Primitives.{IsNextEntry}
+use Rattle.bk_store.specs.FlushPlaces.{last_key}
 use Rattle.std.proofs.lemmas.Option.{IfSome_then}
 use Rattle.bk_store.proofs.NextEntry.{next_entry}
 use Rattle.bk_store.proofs.store.Store.next_entry.Goals as goal

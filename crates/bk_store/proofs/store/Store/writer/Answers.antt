@@ -2,7 +2,7 @@ use Rattle.std.proofs.Common.{◌≡◌, ap, ◌∙◌}
 use Rattle.bk_record.specs.Files.{header_length}
 use Rattle.bk_log.specs.Writing.{Writing}
 use Rattle.bk_cache.proofs.Options.{IfSome-from_map}
-use Rattle.bk_store.specs.Doors.{writer_of}
+use Rattle.bk_store.specs.Primitives.{writer_of}
 use Rattle.bk_store.proofs.HeldWriters.{empty_writer}
 use Rattle.bk_store.proofs.store.Store.writer.Goals as goal
 

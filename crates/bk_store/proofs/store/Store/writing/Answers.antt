@@ -1,10 +1,10 @@
 use Rattle.std.proofs.Common.{◌≡◌, ℕ, Option, Some, None, sym, ap, subst}
-use Rattle.bk_store.specs.State.{Parts}
-use Rattle.bk_store.specs.Kept.{Keeps}
-use Rattle.bk_store.specs.Doors.{IsWritingLog}
+use Rattle.bk_store.specs.State.{StoreParts}
+use Rattle.bk_store.specs.Invariant.{StoreInvariant}
+use Rattle.bk_store.specs.Primitives.{IsWritingLog}
 use Rattle.bk_store.proofs.store.Store.writing.Goals as goal
 
-writing_is : (p : Parts) → Keeps p → (w : Option ℕ) → p.writing ≡ w → IsWritingLog p.state w
+writing_is : (p : StoreParts) → StoreInvariant p → (w : Option ℕ) → p.writing ≡ w → IsWritingLog p.state w
 writing_is p keeps None none = λ id is. let there : p.writing ≡ Some id = (keeps.fits.logs.writing id).1 (is.log, is.held, is.state_is) in cc
 writing_is p keeps (Some id) there =
     let now = (keeps.fits.logs.writing id).0 there in (

@@ -1,0 +1,102 @@
+"""Takes over records of tried edits from an earlier commit, for crates that differ from it in names only.
+
+A refusal does not depend on names. So if all texts that decide about the edits of a crate are, token for token, those of
+the earlier commit up to a one-to-one renaming in each file, the edits need not be tried again. `.ci/run all` tries them.
+"""
+
+import contextlib
+import re
+import subprocess
+import tempfile
+from pathlib import Path
+
+import tried
+
+WORD = re.compile(r"[\w']+")
+# A `use` or `mod` item of a source, as tokens with a line each.
+IMPORT = re.compile(r"\n(?:pub\n|ghost\n)?(?:use|mod)\n(?:(?!;\n).*\n)*?;(?=\n)")
+
+
+@contextlib.contextmanager
+def tree_of(top, commit):
+    """Gives a directory with the files of a commit."""
+    with tempfile.TemporaryDirectory(prefix="gate-") as room:
+        packed = subprocess.run(["git", "archive", commit], cwd=top, capture_output=True, check=True).stdout
+        subprocess.run(["tar", "-x", "-C", room], input=packed, check=True)
+        yield Path(room)
+
+
+def moves_of(top, commit):
+    """Returns the earlier name of each file that git finds to be moved since the commit."""
+    words = ["git", "diff", "--name-status", "-M30%", commit, "HEAD"]
+    told = subprocess.run(words, cwd=top, capture_output=True, text=True, check=True).stdout
+    rows = (it.split("\t") for it in told.splitlines())
+    return {row[2]: row[1] for row in rows if row[0].startswith("R")}
+
+
+def is_renamed(before, after, may):
+    """Returns whether the second list of tokens is the first with some words renamed: each to one word, new to the file.
+
+    An occurrence may keep its word, as a field or a local of the same name does. The pairs in `may` need not be new."""
+    if len(before) != len(after):
+        return False
+    there, back, known = {}, {}, {word for it in before for word in WORD.findall(it)}
+    for old, new in zip(before, after):
+        words = WORD.findall(old), WORD.findall(new)
+        if WORD.sub("_", old) != WORD.sub("_", new) or len(words[0]) != len(words[1]):
+            return False
+        for one, other in zip(*words):
+            if one == other or (one, other) in may:
+                continue
+            if other in known or there.setdefault(one, other) != other or back.setdefault(other, one) != one:
+                return False
+    return True
+
+
+def texts(top, crate):
+    """Returns the texts that decide about the crate's edits, without imports and lists of modules."""
+    found = {}
+    for file, tokens in tried.texts_of(top, crate, tried.dependences(top)[crate]):
+        if file.suffix == ".antt":
+            tokens = tried.tokens_of([it for it in tried.code_of(top / file) if not it.startswith("use ")])
+        tokens = IMPORT.sub("\n", "\n".join(["", *tokens, ""])).split("\n")
+        found[str(file)] = [it for it in tokens if it]
+    return found
+
+
+def differences(base, top, crate, earlier, moved, may):
+    """Returns the files in which the crate's texts differ by more than names from those of the earlier crate."""
+    old, new, found = texts(base, earlier), texts(top, crate), []
+    for file, after in new.items():
+        # git pairs files by their lines: a short one is paired by its name and its tokens.
+        before = moved.get(file, file)
+        alike = [before, *(it for it in old if it.rsplit("/", 1)[1] == file.rsplit("/", 1)[1])]
+        match = next((it for it in alike if it in old and is_renamed(old[it], after, may)), None)
+        if match is not None:
+            old.pop(match)
+        elif file.startswith(f"crates/{crate}/"):
+            found.append(file)
+    # A file that a lower crate gained decides nothing here, nor does one that held no clause and no code.
+    return found + sorted(file for file, tokens in old.items() if tokens)
+
+
+def carry(top, commit, pairs, kit):
+    """Writes the records that hold on. Returns how many crates have one now, and how many had one and lost it."""
+    carried, lost, moved, may = 0, 0, moves_of(top, commit), {tuple(it.split("=")) for it in pairs}
+    with tree_of(top, commit) as base:
+        before, now = tried.digests(base, kit), tried.digests(top, kit)
+        for crate, digest in now.items():
+            if not tried.edits_of(top, crate) or tried.is_tried(top, crate, digest):
+                continue
+            lib = f"crates/{crate}/src/lib.rt"
+            earlier = moved.get(lib, lib).split("/")[1]
+            if earlier not in before or not tried.is_tried(base, earlier, before[earlier]):
+                continue
+            found = differences(base, top, crate, earlier, moved, may)
+            if found:
+                lost += 1
+                print(f"{crate}: not carried, since more than names differ in {' '.join(found[:6])}")
+            else:
+                carried += 1
+                tried.note_tried(top, crate, digest)
+    return carried, lost

@@ -1,0 +1,169 @@
+"""Which must-fail edits have been tried: digests that ignore comments and layout, and renames that keep them valid."""
+
+import functools
+import hashlib
+import re
+
+PARTS = ("src", "specs", "proofs", "must-fail")
+DIGEST = re.compile(r"^digest: ([0-9a-f]{64})$", re.M)
+TOKEN = re.compile(r'"(?:\\.|[^"\\])*"|[\w\']+|[^\w\s]')
+COMMENT = {".rt": "//", ".antt": "--"}
+OPEN, CLOSED = "([{", ")]}"
+WORD = re.compile(r"[\w']+")
+# The lines that name the tests of a crate.
+TESTS = re.compile(r"^[ \t]*#\[cfg\(test\)\]\n[ \t]*mod tests;\n", re.M)
+# A line that begins a clause, and one that the crates above can see.
+CLAUSE = re.compile(r"\s*(?:requires|ensures|ghost (?!use)\w+ =)")
+SEEN = re.compile(CLAUSE.pattern + r"|\s*(?:pub (?!use|mod)|fn|impl|trait|type|#\[)")
+HIDDEN = re.compile(r"\s*(?:pub\(|(?:const |unsafe )*(?:fn|struct|enum|trait) )")
+# The first line of an item of a source, of an impl and of a definition, with the name that it has.
+SOURCE_ITEM = re.compile(r"\s*(?:pub(?:\([^)]*\))? )?(?:const |unsafe )*(?:fn|struct|enum|trait|type|const|static) (\w+)")
+IMPL = re.compile(r"\s*impl\b.*?(\w\w+)(?:<[^{]*>)?\s*\{?$")
+DEFINITION = re.compile(r"(?:(?:abbrev|pub|record|data|let|open|infix\w*|syntax|instance) +)*([\w'-]+)")
+
+
+def libraries(top):
+    """Returns each crate of crates.txt with the libraries of its line."""
+    direct = {}
+    for line in (top / "crates.txt").read_text().splitlines():
+        name, colon, names = line.partition("#")[0].partition(":")
+        if colon:
+            direct[name.split()[0]] = names.split()
+    return direct
+
+
+def dependences(top):
+    """Returns each crate of crates.txt with all the crates below it."""
+    direct = libraries(top)
+
+    def below(name):
+        own = [it for it in direct[name] if it in direct]
+        return {*own, *(deeper for it in own for deeper in below(it))}
+
+    return {name: sorted(below(name)) for name in direct}
+
+
+def files_in(top, crate, part):
+    """Returns the files of a part of a crate that its edits depend on: no tests, no list of modules, not the record."""
+    files = (it for it in (top / "crates" / crate / part).rglob("*") if it.is_file())
+    apart = ("tried.md", "Lib.antt")
+    files = (it for it in files if it.name not in apart)
+    tested = ("src", "proofs")
+    return sorted(it for it in files if part not in tested or "tests" not in it.relative_to(top).with_suffix("").parts)
+
+
+def edits_of(top, crate):
+    return {it.name for it in files_in(top, crate, "must-fail") if it.suffix == ".edit"}
+
+
+def code_of(file):
+    """Returns the lines of a source or a definition that are no comments and name no tests; all lines of any other file."""
+    lines, mark = TESTS.sub("", file.read_text()).splitlines(), COMMENT.get(file.suffix)
+    return [it for it in lines if mark is None or not it.lstrip().startswith(mark)]
+
+
+def tokens_of(lines):
+    """Returns the tokens of some lines. A comma before a closing bracket counts as layout."""
+    found = TOKEN.findall("\n".join(lines))
+    return [it for it, after in zip(found, [*found[1:], ""]) if it != "," or after not in CLOSED or not after]
+
+
+def contract_of(lines):
+    """Returns the lines that the crates above can see: public items with their fields, signatures and clauses, and those of
+    the traits that types implement."""
+    seen, depth, brackets, of_trait, hidden = [], 0, (OPEN, CLOSED), False, False
+    for line in lines:
+        if depth == 0:
+            of_trait = " for " in line if IMPL.match(line) else of_trait and not line.startswith("}")
+            if HIDDEN.match(line):
+                hidden = not of_trait
+            elif not CLAUSE.match(line) and SEEN.match(line):
+                hidden = False
+            if hidden or not SEEN.match(line):
+                continue
+            # Bodies of functions and impls and private fields are no part of what is seen.
+            has_body = re.search(r"\b(fn|impl|struct)\b", line) and not CLAUSE.match(line)
+            brackets = (OPEN[:2], CLOSED[:2]) if has_body else (OPEN, CLOSED)
+        seen.append(line)
+        depth += sum(map(line.count, brackets[0])) - sum(map(line.count, brackets[1]))
+        depth = max(depth, 0)
+    return seen
+
+
+@functools.cache
+def tokens_in(file):
+    return tokens_of(code_of(file))
+
+
+@functools.cache
+def items_in(file):
+    """Returns the definitions of a file, or the contracts of its items: each as the names by which others reach it, all of
+    which they have to use, and its tokens."""
+    is_source = file.suffix == ".rt"
+    items, of_impl, before = [], set(), []
+    for line in contract_of(code_of(file)) if is_source else code_of(file):
+        if is_source and line.lstrip().startswith("#["):
+            before.append(line)
+            continue
+        start = (SOURCE_ITEM if is_source else DEFINITION).match(line)
+        if is_source and (found := IMPL.match(line)):
+            of_impl = {found[1]}
+            if " for " not in line:
+                continue
+            items.append((of_impl, []))
+        elif start:
+            items.append(({start[1]} | (of_impl if line[0] == " " else set()), []))
+        elif not items:
+            items.append(({"use"}, []))
+        items[-1][1].extend([*before, line])
+        before = []
+    return [(names, tokens_of(lines)) for names, lines in items if "use" not in names]
+
+
+def words_of(tokens):
+    return {word for it in tokens for word in WORD.findall(it)}
+
+
+def texts_of(top, crate, below):
+    """Returns, as file and tokens, everything that decides whether the prover refuses the crate's edits.
+
+    That is its own files and, of the crates below, each definition and contract that they name, directly or through
+    others of these: what is added below changes nothing."""
+    own = [(it.relative_to(top), tokens_in(it)) for part in PARTS for it in files_in(top, crate, part)]
+    words = {word for _, tokens in own for word in words_of(tokens)}
+    lower = [it for name in below for part in ("specs", "src") for it in files_in(top, name, part)]
+    left = [(it.relative_to(top), *item) for it in lower for item in items_in(it)]
+    found, is_more = {}, True
+    while is_more:
+        reached = [it for it in left if it[1] <= words]
+        left = [it for it in left if not it[1] <= words]
+        for file, _, tokens in reached:
+            found.setdefault(file, []).append(tokens)
+            words |= words_of(tokens)
+        is_more = bool(reached)
+    return [*own, *((file, sorted(found[file])) for file in sorted(found))]
+
+
+def digest_of(top, crate, below, kit):
+    digest = hashlib.sha256(repr((kit, libraries(top)[crate])).encode())
+    for file, tokens in texts_of(top, crate, below):
+        digest.update(repr((str(file), tokens)).encode())
+    return digest.hexdigest()
+
+
+def digests(top, kit):
+    tokens_in.cache_clear()
+    items_in.cache_clear()
+    return {it: digest_of(top, it, below, kit) for it, below in dependences(top).items()}
+
+
+def note_tried(top, crate, digest):
+    text = "Each edit of this directory was tried and refused in the state that this digest stands for.\n"
+    text += "`.ci/run` writes this file, and tries the edits again when the digest no longer fits.\n\n"
+    (top / "crates" / crate / "must-fail" / "tried.md").write_text(f"{text}digest: {digest}\n")
+
+
+def is_tried(top, crate, digest):
+    file = top / "crates" / crate / "must-fail" / "tried.md"
+    found = DIGEST.search(file.read_text()) if file.is_file() else None
+    return found is not None and found[1] == digest

@@ -1,9 +1,0 @@
-use Rattle.bk_bookie.proofs.Gives.{take_gives}
-use Rattle.bk_bookie.proofs.desk.Desk.take.Goals as goal
-
-pub returns-clause-gives : goal.returns-clause-gives
-returns-clause-gives g c = λ honest.
-    rw c.told.ensures
-    (take_gives c.self.inside.store c.promise.ensures (rw c.self.invariant.honest_is honest) (c.self.invariant.keyed honest) c.carried_is_meaning.ensures g.D.View.LogView.bytes
-    g.D.View.LogView.honest g.D.View.LogView.sound c.take_is_plain.ensures c.take-answer.new.self c.args.key c.take-answer.result
-    c.take-answer.ensures)

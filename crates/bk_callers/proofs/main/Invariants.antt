@@ -1,8 +1,0 @@
-use Rattle.std.specs.Prelude.{true}
-use Rattle.bk_callers.proofs.main.Given as goal
-
-abbrev pub ghosts-serve-L-Ledger : goal.ghosts-serve-L-Ledger
-ghosts-serve-L-Ledger g a = record { name = a.blank.name; parts = a.blank.parts }
-
-abbrev pub ghosts-serve-L-AddLedger : goal.ghosts-serve-L-AddLedger
-ghosts-serve-L-AddLedger g a = record { honest = true }

@@ -1,0 +1,217 @@
+//! The commands that read a directory.
+
+use crate::row::CommandRow;
+use crate::words::{DATA, DEAD, DIGEST, ENTRY, FIRST, FROM, LAST, LEDGER, LOG, OF_LEDGER};
+
+/// In the order of the help.
+pub static READING: &[CommandRow] = &[
+    CommandRow {
+        name: "check",
+        operands: &[],
+        options: &[DIGEST],
+        summary: "Check that each log is whole",
+        help: "\
+Prints one line per log, by rising id, as soon as the log is read: `ID WORD`. WORD is the first of
+these that applies:
+  short        the file is shorter than a header (1024 bytes)
+  fault TEXT   the header is invalid: `bad magic`, `version V`
+  fault TEXT   a record is invalid: `bad length AT N`
+  unsealed     the header names no ledgers map
+  fault TEXT   the map is invalid: `negative number`, `not a map AT`, `map length AT`,
+               `repeated LEDGER`, `count differs FOUND`
+  map differs  the map is not that of the log's entries
+  ok           the map is that of the log's entries
+
+A log has no checksum of its entries, so a changed byte in an entry's data is not detected without
+--digest. BookKeeper clients put a digest into each payload, after the first 32 bytes. With --digest
+each entry that does not fit its digest, or has no room for one, is printed before its log's line,
+`digest AT LEDGER ENTRY`. KIND is
+  crc32c  CRC-32C, in four bytes
+  crc32   CRC-32, in eight bytes
+  auto    for each ledger the kind that its first entry fits. After the last log `unknown N` is
+          printed: the number of ledgers whose first entry fits neither. Such a ledger has no
+          digests, or digests with a password, or a damaged first entry. Its entries are not checked
+
+Exit status: 0, or 1 if a line says `fault`, `map differs` or `digest`, or on a fault; 2 if the
+command line is wrong. `unknown` does not change it.
+
+Examples:
+  $ bk_shell check /var/bookie/current
+  0 ok
+  3 unsealed
+  $ bk_shell check --digest auto /var/bookie/current
+  digest 1073 1 1
+  0 ok
+  3 unsealed
+  unknown 0
+",
+    },
+    CommandRow {
+        name: "logs",
+        operands: &[],
+        options: &[],
+        summary: "List the logs: id, length and state",
+        help: "\
+Prints one line per log, by rising id: `ID LENGTH STATE`. STATE is
+  short   the file is shorter than a header (1024 bytes)
+  bad     the header is invalid
+  open    the header names no ledgers map: the log is not sealed
+  sealed  the header names a ledgers map
+
+Exit status: 0, 1 on a fault, 2 if the command line is wrong.
+
+Example:
+  $ bk_shell logs /var/bookie/current
+  0 1089 sealed
+  3 1049 open
+",
+    },
+    CommandRow {
+        name: "stat",
+        operands: &[],
+        options: &[DEAD],
+        summary: "Show the entries and live bytes of each log",
+        help: "\
+Prints one line per log, by rising id: `ID LENGTH ENTRIES BYTES LIVE SHARE STATE`. ENTRIES is the
+number of entries, BYTES the size of their records, LIVE the part of BYTES that belongs to ledgers
+not named by --dead. SHARE is LIVE in thousandths of BYTES, rounded down, or `-` if there are no
+bytes. STATE is that of `logs`. The last line has the sums: `logs N length N entries N bytes N live N
+share SHARE`. A log is compacted if its share is below a threshold; a bookie's are 200 and 800 by
+default.
+
+If a log cannot be read to its end, `fault log ID: TEXT` goes to the error stream, and the log is
+counted up to there.
+
+Exit status: 0, 1 on a fault, 2 if the command line is wrong.
+
+Example:
+  $ bk_shell stat --dead 2 /var/bookie/current
+  0 1089 1 25 25 1000 sealed
+  3 1087 3 63 41 650 open
+  logs 2 length 2176 entries 4 bytes 88 live 66 share 750
+",
+    },
+    CommandRow {
+        name: "ledgers",
+        operands: &[],
+        options: &[],
+        summary: "List the ledgers with their records and bytes",
+        help: "\
+Prints one line per ledger, rising: `LEDGER RECORDS BYTES FIRST LAST LOGS`. RECORDS is the number of
+its records in all logs, BYTES their size, FIRST and LAST its first and last entry, LOGS the number
+of logs with a record. An entry with two records counts twice.
+
+If a log cannot be read to its end, `fault log ID: TEXT` goes to the error stream, and the log is
+counted up to there.
+
+Exit status: 0, 1 on a fault, 2 if the command line is wrong.
+
+Example:
+  $ bk_shell ledgers /var/bookie/current
+  1 3 66 0 2 2
+  2 1 22 5 5 1
+",
+    },
+    CommandRow {
+        name: "entries",
+        operands: &[LEDGER, FIRST, LAST],
+        options: &[],
+        summary: "List the entries of a ledger with their locations",
+        help: "\
+Prints one line per entry of the ledger, rising: `ENTRY LOG AT SIZE`. LOG is the log of its last
+record, AT the position of the payload there, SIZE the size of the record. If an entry has several
+records, the last one counts, by log id, then position.
+
+If a log cannot be read to its end, `fault log ID: TEXT` goes to the error stream, and the log is
+searched up to there.
+
+Exit status: 0, 1 on a fault, 2 if the command line is wrong.
+
+Examples:
+  $ bk_shell entries /var/bookie/current 1
+  0 3 1050 21
+  2 3 1071 20
+  $ bk_shell entries /var/bookie/current 1 2
+  2 3 1071 20
+",
+    },
+    CommandRow {
+        name: "find",
+        operands: &[LEDGER, ENTRY],
+        options: &[],
+        summary: "Find the last record of an entry",
+        help: "\
+Prints `LOG AT DATA`, or `not found`. LOG is the log of the entry's last record, AT the position of
+the payload there, DATA the data in hexadecimal, or `-` if there is none. If an entry has several
+records, the last one counts, by log id, then position. All logs are scanned; headers are not read.
+
+If a log cannot be read to its end, `fault log ID: TEXT` goes to the error stream, and the log is
+searched up to there.
+
+Exit status: 0, also if the entry is not found; 1 on a fault; 2 if the command line is wrong.
+
+Example:
+  $ bk_shell find /var/bookie/current 1 0
+  0 1028 68656c6c6f
+",
+    },
+    CommandRow {
+        name: "scan",
+        operands: &[LOG],
+        options: &[OF_LEDGER, FROM, DATA],
+        summary: "List the entries of a log",
+        help: "\
+Prints one line per entry, in file order: `AT LEDGER ENTRY SIZE`. AT is the position of the payload,
+SIZE the size of the record. The last line is `entries N foreign N torn N`: the number of entries,
+the number of records with a negative id, such as those of a ledgers map, and the number of bytes at
+the end that are no whole record. The header is not read. A length field below 16 ends the scan:
+`fault bad length AT N`.
+
+With --ledger or --from fewer entries are shown, and `entries` counts those shown; the whole log is
+scanned. With --data each line ends with the data in hexadecimal, or `-` if there is none.
+
+Exit status: 0, 1 on a fault, 2 if the command line is wrong.
+
+Examples:
+  $ bk_shell scan /var/bookie/current 0
+  1028 1 0 25
+  entries 1 foreign 1 torn 0
+  $ bk_shell scan --ledger 1 --data /var/bookie/current 0.log
+  1028 1 0 25 68656c6c6f
+  entries 1 foreign 1 torn 0
+",
+    },
+    CommandRow {
+        name: "header",
+        operands: &[LOG],
+        options: &[],
+        summary: "Show the header of a log",
+        help: "\
+Prints `version V map OFFSET count COUNT`, or `short` if the file is shorter than a header. OFFSET is
+the position of the ledgers map, COUNT its number of ledgers. Both are 0 in a log that is not sealed.
+
+Exit status: 0, 1 on a fault, 2 if the command line is wrong.
+
+Example:
+  $ bk_shell header /var/bookie/current 0
+  version 1 map 1049 count 1
+",
+    },
+    CommandRow {
+        name: "map",
+        operands: &[LOG],
+        options: &[],
+        summary: "Show the ledgers map of a log",
+        help: "\
+Prints one line per ledger, rising: `LEDGER SIZE`. SIZE is the size of its records in this log, with
+their length fields. Prints `no map` if the log is not sealed, `short` if the file is shorter than a
+header.
+
+Exit status: 0, 1 on a fault, 2 if the command line is wrong.
+
+Example:
+  $ bk_shell map /var/bookie/current 0
+  1 25
+",
+    },
+];

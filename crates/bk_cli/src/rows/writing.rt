@@ -1,0 +1,117 @@
+//! The commands that write to a directory.
+
+use crate::row::CommandRow;
+use crate::words::{
+    BELOW, CUT_TORN, DEAD, DEAD_FILE, DRY_RUN, INDEX_IS_REBUILT, LOG, MAJOR, MINOR,
+};
+
+/// In the order of the help.
+pub static WRITING: &[CommandRow] = &[
+    CommandRow {
+        name: "compact",
+        operands: &[],
+        options: &[
+            MINOR,
+            MAJOR,
+            BELOW,
+            DEAD,
+            DEAD_FILE,
+            DRY_RUN,
+            INDEX_IS_REBUILT,
+        ],
+        summary: "Compact logs with few live bytes, and remove logs that no entry needs",
+        help: "\
+Opens a store on the logs of DIR and removes each log that no index entry points into. Then it
+compacts one log after another, the one with the smallest live share first, until no log has a live
+share below the threshold. The live bytes of a log are the records of ledgers that neither --dead nor
+--dead-file names. Live entries are copied to a new log; the old log is removed after the new one is
+sealed and synced. The last line is `before N after N freed BYTES moved ENTRIES`: the number of logs
+before and after, the number of bytes by which the files are shorter (`-BYTES` if they are longer),
+and the number of entries copied.
+
+A directory does not record which ledgers are deleted: without --dead every ledger is live. The
+entries of a ledger that is named are lost for good when their log is removed. A FILE has one ledger
+per line, in plain digits; empty lines are ignored.
+
+A stock bookie has an index of its own, which points into logs that a compaction removes. If DIR has
+`VERSION`, `lastMark`, `locations` or `ledgers`, the command is refused without --index-is-rebuilt. With
+it, stop the bookie, compact, and rebuild its index before it starts: `bookkeeper shell
+rebuild-db-ledger-locations-index`.
+
+A file with a log's name that is shorter than a header (1024 bytes) and not empty is kept, and reported
+on the error stream, unless its copy FILE.torn has the same bytes: it may be what a crash left of a log.
+
+With --dry-run the directory is only read. One line per log to be taken is printed, by rising id:
+`ID LENGTH remove` or `ID LENGTH compact ENTRIES`. The last line is the one that the compaction would
+print. If there are not enough free ids or slots for all copies, the logs to be removed are printed, and
+then the fault. With --json a log has `log`, `length`, `fate` and `entries`, and the last line `before`,
+`after`, `freed` and `moved`.
+
+One program at a time writes to a directory. If another one does, the command is refused and names
+its process. A bookie that runs on the directory does not take the lock: stop it first. The command
+may be killed at any moment: every entry of a ledger that is not named is still found, and the next
+call goes on. If the error stream is a terminal, a line there shows the progress.
+
+Exit status: 0 if all was done; 1 on a fault, `fault TEXT` on the error stream, and what was done
+before stays done; 2 if the command line is wrong.
+
+Examples:
+  $ bk_shell compact --dead 2 --dry-run /var/bookie/current
+  0 1325 compact 1
+  1 1085 remove
+  before 3 after 2 freed 1321 moved 1
+  $ bk_shell compact --dead 2 /var/bookie/current
+  before 3 after 2 freed 1321 moved 1
+",
+    },
+    CommandRow {
+        name: "seal",
+        operands: &[LOG],
+        options: &[CUT_TORN],
+        summary: "Write the ledgers map of a log that has none",
+        help: "\
+Appends the ledgers map of the log's entries, syncs it, then writes its position into the header and
+syncs that. A bookie then finds the log's ledgers without reading the whole log. Prints
+`sealed LOG map OFFSET count LEDGERS`.
+
+The log is left as it is, with a fault, in these cases:
+  short                  the file is shorter than a header (1024 bytes)
+  bad magic, version V   the header is invalid
+  no map in version 0    the header of this version has no place for a map
+  sealed already         the header names a map
+  bad length AT N        a length field below 16 follows whole records
+  torn N                 N bytes at the end are no whole record
+  no room for a map      it would end past byte 2^32 - 1
+
+With --cut-torn a torn end or a bad length is no fault: what follows the last whole record is cut off
+before the log is sealed. If the header names a map that is not there, not whole, or not that of the
+entries, bytes 8 to 20 of the header are cleared. First the whole log is copied to a file beside it,
+1f.log to 1f.log.torn, and synced, so nothing is lost. No reader takes that file for a log, and no
+command removes it. If FILE exists, the log is left, `copy exists: FILE`: move FILE away. It is the
+copy of an earlier call, or a part of one if that call was killed. Lines before the last:
+  cut LOG at AT bytes N copy FILE               N bytes from AT on were cut
+  cleared LOG map OFFSET count COUNT copy FILE  the header named this map
+A log of version 0, and one whose map is there after the cut, is cut only. A log with nothing to cut
+or to clear is sealed only, and not copied.
+
+One program at a time writes to a directory. If another one does, the command is refused and names
+its process. A bookie that runs on the directory does not take the lock: stop it first.
+
+Exit status: 0 if the log was sealed or cut; 1 on a fault, `fault TEXT` on the error stream; 2 if the command
+line is wrong.
+
+Examples:
+  $ bk_shell seal /var/bookie/current 3.log
+  sealed 3 map 1049 count 1
+  $ bk_shell seal /var/bookie/current 31
+  fault torn 10
+  $ bk_shell seal --cut-torn /var/bookie/current 31
+  cut 31 at 1049 bytes 10 copy /var/bookie/current/1f.log.torn
+  sealed 31 map 1049 count 1
+  $ bk_shell check /var/bookie/current
+  0 ok
+  3 ok
+  31 ok
+",
+    },
+];

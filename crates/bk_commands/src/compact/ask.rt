@@ -1,0 +1,38 @@
+//! What a call of `compact` asks for.
+
+use bk_cli::words::{BELOW, DEAD, DEAD_FILE, DRY_RUN, INDEX_IS_REBUILT, MINOR};
+use bk_cli::{DEFAULTS, FolderCall};
+use std::alloc::{AllocError, Global};
+
+/// What a call of `compact` asks for.
+#[derive(Debug, PartialEq, Eq, Drop)]
+pub struct CompactAsk<'a> {
+    /// Below how many thousandths of live bytes a log is compacted: 0 to 1000.
+    pub below: u32,
+    /// The deleted ledgers that the call names, each 0 to 9223372036854775807.
+    pub dead: Vec<u64>,
+    /// The paths of files of deleted ledgers, one per line.
+    pub dead_files: Vec<&'a str>,
+    /// Whether the effect is shown only.
+    pub is_dry: bool,
+    /// Whether the operator rebuilds a bookie's index that is in the directory.
+    pub index_is_rebuilt: bool,
+}
+
+impl<'a> CompactAsk<'a> {
+    /// Returns what a call of `compact` asks for.
+    pub fn of(alloc: Global, call: &FolderCall<'a>) -> Result<CompactAsk<'a>, AllocError> {
+        let below = match call.number(&BELOW) {
+            Some(below) => u32::try_from(below).unwrap_or(DEFAULTS.major),
+            None if call.has(&MINOR) => DEFAULTS.minor,
+            None => DEFAULTS.major,
+        };
+        Ok(CompactAsk {
+            below,
+            dead: call.numbers(alloc, &DEAD)?,
+            dead_files: call.texts(alloc, &DEAD_FILE)?,
+            is_dry: call.has(&DRY_RUN),
+            index_is_rebuilt: call.has(&INDEX_IS_REBUILT),
+        })
+    }
+}

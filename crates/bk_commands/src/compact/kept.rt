@@ -1,0 +1,70 @@
+//! Files with a log's name that are shorter than a header and not empty: a compaction keeps them.
+//!
+//! They are empty logs by the format, and no entry needs them. But what they have may be what a crash left of
+//! a log, so the operator looks at them and removes them.
+
+use super::fault::CompactFault;
+use super::rows::{KeptRow, write_row};
+use bk_disk::name_of;
+use bk_inspect::Form;
+use bk_record::HEADER_LENGTH;
+use std::alloc::{AllocError, Global};
+use std::collections::BTreeMap;
+use std::fs;
+use std::io::Write;
+
+/// Returns the logs that a compaction keeps, rising: of these, with their lengths, those that are short and not
+/// empty, and have no copy aside.
+pub(super) fn kept_logs(
+    rt: &HostRuntime,
+    path: &str,
+    lengths: &BTreeMap<u32, u64>,
+) -> Result<Vec<u32>, AllocError> {
+    let mut kept = Vec::new(rt.alloc());
+    for (log, length) in lengths.iter() {
+        let is_short = 0 < *length && *length < HEADER_LENGTH as u64;
+        if is_short && !is_copied(rt, path, *log)? {
+            kept.push(*log)?;
+        }
+    }
+    Ok(kept)
+}
+
+/// Returns whether the file of a log has a copy aside, as `seal --cut-torn` makes it, with the same bytes.
+fn is_copied(rt: &HostRuntime, path: &str, log: u32) -> Result<bool, AllocError> {
+    let name = name_of(rt.alloc(), log)?;
+    let file = format!(in rt.alloc(); "{path}/{name}")?;
+    let copy = format!(in rt.alloc(); "{path}/{name}.torn")?;
+    let is_short = match fs::metadata(rt, copy.as_str()) {
+        Ok(found) => found.is_file() && found.len() < HEADER_LENGTH as u64,
+        Err(_) => false,
+    };
+    if !is_short {
+        return Ok(false);
+    }
+    match (fs::read(rt, file.as_str()), fs::read(rt, copy.as_str())) {
+        (Ok(bytes), Ok(copied)) => Ok(bytes == copied),
+        _ => Ok(false),
+    }
+}
+
+/// Reports each log that is kept, on the error stream.
+pub(super) fn tell_kept<E: Write>(
+    alloc: Global,
+    form: Form,
+    kept: &[u32],
+    lengths: &BTreeMap<u32, u64>,
+    errors: &mut E,
+) -> Result<(), CompactFault> {
+    for log in kept {
+        let name = name_of(alloc, *log)?;
+        let row = KeptRow {
+            note: "kept",
+            log: *log,
+            length: lengths.get(log).copied().unwrap_or(0),
+            file: name.as_str(),
+        };
+        let _ = write_row(alloc, form, &row, errors);
+    }
+    Ok(())
+}

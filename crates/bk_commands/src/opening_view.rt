@@ -1,0 +1,34 @@
+//! A view of a log of an `OpeningDisk`, whose failed reads are reported too.
+
+ghost use Rattle.std.specs.Prelude.{[], false};
+
+use crate::failed_calls::FailedCalls;
+use bk_disk::{DirView, DiskFault, LogView};
+
+/// A view of a log of an `OpeningDisk`: a `DirView`, whose failed reads are among the `FailedCalls`
+/// of the disk. It is not honest, as a `DirView`.
+#[derive(Drop)]
+pub struct OpeningView {
+    pub(crate) view: DirView,
+    pub(crate) failed: FailedCalls,
+}
+
+impl LogView for OpeningView {
+    ghost bytes = { λ _. [] };
+
+    ghost honest = { λ _. false };
+
+    ghost sound = { λ _. false };
+
+    fn bounds(&self) {}
+
+    fn end(&self) -> u64 {
+        self.view.end()
+    }
+
+    fn read_into(&self, at: u64, out: &mut [u8]) -> Result<(), DiskFault> {
+        let answer = self.view.read_into(at, out);
+        self.failed.see(&answer);
+        answer
+    }
+}

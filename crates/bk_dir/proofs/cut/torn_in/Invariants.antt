@@ -1,9 +1,0 @@
-use Rattle.bk_dir.proofs.Cuts.{Passing}
-use Rattle.bk_dir.proofs.cut.torn_in.Given as goal
-
--- no fault was met, and nothing was found torn
-abbrev pub invariant-loop-scanner : goal.invariant-loop-scanner
-invariant-loop-scanner g l = Passing l.initial.scanner l.scanner
-
-abbrev pub decreases-loop-scanner : goal.decreases-loop-scanner
-decreases-loop-scanner g l = l.scanner.left

@@ -1,9 +1,0 @@
-use Rattle.bk_dir.proofs.LedgerLines.{map_told}
-use Rattle.bk_dir.proofs.Reading.{honest_still}
-use Rattle.bk_dir.proofs.ledgers.show_map.Goals as goal
-
-pub returns-in-Ok-clause-ok : goal.returns-in-Ok-clause-ok
-returns-in-Ok-clause-ok g c = λ honest.
-    let viewed = c.in-Ok.ensures.ok (honest_still _ _ _ _ c.read_head.ensures.reads honest) in
-    map_told _ _ c.args.log c.in_ok-read_head.field-0.length c.in_ok-read_head.field-0.head _ _ _ _ (c.in_ok-read_head.ensures.ok honest) c.in-Whole.is
-    (c.read_head.ensures.reads.1 honest) viewed.0 c.show_view.result (c.show_view.ensures viewed.1)

@@ -1,4 +1,0 @@
-use Rattle.bk_dir.proofs.walk.take_in_view.Given as goal
-
-abbrev pub decreases-loop-scanner : goal.decreases-loop-scanner
-decreases-loop-scanner g l = l.scanner.left

@@ -1,0 +1,227 @@
+//! Calls that make, write, sync and remove the file of a log.
+
+ghost use Rattle.std.specs.Prelude.{◌≤◌, length};
+
+use super::{Folder, Opened};
+use crate::DiskFault;
+use crate::disk::HEADER;
+use crate::file_fault::{Failed, Operation};
+use crate::kept::KeptLog;
+use crate::mark::{MARK_END, mark_bytes};
+use crate::trouble::State;
+use std::alloc::Global;
+use std::fs::{self, File, OpenOptions};
+use std::io::{self, ErrorKind};
+
+impl Folder {
+    // Makes the names of the directory durable. Remembers if this fails.
+    pub(super) fn sync_names(&mut self) -> io::Result<()> {
+        let synced = match &self.lock {
+            Some(lock) => lock.sync(),
+            None => sync_directory(&self.rt, &self.path),
+        };
+        self.has_unsynced_names = synced.is_err();
+        synced
+    }
+
+    // Makes room for one more open file. If the sync of another log fails then, that log is lost,
+    // and later calls on it report it.
+    fn make_room(&mut self) {
+        if let Some((log, failed)) = self.kept.make_room() {
+            self.note(log, State::Lost, failed);
+        }
+    }
+
+    /// Makes a log's file and keeps it open. Syncs the directory before the file is written.
+    pub(crate) fn make(&mut self, alloc: Global, log: u32) -> Result<(), DiskFault> {
+        self.begin_write(alloc)?;
+        let path = self.path_of(alloc, log)?;
+        self.make_room();
+        let made = OpenOptions::new()
+            .append(true)
+            .create_new(true)
+            .open(&self.rt, path.as_str());
+        let file = match made {
+            Ok(file) => file,
+            Err(reason) => {
+                let fault = self.refuse(path, Failed::new(Operation::Create, reason));
+                return match reason.kind() {
+                    ErrorKind::AlreadyExists => Err(DiskFault::Exists),
+                    _ => Err(fault),
+                };
+            }
+        };
+        if let Err(reason) = self.sync_names() {
+            // The name is not durable, so the file must not be written.
+            let _ = fs::remove_file(&self.rt, path.as_str());
+            return Err(self.refuse_folder(Operation::Sync, reason));
+        }
+        self.troubles.forget(log);
+        self.take_back(log);
+        self.kept.close(log);
+        self.kept.keep(KeptLog::made(log, file))
+    }
+
+    /// Writes at the end of a log's file. If the first write to a file that this disk made fails,
+    /// the file is removed.
+    pub(crate) fn write_end(
+        &mut self,
+        alloc: Global,
+        log: u32,
+        bytes: &[u8],
+    ) -> Result<(), DiskFault> {
+        self.check_trouble(alloc, log)?;
+        if self.kept.find(log).is_none() {
+            self.begin_write(alloc)?;
+            let opened = self.open_log(alloc, log, OpenOptions::new().append(true))?;
+            let Opened { file, found, .. } = opened;
+            self.make_room();
+            self.kept.keep(KeptLog::found(log, file, found.len()))?;
+        }
+        self.append_kept(alloc, log, bytes)
+    }
+
+    // Writes at the end of a log's file that is kept open.
+    fn append_kept(&mut self, alloc: Global, log: u32, bytes: &[u8]) -> Result<(), DiskFault> {
+        let Some(kept) = self.kept.find(log) else {
+            return Err(DiskFault::NoLog);
+        };
+        if !kept.has_room_for(bytes) {
+            return Err(DiskFault::TooLong);
+        }
+        let is_unwritten = kept.is_unwritten();
+        let appended = if self.has_marks && kept.is_empty() && bytes.len() >= MARK_END {
+            kept.append(&marked(alloc, bytes)?)
+        } else {
+            kept.append(bytes)
+        };
+        match appended {
+            Ok(()) => Ok(()),
+            Err(failed) => Err(self.fail_append(alloc, log, is_unwritten, failed)),
+        }
+    }
+
+    // Notes a failed append, and removes the file if it was the first one to a file that this disk
+    // made.
+    fn fail_append(
+        &mut self,
+        alloc: Global,
+        log: u32,
+        is_unwritten: bool,
+        failed: Failed,
+    ) -> DiskFault {
+        let Ok(path) = self.path_of(alloc, log) else {
+            self.note(log, State::Lost, failed);
+            return DiskFault::Disk;
+        };
+        let is_removed = is_unwritten && self.unmake(log, &path);
+        let state = if is_removed { State::Gone } else { State::Lost };
+        self.lose(log, state, path, failed)
+    }
+
+    // Removes the open file of a log if the name still leads to it. Returns whether it is removed.
+    fn unmake(&mut self, log: u32, path: &str) -> bool {
+        let Some(kept) = self.kept.find(log) else {
+            return false;
+        };
+        match fs::symlink_metadata(&self.rt, path) {
+            Ok(found) if kept.is_named(&found) => {}
+            _ => return false,
+        }
+        if fs::remove_file(&self.rt, path).is_err() {
+            return false;
+        }
+        let _ = self.sync_names();
+        true
+    }
+
+    /// Syncs a log's file.
+    pub(crate) fn write_through(&mut self, alloc: Global, log: u32) -> Result<(), DiskFault> {
+        self.check_trouble(alloc, log)?;
+        let (path, _) = self.find(alloc, log)?;
+        let synced = match self.kept.find(log) {
+            Some(kept) => kept.sync(),
+            None => {
+                let Opened { file, .. } = self.open_to_read(alloc, log)?;
+                sync_file(&file)
+            }
+        };
+        match synced {
+            Ok(()) => Ok(()),
+            Err(failed) => Err(self.lose(log, State::Lost, path, failed)),
+        }
+    }
+
+    // Syncs a log's file through the file that is kept open, or else through this one.
+    pub(super) fn sync_log(&mut self, log: u32, file: &File) -> Result<(), Failed> {
+        match self.kept.find(log) {
+            Some(kept) => kept.sync(),
+            None => sync_file(file),
+        }
+    }
+
+    /// Removes a log's file and the file that sets it aside, and syncs the directory. If this fails with `Disk`, a second call does
+    /// the rest. If another file has the name of a log that this disk writes, the file stays.
+    pub(crate) fn unlink(&mut self, alloc: Global, log: u32) -> Result<(), DiskFault> {
+        self.begin_write(alloc)?;
+        let path = match self.find(alloc, log) {
+            Ok((path, _)) => path,
+            Err(DiskFault::NoLog) if self.is_left(log, State::Gone) => {
+                return self.end_removal(log);
+            }
+            Err(fault) => return Err(fault),
+        };
+        match fs::remove_file(&self.rt, path.as_str()) {
+            Ok(()) => {
+                self.kept.close(log);
+                self.end_removal(log)
+            }
+            Err(reason) => Err(self.fail_removal(log, path, reason)),
+        }
+    }
+
+    // Notes a removal that failed.
+    fn fail_removal(&mut self, log: u32, path: String, reason: io::Error) -> DiskFault {
+        let failed = Failed::new(Operation::Remove, reason);
+        match reason.kind() {
+            ErrorKind::NotFound => self.refuse_log(path, failed),
+            _ => self.lose(log, State::Gone, path, failed),
+        }
+    }
+
+    // Syncs the directory after a log's file was removed.
+    fn end_removal(&mut self, log: u32) -> Result<(), DiskFault> {
+        match self.sync_names() {
+            Ok(()) => {
+                self.troubles.forget(log);
+                self.take_back(log);
+                Ok(())
+            }
+            Err(error) => {
+                self.note(log, State::Gone, Failed::new(Operation::Sync, error));
+                self.refuse_folder(Operation::Sync, error);
+                Err(DiskFault::Disk)
+            }
+        }
+    }
+}
+
+// Syncs the directory at a path.
+fn sync_directory(rt: &HostRuntime, path: &str) -> io::Result<()> {
+    File::open(rt, path)?.sync_all()
+}
+
+// Syncs a file.
+fn sync_file(file: &File) -> Result<(), Failed> {
+    file.sync_all()
+        .map_err(|reason| Failed::new(Operation::Sync, reason))
+}
+
+// Returns the header of a new log with a watermark at its end.
+fn marked(alloc: Global, header: &[u8]) -> Result<Vec<u8>, DiskFault>
+    requires { 32 ≤ length header.now }
+{
+    let mut bytes = Vec::from_slice(alloc, header).map_err(|_| DiskFault::Memory)?;
+    bytes[20..32].copy_from_slice(&mark_bytes(HEADER));
+    Ok(bytes)
+}

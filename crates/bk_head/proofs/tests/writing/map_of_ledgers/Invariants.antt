@@ -1,6 +1,0 @@
-use Rattle.bk_head.specs.Ledgers.{map_of}
-use Rattle.bk_head.proofs.Writable.{IsSmall}
-use Rattle.bk_head.proofs.tests.writing.map_of_ledgers.Given as goal
-
-abbrev pub invariant-loop-number : goal.invariant-loop-number
-invariant-loop-number l = IsSmall (map_of l.map) l.number

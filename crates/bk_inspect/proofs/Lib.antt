@@ -1,0 +1,15 @@
+pub mod Lines
+pub mod Reading
+pub mod Heads
+pub mod Scans
+pub mod Parts
+pub mod Sums
+pub mod Maps
+pub mod Lost
+pub mod LedgerLines
+pub mod Fits
+pub mod Listed
+pub mod Seals
+pub mod Cuts
+pub mod Copies
+pub mod Keeps

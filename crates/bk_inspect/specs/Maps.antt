@@ -1,0 +1,78 @@
+-- The ledgers map in a log.
+use Rattle.std.specs.Prelude.{ℕ, ℤ, pos, negsuc, List, [], ◌++◌, drop, flat_map, codes, Option, Some, None, Ok}
+use Rattle.std.specs.Fmt.{decimal}
+use Rattle.std.specs.FinMap as ledgers
+use Rattle.bk_head.specs.declared.fault.HeadFault.{HeadFault}
+use Rattle.bk_head.specs.declared.fault.HeadFault.TheVariants as head_faults
+use Rattle.bk_head.specs.declared.header.Header.{Header}
+use Rattle.bk_head.specs.Ledgers.{LedgersMap, SpellsMap}
+use Rattle.bk_head.specs.Faults.{PairFault}
+use Rattle.bk_head.specs.Reading.{MapAnswer}
+use Rattle.bk_disk.specs.Disk.{view_end}
+use Rattle.bk_inspect.specs.Texts.{line}
+use Rattle.bk_inspect.specs.declared.fault.BytesFault.TheVariants.{Head, BadLength}
+use Rattle.bk_inspect.specs.declared.fault.DirFault.{DirFault}
+use Rattle.bk_inspect.specs.declared.fault.DirFault.TheVariants.{Log, NoLog, Disk, Memory, Odd, Output, Unsteady, Closed}
+
+-- a log's bytes from the header's map offset on
+abbrev pub tail_at : List ℕ → ℤ → List ℕ
+tail_at file (pos offset) = drop offset file
+tail_at file (negsuc n) = []
+
+-- This map is in the log, from the header's offset to the log's end; none if the header names none.
+abbrev pub IsMapIn : List ℕ → Header → Option LedgersMap → Type 0
+IsMapIn file header map = MapAnswer (tail_at file header.map_offset) (view_end file) header (Ok map)
+
+-- the fault of a command for one of a header or a map
+abbrev pub told_of : HeadFault → DirFault
+told_of head_faults.Memory = Memory
+told_of head_faults.BadMagic = Log (Head head_faults.BadMagic)
+told_of (head_faults.Version version) = Log (Head (head_faults.Version version))
+told_of head_faults.Negative = Log (Head head_faults.Negative)
+told_of (head_faults.NotAMap at) = Log (Head (head_faults.NotAMap at))
+told_of (head_faults.MapLength at) = Log (Head (head_faults.MapLength at))
+told_of (head_faults.Repeated ledger) = Log (Head (head_faults.Repeated ledger))
+told_of (head_faults.CountDiffers found) = Log (Head (head_faults.CountDiffers found))
+
+-- the fact, if the fault is one of the log's bytes
+abbrev pub IfBytes : DirFault → Type 0 → Type 0
+IfBytes (Log why) P = P
+IfBytes NoLog P = Unit {0}
+IfBytes Disk P = Unit {0}
+IfBytes Memory P = Unit {0}
+IfBytes Odd P = Unit {0}
+IfBytes Output P = Unit {0}
+IfBytes Unsteady P = Unit {0}
+IfBytes Closed P = Unit {0}
+
+-- the fault, if it is one of the log's bytes, is that of the first pair that cannot be added
+abbrev pub PairFaultIf : List (ℕ × ℕ) → List ℕ → DirFault → Type 0
+PairFaultIf before bytes (Log (Head why)) = PairFault before bytes why
+PairFaultIf before bytes (Log (BadLength at length)) = ⊥
+PairFaultIf before bytes NoLog = Unit {0}
+PairFaultIf before bytes Disk = Unit {0}
+PairFaultIf before bytes Memory = Unit {0}
+PairFaultIf before bytes Odd = Unit {0}
+PairFaultIf before bytes Output = Unit {0}
+PairFaultIf before bytes Unsteady = Unit {0}
+PairFaultIf before bytes Closed = Unit {0}
+
+-- no map is in the log where its header names one
+abbrev pub HasNoMapIn : List ℕ → Header → Type 0
+HasNoMapIn file header = (map : LedgersMap) → ¬ (IsMapIn file header (Some map))
+
+-- the bytes parse as no map
+abbrev pub SpellsNoMap : List ℕ → Type 0
+SpellsNoMap bytes = (map : LedgersMap) → ¬ (SpellsMap bytes map)
+
+-- the row of a ledger: the ledger and its bytes
+abbrev pub ledger_text : ℕ → ℕ → List ℕ
+ledger_text ledger size = decimal ledger ++ codes " " ++ decimal size
+
+abbrev pub ledger_line : ℕ × ℕ → List ℕ
+ledger_line ledger = line (ledger_text ledger.0 ledger.1)
+
+-- the rows of a map, or that there is none
+abbrev pub map_lines : Option LedgersMap → List ℕ
+map_lines None = codes "no map\n"
+map_lines (Some map) = flat_map ledger_line (ledgers.entries map)

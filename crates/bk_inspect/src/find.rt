@@ -1,0 +1,148 @@
+//! `find`: the last record of a key over all logs.
+
+ghost use Rattle.std.specs.Prelude.{◌≤◌, IfOk};
+ghost use Rattle.bk_inspect.specs.Reading.{OnlyReads};
+
+use crate::calls::view_of;
+use crate::data::{data_text, show_data};
+use crate::fault::tell_damage;
+use crate::form::{write_object, write_row};
+use crate::header::HEADER;
+use crate::turns::Turns;
+use crate::{DirFault, Form};
+use bk_disk::{LogDisk, LogView};
+use bk_log::{Found, Scanner};
+use bk_record::Key;
+use serde::Serialize;
+use std::alloc::Global;
+use std::fmt;
+use std::fmt::{Display, Formatter};
+use std::io::Write;
+
+/// Writes the last record of a key by log, then position, `LOG AT DATA`. Headers are not read.
+/// Returns the status.
+///
+/// A log that cannot be read to its end is reported on the error stream, `fault log ID: TEXT`, and
+/// searched up to there; the status is then 1. `not found` is written only if every log that could
+/// be opened was searched to its end. If a log is removed before its turn, the logs that are new
+/// since are searched too.
+pub(crate) fn show_last<D: LogDisk, W: Write, E: Write>(
+    alloc: Global,
+    disk: &mut D,
+    key: Key,
+    form: Form,
+    writer: &mut W,
+    errors: &mut E,
+) -> Result<u8, DirFault>
+    ensures status { IfOk result (λ status. status ≤ 1) }
+    ensures reads { OnlyReads (D.honest disk.old) (D.files disk.old) (D.honest disk.new) (D.files disk.new) }
+{
+    let mut turns = Turns::new(alloc, disk)?;
+    let mut last = None;
+    let mut status = 0;
+    while let Some(log) = turns.next(alloc, disk)? {
+        let view = match view_of(alloc, disk, log) {
+            Ok(view) => view,
+            Err(DirFault::NoLog) => {
+                turns.miss();
+                continue;
+            }
+            Err(fault) => return Err(fault),
+        };
+        let mut found = None;
+        match last_in(alloc, &view, key, &mut found) {
+            Ok(()) => {}
+            Err(DirFault::Log(fault)) => {
+                tell_damage(alloc, form, log, fault, errors);
+                status = 1;
+            }
+            Err(fault) => return Err(fault),
+        }
+        if let Some(found) = found {
+            last = later(last, (log, view, found));
+        }
+    }
+    match last {
+        Some((log, view, found)) => show_record(alloc, log, &view, found, form, writer)?,
+        None if status == 0 => write_row(alloc, form, &AbsentRow { found: false }, writer)?,
+        None => {}
+    }
+    Ok(status)
+}
+
+/// Returns the record of the later log of two.
+fn later<V: LogView>(
+    last: Option<(u32, V, Found)>,
+    next: (u32, V, Found),
+) -> Option<(u32, V, Found)> {
+    match last {
+        Some(last) if last.0 > next.0 => Some(last),
+        _ => Some(next),
+    }
+}
+
+/// Finds the last entry of a key in a log, up to a bad length, which is then the fault.
+fn last_in<V: LogView>(
+    alloc: Global,
+    view: &V,
+    key: Key,
+    last: &mut Option<Found>,
+) -> Result<(), DirFault> {
+    let end = view.end().max(HEADER);
+    let mut scanner = Scanner::new(view, alloc, HEADER, end);
+    while let Some(found) = scanner.next()? {
+        if found.key == key {
+            *last = Some(found);
+        }
+    }
+    Ok(())
+}
+
+/// The row of a key that no log has.
+#[derive(Clone, Copy, Serialize)]
+struct AbsentRow {
+    found: bool,
+}
+
+impl Display for AbsentRow {
+    fn fmt<W: fmt::Write>(&self, f: &mut Formatter<W>) -> fmt::Result {
+        write!(f, "not found")
+    }
+}
+
+/// The row of a key's last record.
+#[derive(Drop, Serialize)]
+struct FoundRow {
+    found: bool,
+    log: u32,
+    at: u64,
+    data: String,
+}
+
+/// Writes an entry. As text its data is written in pieces.
+fn show_record<V: LogView, W: Write>(
+    alloc: Global,
+    log: u32,
+    view: &V,
+    found: Found,
+    form: Form,
+    writer: &mut W,
+) -> Result<(), DirFault> {
+    match form {
+        Form::Text => {
+            write!(writer, "{log} {} ", found.at)?;
+            show_data(alloc, view, found, writer)?;
+            writeln!(writer, "")?;
+            Ok(())
+        }
+        Form::Json => {
+            let row = FoundRow {
+                found: true,
+                log,
+                at: found.at,
+                data: data_text(alloc, view, found)?,
+            };
+            write_object(alloc, &row, writer)
+        }
+    }
+}

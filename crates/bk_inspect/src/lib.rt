@@ -1,0 +1,47 @@
+//! Commands on a directory of entry logs, on any disk: nine read it, the others seal a log, or cut
+//! and seal one.
+#![tactic(auto)]
+
+mod aside;
+mod calls;
+mod check;
+mod command;
+mod cut;
+mod cut_folder;
+mod cut_run;
+mod cutting;
+mod data;
+mod digest;
+mod digests;
+mod entries;
+mod fault;
+mod find;
+mod fitting;
+mod folder;
+mod form;
+mod front;
+mod header;
+mod ledgers;
+mod listing;
+mod part;
+mod run;
+mod scan;
+mod seal;
+mod seal_run;
+mod stat;
+mod survey;
+mod totals;
+mod turns;
+mod walk;
+mod written;
+
+pub use command::{DirCommand, EntryRange, ScanChoice};
+pub use cut_run::{run_cut_and_seal, run_cut_and_seal_folder};
+pub use cutting::{Aside, CutDisk};
+pub use digest::{Digest, DigestChoice};
+use fault::{BytesFault, DirFault};
+pub use folder::{FolderCommand, run_folder, run_folder_as, unlisted};
+pub use form::Form;
+pub use run::{run_dir, run_dir_as};
+pub use seal_run::{run_seal, run_seal_folder};
+pub use stat::{run_stat, run_stat_as};

@@ -1,0 +1,5 @@
+//! Tests of `bk_inspect`.
+#![tactic(auto)]
+
+#[cfg(test)]
+mod tests;

@@ -1,7 +1,0 @@
-use Rattle.std.specs.Prelude.{◌≡◌, false}
-use Rattle.bk_log.specs.Writing.{Writes}
-use Rattle.bk_log.proofs.tests.large.write.Given as goal
-
--- the writer is that of its log
-abbrev pub invariant-loop-number : goal.invariant-loop-number
-invariant-loop-number g l = l.writer.failed ≡ false → Writes l.disk l.writer

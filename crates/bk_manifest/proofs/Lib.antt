@@ -1,0 +1,12 @@
+pub mod Checksums
+pub mod Behind
+pub mod Loops
+pub mod ReadFields
+pub mod Records
+pub mod Pieces
+pub mod Batches
+pub mod Files
+pub mod States
+pub mod Fronts
+pub mod Found
+pub mod Believing

@@ -1,0 +1,78 @@
+-- A manifest that is kept in a file: which of its records are durable.
+use Rattle.std.specs.Prelude.{◌≡◌, ℕ, ◌+◌, ◌<◌, ◌≤◌, Bool, List, [], length, take, Result, Ok, Err}
+use Rattle.std.proofs.Common.{refl}
+use Rattle.std.specs.Coded.{Coded, code_by, coded×, coded_ℕ, coded_bool, coded_list}
+use Rattle.bk_manifest.specs.declared.fault.Fault.{Fault}
+use Rattle.bk_manifest.specs.declared.fault.FileFault.{FileFault}
+use Rattle.bk_manifest.specs.declared.fault.FileFault.TheVariants as file
+use Rattle.bk_manifest.specs.declared.fault.WriteError.{WriteError}
+use Rattle.bk_manifest.specs.declared.fault.WriteError.TheVariants as write
+use Rattle.bk_manifest.specs.declared.fault.ReadError.{ReadError}
+use Rattle.bk_manifest.specs.declared.fault.ReadError.TheVariants as read
+use Rattle.bk_manifest.specs.declared.fault.ManifestError.{ManifestError}
+use Rattle.bk_manifest.specs.declared.fault.ManifestError.TheVariants as error
+use Rattle.bk_manifest.specs.Fact.{Fact}
+use Rattle.bk_manifest.specs.File.{Content, content_of, all_facts, IsManifest}
+
+-- a file has the same bytes, and no fewer of them are durable
+pub record IsSameFile (bytes : List ℕ) (synced : ℕ) (bytes' : List ℕ) (synced' : ℕ) : Type 0 where
+  pub bytes_are : bytes' ≡ bytes
+  pub durable : synced ≤ synced'
+
+-- a file has the same bytes up to a position, and as many of these are durable
+pub record KeepsFront (at : ℕ) (bytes : List ℕ) (synced : ℕ) (bytes' : List ℕ) (synced' : ℕ) : Type 0 where
+  pub front : take at bytes' ≡ take at bytes
+  pub durable : (n : ℕ) → n ≤ at → n ≤ synced → n ≤ synced'
+
+-- A call tells a failing device exactly if the count of its failures rises, and it rises by one.
+pub record FailsExactlyIf (before now : ℕ) (Told : Type 0) : Type 0 where
+  pub later : before ≤ now
+  pub once : now ≤ before + 1
+  pub failed : Told → before < now
+  pub told : before < now → Told
+
+-- what there is to say of a manifest: of its file, its generation, and where its whole batches end
+pub record Kept : Type 0 where
+  pub bytes : List ℕ
+  pub synced : ℕ
+  pub honest : Bool
+  pub failures : ℕ
+  pub generation : ℕ
+  pub stop : ℕ
+
+abbrev pub kept_code : Coded Kept
+kept_code =
+    code_by (List ℕ × (ℕ × (Bool × (ℕ × (ℕ × ℕ))))) (coded× (coded_list coded_ℕ) (coded× coded_ℕ (coded× coded_bool (coded× coded_ℕ (coded× coded_ℕ coded_ℕ)))))
+    (λ m. (m.bytes, (m.synced, (m.honest, (m.failures, (m.generation, m.stop))))))
+    (λ p. record { bytes = p.0; synced = p.1.0; honest = p.1.1.0; failures = p.1.1.1.0; generation = p.1.1.1.1.0; stop = p.1.1.1.1.1 }) (λ _. refl)
+
+-- what a manifest reports where its file does
+abbrev pub of_file : FileFault → ManifestError
+of_file file.Memory = error.Memory
+of_file file.Disk = error.Disk
+
+-- what it reports where a batch cannot be written, and where the file cannot be read
+abbrev pub of_write : WriteError → ManifestError
+of_write write.Memory = error.Memory
+of_write write.TooLong = error.TooLong
+
+abbrev pub of_read : ReadError → ManifestError
+of_read read.Memory = error.Memory
+of_read (read.Fault fault) = error.Fault fault
+
+-- records that were read; none if reading failed
+abbrev pub facts_found : Result Content Fault → List Fact
+facts_found (Ok found) = found.facts
+facts_found (Err fault) = []
+
+-- durable records: those of the front of the file, up to where its whole batches end
+abbrev pub durable : Kept → List Fact
+durable m = facts_found (content_of (take m.stop m.bytes))
+
+-- What is believed is durable: the bytes up to this position are, and they are a manifest of this
+-- generation, whole.
+pub record IsBelieved (bytes : List ℕ) (synced generation stop : ℕ) : Type 0 where
+  pub covered : stop ≤ synced
+  pub inside : stop ≤ length bytes
+  pub batches : List (List Fact)
+  pub whole : IsManifest (take stop bytes) batches (record { generation = generation; facts = all_facts batches; stop = stop; torn = 0 })

@@ -1,0 +1,27 @@
+//! The manifest of a folder of entry logs: a small file of its own beside the logs that says what
+//! is durable, removed, deleted and fenced.
+#![tactic(auto)]
+
+mod checksum;
+mod fault;
+mod fields;
+mod laws;
+mod manifest;
+mod mem_file;
+mod piece;
+mod reading;
+mod record;
+mod state;
+mod writing;
+
+pub use fault::{Fault, FileFault, ManifestError, ReadError, WriteError};
+pub use laws::{one_checksum, records_survive, written_manifest_is_read, written_records_are_read};
+pub use manifest::{Manifest, ManifestFile};
+pub use mem_file::MemFile;
+pub use reading::{Contents, HEADER, read_manifest};
+pub use record::Record;
+pub use state::{LogState, State};
+pub use writing::{new_header, write_batch};
+
+#[cfg(test)]
+mod tests;

@@ -1,0 +1,26 @@
+//! Records: one fact about a log or a ledger.
+
+/// One fact about a log or a ledger. `State` says what a list of records means.
+#[derive(Debug, PartialEq, Eq, Drop)]
+pub enum Record {
+    /// The log's file is about to be created.
+    MadeLog(u32),
+    /// The first `length` bytes of the log are durable.
+    DurableLog {
+        log: u32,
+        length: u64,
+    },
+    /// The log's file is about to be removed.
+    RemovedLog(u32),
+    /// The ledger is deleted.
+    DeletedLedger(u64),
+    /// The ledger is fenced.
+    FencedLedger(u64),
+    /// An attribute of a ledger, such as its master key: a kind, and bytes that this crate does not
+    /// interpret.
+    Attribute {
+        ledger: u64,
+        kind: u32,
+        bytes: Vec<u8>,
+    },
+}

@@ -1,0 +1,15 @@
+//! Offline garbage collection of a disk. Compacts logs with a small live share one after another,
+//! and removes logs that no index entry points into. Uses only calls of bk_compact and bk_collect.
+#![tactic(auto)]
+
+mod answer;
+mod clearing;
+mod compacting;
+mod planning;
+mod sweeping;
+
+pub use answer::{SweepFault, Swept, Watch};
+pub use bk_compact::Kind;
+pub use bk_store::{Settings, Store};
+pub use planning::{Fate, Planned, plan};
+pub use sweeping::{Done, sweep, sweep_disk};

@@ -1,0 +1,207 @@
+//! The plan of a sweep. Does not change the store.
+
+ghost use Rattle.std.specs.Prelude.{◌≡◌};
+ghost use Rattle.bk_compact.specs.Compacting.{threshold_of};
+
+use crate::SweepFault;
+use bk_compact::Kind;
+use bk_disk::{LogDisk, LogView};
+use bk_head::{BATCH_HEAD, PAIR};
+use bk_log::{Found, ScanFault, Scanner};
+use bk_record::HEADER_LENGTH;
+use bk_store::{LogState, Store};
+use std::collections::BTreeSet;
+
+/// Greatest number of ledgers in a batch of a ledgers map.
+const BATCH_LEDGERS: u64 = 10_000;
+
+/// A log that a sweep would compact or remove.
+#[derive(Clone, Copy, Debug, PartialEq, Eq)]
+pub struct Planned {
+    pub log: u32,
+    pub fate: Fate,
+}
+
+/// What a sweep would do with a log.
+#[derive(Clone, Copy, Debug, PartialEq, Eq)]
+pub enum Fate {
+    /// Remove it: no index entry points into it.
+    Removed,
+    /// Compact it: copy `entries` entries to a log of `length` bytes.
+    Compacted { entries: u64, length: u64 },
+}
+
+/// Whether a sweep would compact or remove a log.
+#[derive(Clone, Copy)]
+enum Verdict {
+    /// It would be kept.
+    Stays,
+    /// It would be removed: no index entry points into it.
+    Unnamed,
+    /// It would be compacted.
+    Wasted,
+}
+
+/// Returns the logs that a sweep of this kind would compact or remove, by rising id, with the
+/// action for each. Reads each log to be compacted once.
+///
+/// # Errors
+///
+/// - `Memory`: out of memory.
+/// - `Disk`: a log could not be read.
+/// - `Odd`: the disk returned what no honest disk can.
+pub fn plan<D: LogDisk>(store: &Store<D>, kind: Kind) -> Result<Vec<Planned>, SweepFault> {
+    let threshold = threshold(store, kind);
+    let mut planned = Vec::new(store.alloc());
+    let mut from = 0;
+    while let Some(log) = store.log_from(from) {
+        if let Some(fate) = fate_of(store, threshold, log)? {
+            let Ok(()) = planned.push(Planned { log, fate }) else {
+                return Err(SweepFault::Memory);
+            };
+        }
+        from = log + 1;
+    }
+    Ok(planned)
+}
+
+/// Returns the number of logs that a sweep of this kind would compact or remove. Reads no log.
+pub(crate) fn count_planned<D: LogDisk>(store: &Store<D>, kind: Kind) -> u64 {
+    let threshold = threshold(store, kind);
+    let mut count = 0u64;
+    let mut from = 0;
+    while let Some(log) = store.log_from(from) {
+        match verdict_of(store, threshold, log) {
+            Verdict::Stays => {}
+            Verdict::Unnamed | Verdict::Wasted => count = count.saturating_add(1),
+        }
+        from = log + 1;
+    }
+    count
+}
+
+/// Returns the threshold of a kind, in thousandths.
+fn threshold<D: LogDisk>(store: &Store<D>, kind: Kind) -> u32
+    ensures { result ≡ threshold_of store.now.settings kind }
+{
+    let settings = store.settings();
+    match kind {
+        Kind::Minor => settings.minor,
+        Kind::Major => settings.major,
+    }
+}
+
+/// Returns what a sweep would do with a log, or `None` if it would be kept.
+fn fate_of<D: LogDisk>(
+    store: &Store<D>,
+    threshold: u32,
+    log: u32,
+) -> Result<Option<Fate>, SweepFault> {
+    match verdict_of(store, threshold, log) {
+        Verdict::Stays => Ok(None),
+        Verdict::Unnamed => Ok(Some(Fate::Removed)),
+        Verdict::Wasted => Ok(Some(read_copy(store, log)?)),
+    }
+}
+
+/// Returns whether a sweep would compact or remove a log: a Readable log that no index entry points
+/// into, or whose live share is below the threshold.
+fn verdict_of<D: LogDisk>(store: &Store<D>, threshold: u32, log: u32) -> Verdict {
+    let (Some(state), Some(named)) = (store.log_state(log), store.named(log)) else {
+        return Verdict::Stays;
+    };
+    if !matches!(state, LogState::Readable) {
+        return Verdict::Stays;
+    }
+    if named == 0 {
+        return Verdict::Unnamed;
+    }
+    if store.least_used(threshold, &[log]) == Some(log) {
+        Verdict::Wasted
+    } else {
+        Verdict::Stays
+    }
+}
+
+/// Returns the fate of a log to be compacted: the entries that the index points to would be copied.
+fn read_copy<D: LogDisk>(store: &Store<D>, log: u32) -> Result<Fate, SweepFault> {
+    let Some(view) = store.log_view(log) else {
+        return Err(SweepFault::Odd);
+    };
+    let end = view.end();
+    if end < HEADER_LENGTH as u64 {
+        return Err(SweepFault::Odd);
+    }
+    let mut scanner = Scanner::new(&**view, store.alloc(), HEADER_LENGTH as u64, end);
+    let mut copied = Copied::new(store);
+    for _record in 0..u64::MAX {
+        match scanner.next() {
+            Ok(Some(found)) => {
+                if is_named(store, log, &found) {
+                    copied.take(&found)?;
+                }
+            }
+            Ok(None) => break,
+            Err(ScanFault::Disk) => return Err(SweepFault::Disk),
+            Err(ScanFault::Memory) => return Err(SweepFault::Memory),
+            Err(ScanFault::BadLength { .. } | ScanFault::Odd) => return Err(SweepFault::Odd),
+        }
+    }
+    Ok(copied.fate())
+}
+
+/// Returns whether the index points to an entry that was found in a log.
+fn is_named<D: LogDisk>(store: &Store<D>, log: u32, found: &Found) -> bool {
+    match store.index().get(&found.key) {
+        Some(place) => place.log() == log && u64::from(place.at()) == found.at,
+        None => false,
+    }
+}
+
+/// Sizes of the entries found so far that would be copied.
+#[derive(Drop)]
+struct Copied {
+    entries: u64,
+    bytes: u64,
+    ledgers: BTreeSet<u64>,
+}
+
+impl Copied {
+    /// Returns the sizes of no entries.
+    fn new<D: LogDisk>(store: &Store<D>) -> Copied {
+        Copied {
+            entries: 0,
+            bytes: 0,
+            ledgers: BTreeSet::new(store.alloc()),
+        }
+    }
+
+    /// Adds an entry.
+    ///
+    /// # Errors
+    ///
+    /// - `Memory`: out of memory.
+    fn take(&mut self, found: &Found) -> Result<(), SweepFault> {
+        self.entries = self.entries.saturating_add(1);
+        self.bytes = self.bytes.saturating_add(u64::from(found.size));
+        match self.ledgers.insert(found.key.ledger()) {
+            Ok(_) => Ok(()),
+            Err(_) => Err(SweepFault::Memory),
+        }
+    }
+
+    /// Returns the number of entries and the length of the target log. Its length is that of a
+    /// header, the records, and the map of their ledgers in full batches.
+    fn fate(&self) -> Fate {
+        let ledgers = self.ledgers.len() as u64;
+        let heads = ledgers
+            .div_ceil(BATCH_LEDGERS)
+            .saturating_mul(BATCH_HEAD as u64);
+        let pairs = ledgers.saturating_mul(PAIR as u64);
+        let records = (HEADER_LENGTH as u64).saturating_add(self.bytes);
+        Fate::Compacted {
+            entries: self.entries,
+            length: records.saturating_add(heads.saturating_add(pairs)),
+        }
+    }
+}

@@ -1,3 +1,0 @@
-pub mod Gone
-pub mod Still
-pub mod Doors

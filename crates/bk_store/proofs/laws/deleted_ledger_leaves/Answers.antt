@@ -1,5 +1,0 @@
-use Rattle.bk_store.proofs.LedgerLeaves.{carries_without_ledger}
-use Rattle.bk_store.proofs.laws.deleted_ledger_leaves.Goals as goal
-
-pub returns : goal.returns
-returns c = λ bytes index cached left dead map ledger carries gone others. carries_without_ledger carries left ledger gone others

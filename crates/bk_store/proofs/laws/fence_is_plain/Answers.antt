@@ -1,5 +1,0 @@
-use Rattle.bk_store.proofs.PlainMaps.{plain_fence}
-use Rattle.bk_store.proofs.laws.fence_is_plain.Goals as goal
-
-pub returns : goal.returns
-returns c = λ s t p ledger answer agrees turn. plain_fence s p agrees t ledger answer turn

@@ -1,5 +1,0 @@
-use Rattle.bk_store.proofs.Opening.{carries_opened}
-use Rattle.bk_store.proofs.laws.opened_index_carries.Goals as goal
-
-pub returns : goal.returns
-returns c = λ files dead index. carries_opened files

@@ -1,0 +1,9 @@
+use Rattle.std.proofs.Common.{take}
+use Rattle.std.specs.FinMap as map
+use Rattle.bk_store.specs.Logs.{state_after_flush}
+use Rattle.bk_store.proofs.FlushLogs.{ChangedSoFar}
+use Rattle.bk_store.proofs.logs.LogTable.after_flush.Given as goal
+
+abbrev pub invariant-loop-id : goal.invariant-loop-id
+invariant-loop-id g l =
+    ChangedSoFar state_after_flush (map.from_entries l.initial.self-inside.logs.entries) (map.from_entries l.self-inside.logs.entries) (take l.id-index l.ids)

@@ -1,9 +1,0 @@
-use Rattle.std.proofs.Common.{◌-◌}
-use Rattle.bk_sweep.specs.Sweeping.{Leaves}
-use Rattle.bk_sweep.proofs.clearing.clear_all.Given as goal
-
-abbrev pub invariant-loop-log : goal.invariant-loop-log
-invariant-loop-log g l = Leaves l.initial.store l.store
-
-abbrev pub decreases-loop-log : goal.decreases-loop-log
-decreases-loop-log g l = 2147483648 - l.from

@@ -1,5 +1,0 @@
-use Rattle.std.proofs.Common.{◌-◌}
-use Rattle.bk_sweep.proofs.planning.plan.Given as goal
-
-abbrev pub decreases-loop-log : goal.decreases-loop-log
-decreases-loop-log g l = 2147483648 - l.from
