@@ -173,15 +173,13 @@ static FOREIGN: [&str; 5] = [
     "80000000.log",
 ];
 
-/// Creates a directory with these files and with a directory named like a log.
+/// Creates a directory with these files.
 fn make_foreign(rt: &HostRuntime, folder: &str) -> Result<(), Fail> {
     anew(rt, folder)?;
     for name in FOREIGN.iter() {
         let path = format!(in rt.alloc(); "{folder}/{name}")?;
         fs::write(rt, path.as_str(), b"bytes".as_slice())?;
     }
-    let path = format!(in rt.alloc(); "{folder}/7.log")?;
-    fs::create_dir(rt, path.as_str())?;
     Ok(())
 }
 
