@@ -235,5 +235,5 @@ PROVED = Record(
     is_of_tests,
     texts_of_tests,
     "This crate was proved and its tests passed",
-    "proves it",
+    "proves the crate",
 )
