@@ -1,7 +1,13 @@
 //! Random lives: a store performs steps until its power fails, opens on what is left, and
 //! continues.
 
-use super::life::{Bare, Chance, Marked, Owed, Powered, Stop, add_of, compare, live, push_step};
+use super::chance::Chance;
+use super::finding::compare;
+use super::life::live;
+use super::owed::Owed;
+use super::powered::{Bare, Marked, Powered};
+use super::steps::{add_of, push_step};
+use super::stop::Stop;
 use bk_crash::{Choices, File, PowerDisk};
 use bk_disk::{LogDisk, MemDisk};
 use bk_drive::{Kind, Step, Work};
