@@ -86,9 +86,9 @@ fn lives<D: LogDisk, P: Powered<D>>(alloc: Global, seed: u64, count: u32) -> Res
     Ok(())
 }
 
-/// Two hundred stores survive many crashes.
+/// Eighty stores survive many crashes.
 fn all_live<D: LogDisk, P: Powered<D>>(rt: &impl Abort, alloc: Global) {
-    for seed in 0..200 {
+    for seed in 0..80 {
         if let Err(stop) = lives::<D, P>(alloc, seed, 20) {
             assert!(rt;
                 false,

@@ -190,7 +190,7 @@ fn steps_of(alloc: Global, plans: &[Plan]) -> Result<Vec<Step>, AllocError> {
 }
 
 /// How often the power fails at each call.
-const TIMES: u64 = 60;
+const TIMES: u64 = 24;
 
 /// How the process ends that performs the steps.
 #[derive(Clone, Copy)]
