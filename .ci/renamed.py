@@ -14,6 +14,8 @@ from pathlib import Path
 import tried
 
 WORD = re.compile(r"[\w']+")
+# Words that are no names: numbers, characters and bytes.
+LITERAL = re.compile(r"\d|'|b'.")
 # A `use` or `mod` item of a source, as tokens with a line each.
 IMPORT = re.compile(r"\n(?:pub\n|ghost\n)?(?:use|mod)\n(?:(?!;\n).*\n)*?;(?=\n)")
 
@@ -38,7 +40,8 @@ def moves_of(top, commit):
 def is_renamed(before, after, may):
     """Returns whether the second list of tokens is the first with some words renamed: each to one word, new to the file.
 
-    An occurrence may keep its word, as a field or a local of the same name does. The pairs in `may` need not be new."""
+    An occurrence may keep its word, as a field or a local of the same name does. A literal keeps it. The pairs in `may` need
+    not be new."""
     if len(before) != len(after):
         return False
     there, back, known = {}, {}, {word for it in before for word in WORD.findall(it)}
@@ -49,6 +52,8 @@ def is_renamed(before, after, may):
         for one, other in zip(*words):
             if one == other or (one, other) in may:
                 continue
+            if LITERAL.match(one) or LITERAL.match(other):
+                return False
             if other in known or there.setdefault(one, other) != other or back.setdefault(other, one) != one:
                 return False
     return True
@@ -60,6 +65,8 @@ def texts(top, crate, record):
     for file, tokens in record.texts(top, crate, tried.dependences(top)[crate]):
         if file.suffix == ".antt":
             tokens = tried.tokens_of([it for it in tried.code_of(top / file) if not it.startswith("use ")])
+        # Of a file of a crate below there is a list of tokens for each item.
+        tokens = [token for it in tokens for token in (it if isinstance(it, list) else [it])]
         tokens = IMPORT.sub("\n", "\n".join(["", *tokens, ""])).split("\n")
         found[str(file)] = [it for it in tokens if it]
     return found
