@@ -1,7 +1,8 @@
-"""Takes over records of tried edits from an earlier commit, for crates that differ from it in names only.
+"""Takes over records of an earlier commit, for crates that differ from it in names only.
 
-A refusal does not depend on names. So if all texts that decide about the edits of a crate are, token for token, those of
-the earlier commit up to a one-to-one renaming in each file, the edits need not be tried again. `.ci/run all` tries them.
+A refusal or a proof does not depend on names. So if all texts that decide about the edits of a crate, or about the proof of
+a crate of tests, are, token for token, those of the earlier commit up to a one-to-one renaming in each file, nothing need be
+tried or proved again. `.ci/run all` does it all.
 """
 
 import contextlib
@@ -53,10 +54,10 @@ def is_renamed(before, after, may):
     return True
 
 
-def texts(top, crate):
-    """Returns the texts that decide about the crate's edits, without imports and lists of modules."""
+def texts(top, crate, record):
+    """Returns the texts that decide about what the record shows of the crate, without imports and lists of modules."""
     found = {}
-    for file, tokens in tried.texts_of(top, crate, tried.dependences(top)[crate]):
+    for file, tokens in record.texts(top, crate, tried.dependences(top)[crate]):
         if file.suffix == ".antt":
             tokens = tried.tokens_of([it for it in tried.code_of(top / file) if not it.startswith("use ")])
         tokens = IMPORT.sub("\n", "\n".join(["", *tokens, ""])).split("\n")
@@ -64,9 +65,9 @@ def texts(top, crate):
     return found
 
 
-def differences(base, top, crate, earlier, moved, may):
+def differences(base, top, crate, earlier, moved, may, record):
     """Returns the files in which the crate's texts differ by more than names from those of the earlier crate."""
-    old, new, found = texts(base, earlier), texts(top, crate), []
+    old, new, found = texts(base, earlier, record), texts(top, crate, record), []
     for file, after in new.items():
         # git pairs files by their lines: a short one is paired by its name and its tokens.
         before = moved.get(file, file)
@@ -80,23 +81,27 @@ def differences(base, top, crate, earlier, moved, may):
     return found + sorted(file for file, tokens in old.items() if tokens)
 
 
-def carry(top, commit, pairs, kit):
-    """Writes the records that hold on. Returns how many crates have one now, and how many had one and lost it."""
-    carried, lost, moved, may = 0, 0, moves_of(top, commit), {tuple(it.split("=")) for it in pairs}
-    with tree_of(top, commit) as base:
-        before, now = tried.digests(base, kit), tried.digests(top, kit)
-        for crate, digest in now.items():
-            if not tried.edits_of(top, crate) or tried.is_tried(top, crate, digest):
-                continue
-            lib = f"crates/{crate}/src/lib.rt"
-            earlier = moved.get(lib, lib).split("/")[1]
-            if earlier not in before or not tried.is_tried(base, earlier, before[earlier]):
-                continue
-            found = differences(base, top, crate, earlier, moved, may)
-            if found:
-                lost += 1
-                print(f"{crate}: not carried, since more than names differ in {' '.join(found[:6])}")
-            else:
-                carried += 1
-                tried.note_tried(top, crate, digest)
+def carry_of(record, top, base, moved, may, kit):
+    """Writes the records of one kind that hold on. Returns how many crates have one now, and how many had one and lost it."""
+    carried, lost, before = 0, 0, record.digests(base, kit)
+    for crate, digest in record.digests(top, kit).items():
+        lib = f"crates/{crate}/src/lib.rt"
+        earlier = moved.get(lib, lib).split("/")[1]
+        if record.fits(top, crate, digest) or not record.fits(base, earlier, before.get(earlier)):
+            continue
+        found = differences(base, top, crate, earlier, moved, may, record)
+        if found:
+            lost += 1
+            print(f"{crate}/{record.name}: not carried, since more than names differ in {' '.join(found[:6])}")
+        else:
+            carried += 1
+            record.note(top, crate, digest)
     return carried, lost
+
+
+def carry(top, commit, pairs, kit):
+    """Writes the records that hold on. Returns how many were carried, and how many were lost."""
+    moved, may = moves_of(top, commit), {tuple(it.split("=")) for it in pairs}
+    with tree_of(top, commit) as base:
+        counts = [carry_of(it, top, base, moved, may, kit) for it in (tried.TRIED, tried.PROVED)]
+    return tuple(map(sum, zip(*counts)))

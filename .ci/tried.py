@@ -1,4 +1,7 @@
-"""Which must-fail edits have been tried: digests that ignore comments and layout, and renames that keep them valid."""
+"""What a run of the gate has shown: records of crates, with digests that ignore comments and layout.
+
+TRIED records that the prover refused each must-fail edit of a crate, PROVED that a crate of tests was proved and passed.
+"""
 
 import functools
 import hashlib
@@ -10,6 +13,9 @@ TOKEN = re.compile(r'"(?:\\.|[^"\\])*"|[\w\']+|[^\w\s]')
 COMMENT = {".rt": "//", ".antt": "--"}
 OPEN, CLOSED = "([{", ")]}"
 WORD = re.compile(r"[\w']+")
+# The lemmas of a crate below that a proof imports, and any other mention of a file of its proofs.
+CITED = re.compile(r"\bRattle\.(\w+)\.proofs\.([\w.]+?)(?:\.\{([^}]*)\}|(?![\w.]))")
+TEST = re.compile(r"^\s*#\[test\]\s*\n(?:\s*#\[.*\]\s*\n)*\s*fn (\w+)", re.M)
 # The lines that name the tests of a crate.
 TESTS = re.compile(r"^[ \t]*#\[cfg\(test\)\]\n[ \t]*mod tests;\n", re.M)
 # A line that begins a clause, and one that the crates above can see.
@@ -43,23 +49,42 @@ def dependences(top):
     return {name: sorted(below(name)) for name in direct}
 
 
+def all_files_in(top, crate, part):
+    return sorted(it for it in (top / "crates" / crate / part).rglob("*") if it.is_file())
+
+
 def files_in(top, crate, part):
     """Returns the files of a part of a crate that its edits depend on: no tests, no list of modules, not the record."""
-    files = (it for it in (top / "crates" / crate / part).rglob("*") if it.is_file())
     apart = ("tried.md", "Lib.antt")
-    files = (it for it in files if it.name not in apart)
+    files = (it for it in all_files_in(top, crate, part) if it.name not in apart)
     tested = ("src", "proofs")
-    return sorted(it for it in files if part not in tested or "tests" not in it.relative_to(top).with_suffix("").parts)
+    return [it for it in files if part not in tested or "tests" not in it.relative_to(top).with_suffix("").parts]
 
 
 def edits_of(top, crate):
     return {it.name for it in files_in(top, crate, "must-fail") if it.suffix == ".edit"}
 
 
+def tests_of(top, crate):
+    return [name for file in all_files_in(top, crate, "src") if file.suffix == ".rt" for name in TEST.findall(file.read_text())]
+
+
+def is_of_tests(top, crate):
+    """Returns whether a crate has tests and nothing that others use or that a contract states."""
+    lib = top / "crates" / crate / "src" / "lib.rt"
+    if not lib.is_file() or edits_of(top, crate) or any(crate in names for names in libraries(top).values()):
+        return False
+    return tokens_of(code_of(lib)) == tokens_of(["#![tactic(auto)]"]) and bool(TESTS.search(lib.read_text()))
+
+
+def without_comments(text, suffix):
+    mark = COMMENT.get(suffix)
+    return [it for it in text.splitlines() if mark is None or not it.lstrip().startswith(mark)]
+
+
 def code_of(file):
     """Returns the lines of a source or a definition that are no comments and name no tests; all lines of any other file."""
-    lines, mark = TESTS.sub("", file.read_text()).splitlines(), COMMENT.get(file.suffix)
-    return [it for it in lines if mark is None or not it.lstrip().startswith(mark)]
+    return without_comments(TESTS.sub("", file.read_text()), file.suffix)
 
 
 def tokens_of(lines):
@@ -124,16 +149,11 @@ def words_of(tokens):
     return {word for it in tokens for word in WORD.findall(it)}
 
 
-def texts_of(top, crate, below):
-    """Returns, as file and tokens, everything that decides whether the prover refuses the crate's edits.
-
-    That is its own files and, of the crates below, each definition and contract that they name, directly or through
-    others of these: what is added below changes nothing."""
-    own = [(it.relative_to(top), tokens_in(it)) for part in PARTS for it in files_in(top, crate, part)]
+def texts_below(top, own, lower):
+    """Returns, of these items of crates below, each definition and contract that the texts name, directly or through others
+    of these: what is added below changes nothing."""
     words = {word for _, tokens in own for word in words_of(tokens)}
-    lower = [it for name in below for part in ("specs", "src") for it in files_in(top, name, part)]
-    left = [(it.relative_to(top), *item) for it in lower for item in items_in(it)]
-    found, is_more = {}, True
+    left, found, is_more = [(it.relative_to(top), *item) for it in lower for item in items_in(it)], {}, True
     while is_more:
         reached = [it for it in left if it[1] <= words]
         left = [it for it in left if not it[1] <= words]
@@ -141,29 +161,79 @@ def texts_of(top, crate, below):
             found.setdefault(file, []).append(tokens)
             words |= words_of(tokens)
         is_more = bool(reached)
-    return [*own, *((file, sorted(found[file])) for file in sorted(found))]
+    return [(file, sorted(found[file])) for file in sorted(found)]
 
 
-def digest_of(top, crate, below, kit):
-    digest = hashlib.sha256(repr((kit, libraries(top)[crate])).encode())
-    for file, tokens in texts_of(top, crate, below):
-        digest.update(repr((str(file), tokens)).encode())
-    return digest.hexdigest()
+def contracts_below(top, below):
+    return [it for name in below for part in ("specs", "src") for it in files_in(top, name, part)]
 
 
-def digests(top, kit):
-    tokens_in.cache_clear()
-    items_in.cache_clear()
-    return {it: digest_of(top, it, below, kit) for it, below in dependences(top).items()}
+def texts_of_edits(top, crate, below):
+    """Returns, as file and tokens, everything that decides whether the prover refuses the crate's edits."""
+    own = [(it.relative_to(top), tokens_in(it)) for part in PARTS for it in files_in(top, crate, part)]
+    return [*own, *texts_below(top, own, contracts_below(top, below))]
 
 
-def note_tried(top, crate, digest):
-    text = "Each edit of this directory was tried and refused in the state that this digest stands for.\n"
-    text += "`.ci/run` writes this file, and tries the edits again when the digest no longer fits.\n\n"
-    (top / "crates" / crate / "must-fail" / "tried.md").write_text(f"{text}digest: {digest}\n")
+def lemmas_cited(top, file, below):
+    """Yields, as file and tokens, the lemmas of crates below that a file imports: the whole file if it names none."""
+    for crate, path, names in CITED.findall(file.read_text()):
+        source = top / "crates" / crate / "proofs" / f"{path.replace('.', '/')}.antt"
+        if crate not in below:
+            continue
+        wanted = {it.strip() for it in names.split(",") if it.strip()}
+        items = items_in(source) if source.is_file() else []
+        yield from ((source.relative_to(top), tokens) for its, tokens in items if not wanted or its & wanted)
 
 
-def is_tried(top, crate, digest):
-    file = top / "crates" / crate / "must-fail" / "tried.md"
-    found = DIGEST.search(file.read_text()) if file.is_file() else None
-    return found is not None and found[1] == digest
+def texts_of_tests(top, crate, below):
+    """Returns, as file and tokens, everything that decides whether a crate of tests is proved: all of its own files, the
+    lemmas of crates below that it imports, and what these name."""
+    files = [it for part in ("src", "specs", "proofs") for it in all_files_in(top, crate, part)]
+    own = [(it.relative_to(top), tokens_of(without_comments(it.read_text(), it.suffix))) for it in files]
+    own += sorted((file, tokens) for it in files if it.suffix == ".antt" for file, tokens in lemmas_cited(top, it, below))
+    return [*own, *texts_below(top, own, contracts_below(top, below))]
+
+
+class Record:
+    """A file of a crate with the digest of the state in which a run of the gate has shown something of it."""
+
+    def __init__(self, name, has, texts, shown, again):
+        self.name, self.has, self.texts = name, has, texts
+        self.text = f"{shown} in the state that this digest stands for.\n"
+        self.text += f"`.ci/run` writes this file, and {again} again when the digest no longer fits.\n\n"
+
+    def digests(self, top, kit):
+        """Returns the present digest of each crate that can have this record."""
+        tokens_in.cache_clear()
+        items_in.cache_clear()
+        return {it: self.digest_of(top, it, below, kit) for it, below in dependences(top).items() if self.has(top, it)}
+
+    def digest_of(self, top, crate, below, kit):
+        digest = hashlib.sha256(repr((kit, libraries(top)[crate])).encode())
+        for file, tokens in self.texts(top, crate, below):
+            digest.update(repr((str(file), tokens)).encode())
+        return digest.hexdigest()
+
+    def note(self, top, crate, digest):
+        (top / "crates" / crate / self.name).write_text(f"{self.text}digest: {digest}\n")
+
+    def fits(self, top, crate, digest):
+        file = top / "crates" / crate / self.name
+        found = DIGEST.search(file.read_text()) if file.is_file() else None
+        return found is not None and found[1] == digest
+
+
+TRIED = Record(
+    "must-fail/tried.md",
+    edits_of,
+    texts_of_edits,
+    "Each edit of this directory was tried and refused",
+    "tries the edits",
+)
+PROVED = Record(
+    "proved.md",
+    is_of_tests,
+    texts_of_tests,
+    "This crate was proved and its tests passed",
+    "proves the crate",
+)

@@ -19,6 +19,7 @@ mod compaction_series;
 mod leasing;
 mod life;
 mod logs;
+mod tally;
 mod using;
 
 /// Settings of these tests.

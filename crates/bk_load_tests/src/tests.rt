@@ -21,12 +21,13 @@ const SETTINGS: Settings = Settings {
     major: 1000,
 };
 
-/// Number of adds of the small load.
-const ADDS: u64 = 16_001;
+/// Number of adds of the small load: the first caller makes one more than the others, and has made
+/// 2,001, enough for two deletions.
+const ADDS: u64 = 8_001;
 
 /// The small load.
 const SMALL: Load = Load {
-    callers: 8,
+    callers: 4,
     until: Until::Adds(ADDS),
 };
 

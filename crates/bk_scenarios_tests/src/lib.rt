@@ -1,4 +1,4 @@
-//! Tests of `bk_scenarios` and `bk_script` that take minutes without a proof.
+//! Tests of logs of the greatest sizes, which take minutes without a proof.
 #![tactic(auto)]
 
 #[cfg(test)]

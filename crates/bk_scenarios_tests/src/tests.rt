@@ -1,5 +1,4 @@
-//! Tests of the greatest sizes: on a disk that a scenario cannot describe, and of a script's input.
+//! Tests of logs of the greatest sizes, on a disk that a scenario cannot describe.
 
-mod input;
 mod large;
 mod lengths;

@@ -2,6 +2,7 @@
 
 mod faults;
 mod folder;
+mod input;
 mod lines;
 mod long;
 mod streams;

@@ -1,7 +1,13 @@
 //! Random lives: a store performs steps until its power fails, opens on what is left, and
 //! continues.
 
-use super::life::{Bare, Chance, Marked, Owed, Powered, Stop, add_of, compare, live, push_step};
+use super::chance::Chance;
+use super::finding::compare;
+use super::life::live;
+use super::owed::Owed;
+use super::powered::{Bare, Marked, Powered};
+use super::steps::{add_of, push_step};
+use super::stop::Stop;
 use bk_crash::{Choices, File, PowerDisk};
 use bk_disk::{LogDisk, MemDisk};
 use bk_drive::{Kind, Step, Work};
@@ -80,9 +86,9 @@ fn lives<D: LogDisk, P: Powered<D>>(alloc: Global, seed: u64, count: u32) -> Res
     Ok(())
 }
 
-/// Two hundred stores survive many crashes.
+/// Eighty stores survive many crashes.
 fn all_live<D: LogDisk, P: Powered<D>>(rt: &impl Abort, alloc: Global) {
-    for seed in 0..200 {
+    for seed in 0..80 {
         if let Err(stop) = lives::<D, P>(alloc, seed, 20) {
             assert!(rt;
                 false,

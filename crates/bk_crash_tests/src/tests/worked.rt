@@ -1,9 +1,13 @@
 //! Fixed scripts: the power fails at each call in turn, several times, with other files left each
 //! time.
 
-use super::life::{
-    Bare, Chance, Marked, Owed, Powered, Stop, add_of, compare, live, live_twice, push_step,
-};
+use super::chance::Chance;
+use super::finding::compare;
+use super::life::{live, live_twice};
+use super::owed::Owed;
+use super::powered::{Bare, Marked, Powered};
+use super::steps::{add_of, push_step};
+use super::stop::Stop;
 use bk_crash::PowerDisk;
 use bk_disk::{LogDisk, MemDisk};
 use bk_drive::{Kind, Step, Work};
@@ -186,7 +190,7 @@ fn steps_of(alloc: Global, plans: &[Plan]) -> Result<Vec<Step>, AllocError> {
 }
 
 /// How often the power fails at each call.
-const TIMES: u64 = 60;
+const TIMES: u64 = 24;
 
 /// How the process ends that performs the steps.
 #[derive(Clone, Copy)]

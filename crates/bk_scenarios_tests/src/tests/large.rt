@@ -8,7 +8,7 @@ use std::alloc::{AllocError, Global};
 use std::process::Abort;
 
 /// Settings of a store without options.
-pub(super) const DEFAULTS: Settings = Settings {
+const DEFAULTS: Settings = Settings {
     log_limit: 1_073_741_824,
     cache_limit: 16_777_216,
     recent: 0,
