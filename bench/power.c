@@ -61,7 +61,7 @@ static void name_of(int fd, char *path) {
 
 // Counts a call that changes files, and ends the process at the one that was asked for.
 static void change(const char *path) {
-    if (folder && !strncmp(path, folder, strlen(folder)) && ++count == kill_at) {
+    if (folder && !strncmp(path, folder, strlen(folder)) && __atomic_add_fetch(&count, 1, __ATOMIC_RELAXED) == kill_at) {
         syscall(SYS_kill, getpid(), SIGKILL);
         for (;;)
             pause();

@@ -1,10 +1,12 @@
 """A virtual machine that runs jobs on a recorded disk: for bookie-power."""
 
+import ctypes
 import glob
 import os
 import queue
 import re
 import shutil
+import signal
 import subprocess
 import time
 from pathlib import Path
@@ -146,6 +148,11 @@ class Dead(Exception):
     """The guest ended, or does not answer."""
 
 
+def end_with_parent():
+    """Lets the kernel kill this process when its parent ends."""
+    ctypes.CDLL(None).prctl(1, signal.SIGKILL)
+
+
 class Guest:
     """A running machine, which does one job after another."""
 
@@ -156,7 +163,8 @@ class Guest:
         self.server = Server(socket, size)
         disks = []
         for name in ("data", "messages", "jobs"):
-            disks += ["-blockdev", f"driver=nbd,node-name={name},server.type=unix,server.path={socket},export={name},cache.direct=on"]
+            server = f"server.type=unix,server.path={socket},export={name}"
+            disks += ["-blockdev", f"driver=nbd,node-name={name},{server},cache.direct=on"]
             disks += ["-device", f"virtio-blk-pci,drive={name},discard=off,write-zeroes=off"]
         self.machine = subprocess.Popen(
             [
@@ -164,7 +172,7 @@ class Guest:
                 "-display", "none", "-serial", f"file:{self.console}", "-kernel", kernel()[0], "-initrd", str(first),
                 "-append", "console=ttyS0 quiet panic=-1 oops=panic mitigations=off", *disks,
             ],
-            stdin=subprocess.DEVNULL,
+            stdin=subprocess.DEVNULL, preexec_fn=end_with_parent,
         )  # fmt: skip
 
     def run(self, job, image):

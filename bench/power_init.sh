@@ -56,6 +56,27 @@ way_on() {
     fi
 }
 
+# Runs `look`, a function of the job, until the program does not refuse the logs.
+until_opened() {
+    tries=0
+    while look && [ "$status" != 0 ] && [ "$tries" -lt 20 ] && way_on; do
+        tries=$((tries + 1))
+    done
+}
+
+# Fills the data disk, but for some KiB.
+fill() {
+    dd if=/dev/zero of=/mnt/room bs=1k count="$1" 2>/dev/null
+    sync
+    size=$((256 << 20))
+    while [ "$size" -ge 4096 ]; do
+        fallocate -l "$size" "/mnt/filler.$size" 2>/dev/null || rm -f "/mnt/filler.$size"
+        size=$((size / 2))
+    done
+    rm /mnt/room
+    sync
+}
+
 while :; do
     dd if=/dev/vdc of=/tmp/length bs=4096 skip=4096 count=1 iflag=direct 2>/dev/null
     read -r length rest </tmp/length

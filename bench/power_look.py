@@ -1,20 +1,20 @@
 """Reads a directory that a power loss left, by the steps that docs/operating.md gives: for bookie-power."""
 
 import hashlib
-import io
 import re
 import shutil
-import tarfile
+from pathlib import Path
 
 import entry_logs
 import fault_runs
+from power_story import MARKER, files_of
 
 # Faults of `check` that are of a log that was being sealed.
 MAP_FAULTS = re.compile(r"(\d+) (?:map differs|fault (?:negative number|not a map|map length|repeated|count differs).*)")
 
 
-class Counting(fault_runs.Program):
-    """The program, which counts the openings that it refuses."""
+class Operator(fault_runs.Program):
+    """The program, called as an operator does: a copy that a repair left is moved away. Counts refused openings."""
 
     def __init__(self, path):
         super().__init__(path, "")
@@ -22,6 +22,10 @@ class Counting(fault_runs.Program):
 
     def call(self, words, steps="", **environment):
         ran = super().call(words, steps, **environment)
+        if words[0] == "seal" and "copy exists" in ran.told:
+            copy = Path(words[-2]) / f"{int(words[-1]):x}.log.torn"
+            copy.rename(f"{copy}.{len(list(copy.parent.iterdir()))}")
+            ran = super().call(words, steps, **environment)
         self.refused += words[0] == "script" and ran.status != 0
         return ran
 
@@ -37,7 +41,7 @@ class Looker:
     """Looks at directories; one that was seen before, with the same promises, is not looked at again."""
 
     def __init__(self, path, room, watermarks):
-        self.program, self.room, self.watermarks = Counting(path), room / "looked", watermarks
+        self.program, self.room, self.watermarks = Operator(path), room / "looked", watermarks
         self.seen = {}
 
     def look(self, tar, promise):
@@ -91,7 +95,9 @@ class Looker:
         if isinstance(found, str):
             return found
         looked.compare(found, "opened")
-        looked.compare(entry_logs.last_records(entry_logs.read_folder(folder, self.watermarks)), "read")
+        found = entry_logs.last_records(entry_logs.read_folder(folder, self.watermarks))
+        # Of the entries of a load only those are known that are promised.
+        looked.compare({key: data for key, data in found.items() if key[0] <= MARKER or key in looked.must}, "read")
         return None
 
     def add_again(self, folder, looked):
@@ -111,14 +117,3 @@ class Looker:
         if ran.status != 0:
             return ran.last()
         return self.read(folder, looked)
-
-
-def files_of(tar):
-    """The files of the directory in an archive, by name; the directory itself has no name."""
-    found = {}
-    with tarfile.open(fileobj=io.BytesIO(tar)) as archive:
-        for member in archive:
-            place = member.name.removeprefix("./").split("/")
-            if place[0] == "logs" and len(place) < 3:
-                found["/".join(place[1:])] = archive.extractfile(member).read() if member.isreg() else b""
-    return found

@@ -1,5 +1,11 @@
 """What the guest of bookie-power does to a directory of logs, and which entries are promised at each event."""
 
+import io
+import tarfile
+
+import entry_logs
+from power_nbd import Message
+
 FOLDER = "/mnt/logs"
 # How logs are kept against what a device leaves behind their synced bytes: the options of `script --folder`.
 KEEPING = ["--marks"]
@@ -28,6 +34,8 @@ class Process:
 
     def job(self):
         """The lines of the shell that run it."""
+        if self.kind == "taken":
+            return f"tar cf /tmp/tar -C /mnt . && send /tmp/tar taken {self.number}\n"
         words = " ".join(self.words)
         steps = "\n".join([*self.steps, "END"])
         return f"cat >/tmp/steps <<'END'\n{steps}\nrun {self.number} {self.first_marker} {self.kill_at} {words}\n"
@@ -41,7 +49,7 @@ class Process:
         faults = [line for line in lines.splitlines() if line.startswith("fault")]
         if status != 0 or faults:
             return f"{' '.join(self.words)}: status {status}, {(faults or [told.strip()])[0]}"
-        if self.kind != "compact" and len(lines.splitlines()) != len(self.steps):
+        if self.kind in ("script", "killed", "look") and len(lines.splitlines()) != len(self.steps):
             return f"{' '.join(self.words)}: {len(lines.splitlines())} answers to {len(self.steps)} steps"
         return None
 
@@ -49,15 +57,15 @@ class Process:
 class Story:
     """Runs of the program, one after another: flushes with deletions and compactions, some of them killed."""
 
-    def __init__(self, chance, watermarks, length):
+    def __init__(self, chance, watermarks, length, with_load=False):
         self.chance, self.limit = chance, chance.choice(LIMITS)
         self.keeping = KEEPING if watermarks else []
         self.live, self.dead, self.next_ledger = [1, 2, 3, 4], [], 5
         self.next_entry, self.next_marker = 0, 1
         self.entries, self.processes, self.compaction = {}, [], []
         while len(self.processes) < length:
-            kind = chance.choice(("script", "script", "killed", "killed", "compact"))
-            self.processes += {"script": self.script, "killed": self.killed, "compact": self.compact}[kind]()
+            kinds = [self.script, self.script, self.killed, self.killed, self.compact, *[self.load] * (2 * with_load)]
+            self.processes += chance.choice(kinds)()
 
     def script_words(self):
         dead = [str(ledger) for ledger in self.dead]
@@ -95,11 +103,19 @@ class Story:
             look.steps += [f"take 0 {ledger} {entry}", "fetch 0", "release 0"]
         return look
 
-    def compact(self):
-        if not self.processes:
+    def compact(self, after=0):
+        if not self.processes and not after:
             return []
         dead = [f"--dead={ledger}" for ledger in self.dead]
-        return [self.process("compact", ["compact", self.chance.choice(("--major", "--minor")), *dead, FOLDER])]
+        words = ["compact", self.chance.choice(("--major", "--minor")), *dead, FOLDER]
+        return [self.process("compact", words, after)]
+
+    def load(self):
+        """A load of threads, half of them killed; then a compaction, which opens what that left, and the files as they are."""
+        words = ["load", "--threads", "2", "--adds", str(self.chance.randrange(20, 200)), "--folder", FOLDER, *self.keeping]
+        load = self.process("load", words)
+        load.kill_at = self.chance.choice((0, self.chance.randrange(2, 400)))
+        return [load, *self.compact(1), self.process("taken", [], 2)]
 
     # ---- the steps of a script
 
@@ -140,14 +156,15 @@ class Story:
 
     def perhaps_compact(self, process):
         if not self.compaction and self.chance.random() < 0.15:
-            self.compaction = [["major"], ["copy 2"], ["copy 1000"], ["end"], ["switch 1"], ["switch 1000"], ["finish"], removals()]
+            steps = ("major", "copy 2", "copy 1000", "end", "switch 1", "switch 1000", "finish")
+            self.compaction = [*([step] for step in steps), removals()]
         if self.compaction and self.chance.random() < 0.6:
             process.steps += self.compaction.pop(0)
 
     # ---- the job
 
-    def job(self, mount):
-        return "\n".join([mount, *(process.job() for process in self.processes), ""])
+    def job(self):
+        return "".join(process.job() for process in self.processes)
 
 
 def removals():
@@ -175,36 +192,66 @@ class Promise:
 
 
 class Timeline:
-    """What is promised at each event of a recording."""
+    """What is promised at each event of a recording: each message adds something."""
 
     def __init__(self, processes, events, before):
+        self.before, self.points = before, []
         self.processes = {process.number: process for process in processes}
-        self.events, self.before, self.trouble = events, before, []
+        messages = [(index, event) for index, event in enumerate(events) if isinstance(event, Message)]
+        process = None
+        for place, (index, event) in enumerate(messages):
+            if event.words[0] in ("begin", "marker", "end", "taken"):
+                process = self.processes[int(event.words[1])] if event.words[0] != "marker" else process
+                follows = messages[place + 1][1] if place + 1 < len(messages) else None
+                self.points.append((index, self.added(process, event, follows)))
 
     def at(self, cut):
         """What is promised when the power is cut in front of an event."""
-        promise, process, waiting = self.before.copy(), None, []
-        for event in self.events[:cut]:
-            words = getattr(event, "words", ["-"])
-            if words[0] == "begin":
-                process = self.processes[int(words[1])]
-                promise.may.update(coded(process.added))
-                waiting = list(process.stretches)
-                promise.dead.update(waiting[0].deleted)
-            elif words[0] == "marker":
-                self.reach(promise, waiting, int(words[1]))
-            elif words[0] == "end":
-                promise.dead.update(process.deleted())
-                if process.kind == "look":
-                    promise.must.update(found_by(process, event.data.decode(errors="replace")))
+        promise = self.before.copy()
+        for index, added in self.points:
+            if index < cut:
+                promise.must.update(added.must)
+                promise.may.update(added.may)
+                promise.dead.update(added.dead)
         return promise
 
-    def reach(self, promise, waiting, marker):
-        """The entries of each flush up to the marker are promised; the deletions after it are about to be."""
-        while waiting and waiting[0].marker is not None and waiting[0].marker <= marker:
-            promise.must.update(coded(waiting.pop(0).entries))
-        if waiting:
-            promise.dead.update(waiting[0].deleted)
+    def added(self, process, event, follows):
+        """What a message adds. A ledger that is deleted before the next message may be deleted at once."""
+        kind, until = event.words[0], None
+        if kind == "taken":
+            return Promise(loaded(event.data))
+        if kind == "end":
+            must = found_by(process, event.data.decode(errors="replace")) if process.kind == "look" else {}
+            return Promise(must, {}, process.deleted())
+        if follows and follows.words[0] == "marker":
+            until = int(follows.words[1])
+        dead = []
+        for stretch in process.stretches:
+            dead += stretch.deleted
+            if stretch.marker == until:
+                break
+        if kind == "begin":
+            return Promise({}, coded(process.added), dead)
+        flushed = next(it.entries for it in process.stretches if it.marker == int(event.words[1]))
+        return Promise(coded(flushed), {}, dead)
+
+
+def loaded(tar):
+    """Returns the entries of loads in an archive of the directory: a load uses the ledgers after the last one."""
+    logs = {entry_logs.log_of(name): entry_logs.Log(data) for name, data in files_of(tar).items()}
+    logs.pop(None, None)
+    return {key: data for key, data in entry_logs.last_records(logs).items() if key[0] > MARKER}
+
+
+def files_of(tar):
+    """The files of the directory in an archive, by name; the directory itself has no name."""
+    found = {}
+    with tarfile.open(fileobj=io.BytesIO(tar)) as archive:
+        for member in archive:
+            place = member.name.removeprefix("./").split("/")
+            if place[0] == "logs" and len(place) < 3:
+                found["/".join(place[1:])] = archive.extractfile(member).read() if member.isreg() else b""
+    return found
 
 
 def coded(entries):
@@ -218,7 +265,7 @@ def troubles(processes, messages):
         if message.words[0] == "end":
             process = by_number[int(message.words[1])]
             status = int(message.words[2])
-            if process.kind != "killed" or status != 137:
+            if not process.kill_at or status != 137:
                 trouble = process.trouble(status, message.data.decode(errors="replace"))
                 if trouble:
                     yield trouble

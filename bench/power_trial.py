@@ -8,8 +8,8 @@ import time
 import fault_runs
 from power_guest import FILE_SYSTEMS, Dead, Guest, first_files
 from power_images import VARIANTS, Image
-from power_look import Finding, Looker, files_of
-from power_story import FOLDER, Process, Promise, Story, Timeline, found_by, troubles
+from power_look import Finding, Looker
+from power_story import FOLDER, Process, Promise, Story, Timeline, files_of, found_by, troubles
 
 # Images of one recording, processes in it, the share of images that the guest opens itself, and cuts of each of these.
 IMAGES, PROCESSES, RECOVERED, AGAIN = 60, 9, 1 / 12, 4
@@ -27,7 +27,7 @@ class Counts:
         self.cuts = self.lost = self.refused = self.ways_on = 0
         self.texts = collections.Counter()
 
-    def add(self, name, finding, image, tar):
+    def add(self, name, finding, image, tar, promise):
         """Counts an image. Prints what was found in it, unless that was printed before."""
         self.cuts += 1
         self.lost += bool(finding.lost)
@@ -39,10 +39,10 @@ class Counts:
                 if self.texts[sort, why] == 1:
                     print(f"{sort}: {name}: {why}", flush=True)
         if finding.lost or finding.refused:
-            self.leave(name, finding, image, tar)
+            self.leave(name, finding, image, tar, promise)
 
-    def leave(self, name, finding, image, tar):
-        at = self.keep / f"{self.kept:03}-{name.replace(' ', '-').replace('/', '-')}"
+    def leave(self, name, finding, image, tar, promise):
+        at = self.keep / f"{self.kept:03}-{name.replace(',', '').replace(' ', '-')}"
         (at / "logs").mkdir(parents=True, exist_ok=True)
         self.kept += 1
         image.save(at / "disk.raw")
@@ -50,7 +50,8 @@ class Counts:
             if file:
                 (at / "logs" / file).write_bytes(data)
         whys = [f"lost: {why}" for why in finding.lost] + [f"refused: {why}" for why in finding.refused]
-        (at / "finding.txt").write_text("\n".join([name, *whys, ""]))
+        dead = " ".join(map(str, sorted(promise.dead)))
+        (at / "finding.txt").write_text("\n".join([name, *whys, f"deleted ledgers: {dead}", ""]))
 
     def report(self):
         if self.kept:
@@ -104,24 +105,28 @@ class Trial:
         kinds = ",".join(self.asked.leave_out_sync)
         return f"export POWER_LEAVE_OUT=,{kinds},\n{job}"
 
+    def fill(self):
+        return f"fill {self.asked.full}\n" if self.asked.full else ""
+
     # ---- runs and cuts
 
     def one_run(self):
         """Records a run of several processes, and cuts it at several events."""
-        story = Story(self.chance, self.asked.watermarks, PROCESSES)
+        story = Story(self.chance, self.asked.watermarks, PROCESSES, self.asked.load)
         began, start = time.monotonic(), Image(self.base)
         try:
-            messages, recording = self.job(self.with_syncs(story.job(self.mount())), start)
+            messages, recording = self.job(self.with_syncs(f"{self.mount()}\n{self.fill()}{story.job()}"), start)
         except Dead as why:
             raise Stopped(f"the machine ended: {why}") from None
-        for trouble in troubles(story.processes, messages):
+        for trouble in () if self.asked.full else troubles(story.processes, messages):
             raise Stopped(f"in the machine: {trouble}")
         self.runs += 1
         timeline = Timeline(story.processes, recording.events, Promise())
-        took = time.monotonic() - began
+        faults, took = sum(message.data.count(b"fault ") for message in messages), time.monotonic() - began
         print(
-            f"{self.kind.name}, run {self.runs}: {recording.requests()} requests, {len(messages)} messages, "
-            f"{len(story.entries)} entries, {took:.0f} s", file=sys.stderr, flush=True,
+            f"{self.kind.name}, run {self.runs}: {recording.requests()} requests, {len(story.entries)} entries, "
+            f"{len(timeline.at(len(recording.events)).must)} promised, {faults} faults, {took:.0f} s",
+            file=sys.stderr, flush=True,
         )  # fmt: skip
         for _ in range(IMAGES):
             if self.is_over():
@@ -152,18 +157,18 @@ class Trial:
                 finding.refused.append(f"not mounted: {why}")
         except Dead as why:
             finding.refused.append(f"the machine ended: {why}")
-        self.counts.add(name, finding, image, tar)
+        self.counts.add(name, finding, image, tar, promise)
 
     def recover(self, name, image, promise):
         """Lets the guest open and compact the directory, and cuts it off there too."""
         look, compaction = self.recovery(promise)
-        tries = f"while :; do\n{look.job()}[ $status = 0 ] && break\ntries=x$tries\n[ ${{#tries}} -lt 20 ] && way_on || break\ndone\n"
+        job = f"{self.mount()} || exit\nrm -f /mnt/filler.*\nlook() {{\n{look.job()}}}\nuntil_opened\n{compaction.job()}"
         finding = Finding()
         try:
-            messages, recording = self.job(self.with_syncs(f"{self.mount()} || exit\ntries=\n{tries}{compaction.job()}"), image)
+            messages, recording = self.job(self.with_syncs(job), image)
         except Dead as why:
             finding.refused.append(f"the machine ended: {why}")
-            return self.counts.add(name, finding, image, None)
+            return self.counts.add(name, finding, image, None, promise)
         ends = {message.words[1]: message for message in messages if message.words[0] == "end"}
         finding.refused += troubles([look, compaction], ends.values())
         finding.ways_on = sum(message.words[0] == "begin" for message in messages) - 2
@@ -173,9 +178,9 @@ class Trial:
         elif not finding.refused:
             finding.refused.append("not mounted")
         finding.lost = looked.lost
-        self.counts.add(name, finding, image, None)
+        self.counts.add(name, finding, image, None, promise)
         timeline = Timeline([look, compaction], recording.events, promise)
-        for _ in range(AGAIN if not finding.refused else 0):
+        for _ in range(0 if finding.refused or finding.lost else AGAIN):
             if not self.is_over():
                 self.one_cut(recording, timeline, f"{name}, recovered,")
         return None
