@@ -1,0 +1,199 @@
+"""A virtual machine that runs jobs on a recorded disk: for bookie-power."""
+
+import ctypes
+import glob
+import os
+import queue
+import re
+import shutil
+import signal
+import subprocess
+import time
+from pathlib import Path
+
+from power_images import Base, Recording
+from power_nbd import Server
+
+HERE = Path(__file__).resolve().parent
+# What has to be there, and the Debian package that has it.
+TOOLS = {
+    "qemu-system-x86_64": "qemu-system-x86", "busybox": "busybox-static", "mkfs.ext4": "e2fsprogs",
+    "mkfs.xfs": "xfsprogs", "mkfs.btrfs": "btrfs-progs", "gcc": "gcc",
+}  # fmt: skip
+KERNEL = "linux-image-cloud-amd64"
+ALWAYS = ("virtio_pci", "virtio_blk")
+# How long the guest may be silent.
+SECONDS = 300
+
+
+class FileSystem:
+    """A kind of file system: how it is made, mounted, and which modules it wants."""
+
+    def __init__(self, name, mebibytes, make, modules):
+        self.name, self.mebibytes, self.make, self.modules = name, mebibytes, make, modules
+
+    def empty(self, path, mebibytes=None):
+        """Makes an empty one in a file."""
+        with open(path, "wb") as file:
+            file.truncate((mebibytes or self.mebibytes) << 20)
+        subprocess.run([*self.make, str(path)], check=True, stdout=subprocess.DEVNULL)
+        return Base(path)
+
+
+FILE_SYSTEMS = {
+    # Nothing is left to be initialized later, so that the kernel does not write by itself.
+    "ext4": FileSystem("ext4", 64, ["mkfs.ext4", "-q", "-E", "lazy_itable_init=0,lazy_journal_init=0"], ()),
+    "xfs": FileSystem("xfs", 320, ["mkfs.xfs", "-q"], ("xfs",)),
+    "btrfs": FileSystem("btrfs", 256, ["mkfs.btrfs", "-q"], ("btrfs",)),
+}
+
+
+def path_of(tool):
+    return shutil.which(tool, path=f"{os.environ.get('PATH', '')}:/usr/sbin:/sbin:/usr/bin:/bin")
+
+
+def kernel():
+    """Returns the newest kernel that has its modules, and their directory; None if there is none."""
+    for path in sorted(glob.glob("/boot/vmlinuz-*cloud-amd64"), reverse=True):
+        modules = Path("/lib/modules") / path.removeprefix("/boot/vmlinuz-")
+        if (modules / "modules.dep").exists():
+            return path, modules
+    return None
+
+
+def absent():
+    """Returns the names of the Debian packages that are needed and absent."""
+    return [package for tool, package in TOOLS.items() if not path_of(tool)] + ([] if kernel() else [KERNEL])
+
+
+# ---- the first file system of the guest
+
+
+class Archive:
+    """An archive of files in the kernel's format (cpio)."""
+
+    def __init__(self):
+        self.parts, self.names = [], set()
+
+    def add(self, name, data, mode):
+        if name in self.names:
+            return
+        self.names.add(name)
+        path = name.encode() + b"\0"
+        numbers = (len(self.names), mode, 0, 0, 1, 0, len(data), 0, 0, 0, 0, len(path), 0)
+        head = b"070701" + b"".join(b"%08X" % number for number in numbers) + path
+        self.parts += [head, bytes(-len(head) % 4), data, bytes(-len(data) % 4)]
+
+    def add_file(self, name, path, mode=0o100755):
+        """Adds a file with the directories above it."""
+        for parent in list(Path(name).parents)[-2::-1]:
+            self.add(str(parent), b"", 0o40755)
+        self.add(name, Path(path).read_bytes(), mode)
+
+    def save(self, path):
+        self.add("TRAILER!!!", b"", 0)
+        Path(path).write_bytes(b"".join(self.parts))
+
+
+def libraries(program):
+    """Returns the files that the program is linked with."""
+    told = subprocess.run(["ldd", program], capture_output=True, text=True).stdout
+    return sorted(set(re.findall(r"(/\S+) \(0x", told)))
+
+
+def modules_of(directory, wanted):
+    """Returns the files of modules and of those that they need, in an order in which they can be loaded."""
+    needs = {}
+    for line in (directory / "modules.dep").read_text().splitlines():
+        file, _, rest = line.partition(":")
+        needs[file] = rest.split()
+    files = {Path(file).name.split(".")[0].replace("-", "_"): file for file in needs}
+    found = []
+    for name in wanted:
+        for file in [*reversed(needs[files[name]]), files[name]]:
+            if file not in found:
+                found.append(file)
+    return found
+
+
+def compile_library(room):
+    library = room / "power.so"
+    command = [path_of("gcc"), "-O2", "-shared", "-fPIC", "-o", library, HERE / "power.c"]
+    subprocess.run(command, check=True)
+    return library
+
+
+def first_files(room, program, names):
+    """Writes the guest's first file system, for file systems of these names. Returns its path."""
+    archive, directory = Archive(), kernel()[1]
+    files = modules_of(directory, [*ALWAYS, *(it for name in names for it in FILE_SYSTEMS[name].modules)])
+    for file in files:
+        archive.add_file(f"modules/{Path(file).name}", directory / file)
+    for name in ("busybox", str(program)):
+        for library in libraries(path_of(name) or name):
+            archive.add_file(library.lstrip("/"), library)
+    archive.add_file("bin/busybox", path_of("busybox"))
+    archive.add_file("program", program)
+    archive.add_file("power.so", compile_library(room))
+    archive.add_file("init", HERE / "power_init.sh")
+    archive.add("modules/list", "".join(f"{Path(file).name}\n" for file in files).encode(), 0o100644)
+    archive.save(room / "first.cpio")
+    return room / "first.cpio"
+
+
+# ---- the machine
+
+
+class Dead(Exception):
+    """The guest ended, or does not answer."""
+
+
+def end_with_parent():
+    """Lets the kernel kill this process when its parent ends."""
+    ctypes.CDLL(None).prctl(1, signal.SIGKILL)
+
+
+class Guest:
+    """A running machine, which does one job after another."""
+
+    def __init__(self, room, first, size):
+        self.console = room / "console.txt"
+        socket = room / "nbd"
+        socket.unlink(missing_ok=True)
+        self.server = Server(socket, size)
+        disks = []
+        for name in ("data", "messages", "jobs"):
+            server = f"server.type=unix,server.path={socket},export={name}"
+            disks += ["-blockdev", f"driver=nbd,node-name={name},{server},cache.direct=on"]
+            disks += ["-device", f"virtio-blk-pci,drive={name},discard=off,write-zeroes=off"]
+        self.machine = subprocess.Popen(
+            [
+                path_of("qemu-system-x86_64"), "-M", "pc", "-accel", "tcg", "-m", "768", "-nodefaults", "-no-reboot",
+                "-display", "none", "-serial", f"file:{self.console}", "-kernel", kernel()[0], "-initrd", str(first),
+                "-append", "console=ttyS0 quiet panic=-1 oops=panic mitigations=off", *disks,
+            ],
+            stdin=subprocess.DEVNULL, preexec_fn=end_with_parent,
+        )  # fmt: skip
+
+    def run(self, job, image):
+        """Runs a job on a disk, a copy of an image. Returns its messages and the recording."""
+        self.server.record(image.copy())
+        self.server.give(job)
+        messages, end = [], time.monotonic() + SECONDS
+        while not messages or messages[-1].words != ["done"]:
+            try:
+                messages.append(self.server.messages.get(timeout=1))
+                end = time.monotonic() + SECONDS
+            except queue.Empty:
+                if self.machine.poll() is not None or time.monotonic() > end:
+                    raise Dead(self.last_lines()) from None
+        return messages[:-1], Recording(image, self.server.events)
+
+    def last_lines(self):
+        lines = self.console.read_text(errors="replace").splitlines() if self.console.exists() else []
+        return " | ".join(lines[-3:]) or "the guest does not answer"
+
+    def close(self):
+        self.machine.kill()
+        self.machine.wait()
+        self.server.close()

@@ -1,0 +1,126 @@
+"""What a power loss leaves on a disk: images made of recorded writes and flushes, for bookie-power."""
+
+import os
+
+from power_nbd import SECTOR, Flush, Message, Write
+
+BLOCK = 4096
+# The ways in which a device may keep what it was not asked to flush.
+VARIANTS = ("none", "all", "some", "blocks", "torn", "last", "all but one")
+
+
+class Base:
+    """A file with an empty file system."""
+
+    def __init__(self, path):
+        self.file = open(path, "rb")
+        self.size = os.path.getsize(path)
+
+    def read(self, offset, length):
+        return os.pread(self.file.fileno(), length, offset)
+
+
+class Image:
+    """The bytes of a disk: blocks over an empty file system."""
+
+    def __init__(self, base, blocks=None):
+        self.base, self.blocks = base, blocks if blocks is not None else {}
+
+    def copy(self):
+        return Image(self.base, dict(self.blocks))
+
+    def read(self, offset, length):
+        found = bytearray(self.base.read(offset, length))
+        for number in range(offset // BLOCK, -(-(offset + length) // BLOCK)):
+            block = self.blocks.get(number)
+            if block is not None:
+                at = number * BLOCK
+                first, end = max(at, offset), min(at + BLOCK, offset + length)
+                found[first - offset : end - offset] = block[first - at : end - at]
+        return bytes(found)
+
+    def write(self, offset, data):
+        for number, at, piece in pieces(offset, data, BLOCK):
+            if len(piece) < BLOCK:
+                block = bytearray(self.read(number * BLOCK, BLOCK))
+                start = at - number * BLOCK
+                block[start : start + len(piece)] = piece
+                piece = bytes(block)
+            self.blocks[number] = piece
+
+    def save(self, path):
+        """Writes it as a file, with holes where the file system has zeros."""
+        with open(path, "wb") as file:
+            file.truncate(self.base.size)
+            for at in range(0, self.base.size, 1 << 20):
+                data = self.read(at, min(1 << 20, self.base.size - at))
+                for number, place, piece in pieces(at, data, BLOCK) if any(data) else ():
+                    if any(piece):
+                        file.seek(place)
+                        file.write(piece)
+
+
+def pieces(offset, data, size):
+    """Yields the parts of a write in blocks of a size: the block's number, and place and bytes of the part."""
+    at, end = offset, offset + len(data)
+    while at < end:
+        stop = min(end, (at // size + 1) * size)
+        yield at // size, at, data[at - offset : stop - offset]
+        at = stop
+
+
+class Recording:
+    """What the guest did to a disk, from an image on."""
+
+    def __init__(self, start, events):
+        self.start, self.events = start, events
+
+    def requests(self):
+        return sum(not isinstance(event, Message) for event in self.events)
+
+    def places(self):
+        """Returns the cuts that follow a message at once, and those that follow a write or a flush."""
+        behind, among = [], []
+        for index, event in enumerate(self.events):
+            (behind if isinstance(event, Message) else among).append(index + 1)
+        return behind, among
+
+    def choose(self, chance):
+        """Chooses an event in front of which the power is cut: one in two follows a message."""
+        behind, among = self.places()
+        return chance.choice(behind if behind and (not among or chance.random() < 0.5) else among)
+
+    def durable(self, cut):
+        """The number of events whose writes the last flush before the cut covers."""
+        return max((event.covers for event in self.events[:cut] if isinstance(event, Flush)), default=0)
+
+    def image(self, cut, variant, chance):
+        """The disk after a power loss in front of an event."""
+        image, durable = self.start.copy(), self.durable(cut)
+        for event in self.events[:durable]:
+            if isinstance(event, Write):
+                image.write(event.offset, event.data)
+        pending = [event for event in self.events[durable:cut] if isinstance(event, Write)]
+        for offset, data in kept(pending, variant, chance):
+            image.write(offset, data)
+        return image
+
+
+def kept(pending, variant, chance):
+    """Yields what a device keeps of writes that no flush covers, in one of the ways of VARIANTS.
+
+    A device that reorders them leaves the older one of two writes of a block, or the newer: so does one that drops some.
+    """
+    dropped = chance.randrange(len(pending)) if pending else 0
+    sizes = {"blocks": BLOCK, "torn": SECTOR}
+    share = chance.choice((0.2, 0.5, 0.8))
+    for index, event in enumerate(pending):
+        if variant in sizes:
+            for _, at, piece in pieces(event.offset, event.data, sizes[variant]):
+                if chance.random() < share:
+                    yield at, piece
+        elif {
+            "none": False, "all": True, "some": chance.random() < share,
+            "last": index == len(pending) - 1, "all but one": index != dropped,
+        }[variant]:  # fmt: skip
+            yield event.offset, event.data

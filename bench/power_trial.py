@@ -1,0 +1,202 @@
+"""The cuts of bookie-power: runs in the guest, images of their recordings, and what is found in them."""
+
+import collections
+import random
+import sys
+import time
+
+import fault_runs
+from power_guest import FILE_SYSTEMS, Dead, Guest, first_files
+from power_images import VARIANTS, Image
+from power_look import Finding, Looker
+from power_story import FOLDER, Process, Promise, Story, Timeline, files_of, found_by, troubles
+
+# Images of one recording, processes in it, the share of images that the guest opens itself, and cuts of each of these.
+IMAGES, PROCESSES, RECOVERED, AGAIN = 60, 9, 1 / 12, 4
+
+
+class Stopped(Exception):
+    """The test cannot go on."""
+
+
+class Counts:
+    """What was found, in images; and the images with a finding, which are kept."""
+
+    def __init__(self, keep):
+        self.keep, self.kept = keep, 0
+        self.cuts = self.lost = self.refused = self.ways_on = 0
+        self.texts = collections.Counter()
+
+    def add(self, name, finding, image, tar, promise):
+        """Counts an image. Prints what was found in it, unless that was printed before."""
+        self.cuts += 1
+        self.lost += bool(finding.lost)
+        self.refused += bool(finding.refused)
+        self.ways_on += bool(finding.ways_on)
+        for sort, whys in (("lost", finding.lost), ("refused", finding.refused)):
+            for why in whys[:1]:
+                self.texts[sort, why] += 1
+                if self.texts[sort, why] == 1:
+                    print(f"{sort}: {name}: {why}", flush=True)
+        if finding.lost or finding.refused:
+            self.leave(name, finding, image, tar, promise)
+
+    def leave(self, name, finding, image, tar, promise):
+        at = self.keep / f"{self.kept:03}-{name.replace(',', '').replace(' ', '-')}"
+        (at / "logs").mkdir(parents=True, exist_ok=True)
+        self.kept += 1
+        image.save(at / "disk.raw")
+        for file, data in files_of(tar).items() if tar else ():
+            if file:
+                (at / "logs" / file).write_bytes(data)
+        whys = [f"lost: {why}" for why in finding.lost] + [f"refused: {why}" for why in finding.refused]
+        dead = " ".join(map(str, sorted(promise.dead)))
+        (at / "finding.txt").write_text("\n".join([name, *whys, f"deleted ledgers: {dead}", ""]))
+
+    def report(self):
+        if self.kept:
+            print(f"images with a finding are in {self.keep}")
+        print(f"{self.ways_on} images were opened only after a way on")
+        print(f"{self.cuts} cuts, {self.lost} lost, {self.refused} refused")
+        return 1 if self.lost or self.refused else 0
+
+
+class Trial:
+    """The cuts of one file system."""
+
+    def __init__(self, asked, room, name, counts):
+        self.asked, self.room, self.counts = asked, room, counts
+        self.kind = FILE_SYSTEMS[name]
+        self.chance = random.Random(f"{asked.seed} {name}")
+        self.base = self.kind.empty(room / name)
+        self.first = first_files(room, asked.program, [name])
+        self.looker = Looker(asked.program, room, asked.watermarks)
+        self.guest, self.cuts, self.runs = None, 0, 0
+
+    def is_over(self):
+        return self.cuts >= self.asked.cuts or time.monotonic() > self.asked.end
+
+    def all(self):
+        try:
+            while not self.is_over():
+                self.one_run()
+        finally:
+            if self.guest:
+                self.guest.close()
+
+    # ---- the guest
+
+    def job(self, job, image):
+        """Runs a job; if the guest dies of it, another one is started, and there are no messages."""
+        if not self.guest:
+            self.guest = Guest(self.room, self.first, self.base.size)
+        try:
+            return self.guest.run(job, image)
+        except Dead as why:
+            self.guest.close()
+            self.guest = None
+            raise why
+
+    def mount(self):
+        options = f"-o {self.asked.mount} " if self.asked.mount else ""
+        return f"mount -t {self.kind.name} {options}/dev/vda /mnt 2>/tmp/why"
+
+    def with_syncs(self, job):
+        kinds = ",".join(self.asked.leave_out_sync)
+        return f"export POWER_LEAVE_OUT=,{kinds},\n{job}"
+
+    def fill(self):
+        return f"fill {self.asked.full}\n" if self.asked.full else ""
+
+    # ---- runs and cuts
+
+    def one_run(self):
+        """Records a run of several processes, and cuts it at several events."""
+        story = Story(self.chance, self.asked.watermarks, PROCESSES, self.asked.load)
+        began, start = time.monotonic(), Image(self.base)
+        try:
+            messages, recording = self.job(self.with_syncs(f"{self.mount()}\n{self.fill()}{story.job()}"), start)
+        except Dead as why:
+            raise Stopped(f"the machine ended: {why}") from None
+        for trouble in () if self.asked.full else troubles(story.processes, messages):
+            raise Stopped(f"in the machine: {trouble}")
+        self.runs += 1
+        timeline = Timeline(story.processes, recording.events, Promise())
+        faults, took = sum(message.data.count(b"fault ") for message in messages), time.monotonic() - began
+        print(
+            f"{self.kind.name}, run {self.runs}: {recording.requests()} requests, {len(story.entries)} entries, "
+            f"{len(timeline.at(len(recording.events)).must)} promised, {faults} faults, {took:.0f} s",
+            file=sys.stderr, flush=True,
+        )  # fmt: skip
+        for _ in range(IMAGES):
+            if self.is_over():
+                break
+            self.one_cut(recording, timeline)
+
+    def one_cut(self, recording, timeline, name=""):
+        """Cuts a recording, and looks at the image: outside of the guest, or in it, and cuts it again."""
+        cut, variant = recording.choose(self.chance), self.chance.choice(VARIANTS)
+        image, promise = recording.image(cut, variant, self.chance), timeline.at(cut)
+        where = f"{name or f'{self.kind.name} run {self.runs}'} cut {cut} {variant}"
+        self.cuts += 1
+        if not name and promise.must and self.chance.random() < RECOVERED:
+            self.recover(where, image, promise)
+        else:
+            self.look(where, image, promise)
+
+    def look(self, name, image, promise):
+        tar, finding = None, Finding()
+        job = f"if {self.mount()}; then tar cf /tmp/tar -C /mnt . && send /tmp/tar tar; else send /tmp/why unmounted; fi\n"
+        try:
+            messages, _ = self.job(job, image)
+            if messages and messages[-1].words == ["tar"]:
+                tar = messages[-1].data
+                finding = self.looker.look(tar, promise)
+            else:
+                why = messages[-1].data.decode(errors="replace").strip() if messages else "no answer"
+                finding.refused.append(f"not mounted: {why}")
+        except Dead as why:
+            finding.refused.append(f"the machine ended: {why}")
+        self.counts.add(name, finding, image, tar, promise)
+
+    def recover(self, name, image, promise):
+        """Lets the guest open and compact the directory, and cuts it off there too."""
+        look, compaction = self.recovery(promise)
+        job = f"{self.mount()} || exit\nrm -f /mnt/filler.*\nlook() {{\n{look.job()}}}\nuntil_opened\n{compaction.job()}"
+        finding = Finding()
+        try:
+            messages, recording = self.job(self.with_syncs(job), image)
+        except Dead as why:
+            finding.refused.append(f"the machine ended: {why}")
+            return self.counts.add(name, finding, image, None, promise)
+        ends = {message.words[1]: message for message in messages if message.words[0] == "end"}
+        finding.refused += troubles([look, compaction], ends.values())
+        finding.ways_on = sum(message.words[0] == "begin" for message in messages) - 2
+        looked = fault_runs.Looked(promise.must, promise.may, promise.dead, self.asked.watermarks)
+        if not finding.refused and len(ends) == 2:
+            looked.compare(found_by(look, ends["0"].data.decode(errors="replace")), "opened in the machine")
+        elif not finding.refused:
+            finding.refused.append("not mounted")
+        finding.lost = looked.lost
+        self.counts.add(name, finding, image, None, promise)
+        timeline = Timeline([look, compaction], recording.events, promise)
+        for _ in range(0 if finding.refused or finding.lost else AGAIN):
+            if not self.is_over():
+                self.one_cut(recording, timeline, f"{name}, recovered,")
+        return None
+
+    def recovery(self, promise):
+        """The runs that recover a directory: one that reads every entry, and a compaction."""
+        story = Story(self.chance, self.asked.watermarks, 0)
+        story.dead = sorted(promise.dead)
+        look = story.look(0, {**promise.may, **promise.must})
+        look.first_marker = 1 << 40
+        dead = [f"--dead={ledger}" for ledger in story.dead]
+        return look, Process(1, "compact", ["compact", "--major", *dead, FOLDER])
+
+
+def run(asked, room):
+    counts = Counts(asked.keep)
+    for name in asked.file_system:
+        Trial(asked, room, name, counts).all()
+    return counts.report()
