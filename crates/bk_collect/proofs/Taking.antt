@@ -17,9 +17,10 @@ use Rattle.bk_log.specs.Scanning.{Scan, part_of, NextMoves, ScanNextTransition}
 use Rattle.bk_log.proofs.Ranges.{entries_in-file, whole_view}
 use Rattle.bk_record.specs.Keyed.{Places}
 use Rattle.bk_record.proofs.Growth.{take_next}
+use Rattle.bk_store.specs.Indexing.{with_key}
 use Rattle.bk_store.specs.Logs.{View}
 use Rattle.bk_store.proofs.KeyMaps.{inserted_cases}
-use Rattle.bk_collect.specs.Rebuilding.{with_key, with_record_at, with_records, TakesIn}
+use Rattle.bk_collect.specs.Rebuilding.{with_record_at, with_records, TakesIn}
 
 -- ---- one more record
 

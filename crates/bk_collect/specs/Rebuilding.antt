@@ -1,7 +1,6 @@
 -- How the entries of the published part of a log are added to an index.
-use Rattle.std.specs.Prelude.{◌≡◌, ◌⊎◌, ℕ, ◌≤◌, ◌^◌, IsTrue, List, [], ◌∷◌, if◌then◌else◌, Option, Some, None}
+use Rattle.std.specs.Prelude.{◌≡◌, ◌⊎◌, ℕ, ◌≤◌, ◌^◌, IsTrue, List, [], ◌∷◌, Option, Some, None}
 use Rattle.std.specs.FinMap as finite
-use Rattle.std.specs.FinSet as set
 use Rattle.bk_record.specs.Key.{EntryKey}
 use Rattle.bk_record.specs.Location.{Place}
 use Rattle.bk_record.specs.Record.{key_of}
@@ -10,6 +9,7 @@ use Rattle.bk_log.specs.declared.found.Found.{Found}
 use Rattle.bk_log.specs.declared.fault.ScanFault.{ScanFault}
 use Rattle.bk_log.specs.declared.fault.ScanFault.TheVariants as scan_faults
 use Rattle.bk_record.specs.Keyed.{Places}
+use Rattle.bk_store.specs.Indexing.{with_key}
 use Rattle.bk_store.specs.Logs.{View}
 use Rattle.bk_store.specs.declared.answer.LogCause.TheVariants as causes
 use Rattle.bk_collect.specs.declared.answer.CollectFault.{CollectFault}
@@ -21,10 +21,6 @@ collect_fault_of id (scan_faults.BadLength at value) = faults.Log id (causes.Bad
 collect_fault_of id scan_faults.Disk = faults.Disk
 collect_fault_of id scan_faults.Memory = faults.Memory
 collect_fault_of id scan_faults.Odd = faults.Odd
-
--- adds one entry: its key points to its place, unless its ledger is deleted
-abbrev pub with_key : Ledgers → Places → EntryKey → Place → Places
-with_key dead index key place = if set.contains dead key.ledger then index else finite.insert index key place
 
 -- adds one record at this position; a foreign record has no key
 abbrev pub with_record_at : Ledgers → ℕ → Places → ℕ → Option EntryKey → Places

@@ -1,6 +1,7 @@
 //! Results of the calls of a collection, one enum per call, and their errors.
 
 use bk_store::LogCause;
+use std::alloc::AllocError;
 use thiserror::Error;
 
 /// Result of retiring a log.
@@ -58,4 +59,15 @@ pub enum CollectFault {
     /// The disk returned what no honest disk can.
     #[error("odd disk")]
     Odd,
+}
+
+impl From<AllocError> for CollectFault {
+    ghost use Rattle.std.specs.Prelude.{◌≡◌};
+    ghost use Rattle.bk_collect.specs.declared.answer.CollectFault.TheVariants.{Memory};
+
+    ghost from_gives = { λ _ e. e ≡ Memory };
+
+    fn from(_error: AllocError) -> CollectFault {
+        CollectFault::Memory
+    }
 }

@@ -3,15 +3,16 @@
 
 ghost use Rattle.std.specs.Prelude.{◌≡◌, ◌<◌, ◌≤◌, ◌^◌, IsErrOf, IfErr, OnOk, Some};
 ghost use Rattle.bk_disk.specs.Disk.{AreSound};
+ghost use Rattle.bk_store.specs.Indexing.{with_key};
 ghost use Rattle.bk_store.specs.Logs.{view_of};
 ghost use Rattle.bk_collect.specs.Collecting.{RebuildFails, open_view};
-ghost use Rattle.bk_collect.specs.Rebuilding.{EntryFails, TakesIn, collect_fault_of, with_key};
+ghost use Rattle.bk_collect.specs.Rebuilding.{EntryFails, TakesIn, collect_fault_of};
 
 use crate::CollectFault;
 use bk_disk::{LogDisk, LogView};
 use bk_index::Index;
 use bk_log::{Found, ScanFault, Scanner};
-use bk_record::{HEADER_LENGTH, Location};
+use bk_record::HEADER_LENGTH;
 use bk_store::{LogCause, Store};
 
 /// Adds the entries of a view of a log to the index, in order. Ignores foreign records and a torn
@@ -57,17 +58,11 @@ fn name<D: LogDisk>(
     ensures ok { OnOk result (index.new ≡ with_key store.now.ledgers.dead index.old found.now.key (record { log = log; at = found.now.at })) }
     ensures fails { IfErr result (λ fault. EntryFails found.now fault) }
 {
-    if store.is_dead(found.key.ledger()) {
-        return Ok(());
-    }
     if found.at > u64::from(u32::MAX) {
         return Err(CollectFault::Odd);
     }
-    let place = Location::pack(log, found.at as u32).unwrap();
-    match index.insert(found.key, place) {
-        Ok(_) => Ok(()),
-        Err(_) => Err(CollectFault::Memory),
-    }
+    store.index_found(index, log, found)?;
+    Ok(())
 }
 
 /// Returns the fault of a rebuild for a fault of the scan of log `id`.

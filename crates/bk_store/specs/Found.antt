@@ -18,6 +18,7 @@ use Rattle.bk_log.specs.declared.fault.ScanFault.{ScanFault}
 use Rattle.bk_log.specs.declared.fault.ScanFault.TheVariants as scan_faults
 use Rattle.bk_log.specs.declared.found.Found.{Found}
 use Rattle.bk_accounts.specs.Book.{Book, named_in, after_open, after_ready, after_count, after_count_dead, after_name}
+use Rattle.bk_store.specs.Indexing.{with_key}
 use Rattle.bk_store.specs.Logs.{View, Log, Logs, found_log}
 use Rattle.bk_store.specs.Opening.{Opens}
 use Rattle.bk_store.specs.declared.answer.LogCause.TheVariants as causes
@@ -50,7 +51,7 @@ open_fault_of_scan id scan_faults.Odd = open_faults.Odd
 -- it.
 abbrev pub with_entry : ℕ → Tally → Found → Tally
 with_entry log t found = record t {
-  index = if set.contains t.dead found.key.ledger then t.index else finite.insert t.index found.key (record { log = log; at = found.at });
+  index = with_key t.dead t.index found.key (record { log = log; at = found.at });
   accounts = if set.contains t.dead found.key.ledger
       then after_count_dead t.accounts log found.size
       else after_count (after_ready t.accounts log found.key.ledger) log found.key.ledger found.size;

@@ -23,6 +23,7 @@ pub mod Abstract
 pub mod Deletion
 pub mod Opening
 pub mod CrashSafety
+pub mod Indexing
 pub mod Found
 pub mod Appending
 pub mod Internals

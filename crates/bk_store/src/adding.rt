@@ -26,10 +26,7 @@ impl<D: LogDisk> Fields<D> {
         ensures transition { AddTransition self.old.state kind payload.now result self.new.state }
         ensures internals { self.new ≡ record self.old { state = self.new.state } }
     {
-        let key = match check_add(payload) {
-            Ok(key) => key,
-            Err(fault) => return Err(AddFault::Bad(fault)),
-        };
+        let key = check_add(payload)?;
         if let Some(answer) = self.answered(kind, &key) {
             return answer;
         }

@@ -3,6 +3,7 @@
 use crate::Receipt;
 use bk_lease::Lease;
 use bk_record::{Location, RecordFault};
+use std::alloc::AllocError;
 use std::sync::Arc;
 use thiserror::Error;
 
@@ -33,6 +34,28 @@ pub enum AddFault {
     /// Out of memory.
     #[error("memory")]
     Memory,
+}
+
+impl From<RecordFault> for AddFault {
+    ghost use Rattle.std.specs.Prelude.{◌≡◌};
+    ghost use Rattle.bk_store.specs.declared.answer.AddFault.TheVariants.{Bad};
+
+    ghost from_gives = { λ fault e. e ≡ Bad fault };
+
+    fn from(fault: RecordFault) -> AddFault {
+        AddFault::Bad(fault)
+    }
+}
+
+impl From<AllocError> for AddFault {
+    ghost use Rattle.std.specs.Prelude.{◌≡◌};
+    ghost use Rattle.bk_store.specs.declared.answer.AddFault.TheVariants.{Memory};
+
+    ghost from_gives = { λ _ e. e ≡ Memory };
+
+    fn from(_error: AllocError) -> AddFault {
+        AddFault::Memory
+    }
 }
 
 /// Result of appending the next entry of a flush.
@@ -84,6 +107,17 @@ pub enum DeleteFault {
     Memory,
 }
 
+impl From<AllocError> for DeleteFault {
+    ghost use Rattle.std.specs.Prelude.{◌≡◌};
+    ghost use Rattle.bk_store.specs.declared.answer.DeleteFault.TheVariants.{Memory};
+
+    ghost from_gives = { λ _ e. e ≡ Memory };
+
+    fn from(_error: AllocError) -> DeleteFault {
+        DeleteFault::Memory
+    }
+}
+
 /// Result of a fence.
 #[derive(Clone, Copy, Debug, PartialEq, Eq)]
 pub enum Fence {
@@ -102,6 +136,17 @@ pub enum FenceFault {
     /// Out of memory.
     #[error("memory")]
     Memory,
+}
+
+impl From<AllocError> for FenceFault {
+    ghost use Rattle.std.specs.Prelude.{◌≡◌};
+    ghost use Rattle.bk_store.specs.declared.answer.FenceFault.TheVariants.{Memory};
+
+    ghost from_gives = { λ _ e. e ≡ Memory };
+
+    fn from(_error: AllocError) -> FenceFault {
+        FenceFault::Memory
+    }
 }
 
 /// Why no log was created.

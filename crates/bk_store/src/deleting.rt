@@ -26,9 +26,7 @@ impl<D: LogDisk> Fields<D> {
         if self.ledgers.is_dead(ledger) {
             return Err(DeleteFault::AlreadyDeleted);
         }
-        let Ok(()) = self.ledgers.delete(ledger) else {
-            return Err(DeleteFault::Memory);
-        };
+        self.ledgers.delete(ledger)?;
         let indexed = unname_ledger(&self.index, &self.caches, &mut self.accounts, ledger);
         self.index.drop_ledger(ledger);
         self.places.drop_ledger(ledger);

@@ -18,9 +18,7 @@ impl<D: LogDisk> Fields<D> {
         if self.ledgers.is_fenced(ledger) {
             return Ok(Fence::AlreadyFenced);
         }
-        match self.ledgers.fence(ledger) {
-            Ok(()) => Ok(Fence::Fenced),
-            Err(_) => Err(FenceFault::Memory),
-        }
+        self.ledgers.fence(ledger)?;
+        Ok(Fence::Fenced)
     }
 }

@@ -50,6 +50,13 @@ impl KnownLedgers {
         }
     }
 
+    /// Returns the deleted ledgers.
+    pub fn dead(&self) -> &LedgerSet
+        ensures { result.now ≡ self.now.known.dead }
+    {
+        &self.dead
+    }
+
     /// Returns whether a ledger is deleted.
     pub fn is_dead(&self, ledger: u64) -> bool
         ensures { result ≡ set.contains self.now.known.dead ledger }

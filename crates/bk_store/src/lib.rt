@@ -9,6 +9,7 @@ mod deleting;
 mod fencing;
 mod fields;
 mod flushing;
+mod indexing;
 mod job;
 mod known_ledgers;
 mod laws;

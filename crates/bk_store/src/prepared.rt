@@ -45,14 +45,9 @@ impl Prepared {
     pub fn new(alloc: Global, payload: &[u8]) -> Result<Prepared, AddFault>
         ensures { IsPrepared payload.now result }
     {
-        let key = match check_add(payload) {
-            Ok(key) => key,
-            Err(fault) => return Err(AddFault::Bad(fault)),
-        };
-        match Prepared::of(alloc, key, payload) {
-            Ok(entry) => Ok(entry),
-            Err(_) => Err(AddFault::Memory),
-        }
+        let key = check_add(payload)?;
+        let entry = Prepared::of(alloc, key, payload)?;
+        Ok(entry)
     }
 
     /// Copies a payload of this key, and computes its SHA-256. Fails only if out of memory.

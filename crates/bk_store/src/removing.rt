@@ -7,7 +7,7 @@ ghost use Rattle.bk_store.specs.CompactionPrimitives.{RemoveLogTransition};
 ghost use Rattle.bk_store.specs.declared.log.LogState.TheVariants.{Closed as ClosedState};
 
 use crate::fields::Fields;
-use crate::showing::view_fault;
+use crate::showing::log_fault;
 use bk_disk::LogDisk;
 use bk_lease::Closed;
 use bk_log::LogFault;
@@ -27,7 +27,7 @@ impl<D: LogDisk> Fields<D> {
         };
         let slot = held.slot;
         if let Err(fault) = self.disk.remove(self.alloc, log) {
-            return Err(view_fault(fault));
+            return Err(log_fault(fault));
         }
         self.logs.remove(log);
         self.accounts.drop_log(log);

@@ -31,7 +31,7 @@ impl<D: LogDisk> Fields<D> {
                 self.logs.show(log, view);
                 Ok(())
             }
-            Err(fault) => Err(view_fault(fault)),
+            Err(fault) => Err(log_fault(fault)),
         }
     }
 }
@@ -55,7 +55,7 @@ fn view_log<D: LogDisk>(disk: &mut D, alloc: Global, log: u32) -> Result<Arc<D::
 }
 
 /// Returns the fault of a log for a fault of the disk.
-pub(crate) fn view_fault(fault: DiskFault) -> LogFault
+pub(crate) fn log_fault(fault: DiskFault) -> LogFault
     ensures { result ≡ log_fault_of fault }
 {
     match fault {

@@ -6,11 +6,11 @@ ghost use Rattle.bk_accounts.specs.Book.{HasAccount, total_in};
 ghost use Rattle.bk_store.specs.Found.{with_entry, with_names, named_by, AreUnnamed};
 
 use crate::OpenFault;
+use crate::indexing::index_found;
 use crate::ledger_set::LedgerSet;
 use bk_accounts::Accounts;
 use bk_index::Index;
 use bk_log::Found;
-use bk_record::Location;
 use std::alloc::Global;
 
 /// The index of the entries of live ledgers, the accounts of all entries, and the deleted ledgers.
@@ -44,16 +44,14 @@ impl Tally {
         ensures ok { OnOk result (self.new ≡ with_entry log self.old found.now) }
         ensures only { IsOkUnless result OpenFault.Memory }
     {
-        let ledger = found.key.ledger();
-        if self.dead.contains(ledger) {
+        if !index_found(&mut self.index, &self.dead, log, found)? {
             self.accounts.count_dead(log, found.size);
             return Ok(());
         }
+        let ledger = found.key.ledger();
         if self.accounts.ready(log, ledger).is_err() {
             return Err(OpenFault::Memory);
         }
-        let place = Location::pack(log, found.at as u32).unwrap();
-        self.index.insert(found.key, place)?;
         self.accounts.count(log, ledger, found.size);
         Ok(())
     }
