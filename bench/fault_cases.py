@@ -4,7 +4,7 @@ import random
 import re
 
 import entry_logs
-from fault_runs import READING, Looked, cut_torn
+from fault_runs import READING, Looked
 
 LIMIT = "4096"
 LEDGERS = range(1, 7)
@@ -265,7 +265,7 @@ class Seal(Case):
     def again(self, call, folder):
         ran = call(self.words(folder), "")
         if "help: " in ran.told and "seal --cut-torn" in ran.told:
-            ran = cut_torn(call, folder, self.log)
+            ran = self.program.call(["seal", "--cut-torn", folder, self.log])
         check = self.program.call(["check", folder])
         if f"{self.log} ok" in check.out.splitlines():
             return {}, None
@@ -299,7 +299,11 @@ class Cut(Seal):
         return [] if is_there else ["the bytes that are cut off are in no copy"]
 
     def again(self, call, folder):
-        ran = cut_torn(call, folder, self.log)
+        ran = call(self.words(folder), "")
+        if "copy exists" in ran.told:
+            copy = folder / f"{self.log:x}.log.torn"
+            copy.rename(folder / f"{self.log:x}.log.torn.1")
+            ran = call(self.words(folder), "")
         check = self.program.call(["check", folder])
         if f"{self.log} ok" not in check.out.splitlines():
             return {}, f"{ran.last()}; check: {' | '.join(check.out.split(chr(10)))[-100:]}"

@@ -179,17 +179,6 @@ class Room:
         return self.image
 
 
-def cut_torn(call, folder, log):
-    """Calls `seal --cut-torn`, and does what its help says. Returns how the last call ended."""
-    for number in range(3):
-        ran = call(["seal", "--cut-torn", folder, log], "")
-        found = re.search(r"^help: move (\S+) to another name", ran.told, re.M)
-        if not found:
-            return ran
-        Path(found[1]).rename(f"{found[1]}.{number}")
-    return ran
-
-
 def way_on(program, folder, ran):
     """Does what a refused opening says. Returns None, or why that does not help."""
     found = re.search(r"log (\d+)", ran.told)
@@ -197,7 +186,7 @@ def way_on(program, folder, ran):
         return f"no way on: {ran.last()}"
     log = found[1]
     if "seal --cut-torn" in ran.told:
-        cut = cut_torn(program.call, folder, log)
+        cut = program.call(["seal", "--cut-torn", folder, log])
         return None if cut.status == 0 else f"{ran.last()}; seal --cut-torn: {cut.last()}"
     scan = program.call(["scan", folder, log])
     if not re.search(r"^entries 0 ", scan.out, re.M):

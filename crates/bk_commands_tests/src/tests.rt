@@ -7,8 +7,6 @@ mod folder;
 mod json;
 mod opening;
 mod over;
-mod script_folder;
-mod seal_ways;
 
 use bk_commands::{StartFault, run_words, tell_reading, words_of};
 use std::alloc::Global;

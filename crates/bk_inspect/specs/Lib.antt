@@ -7,5 +7,4 @@ pub mod Digests
 pub mod Parts
 pub mod Shown
 pub mod Sealing
-pub mod Copying
 pub mod Cutting

@@ -4,10 +4,7 @@ ghost use Rattle.std.specs.Prelude.{◌<◌, ◌^◌};
 
 mod amounts;
 mod cut;
-mod cut_again;
-mod cut_failing;
 mod cut_folder;
-mod cut_mem;
 mod digests;
 mod every_byte;
 mod failing;

@@ -9,7 +9,6 @@ use crate::keeper::Keeper;
 use crate::latency::ranks_of;
 use crate::serving::{Served, serve};
 use crate::{Checked, Load, LoadFault, Logs, Report};
-use bk_bookie::WorkReport;
 use bk_disk::LogDisk;
 use bk_store::{Settings, Store};
 use std::alloc::Global;
@@ -35,14 +34,6 @@ fn look_at<D: LogDisk>(
     let mut store = Store::open(alloc, disk, settings, &done.dead).map_err(LoadFault::Open)?;
     let checked = check(alloc, &mut store, first, &done.receipts)?;
     Ok((logs, checked))
-}
-
-/// Returns the steps of the workers, with the failed steps of the keeper among the faults.
-fn works_of(works: WorkReport, keeper: &Keeper) -> WorkReport {
-    WorkReport {
-        answered: works.answered,
-        faults: works.faults.saturating_add(keeper.faults),
-    }
 }
 
 /// Returns what happened to the logs, from their number before and now.
@@ -86,7 +77,7 @@ fn report_on<D: LogDisk>(
         takes: done.takes,
         wrong: done.wrong,
         deletes,
-        works: works_of(works, &keeper),
+        works,
         logs,
         milliseconds,
         latencies,

@@ -252,7 +252,6 @@ fn row_of<'f>(
         }),
         CompactFault::Sweep(SweepFault::Open(OpenFault::TooLong(log))) => Ok(FaultRow {
             log: Some(*log),
-            help: Some(WayOn::TooLong.to_string(alloc)?),
             ..named("log too long")
         }),
         CompactFault::Disk(_)

@@ -132,7 +132,7 @@ const SEALED: [Row<'static>; 5] = [
     },
     Row {
         words: &["bk_shell", "seal", "bk_shell_seal", "2"],
-        errors: "fault log 2: sealed already\nhelp: if 'bk_shell check' finds its map wrong, 'bk_shell seal --cut-torn' writes the map anew\n",
+        errors: "fault sealed already\n",
         ..TOLD
     },
     Row {
@@ -162,8 +162,7 @@ fn a_log_is_sealed(rt: HostRuntime) -> Result<(), Fail> {
 const CUT: [Row<'static>; 3] = [
     Row {
         words: &["bk_shell", "seal", "bk_shell_cut", "2"],
-        errors: "fault log 2: torn 3 at 1048\n\
-help: 'bk_shell seal --cut-torn' cuts off what is no record, and keeps a copy of the log\n",
+        errors: "fault torn 3\n",
         ..TOLD
     },
     Row {

@@ -1,10 +1,8 @@
 //! The states in which a crash may leave a log: what an opening answers, what `check` tells, that `seal --cut-torn` is a way on,
 //! and that the entry that was published is there after it.
 
-use super::cut_mem::{CutMem, LOG, Left, MemAside, NONE, cut, cut_on, file_of};
-use super::states::{
-    HALF_PATCHED, KILLED, OLD_LOGS, PATCHED, State, TAKEN, UNPATCHED, WITHOUT_HEADER,
-};
+use super::cut::{LOG, Left, NONE, cut, file_of};
+use super::states::{HALF_PATCHED, OLD_LOGS, PATCHED, State, UNPATCHED, WITHOUT_HEADER};
 use super::{HELLO, find, run};
 use bk_disk::{LogDisk, MemDisk};
 use bk_inspect::DirCommand;
@@ -58,23 +56,6 @@ fn is_left(left: &Left, bytes: &[u8], way: &str) -> bool {
         }
 }
 
-/// Repairs a log of these bytes that has this copy.
-fn cut_beside(alloc: Global, bytes: &[u8], copy: &[u8]) -> Result<Left, Fail> {
-    let disk = CutMem::of(alloc, bytes, NONE)?;
-    cut_on(alloc, disk, MemAside::with(alloc, copy, NONE)?)
-}
-
-/// Whether a repair tells this too if an earlier one was killed while it copied the log, or before it cut the log.
-fn is_gone_on_with(alloc: Global, bytes: &[u8], way: &str) -> Result<bool, Fail> {
-    for length in [0, bytes.len() / 2, bytes.len()] {
-        let copy = bytes.get(..length).unwrap_or(bytes);
-        if !is_left(&cut_beside(alloc, bytes, copy)?, bytes, way) {
-            return Ok(false);
-        }
-    }
-    Ok(true)
-}
-
 /// Runs each state of a table, and opens and checks the log after it, which has its entry.
 fn check_states(
     rt: &impl Abort,
@@ -88,12 +69,6 @@ fn check_states(
         assert!(rt; is_told(alloc, &bytes, fault, check)?, "state {number}");
         let left = cut(alloc, &bytes, NONE, NONE)?;
         assert!(rt; is_left(&left, &bytes, way), "state {number}, {way}");
-        if way.contains("copy") {
-            assert!(rt;
-                is_gone_on_with(alloc, &bytes, way)?,
-                "killed, state {number}"
-            );
-        }
         assert!(rt;
             is_told(alloc, &left.log, "", after)?,
             "after state {number}"
@@ -122,33 +97,6 @@ fn a_crash_that_leaves_a_patched_header(rt: HostRuntime) -> Result<(), Fail> {
 #[test]
 fn a_crash_that_leaves_a_log_of_version_0(rt: HostRuntime) -> Result<(), Fail> {
     check_states(&rt, rt.alloc(), &OLD_LOGS, "3 unsealed\n")
-}
-
-#[test]
-fn a_repair_that_was_killed_is_gone_on_with(rt: HostRuntime) -> Result<(), Fail> {
-    let alloc = rt.alloc();
-    for (number, (head, end, copy_head, copy_end, way)) in KILLED.iter().enumerate() {
-        let bytes = file_of(alloc, head, HELLO, end)?;
-        let copy = file_of(alloc, copy_head, HELLO, copy_end)?;
-        let left = cut_beside(alloc, &bytes, &copy)?;
-        assert!(rt; left.told.as_slice() == way.as_bytes(), "state {number}");
-        assert!(rt; left.copy == copy, "the copy of state {number}");
-        // The way on of a refusal: the copy is moved away.
-        let last = if *way == TAKEN {
-            assert!(rt; left.log == bytes, "state {number}");
-            cut(alloc, &bytes, NONE, NONE)?
-        } else {
-            left
-        };
-        assert!(rt; last.status == 0, "state {number}");
-        assert!(rt;
-            is_told(alloc, &last.log, "", "3 ok\n")?,
-            "after state {number}"
-        );
-        let found = is_shown(alloc, &last.log, find(&rt, 1, 0), "3 1028 68656c6c6f\n")?;
-        assert!(rt; found, "the entry after state {number}");
-    }
-    Ok(())
 }
 
 #[test]

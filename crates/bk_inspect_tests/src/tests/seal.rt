@@ -65,13 +65,7 @@ fn a_log_is_sealed(rt: HostRuntime) -> Result<(), Fail> {
     ];
     check(&rt, alloc, &mut disk, &rows, "a sealed log");
     let again = seal(alloc, Form::Text, &mut disk, 3);
-    expect(
-        &rt,
-        &again,
-        1,
-        "",
-        "fault log 3: sealed already\nhelp: if 'bk_shell check' finds its map wrong, 'bk_shell seal --cut-torn' writes the map anew\n",
-    );
+    expect(&rt, &again, 1, "", "fault sealed already\n");
     Ok(())
 }
 
@@ -118,29 +112,19 @@ const REFUSED: [(&[u8], &[u8], usize, &str); 8] = [
     (b"BKLX\0\0\0\x01", HELLO, 1049, "bad magic"),
     (b"BKLO\0\0\0\x02", HELLO, 1049, "version 2"),
     (b"BKLO\0\0\0\0", HELLO, 1049, "no map in version 0"),
-    (
-        SEALED,
-        HELLO_AND_MAP,
-        1089,
-        "sealed already\nhelp: if 'bk_shell check' finds its map wrong, 'bk_shell seal --cut-torn' writes the map anew",
-    ),
+    (SEALED, HELLO_AND_MAP, 1089, "sealed already"),
     (
         b"BKLO\0\0\0\x01\0\0\0\0\0\0\0\0\0\0\0\x01",
         HELLO,
         1049,
-        "sealed already\nhelp: if 'bk_shell check' finds its map wrong, 'bk_shell seal --cut-torn' writes the map anew",
+        "sealed already",
     ),
-    (
-        OPEN,
-        HELLO,
-        1048,
-        "torn 24 at 1024\nhelp: 'bk_shell seal --cut-torn' cuts off what is no record, and keeps a copy of the log",
-    ),
+    (OPEN, HELLO, 1048, "torn 24"),
     (
         OPEN,
         b"\0\0\0\x07\0\0\0\0\0\0\0\0\0\0\0\0\0\0\0\0\0\0\0\0",
         1048,
-        "bad length 1024 7\nhelp: 'bk_shell seal --cut-torn' cuts off what is no record, and keeps a copy of the log",
+        "bad length 1024 7",
     ),
 ];
 
@@ -156,7 +140,7 @@ fn logs_that_are_not_sealed(rt: HostRuntime) -> Result<(), Fail> {
         };
         let mut disk = disk_of(alloc, &[file])?;
         let shown = seal(alloc, Form::Text, &mut disk, 0);
-        let told = format!(in alloc; "fault log 0: {text}\n")?;
+        let told = format!(in alloc; "fault {text}\n")?;
         expect(&rt, &shown, 1, "", &told);
         let mut wanted = file_of(alloc, head, behind)?;
         wanted.truncate(*length);
@@ -164,48 +148,42 @@ fn logs_that_are_not_sealed(rt: HostRuntime) -> Result<(), Fail> {
     }
     let mut disk = disk_of(alloc, &[SEALED_LOG])?;
     let shown = seal(alloc, Form::Text, &mut disk, 9);
-    expect(&rt, &shown, 1, "", "fault log 9: no log\n");
+    expect(&rt, &shown, 1, "", "fault no log\n");
     let shown = seal(alloc, Form::Json, &mut disk, 9);
     expect(&rt, &shown, 1, "", "{\"fault\":\"no log\",\"log\":9}\n");
     Ok(())
 }
 
-/// Logs that are not sealed, and the objects that tell so.
-static REFUSED_OBJECTS: [(File<'static>, &str); 3] = [
-    (
-        File {
-            length: 1048,
-            ..OPEN_LOG
-        },
-        "{\"fault\":\"torn\",\"at\":1024,\"torn\":24,\"log\":3,\"help\":\"'bk_shell seal --cut-torn' cuts off what is no record, and keeps a copy of the log\"}\n",
-    ),
-    (
-        File {
-            log: 4,
-            behind: b"\0\0\0\x07\0\0\0\0\0\0\0\0\0\0\0\0\0\0\0\0\0\0\0\0",
-            length: 1048,
-            head: OPEN,
-        },
-        "{\"fault\":\"bad length\",\"at\":1024,\"length\":7,\"log\":4,\"help\":\"'bk_shell seal --cut-torn' cuts off what is no record, and keeps a copy of the log\"}\n",
-    ),
-    (
-        File {
-            log: 5,
-            head: b"BKLO\0\0\0\0",
-            ..OPEN_LOG
-        },
-        "{\"fault\":\"no map in version\",\"version\":0,\"log\":5}\n",
-    ),
-];
-
 #[test]
 fn a_refusal_as_json(rt: HostRuntime) -> Result<(), Fail> {
     let alloc = rt.alloc();
-    for (file, object) in &REFUSED_OBJECTS {
-        let mut disk = disk_of(alloc, &[*file])?;
-        let shown = seal(alloc, Form::Json, &mut disk, u32::from(file.log));
-        expect(&rt, &shown, 1, "", object);
-    }
+    let cut = File {
+        length: 1048,
+        ..OPEN_LOG
+    };
+    let bad = File {
+        log: 4,
+        behind: b"\0\0\0\x07\0\0\0\0\0\0\0\0\0\0\0\0\0\0\0\0\0\0\0\0",
+        length: 1048,
+        head: OPEN,
+    };
+    let mut disk = disk_of(alloc, &[cut, bad])?;
+    let shown = seal(alloc, Form::Json, &mut disk, 3);
+    expect(
+        &rt,
+        &shown,
+        1,
+        "",
+        "{\"fault\":\"torn\",\"torn\":24,\"log\":3}\n",
+    );
+    let shown = seal(alloc, Form::Json, &mut disk, 4);
+    expect(
+        &rt,
+        &shown,
+        1,
+        "",
+        "{\"fault\":\"bad length\",\"at\":1024,\"length\":7,\"log\":4}\n",
+    );
     Ok(())
 }
 
@@ -223,10 +201,6 @@ fn seal_failing(
     Ok((bytes, disk))
 }
 
-/// What is told of a log with seven bytes of its map.
-const TORN_7: &str = "fault log 3: torn 7 at 1049\n\
-help: 'bk_shell seal --cut-torn' cuts off what is no record, and keeps a copy of the log\n";
-
 /// How long the log is where one call of those that sealing makes fails.
 const FAILING: [usize; 8] = [1049, 1049, 1049, 1056, 1089, 1089, 1089, 1089];
 
@@ -241,9 +215,8 @@ fn a_device_that_fails_while_a_log_is_sealed(rt: HostRuntime) -> Result<(), Fail
         assert_eq!(rt; bytes.starts_with(SEALED), sealed, "call {call}");
         let again = seal(alloc, Form::Text, &mut disk, 3);
         let told = match call {
-            4 => TORN_7,
-            8 =>
-                "fault log 3: sealed already\nhelp: if 'bk_shell check' finds its map wrong, 'bk_shell seal --cut-torn' writes the map anew\n",
+            4 => "fault torn 7\n",
+            8 => "fault sealed already\n",
             _ => "",
         };
         assert_eq!(rt; again.errors.as_slice(), told.as_bytes(), "call {call}");

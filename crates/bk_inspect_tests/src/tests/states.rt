@@ -210,14 +210,7 @@ pub(super) const PATCHED: [State<'static>; 10] = [
         "",
         "cut 3 at 1089 bytes 30 copy aside/3\ncleared 3 map 1049 count 1 copy aside/3\nsealed 3 map 1089 count 1\n",
     ),
-    (
-        SEALED,
-        MAP,
-        b"",
-        "",
-        "3 ok\n",
-        "fault log 3: sealed already\nhelp: if 'bk_shell check' finds its map wrong, 'bk_shell seal --cut-torn' writes the map anew\n",
-    ),
+    (SEALED, MAP, b"", "", "3 ok\n", "fault sealed already\n"),
     (
         SEALED,
         MAP,
@@ -252,7 +245,7 @@ pub(super) const OLD_LOGS: [State<'static>; 4] = [
         b"",
         "",
         "3 unsealed\n",
-        "fault log 3: no map in version 0\n",
+        "fault no map in version 0\n",
     ),
     (
         VERSION_0,
@@ -284,12 +277,12 @@ pub(super) const OLD_LOGS: [State<'static>; 4] = [
 /// file, and a part of one before zeros, which is a header of version 0.
 pub(super) const WITHOUT_HEADER: [(State<'static>, usize, &str); 3] = [
     (
-        (b"", b"", ZEROS, "bad magic", "", "fault log 3: bad magic\n"),
+        (b"", b"", ZEROS, "bad magic", "", "fault bad magic\n"),
         1064,
         "3 fault bad magic\n",
     ),
     (
-        (OPEN, b"", b"", "", "3 short\n", "fault log 3: short\n"),
+        (OPEN, b"", b"", "", "3 short\n", "fault short\n"),
         20,
         "3 short\n",
     ),
@@ -305,41 +298,4 @@ pub(super) const WITHOUT_HEADER: [(State<'static>, usize, &str); 3] = [
         1064,
         "3 unsealed\n",
     ),
-];
-
-/// What a repair left that was killed after its copy was kept: how the log's header begins and what stands behind the entry, the
-/// same of the copy, and what the next repair tells.
-pub(super) type Killed<'a> = (&'a [u8], &'a [u8], &'a [u8], &'a [u8], &'a str);
-
-/// What is told if the copy is of something else.
-pub(super) const TAKEN: &str = "fault copy exists: aside/3: it is no copy of disk/3\n\
-help: move aside/3 to another name and call 'bk_shell seal --cut-torn' again: it copies the log first\n";
-
-/// Killed before the header was cleared; before the log was sealed; and while it was sealed.
-pub(super) const KILLED: [Killed<'static>; 7] = [
-    (
-        SEALED,
-        b"",
-        SEALED,
-        ZEROS,
-        "cleared 3 map 1049 count 1 copy aside/3\nsealed 3 map 1049 count 1\n",
-    ),
-    (
-        SEALED,
-        b"",
-        SEALED,
-        HALF_MAP,
-        "cleared 3 map 1049 count 1 copy aside/3\nsealed 3 map 1049 count 1\n",
-    ),
-    (
-        PLACE,
-        b"",
-        PLACE,
-        OLD,
-        "cleared 3 map 1049 count 0 copy aside/3\nsealed 3 map 1049 count 1\n",
-    ),
-    (OPEN, b"", OPEN, ZEROS, "sealed 3 map 1049 count 1\n"),
-    (OPEN, b"", SEALED, ZEROS, "sealed 3 map 1049 count 1\n"),
-    (OPEN, HALF_MAP, OPEN, ZEROS, TAKEN),
-    (OPEN, HALF_MAP, SEALED, HALF_MAP, TAKEN),
 ];
