@@ -78,17 +78,12 @@ class Recording:
     def requests(self):
         return sum(not isinstance(event, Message) for event in self.events)
 
-    def places(self):
-        """Returns the cuts that follow a message at once, and those that follow a write or a flush."""
-        behind, among = [], []
-        for index, event in enumerate(self.events):
-            (behind if isinstance(event, Message) else among).append(index + 1)
-        return behind, among
-
-    def choose(self, chance):
-        """Chooses an event in front of which the power is cut: one in two follows a message."""
-        behind, among = self.places()
-        return chance.choice(behind if behind and (not among or chance.random() < 0.5) else among)
+    def choose(self, chance, groups):
+        """Chooses an event in front of which the power is cut: one in two times any, else one that follows a message of
+        one of the groups of events, at once or nearly."""
+        requests = [index for index, event in enumerate(self.events, 1) if not isinstance(event, Message)]
+        group = chance.choice([group for group in (*groups, *[requests] * len(groups)) if group])
+        return min(len(self.events), chance.choice(group) + chance.choice((0, 0, 0, 1, 2)))
 
     def durable(self, cut):
         """The number of events whose writes the last flush before the cut covers."""

@@ -196,6 +196,8 @@ class Timeline:
 
     def __init__(self, processes, events, before):
         self.before, self.points = before, []
+        # The events that follow a message which promises something: what was read, and what was published.
+        self.found, self.published = [], []
         self.processes = {process.number: process for process in processes}
         messages = [(index, event) for index, event in enumerate(events) if isinstance(event, Message)]
         process = None
@@ -203,7 +205,10 @@ class Timeline:
             if event.words[0] in ("begin", "marker", "end", "taken"):
                 process = self.processes[int(event.words[1])] if event.words[0] != "marker" else process
                 follows = messages[place + 1][1] if place + 1 < len(messages) else None
-                self.points.append((index, self.added(process, event, follows)))
+                added = self.added(process, event, follows)
+                if not added.must.keys() <= self.at(index).must.keys():
+                    (self.published if event.words[0] == "marker" else self.found).append(index + 1)
+                self.points.append((index, added))
 
     def at(self, cut):
         """What is promised when the power is cut in front of an event."""
