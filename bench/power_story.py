@@ -10,7 +10,7 @@ FOLDER = "/mnt/logs"
 # How logs are kept against what a device leaves behind their synced bytes: the options of `script --folder`.
 KEEPING = ["--marks"]
 # A ledger that is used for nothing else: the library of the guest reports each read of its entries (power.c).
-MARKER, WORD = 900, "marker"
+MARKER, WORD, NO_MARKER = 900, "marker", 1 << 40
 LIMITS = ("2048", "4000", "9000", "30000")
 SIZES = (0, 1, 20, 100, 300, 700, 1500, 5000)
 # Logs that a script tries to retire or to remove: more than there are, as a rule.
@@ -30,7 +30,8 @@ class Process:
     def __init__(self, number, kind, words):
         self.number, self.kind, self.words = number, kind, words
         self.steps, self.stretches, self.added = [], [Stretch()], {}
-        self.first_marker, self.kill_at = 0, 0
+        # A run that publishes nothing reports no marker, also if it copies one.
+        self.first_marker, self.kill_at = NO_MARKER, 0
 
     def job(self):
         """The lines of the shell that run it."""
@@ -97,7 +98,6 @@ class Story:
     def look(self, number, only=None):
         """A run that reads all entries: what it finds is promised when it has ended."""
         look = Process(number, "look", self.script_words())
-        look.first_marker = self.next_marker
         look.keys = list(self.entries if only is None else only)
         for ledger, entry in look.keys:
             look.steps += [f"take 0 {ledger} {entry}", "fetch 0", "release 0"]

@@ -194,7 +194,6 @@ class Trial:
         story = Story(self.chance, self.asked.watermarks, 0)
         story.dead = sorted(promise.dead)
         look = story.look(0, {**promise.may, **promise.must})
-        look.first_marker = 1 << 40
         dead = [f"--dead={ledger}" for ledger in story.dead]
         return look, Process(1, "compact", ["compact", "--major", *dead, FOLDER])
 
