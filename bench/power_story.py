@@ -65,8 +65,8 @@ class Story:
         self.next_entry, self.next_marker = 0, 1
         self.entries, self.processes, self.compaction = {}, [], []
         while len(self.processes) < length:
-            kinds = [self.script, self.script, self.killed, self.killed, self.compact, *[self.load] * (2 * with_load)]
-            self.processes += chance.choice(kinds)()
+            kinds = [self.script, self.script, self.killed, self.killed, self.compact, self.compact_killed]
+            self.processes += chance.choice([*kinds, *[self.load] * (2 * with_load)])()
 
     def script_words(self):
         dead = [str(ledger) for ledger in self.dead]
@@ -109,6 +109,13 @@ class Story:
         dead = [f"--dead={ledger}" for ledger in self.dead]
         words = ["compact", self.chance.choice(("--major", "--minor")), *dead, FOLDER]
         return [self.process("compact", words, after)]
+
+    def compact_killed(self):
+        """A compaction that is killed, and a look at what it left."""
+        found = self.compact()
+        for process in found:
+            process.kill_at = self.chance.randrange(2, 30)
+        return found and [*found, self.look(found[0].number + 1)]
 
     def load(self):
         """A load of threads, half of them killed; then a compaction, which opens what that left, and the files as they are."""
