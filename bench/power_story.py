@@ -64,6 +64,9 @@ class Story:
         self.live, self.dead, self.next_ledger = [1, 2, 3, 4], [], 5
         self.next_entry, self.next_marker = 0, 1
         self.entries, self.processes, self.compaction = {}, [], []
+        if with_load:
+            # A load uses the ledgers after the last one with an entry: after MARKER from now on.
+            self.processes += self.script()
         while len(self.processes) < length:
             kinds = [self.script, self.script, self.killed, self.killed, self.compact, self.compact_killed]
             self.processes += chance.choice([*kinds, *[self.load] * (2 * with_load)])()

@@ -87,15 +87,15 @@ class Trial:
     # ---- the guest
 
     def job(self, job, image):
-        """Runs a job; if the guest dies of it, another one is started, and there are no messages."""
+        """Runs a job. If the guest dies of it, the next job gets another one."""
         if not self.guest:
             self.guest = Guest(self.room, self.first, self.base.size)
         try:
             return self.guest.run(job, image)
-        except Dead as why:
+        except Dead:
             self.guest.close()
             self.guest = None
-            raise why
+            raise
 
     def mount(self):
         options = f"-o {self.asked.mount} " if self.asked.mount else ""
