@@ -11,7 +11,7 @@ import subprocess
 import time
 from pathlib import Path
 
-from power_images import Base, Recording
+from power_images import BLOCK, Base, Recording
 from power_nbd import Server
 
 HERE = Path(__file__).resolve().parent
@@ -27,24 +27,25 @@ SECONDS = 300
 
 
 class FileSystem:
-    """A kind of file system: how it is made, mounted, and which modules it wants."""
+    """A kind of file system: its size and how it is made, the modules that it wants, and where its superblocks are."""
 
-    def __init__(self, name, mebibytes, make, modules):
+    def __init__(self, name, mebibytes, make, modules, superblocks):
         self.name, self.mebibytes, self.make, self.modules = name, mebibytes, make, modules
+        self.superblocks = superblocks
 
-    def empty(self, path, mebibytes=None):
+    def empty(self, path):
         """Makes an empty one in a file."""
         with open(path, "wb") as file:
-            file.truncate((mebibytes or self.mebibytes) << 20)
+            file.truncate(self.mebibytes << 20)
         subprocess.run([*self.make, str(path)], check=True, stdout=subprocess.DEVNULL)
-        return Base(path)
+        return Base(path, [place // BLOCK for place in self.superblocks])
 
 
 FILE_SYSTEMS = {
     # Nothing is left to be initialized later, so that the kernel does not write by itself.
-    "ext4": FileSystem("ext4", 64, ["mkfs.ext4", "-q", "-E", "lazy_itable_init=0,lazy_journal_init=0"], ()),
-    "xfs": FileSystem("xfs", 320, ["mkfs.xfs", "-q"], ("xfs",)),
-    "btrfs": FileSystem("btrfs", 256, ["mkfs.btrfs", "-q"], ("btrfs",)),
+    "ext4": FileSystem("ext4", 64, ["mkfs.ext4", "-q", "-E", "lazy_itable_init=0,lazy_journal_init=0"], (), (0,)),
+    "xfs": FileSystem("xfs", 320, ["mkfs.xfs", "-q"], ("xfs",), ()),
+    "btrfs": FileSystem("btrfs", 256, ["mkfs.btrfs", "-q"], ("btrfs",), (64 << 10, 64 << 20)),
 }
 
 

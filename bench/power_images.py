@@ -10,9 +10,10 @@ VARIANTS = ("none", "all", "some", "blocks", "torn", "last", "all but one")
 
 
 class Base:
-    """A file with an empty file system."""
+    """A file with an empty file system, and the numbers of the blocks that are never torn: those of superblocks."""
 
-    def __init__(self, path):
+    def __init__(self, path, whole=()):
+        self.whole = whole
         self.file = open(path, "rb")
         self.size = os.path.getsize(path)
 
@@ -78,17 +79,12 @@ class Recording:
     def requests(self):
         return sum(not isinstance(event, Message) for event in self.events)
 
-    def places(self):
-        """Returns the cuts that follow a message at once, and those that follow a write or a flush."""
-        behind, among = [], []
-        for index, event in enumerate(self.events):
-            (behind if isinstance(event, Message) else among).append(index + 1)
-        return behind, among
-
-    def choose(self, chance):
-        """Chooses an event in front of which the power is cut: one in two follows a message."""
-        behind, among = self.places()
-        return chance.choice(behind if behind and (not among or chance.random() < 0.5) else among)
+    def choose(self, chance, groups):
+        """Chooses an event in front of which the power is cut: one in two times any, else one that follows a message of
+        one of the groups of events, at once or nearly."""
+        requests = [index for index, event in enumerate(self.events, 1) if not isinstance(event, Message)]
+        group = chance.choice([group for group in (*groups, *[requests] * len(groups)) if group])
+        return min(len(self.events), chance.choice(group) + chance.choice((0, 0, 0, 1, 2)))
 
     def durable(self, cut):
         """The number of events whose writes the last flush before the cut covers."""
@@ -101,24 +97,30 @@ class Recording:
             if isinstance(event, Write):
                 image.write(event.offset, event.data)
         pending = [event for event in self.events[durable:cut] if isinstance(event, Write)]
-        for offset, data in kept(pending, variant, chance):
+        for offset, data in kept(pending, variant, chance, image.base.whole):
             image.write(offset, data)
         return image
 
 
-def kept(pending, variant, chance):
+def parts(event, variant, whole):
+    """Yields place and bytes of the parts of a write that a device keeps or drops apart from each other."""
+    for number, at, block in pieces(event.offset, event.data, BLOCK):
+        if variant == "blocks" or number in whole:
+            yield at, block
+        else:
+            yield from ((place, sector) for _, place, sector in pieces(at, block, SECTOR))
+
+
+def kept(pending, variant, chance, whole):
     """Yields what a device keeps of writes that no flush covers, in one of the ways of VARIANTS.
 
     A device that reorders them leaves the older one of two writes of a block, or the newer: so does one that drops some.
     """
     dropped = chance.randrange(len(pending)) if pending else 0
-    sizes = {"blocks": BLOCK, "torn": SECTOR}
     share = chance.choice((0.2, 0.5, 0.8))
     for index, event in enumerate(pending):
-        if variant in sizes:
-            for _, at, piece in pieces(event.offset, event.data, sizes[variant]):
-                if chance.random() < share:
-                    yield at, piece
+        if variant in ("blocks", "torn"):
+            yield from (part for part in parts(event, variant, whole) if chance.random() < share)
         elif {
             "none": False, "all": True, "some": chance.random() < share,
             "last": index == len(pending) - 1, "all but one": index != dropped,

@@ -10,7 +10,7 @@ FOLDER = "/mnt/logs"
 # How logs are kept against what a device leaves behind their synced bytes: the options of `script --folder`.
 KEEPING = ["--marks"]
 # A ledger that is used for nothing else: the library of the guest reports each read of its entries (power.c).
-MARKER, WORD = 900, "marker"
+MARKER, WORD, NO_MARKER = 900, "marker", 1 << 40
 LIMITS = ("2048", "4000", "9000", "30000")
 SIZES = (0, 1, 20, 100, 300, 700, 1500, 5000)
 # Logs that a script tries to retire or to remove: more than there are, as a rule.
@@ -30,7 +30,8 @@ class Process:
     def __init__(self, number, kind, words):
         self.number, self.kind, self.words = number, kind, words
         self.steps, self.stretches, self.added = [], [Stretch()], {}
-        self.first_marker, self.kill_at = 0, 0
+        # A run that publishes nothing reports no marker, also if it copies one.
+        self.first_marker, self.kill_at = NO_MARKER, 0
 
     def job(self):
         """The lines of the shell that run it."""
@@ -63,9 +64,12 @@ class Story:
         self.live, self.dead, self.next_ledger = [1, 2, 3, 4], [], 5
         self.next_entry, self.next_marker = 0, 1
         self.entries, self.processes, self.compaction = {}, [], []
+        if with_load:
+            # A load uses the ledgers after the last one with an entry: after MARKER from now on.
+            self.processes += self.script()
         while len(self.processes) < length:
-            kinds = [self.script, self.script, self.killed, self.killed, self.compact, *[self.load] * (2 * with_load)]
-            self.processes += chance.choice(kinds)()
+            kinds = [self.script, self.script, self.killed, self.killed, self.compact, self.compact_killed]
+            self.processes += chance.choice([*kinds, *[self.load] * (2 * with_load)])()
 
     def script_words(self):
         dead = [str(ledger) for ledger in self.dead]
@@ -97,7 +101,6 @@ class Story:
     def look(self, number, only=None):
         """A run that reads all entries: what it finds is promised when it has ended."""
         look = Process(number, "look", self.script_words())
-        look.first_marker = self.next_marker
         look.keys = list(self.entries if only is None else only)
         for ledger, entry in look.keys:
             look.steps += [f"take 0 {ledger} {entry}", "fetch 0", "release 0"]
@@ -109,6 +112,13 @@ class Story:
         dead = [f"--dead={ledger}" for ledger in self.dead]
         words = ["compact", self.chance.choice(("--major", "--minor")), *dead, FOLDER]
         return [self.process("compact", words, after)]
+
+    def compact_killed(self):
+        """A compaction that is killed, and a look at what it left."""
+        found = self.compact()
+        for process in found:
+            process.kill_at = self.chance.randrange(2, 30)
+        return found and [*found, self.look(found[0].number + 1)]
 
     def load(self):
         """A load of threads, half of them killed; then a compaction, which opens what that left, and the files as they are."""
@@ -196,6 +206,8 @@ class Timeline:
 
     def __init__(self, processes, events, before):
         self.before, self.points = before, []
+        # The events that follow a message which promises something: what was read, and what was published.
+        self.found, self.published = [], []
         self.processes = {process.number: process for process in processes}
         messages = [(index, event) for index, event in enumerate(events) if isinstance(event, Message)]
         process = None
@@ -203,7 +215,10 @@ class Timeline:
             if event.words[0] in ("begin", "marker", "end", "taken"):
                 process = self.processes[int(event.words[1])] if event.words[0] != "marker" else process
                 follows = messages[place + 1][1] if place + 1 < len(messages) else None
-                self.points.append((index, self.added(process, event, follows)))
+                added = self.added(process, event, follows)
+                if not added.must.keys() <= self.at(index).must.keys():
+                    (self.published if event.words[0] == "marker" else self.found).append(index + 1)
+                self.points.append((index, added))
 
     def at(self, cut):
         """What is promised when the power is cut in front of an event."""

@@ -87,15 +87,15 @@ class Trial:
     # ---- the guest
 
     def job(self, job, image):
-        """Runs a job; if the guest dies of it, another one is started, and there are no messages."""
+        """Runs a job. If the guest dies of it, the next job gets another one."""
         if not self.guest:
             self.guest = Guest(self.room, self.first, self.base.size)
         try:
             return self.guest.run(job, image)
-        except Dead as why:
+        except Dead:
             self.guest.close()
             self.guest = None
-            raise why
+            raise
 
     def mount(self):
         options = f"-o {self.asked.mount} " if self.asked.mount else ""
@@ -105,8 +105,11 @@ class Trial:
         kinds = ",".join(self.asked.leave_out_sync)
         return f"export POWER_LEAVE_OUT=,{kinds},\n{job}"
 
-    def fill(self):
-        return f"fill {self.asked.full}\n" if self.asked.full else ""
+    def prepare(self):
+        """In one of two runs the kernel writes nothing before it is asked to, however slow the machine is."""
+        pause = self.chance.choice((0, 500))
+        fill = f"fill {self.asked.full}\n" if self.asked.full else ""
+        return f"echo {pause} >/proc/sys/vm/dirty_writeback_centisecs\n{fill}"
 
     # ---- runs and cuts
 
@@ -115,7 +118,7 @@ class Trial:
         story = Story(self.chance, self.asked.watermarks, PROCESSES, self.asked.load)
         began, start = time.monotonic(), Image(self.base)
         try:
-            messages, recording = self.job(self.with_syncs(f"{self.mount()}\n{self.fill()}{story.job()}"), start)
+            messages, recording = self.job(self.with_syncs(f"{self.mount()}\n{self.prepare()}{story.job()}"), start)
         except Dead as why:
             raise Stopped(f"the machine ended: {why}") from None
         for trouble in () if self.asked.full else troubles(story.processes, messages):
@@ -135,7 +138,8 @@ class Trial:
 
     def one_cut(self, recording, timeline, name=""):
         """Cuts a recording, and looks at the image: outside of the guest, or in it, and cuts it again."""
-        cut, variant = recording.choose(self.chance), self.chance.choice(VARIANTS)
+        cut = recording.choose(self.chance, (timeline.found, timeline.published))
+        variant = self.chance.choice(VARIANTS)
         image, promise = recording.image(cut, variant, self.chance), timeline.at(cut)
         where = f"{name or f'{self.kind.name} run {self.runs}'} cut {cut} {variant}"
         self.cuts += 1
@@ -190,7 +194,6 @@ class Trial:
         story = Story(self.chance, self.asked.watermarks, 0)
         story.dead = sorted(promise.dead)
         look = story.look(0, {**promise.may, **promise.must})
-        look.first_marker = 1 << 40
         dead = [f"--dead={ledger}" for ledger in story.dead]
         return look, Process(1, "compact", ["compact", "--major", *dead, FOLDER])
 
