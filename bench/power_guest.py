@@ -22,8 +22,8 @@ TOOLS = {
 }  # fmt: skip
 KERNEL = "linux-image-cloud-amd64"
 ALWAYS = ("virtio_pci", "virtio_blk")
-# How long the guest may be silent.
-SECONDS = 300
+# How long the guest may be silent, on a machine that is busy.
+SECONDS = 900
 
 
 class FileSystem:
@@ -146,7 +146,11 @@ def first_files(room, program, names):
 
 
 class Dead(Exception):
-    """The guest ended, or does not answer."""
+    """The guest ended."""
+
+
+class Silent(Exception):
+    """The guest does not answer."""
 
 
 def end_with_parent():
@@ -186,13 +190,15 @@ class Guest:
                 messages.append(self.server.messages.get(timeout=1))
                 end = time.monotonic() + SECONDS
             except queue.Empty:
-                if self.machine.poll() is not None or time.monotonic() > end:
+                if self.machine.poll() is not None:
                     raise Dead(self.last_lines()) from None
+                if time.monotonic() > end:
+                    raise Silent(f"the machine is silent for {SECONDS} s: {self.last_lines()}") from None
         return messages[:-1], Recording(image, self.server.events)
 
     def last_lines(self):
         lines = self.console.read_text(errors="replace").splitlines() if self.console.exists() else []
-        return " | ".join(lines[-3:]) or "the guest does not answer"
+        return " | ".join(lines[-3:]) or "its console is empty"
 
     def close(self):
         self.machine.kill()

@@ -6,7 +6,7 @@ import sys
 import time
 
 import fault_runs
-from power_guest import FILE_SYSTEMS, Dead, Guest, first_files
+from power_guest import FILE_SYSTEMS, Dead, Guest, Silent, first_files
 from power_images import VARIANTS, Image
 from power_look import Finding, Looker
 from power_story import FOLDER, Process, Promise, Story, Timeline, files_of, found_by, troubles
@@ -92,6 +92,8 @@ class Trial:
             self.guest = Guest(self.room, self.first, self.base.size)
         try:
             return self.guest.run(job, image)
+        except Silent as why:
+            raise Stopped(str(why)) from None
         except Dead:
             self.guest.close()
             self.guest = None
@@ -200,6 +202,11 @@ class Trial:
 
 def run(asked, room):
     counts = Counts(asked.keep)
-    for name in asked.file_system:
-        Trial(asked, room, name, counts).all()
+    try:
+        for name in asked.file_system:
+            Trial(asked, room, name, counts).all()
+    except Stopped as why:
+        print(f"bookie-power: {why}", file=sys.stderr)
+        counts.report()
+        return 2
     return counts.report()
