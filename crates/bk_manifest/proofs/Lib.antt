@@ -10,3 +10,4 @@ pub mod States
 pub mod Fronts
 pub mod Found
 pub mod Believing
+pub mod Kept
