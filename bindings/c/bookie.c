@@ -130,7 +130,8 @@ struct bookie {
     pid_t child;
     int in, out; /* replies, requests */
     pthread_t reader;
-    pthread_mutex_t lock;
+    pthread_mutex_t writing; /* held while a request gets its id and is written; taken before `lock` */
+    pthread_mutex_t lock;    /* nobody holds it while a write blocks: so replies are always read */
     pthread_cond_t changed;
     request *table[BUCKETS];
     uint64_t last, limits[4];
@@ -249,13 +250,18 @@ uint64_t bookie_send(bookie *b, int call, const uint64_t *numbers, const void *b
     if (length > 0) memcpy(frame + 13 + 8 * k->numbers, bytes, length);
     pthread_mutex_lock(&b->lock);
     while (!b->is_over && b->unanswered >= b->limits[2]) pthread_cond_wait(&b->changed, &b->lock);
-    uint64_t id = r->id = ++b->last;
-    put(frame + 4, id, 8);
-    *at(b, id) = r;
     b->unanswered += 1;
-    /* If the write fails, the reader meets the end of the replies. */
-    if (!b->is_over) (void)write_all(b->out, frame, size);
     pthread_mutex_unlock(&b->lock);
+    pthread_mutex_lock(&b->writing);
+    pthread_mutex_lock(&b->lock);
+    uint64_t id = r->id = ++b->last;
+    int is_over = b->is_over;
+    *at(b, id) = r;
+    pthread_mutex_unlock(&b->lock);
+    put(frame + 4, id, 8);
+    /* If the write fails, the reader meets the end of the replies. */
+    if (!is_over) (void)write_all(b->out, frame, size);
+    pthread_mutex_unlock(&b->writing);
     free(frame);
     return id;
 }
@@ -336,6 +342,7 @@ static void let_go(bookie *b) {
         }
     pthread_cond_destroy(&b->changed);
     pthread_mutex_destroy(&b->lock);
+    pthread_mutex_destroy(&b->writing);
     free(b);
 }
 
@@ -356,6 +363,7 @@ int bookie_open(char *const command[], bookie **out) {
     if (b == NULL) return BOOKIE_INVALID;
     b->limits[2] = 1;
     pthread_mutex_init(&b->lock, NULL);
+    pthread_mutex_init(&b->writing, NULL);
     pthread_cond_init(&b->changed, NULL);
     if (start(b, command) < 0 || pthread_create(&b->reader, NULL, read_replies, b) != 0) {
         let_go(b);

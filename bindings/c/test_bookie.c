@@ -217,6 +217,39 @@ static void attributes(bookie *b) {
     for (int i = 0; i < 3; i++) bookie_reply_free(&reply[i]);
 }
 
+static uint64_t send_large(bookie *b, uint64_t entry) {
+    static uint8_t bytes[300000];
+    for (size_t i = 0; i < sizeof bytes; i++) bytes[i] = (uint8_t)(4 * 31 + entry * 7 + i);
+    return bookie_send(b, BOOKIE_ADD, (uint64_t[]){4, entry}, bytes, sizeof bytes);
+}
+
+/* Large adds and large reads at once, all sent ahead: neither side may wait for the other. */
+static void large_entries(bookie *b) {
+    uint64_t added[40], sent[20];
+    uint8_t digest[32];
+    int count = 0;
+    sha256_state state;
+    sha256_begin(&state);
+    for (uint64_t e = 0; e < 20; e++) added[e] = send_large(b, e);
+    for (int e = 0; e < 20; e++) count += bookie_wait(b, added[e], NULL) == BOOKIE_ACCEPTED;
+    for (uint64_t e = 0; e < 20; e++) {
+        sent[e] = bookie_send(b, BOOKIE_READ, (uint64_t[]){4, e}, NULL, 0);
+        added[20 + e] = send_large(b, 20 + e);
+    }
+    for (int e = 0; e < 20; e++) {
+        bookie_reply reply;
+        must("read", bookie_wait(b, sent[e], &reply), BOOKIE_ENTRY);
+        sha256_add(&state, reply.bytes, reply.length);
+        bookie_reply_free(&reply);
+        count += bookie_wait(b, added[20 + e], NULL) == BOOKIE_ACCEPTED;
+    }
+    sha256_end(&state, digest);
+    printf("large %d ", count);
+    for (int i = 0; i < 32; i++) printf("%02x", digest[i]);
+    printf("\n");
+    bookie_delete(b, 4, NULL);
+}
+
 static void deletions_and_upkeep(bookie *b) {
     uint64_t dropped = 0, front = 0;
     bookie_reply figures;
@@ -228,6 +261,7 @@ static void deletions_and_upkeep(bookie *b) {
     print_ledgers(b);
     printf("compact %s ", refusal(bookie_compact(b, 200, 800)));
     printf("%s\n", refusal(bookie_compact(b, 2000, 0)));
+    large_entries(b);
     must("checkpoint", bookie_checkpoint(b, &front), BOOKIE_DURABLE);
     must("stats", bookie_stats(b, &figures), BOOKIE_FIGURES);
     printf("durable %s failures %llu\n", yes(front >= 10001), (unsigned long long)figures.numbers[5]);

@@ -46,7 +46,8 @@ class Bookie:
 
     def __init__(self, command, **options):
         self.process = subprocess.Popen(command, stdin=subprocess.PIPE, stdout=subprocess.PIPE, **options)
-        self._lock = threading.Lock()
+        # The reader takes `_lock` alone, which nobody holds while a write blocks: so replies are always read.
+        self._lock, self._writing = threading.Lock(), threading.Lock()
         self._waiting, self._last, self._why = {}, 0, None
         self._room = threading.BoundedSemaphore(1)
         self._reader = threading.Thread(target=self._read_all, daemon=True)
@@ -65,17 +66,19 @@ class Bookie:
         future, room = Future(), self._room
         room.acquire()
         future.add_done_callback(lambda _: room.release())
-        with self._lock:
-            if self._why is not None:
-                future.set_exception(Ended(self._why))
+        with self._writing:
+            with self._lock:
+                why, id = self._why, self._last + 1
+                if why is None:
+                    try:
+                        frame = frames.encode(frames.BY_NAME[name], id, fields)
+                    except BaseException as error:
+                        future.set_exception(error)
+                        raise
+                    self._last, self._waiting[id] = id, future
+            if why is not None:
+                future.set_exception(Ended(why))
                 return future
-            try:
-                frame = frames.encode(frames.BY_NAME[name], self._last + 1, fields)
-            except BaseException as error:
-                future.set_exception(error)
-                raise
-            self._last += 1
-            self._waiting[self._last] = future
             try:
                 self.process.stdin.write(frame)
                 self.process.stdin.flush()

@@ -78,6 +78,26 @@ def read_all(bookie, ledgers):
     return f"{count} {digest.hexdigest()}"
 
 
+def large(entry):
+    start = (4 * 31 + entry * 7) & 255
+    return (bytes(range(256)) * 1173)[start : start + 300_000]
+
+
+def large_entries(bookie):
+    """Large adds and large reads at once, all sent ahead: neither side may wait for the other."""
+    added = [bookie.send("add", ledger=4, entry=e, content=large(e)) for e in range(20)]
+    for future in added:
+        future.result()
+    sent, digest = [], hashlib.sha256()
+    for e in range(20):
+        sent.append(bookie.send("read", ledger=4, entry=e))
+        added.append(bookie.send("add", ledger=4, entry=20 + e, content=large(20 + e)))
+    for future in sent:
+        digest.update(future.result().content)
+    print("large", sum(future.result().name == "accepted" for future in added), digest.hexdigest())
+    bookie.delete(4)
+
+
 def yes(value):
     return "yes" if value else "no"
 
@@ -107,6 +127,7 @@ def first_session(bookie):
     print("deleted", bookie.delete(2), refusal(bookie.delete, 2), refusal(bookie.read, 2, 0), refusal(bookie.add, 2, 0, b"x"))
     print("holds", yes(bookie.holds(2, 0)), "ledgers", *bookie.ledgers())
     print("compact", refusal(bookie.compact, 200, 800), refusal(bookie.compact, 2000, 0))
+    large_entries(bookie)
     print("durable", yes(bookie.checkpoint() >= 10001), "failures", bookie.stats().failures)
     bookie.seal()
 

@@ -218,15 +218,18 @@ impl Pending {
 struct Session {
     waiting: HashMap<u64, Sender<Outcome>>,
     last_id: u64,
+    unanswered: usize,
     in_flight: usize,
     /// Why the session ended, if it did.
     end: Option<String>,
-    input: Option<ChildStdin>,
 }
 
 struct Shared {
+    /// Nobody holds it while a write blocks: so replies are always read.
     session: Mutex<Session>,
     answered: Condvar,
+    /// Held while a request gets its id and is written.
+    input: Mutex<Option<ChildStdin>>,
 }
 
 impl Shared {
@@ -253,11 +256,12 @@ impl Bookie {
         let session = Session {
             waiting: HashMap::new(),
             last_id: 0,
+            unanswered: 0,
             in_flight: 1,
             end: None,
-            input: child.stdin.take(),
         };
-        let shared = Arc::new(Shared { session: Mutex::new(session), answered: Condvar::new() });
+        let input = Mutex::new(child.stdin.take());
+        let shared = Arc::new(Shared { session: Mutex::new(session), answered: Condvar::new(), input });
         let theirs = Arc::clone(&shared);
         let reader = thread::spawn(move || read_all(&theirs, BufReader::with_capacity(1 << 16, output)));
         let mut bookie =
@@ -283,22 +287,40 @@ impl Bookie {
     }
 
     fn enqueue(&self, call: Call, numbers: &[u64], bytes: &[u8], sender: &Sender<Outcome>) -> Result<(), Error> {
-        let mut session = self.shared.lock();
-        while session.end.is_none() && session.waiting.len() >= session.in_flight {
-            session = self.shared.answered.wait(session).unwrap_or_else(PoisonError::into_inner);
-        }
-        if let Some(why) = &session.end {
-            return Err(Error::Ended(why.clone()));
-        }
-        let id = session.last_id + 1;
-        let frame = encode(call, id, numbers, bytes).ok_or(Error::Invalid)?;
-        session.last_id = id;
-        session.waiting.insert(id, sender.clone());
-        if let Some(input) = &mut session.input {
+        self.wait_for_room();
+        let mut input = self.shared.input.lock().unwrap_or_else(PoisonError::into_inner);
+        let frame = self.register(call, numbers, bytes, sender)?;
+        if let Some(input) = &mut *input {
             // If this fails, the reader meets the end of the replies and fails what is waiting.
             let _ = input.write_all(&frame);
         }
         Ok(())
+    }
+
+    fn wait_for_room(&self) {
+        let mut session = self.shared.lock();
+        while session.end.is_none() && session.unanswered >= session.in_flight {
+            session = self.shared.answered.wait(session).unwrap_or_else(PoisonError::into_inner);
+        }
+        session.unanswered += 1;
+    }
+
+    /// Returns the frame of a request that is waited for from now on.
+    fn register(&self, call: Call, numbers: &[u64], bytes: &[u8], sender: &Sender<Outcome>) -> Result<Vec<u8>, Error> {
+        let mut session = self.shared.lock();
+        let id = session.last_id + 1;
+        let frame = match &session.end {
+            Some(why) => Err(Error::Ended(why.clone())),
+            None => encode(call, id, numbers, bytes).ok_or(Error::Invalid),
+        };
+        if frame.is_ok() {
+            session.last_id = id;
+            session.waiting.insert(id, sender.clone());
+        } else {
+            session.unanswered -= 1;
+            self.shared.answered.notify_one();
+        }
+        frame
     }
 
     /// Sends a request and waits for its reply.
@@ -443,7 +465,7 @@ impl Bookie {
     }
 
     fn end(&self) -> Result<ExitStatus, Error> {
-        self.shared.lock().input = None;
+        *self.shared.input.lock().unwrap_or_else(PoisonError::into_inner) = None;
         let status = self.child.lock().unwrap_or_else(PoisonError::into_inner).wait()?;
         if let Some(reader) = self.reader.lock().unwrap_or_else(PoisonError::into_inner).take() {
             let _ = reader.join();
@@ -539,6 +561,7 @@ fn read_all(shared: &Shared, mut input: impl Read) {
         let Some(sender) = shared.lock().waiting.remove(&id) else {
             break format!("reply to no request: {id}");
         };
+        shared.lock().unanswered -= 1;
         shared.answered.notify_one();
         let outcome = if reply.status.is_refusal() {
             Err(Error::Refused { status: reply.status, numbers: reply.numbers })

@@ -18,6 +18,25 @@ fn whole(ledger: u64, entry: u64, content: &[u8]) -> Vec<u8> {
     [&ledger.to_be_bytes(), &entry.to_be_bytes(), content].concat()
 }
 
+/// Large adds and large reads at once, all sent ahead: neither side may wait for the other.
+fn large_entries(bookie: &Bookie) -> Result<(), Error> {
+    let large = |e: u64| -> Vec<u8> { (0..300_000).map(|i| (4 * 31 + e * 7 + i) as u8).collect() };
+    let add = |e: u64| bookie.send(Call::Add, &[4, e], &large(e));
+    let first: Vec<Pending> = (0..20).map(add).collect();
+    let mut count = 0;
+    for pending in first {
+        count += usize::from(pending.wait()?.status == Status::Accepted);
+    }
+    let sent: Vec<_> = (0..20).map(|e| (bookie.send(Call::Read, &[4, e], &[]), add(20 + e))).collect();
+    let mut all = Vec::new();
+    for (read, added) in sent {
+        all.extend(read.wait()?.bytes);
+        count += usize::from(added.wait()?.status == Status::Accepted);
+    }
+    println!("large {count} {}", hex(&sha256(&all)));
+    bookie.delete(4).map(drop)
+}
+
 fn yes(is: bool) -> &'static str {
     if is { "yes" } else { "no" }
 }
@@ -125,6 +144,7 @@ fn ledgers(bookie: &Bookie) -> Result<(), Error> {
     println!("{} {}", refusal(bookie.read(2, 0))?, refusal(bookie.add(2, 0, b"x"))?);
     println!("holds {} ledgers {}", yes(bookie.holds(2, 0)?), words(&bookie.ledgers()?));
     println!("compact {} {}", refusal(bookie.compact(200, 800))?, refusal(bookie.compact(2000, 0))?);
+    large_entries(bookie)?;
     println!("durable {} failures {}", yes(bookie.checkpoint()? >= 10001), bookie.stats()?.numbers[5]);
     bookie.seal().map(drop)
 }

@@ -28,6 +28,8 @@ public final class Bookie implements AutoCloseable {
     private final Process process;
     private final OutputStream out;
     private final Thread reader;
+    // Held while a request is written. The reader takes the lock of `this` alone, which nobody holds meanwhile.
+    private final Object writing = new Object();
     private final Map<Long, CompletableFuture<Reply>> waiting = new HashMap<>();
     private final Semaphore room = new Semaphore(1);
     private final long version;
@@ -64,20 +66,26 @@ public final class Bookie implements AutoCloseable {
         CompletableFuture<Reply> future = new CompletableFuture<>();
         room.acquireUninterruptibly();
         future.whenComplete((reply, error) -> room.release());
-        synchronized (this) {
-            if (why != null) {
-                future.completeExceptionally(new SessionEndedException(why));
+        synchronized (writing) {
+            byte[] frame = null;
+            String end;
+            synchronized (this) {
+                end = why;
+                if (end == null) {
+                    try {
+                        frame = Frames.encode(call, lastId + 1, bytes, numbers);
+                    } catch (IllegalArgumentException e) {
+                        future.completeExceptionally(e);
+                        throw e;
+                    }
+                    lastId += 1;
+                    waiting.put(lastId, future);
+                }
+            }
+            if (end != null) {
+                future.completeExceptionally(new SessionEndedException(end));
                 return future;
             }
-            byte[] frame;
-            try {
-                frame = Frames.encode(call, lastId + 1, bytes, numbers);
-            } catch (IllegalArgumentException e) {
-                future.completeExceptionally(e);
-                throw e;
-            }
-            lastId += 1;
-            waiting.put(lastId, future);
             try {
                 out.write(frame);
                 out.flush();

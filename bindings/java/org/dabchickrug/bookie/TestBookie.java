@@ -30,6 +30,29 @@ public final class TestBookie {
         return ByteBuffer.wrap(content(ledgerId, entryId));
     }
 
+    private static ByteBuffer large(int entryId) {
+        byte[] bytes = new byte[300_000];
+        for (int i = 0; i < bytes.length; i++) bytes[i] = (byte) (4 * 31 + entryId * 7 + i);
+        return ByteBuffer.wrap(bytes);
+    }
+
+    /** Large adds and large reads at once, all sent ahead: neither side may wait for the other. */
+    private static void largeEntries(Bookie bookie) throws IOException {
+        List<CompletableFuture<Reply>> added = new ArrayList<>(), sent = new ArrayList<>();
+        for (int e = 0; e < 20; e++) added.add(bookie.sendAdd(4, e, large(e)));
+        for (CompletableFuture<Reply> future : added) Bookie.await(future);
+        for (int e = 0; e < 20; e++) {
+            sent.add(bookie.send(Call.READ, ByteBuffer.allocate(0), 4, e));
+            added.add(bookie.sendAdd(4, 20 + e, large(20 + e)));
+        }
+        MessageDigest digest = sha256();
+        for (CompletableFuture<Reply> future : sent) digest.update(Bookie.await(future).bytes());
+        int count = 0;
+        for (CompletableFuture<Reply> future : added) count += Bookie.await(future).status() == Status.ACCEPTED ? 1 : 0;
+        print("large", count, HexFormat.of().formatHex(digest.digest()));
+        bookie.delete(4);
+    }
+
     private static byte[] whole(long ledgerId, long entryId, ByteBuffer content) {
         ByteBuffer entry = ByteBuffer.allocate(16 + content.remaining());
         return entry.putLong(ledgerId).putLong(entryId).put(content.duplicate()).array();
@@ -174,6 +197,7 @@ public final class TestBookie {
         print("deleted", bookie.delete(2), refusal(() -> bookie.delete(2)), refusal(() -> bookie.read(2, 0)), refusal(() -> bookie.add(2, 0, X)));
         print("holds", bookie.holds(2, 0), "ledgers", ledgers(bookie));
         print("compact", refusal(() -> bookie.compact(200, 800)), refusal(() -> bookie.compact(2000, 0)));
+        largeEntries(bookie);
         print("durable", bookie.checkpoint() >= 10001, "failures", bookie.stats().numbers()[5]);
         bookie.seal();
     }
