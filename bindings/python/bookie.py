@@ -213,12 +213,14 @@ class Bookie:
 
     def close(self):
         """Ends the session in order. Returns the exit status of the server. A second call does nothing."""
-        if self.process.poll() is None and self._why is None:
-            try:
+        try:
+            if self._why is None:
                 self._call("close")
-            except Ended:
-                pass
-        return self._end()
+        except Ended:
+            pass
+        finally:
+            status = self._end()
+        return status
 
     def kill(self):
         """Ends the server at once, as a crash does."""
