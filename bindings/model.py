@@ -2,13 +2,15 @@
 """A model of `bookie serve` (protocol.md), for the tests of the clients: usage: model.py serve DIR
 
 It keeps everything in memory and appends what is durable to DIR/model.log, so that a test can kill it
-and open the directory again. It shares no code with the clients. It is no bookie: it has no entry
-logs, one thread, no checks of its file, and no limits but those of frames.
+and open the directory again. Replies that may overtake do: those of reads come late and backwards. It
+shares no code with the clients. It is no bookie: it has no entry logs, one thread, no checks of its
+file, and no limits but those of frames.
 """
 
 import fcntl
 import hashlib
 import os
+import select
 import struct
 import sys
 
@@ -26,6 +28,9 @@ CALLS = {
     19: ("checkpoint", 0, 0, 0), 20: ("compact", 2, 0, 0), 21: ("stats", 0, 0, 0), 22: ("seal", 0, 0, 0),
     23: ("close", 0, 0, 0),
 }
+READS = ("read", "read_last", "read_back", "last_entry", "holds", "entries", "ledgers", "is_fenced", "master_key",
+         "explicit_lac", "stats")
+MOST_HELD = 16
 WITHOUT_LEDGER = ("hello", "ledgers", "flush", "checkpoint", "compact", "stats", "seal", "close")
 
 
@@ -226,6 +231,42 @@ class Model:
 
 
 
+class Source:
+    """The input, and whether more of it is there."""
+
+    def __init__(self, file):
+        self.file, self.data = file, bytearray()
+
+    def read(self, size):
+        while len(self.data) < size and (more := os.read(self.file, 1 << 20)):
+            self.data += more
+        taken = bytes(self.data[:size])
+        del self.data[:size]
+        return taken
+
+    def is_idle(self):
+        return len(self.data) < 4 and not select.select([self.file], [], [], 0)[0]
+
+
+class Sink:
+    """The output, and replies to reads that are held back."""
+
+    def __init__(self, stream):
+        self.stream, self.held = stream, []
+
+    def reply(self, id, status, numbers, tail):
+        head = struct.pack(f">IQB{len(numbers)}Q", 9 + 8 * len(numbers) + len(tail), id, status, *numbers)
+        self.stream.write(head + tail)
+        self.stream.flush()
+
+    def hold(self, *reply):
+        self.held.append(reply)
+
+    def let_go(self):
+        while self.held:
+            self.reply(*self.held.pop())
+
+
 def read_frame(stream):
     """Returns the id, call, fields of the next frame, or None at the end."""
     head = stream.read(4)
@@ -252,11 +293,6 @@ def parse(id, call, body):
     return name, struct.unpack_from(f">{count}Q", body), body[8 * count :] if most else None
 
 
-def reply(stream, id, status, numbers, tail):
-    stream.write(struct.pack(f">IQB{len(numbers)}Q", 9 + 8 * len(numbers) + len(tail), id, status, *numbers) + tail)
-    stream.flush()
-
-
 def greet(source, sink, directory):
     """Answers the hello. Returns the model, or None if the session has no version or no directory."""
     frame = read_frame(source)
@@ -271,22 +307,22 @@ def greet(source, sink, directory):
     try:
         model = Model(directory)
     except BlockingIOError:
-        reply(sink, id, 84, (), b"")
+        sink.reply(id, 84, (), b"")
         return None
-    reply(sink, id, 32, (VERSION, LARGEST, IN_FLIGHT, PAGE), b"")
+    sink.reply(id, 32, (VERSION, LARGEST, IN_FLIGHT, PAGE), b"")
     return id, model
 
 
 def serve(directory):
     """Serves one session. Returns the exit status."""
-    source, sink = sys.stdin.buffer, sys.stdout.buffer
+    source, sink = Source(0), Sink(sys.stdout.buffer)
     model = None
     try:
         opened = greet(source, sink, directory)
         if opened is None:
             return 1
         last, model = opened
-        while (frame := read_frame(source)) is not None:
+        while (frame := next_frame(source, sink)) is not None:
             id, call, body = frame
             if id <= last:
                 raise Fault(104, (id, last), id)
@@ -294,17 +330,32 @@ def serve(directory):
             name, numbers, tail = parse(id, call, body)
             if name == "hello":
                 raise Fault(98, (), id)
-            reply(sink, id, *model.call(name, numbers, tail, body))
+            answer = model.call(name, numbers, tail, body)
+            if name in READS:
+                sink.hold(id, *answer)
+                continue
+            if name == "close":
+                sink.let_go()
+            sink.reply(id, *answer)
             if name == "close":
                 return 0
+        sink.let_go()
         model.flush()
         return 0
     except Fault as fault:
         status, numbers, id = fault.args
+        sink.let_go()
         if model is not None:
             model.flush()
-        reply(sink, id, status, numbers, b"")
+        sink.reply(id, status, numbers, b"")
         return 1
+
+
+def next_frame(source, sink):
+    """Returns the next frame. Replies that are held back go out when no request is there, and when they are many."""
+    if len(sink.held) >= MOST_HELD or source.is_idle():
+        sink.let_go()
+    return read_frame(source)
 
 
 if __name__ == "__main__":
