@@ -7,6 +7,8 @@ use Rattle.std.proofs.lemmas.Bool.{cases_lt, and_parts, leb-true}
 use Rattle.std.proofs.lemmas.List.{take_at, take-append-drop, length-take, length-drop, drop-drop, get_or-drop, get_or-take, get_or_past}
 use Rattle.std.proofs.lemmas.Nat.{be_bytes_8, from_be_bytes-to_be_bytes_8}
 use Rattle.bk_serve_core.specs.declared.layout.Layout.{Layout}
+use Rattle.std.specs.Prelude.{slice_index}
+use Rattle.bk_serve_core.specs.Encoding.{AreNumbers}
 use Rattle.bk_serve_core.specs.Layouts.{fits, numbers, then_bytes}
 use Rattle.bk_serve_core.specs.Fields.{IsBytes, fields, word, parts, body_of, FitsLayout}
 
@@ -174,3 +176,13 @@ by_4 g a0 a1 a2 a3 f = ap (λ (t : ℕ). g t (back a1) (back a2) (back a3)) (bac
 
 pub by_8 : {A : Type 0} (g : ℕ → ℕ → ℕ → ℕ → ℕ → ℕ → ℕ → ℕ → A) (a0 a1 a2 a3 a4 a5 a6 a7 : ℕ) → Below (a0 ∷ a1 ∷ a2 ∷ a3 ∷ a4 ∷ a5 ∷ a6 ∷ a7 ∷ []) → g (back a0) (back a1) (back a2) (back a3) (back a4) (back a5) (back a6) (back a7) ≡ g a0 a1 a2 a3 a4 a5 a6 a7
 by_8 g a0 a1 a2 a3 a4 a5 a6 a7 f = ap (λ (t : ℕ). g t (back a1) (back a2) (back a3) (back a4) (back a5) (back a6) (back a7)) (back_is a0 f.0) ∙ ap (λ (t : ℕ). g a0 t (back a2) (back a3) (back a4) (back a5) (back a6) (back a7)) (back_is a1 f.1.0) ∙ ap (λ (t : ℕ). g a0 a1 t (back a3) (back a4) (back a5) (back a6) (back a7)) (back_is a2 f.1.1.0) ∙ ap (λ (t : ℕ). g a0 a1 a2 t (back a4) (back a5) (back a6) (back a7)) (back_is a3 f.1.1.1.0) ∙ ap (λ (t : ℕ). g a0 a1 a2 a3 t (back a5) (back a6) (back a7)) (back_is a4 f.1.1.1.1.0) ∙ ap (λ (t : ℕ). g a0 a1 a2 a3 a4 t (back a6) (back a7)) (back_is a5 f.1.1.1.1.1.0) ∙ ap (λ (t : ℕ). g a0 a1 a2 a3 a4 a5 t (back a7)) (back_is a6 f.1.1.1.1.1.1.0) ∙ ap (λ (t : ℕ). g a0 a1 a2 a3 a4 a5 a6 t) (back_is a7 f.1.1.1.1.1.1.1.0)
+
+-- number of bytes of fields
+pub length_fields : (ns tail : List ℕ) → length (fields ns tail) ≡ 8 * length ns + length tail
+length_fields [] tail = omega arith
+length_fields (n ∷ ns) tail = omega (arith, length_fields ns tail)
+
+-- numbers that each have eight bytes
+pub are_numbers : (ns : List ℕ) → ((i : ℕ) → slice_index ns i < 2 ^ 64) → AreNumbers ns
+are_numbers [] each = tt
+are_numbers (n ∷ ns) each = (each 0, are_numbers ns (λ i. each (suc i)))

@@ -1,14 +1,14 @@
 -- A reply that was written is read, and what is read was written so.
-use Rattle.std.proofs.Common.{◌≡◌, ◌⊎◌, ◌+◌, ◌-◌, inl, inr, ℕ, zero, suc, ◌<◌, ◌≤◌, ◌^◌, Bool, true, false, cond, ◌||◌, eqb, ltb, leb, List, [], ◌∷◌, ◌++◌, length, drop, Result, Ok, Err, refl, sym, ap, subst, ◌∙◌, arith}
+use Rattle.std.proofs.Common.{◌≡◌, ◌+◌, ◌-◌, ℕ, ◌<◌, ◌≤◌, true, List, [], ◌∷◌, length, drop, Result, Ok, refl, sym, subst, arith}
 use Rattle.bk_serve_core.specs.declared.fault.Fault.{Fault}
-use Rattle.bk_serve_core.specs.declared.fault.Fault.TheVariants.{NoKind, UnknownKind, BadLength}
-use Rattle.bk_serve_core.specs.Fields.{IsBytes, Parts, parts, fields, body_of, FitsLayout, word}
+use Rattle.bk_serve_core.specs.declared.fault.Fault.TheVariants.{UnknownKind, BadLength}
+use Rattle.bk_serve_core.specs.Fields.{IsBytes}
 use Rattle.bk_serve_core.proofs.Statuses.{IsInRange, range_of}
 use Rattle.bk_serve_core.proofs.Statuses.IsInRange.{of_done, of_refusal, of_end}
 use Rattle.bk_serve_core.specs.declared.refusal.Refusal.TheVariants as f
 use Rattle.bk_serve_core.specs.declared.ended.Ended.TheVariants as e
 use Rattle.bk_serve_core.specs.Layouts.{fits, reply_layout}
-use Rattle.bk_serve_core.specs.Replies.{Told, told_parts, told_bytes, told_at, answer_at, refusal_at, ended_at, is_status, replied, Fits}
+use Rattle.bk_serve_core.specs.Replies.{Told, told_bytes, told_at, answer_at, refusal_at, ended_at, is_status, replied, Fits}
 use Rattle.bk_serve_core.specs.Replies.Told.{done, refused, ended}
 use Rattle.bk_serve_core.specs.Replies.Answer.{welcome, accepted, held, entry, not_held, last, says_yes, says_no, page, fenced_now, fenced_before, dropped, stored, attribute, no_attribute, flushed, durable, compacted, figures, sealed, nothing_open, closed}
 use Rattle.bk_serve_core.proofs.Numbers.{exact, tailed, words_at, words_below, written, chosen, taken_then, IsBytes-drop, Each, each_below, by_1, by_2, by_4, by_8}

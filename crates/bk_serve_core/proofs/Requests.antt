@@ -1,12 +1,11 @@
 -- A request that was written is read, and what is read was written so.
-use Rattle.std.proofs.Common.{◌≡◌, ℕ, zero, suc, ◌+◌, ◌<◌, ◌≤◌, ◌^◌, Bool, true, false, cond, ◌||◌, eqb, ltb, leb, List, [], ◌∷◌, ◌++◌, length, drop, Result, Ok, Err, refl, sym, ap, subst, ◌∙◌, arith}
+use Rattle.std.proofs.Common.{◌≡◌, ℕ, zero, suc, ◌≤◌, Bool, true, false, ◌||◌, eqb, ltb, List, [], ◌∷◌, length, drop, Result, Ok, refl, sym, subst, arith}
 use Rattle.bk_serve_core.specs.declared.fault.Fault.{Fault}
-use Rattle.bk_serve_core.specs.declared.fault.Fault.TheVariants.{NoKind, UnknownKind, BadLength}
-use Rattle.bk_serve_core.specs.Fields.{IsBytes, Parts, parts, fields, body_of, FitsLayout, word}
+use Rattle.bk_serve_core.specs.declared.fault.Fault.TheVariants.{UnknownKind, BadLength}
+use Rattle.bk_serve_core.specs.Fields.{IsBytes}
 use Rattle.std.proofs.lemmas.Bool.{ltb-false}
 use Rattle.bk_serve_core.specs.Layouts.{fits, request_layout}
-use Rattle.bk_serve_core.specs.Requests
-use Rattle.bk_serve_core.specs.Requests.{Ask, ask_parts, ask_bytes, ask_at, asked, Fits}
+use Rattle.bk_serve_core.specs.Requests.{Ask, ask_bytes, ask_at, asked, Fits}
 use Rattle.bk_serve_core.specs.Requests.Ask.{hello, add, add_recovery, read, read_last, read_back, last_entry, holds, entries, ledgers, fence, is_fenced, delete, set_master_key, master_key, set_explicit_lac, explicit_lac, flush, checkpoint, compact, stats, seal, close}
 use Rattle.bk_serve_core.proofs.Numbers.{exact, tailed, words_at, words_below, written, chosen, taken_else, IsBytes-drop, Each, each_below, by_1, by_2, by_3}
 

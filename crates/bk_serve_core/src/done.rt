@@ -3,8 +3,8 @@
 /// What was done. The number of a variant in the protocol is its status.
 #[derive(Clone, Copy, PartialEq, Eq)]
 pub enum Done<'a> {
-    /// Answers `Hello`: the version of the session, the greatest frame length, the greatest number of
-    /// requests without a reply, and the greatest number of ids of a page.
+    /// Answers `Hello`: the version of the session, the greatest length of a frame, the greatest
+    /// number of requests without a reply, and the greatest number of ids of a page.
     Welcome {
         version: u64,
         largest: u64,
@@ -67,8 +67,8 @@ pub enum Done<'a> {
         logs: u64,
         entries: u64,
     },
-    /// The store: its logs, their bytes, the bytes of live records, the bytes in the write caches, leases
-    /// that are out, failed calls of the device, the next log's id, the length of the trail.
+    /// The store: its logs, their bytes, the bytes of live records, the bytes in the write caches,
+    /// leases that are out, failed calls of the device, the next log's id, the length of the trail.
     Figures {
         logs: u64,
         bytes: u64,

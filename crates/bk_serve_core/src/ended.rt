@@ -14,7 +14,8 @@ pub enum Ended {
     /// A later frame is a hello.
     #[error("second hello")]
     SecondHello,
-    /// The input ended after `read` of the `length` bytes of a frame, or of the 4 of a length field.
+    /// The input ended after `read` of the `length` bytes of a frame, or of the 4 of a length
+    /// field.
     #[error("cut frame {length} {read}")]
     Cut { length: u64, read: u64 },
     /// A frame has this length, less than that of an id and a kind.

@@ -40,7 +40,8 @@ pub enum FrameFault {
     /// The frame has this length, more than the longest.
     #[error("oversized frame {0}")]
     Oversized(u32),
-    /// The input ended after `read` of the `length` bytes of a frame, or of the 4 of a length field.
+    /// The input ended after `read` of the `length` bytes of a frame, or of the 4 of a length
+    /// field.
     #[error("cut frame {length} {read}")]
     Cut { length: u64, read: u64 },
     /// The reader or the writer failed.

@@ -4,7 +4,7 @@ ghost use Rattle.std.specs.Prelude.{◌≡◌, ◌++◌, ◌<◌, ◌≤◌, tru
 ghost use Rattle.std.specs.Int.{w32, w64, to_be_bytes};
 ghost use Rattle.std.specs.Io.KnownBytes as known;
 ghost use Rattle.std.specs.Io.KnownBytes.{Consumes, IsAtEnd};
-ghost use Rattle.bk_serve_core.specs.Reading.{ReadsFrame};
+ghost use Rattle.bk_serve_core.specs.Reading.{ReadsFrame, ReadsLength};
 
 use crate::FrameFault;
 use byteorder::{BigEndian, ByteOrder};
@@ -47,6 +47,48 @@ fn fill<R: Read>(reader: &mut R, buffer: &mut [u8]) -> Result<usize, FrameFault>
     Err(FrameFault::Device)
 }
 
+/// Reads a length field, or nothing at the end of the input.
+fn read_length<R: Read>(reader: &mut R) -> Result<Option<u32>, FrameFault>
+    ensures { IfOk result (λ found. ReadsLength found (R.remaining reader.old) (R.remaining reader.new)) }
+{
+    let mut field = [0; 4];
+    let got = fill(reader, &mut field)?;
+    if got == 0 {
+        return Ok(None);
+    }
+    if got < 4 {
+        return Err(FrameFault::Cut {
+            length: 4,
+            read: got as u64,
+        });
+    }
+    let length = u32::from_be_bytes(field);
+    if length < SHORTEST_FRAME {
+        return Err(FrameFault::Short(length));
+    }
+    if length > LONGEST_FRAME {
+        return Err(FrameFault::Oversized(length));
+    }
+    Ok(Some(length))
+}
+
+/// Reads a frame of this length.
+fn read_rest<R: Read>(reader: &mut R, frame: &mut Vec<u8>, size: u32) -> Result<(), FrameFault>
+    ensures len { OnOk result (length frame.new.items ≡ size) }
+    ensures bytes { OnOk result (Consumes (R.remaining reader.old) (R.remaining reader.new) frame.new.items) }
+{
+    frame.clear();
+    frame.resize(size as usize, 0)?;
+    let got = fill(reader, frame.as_mut_slice())?;
+    if got < size as usize {
+        return Err(FrameFault::Cut {
+            length: u64::from(size),
+            read: got as u64,
+        });
+    }
+    Ok(())
+}
+
 /// Reads the next frame into `frame`: its id and its other bytes, without the length field. Returns
 /// false if the input ends before a frame.
 ///
@@ -62,33 +104,10 @@ fn fill<R: Read>(reader: &mut R, buffer: &mut [u8]) -> Result<usize, FrameFault>
 pub fn read_frame<R: Read>(reader: &mut R, frame: &mut Vec<u8>) -> Result<bool, FrameFault>
     ensures { IfOk result (λ is. ReadsFrame is (R.remaining reader.old) (R.remaining reader.new) frame.new.items) }
 {
-    let mut field = [0; 4];
-    let got = fill(reader, &mut field)?;
-    if got == 0 {
+    let Some(size) = read_length(reader)? else {
         return Ok(false);
-    }
-    if got < 4 {
-        return Err(FrameFault::Cut {
-            length: 4,
-            read: got as u64,
-        });
-    }
-    let length = u32::from_be_bytes(field);
-    if length < SHORTEST_FRAME {
-        return Err(FrameFault::Short(length));
-    }
-    if length > LONGEST_FRAME {
-        return Err(FrameFault::Oversized(length));
-    }
-    frame.clear();
-    frame.resize(length as usize, 0)?;
-    let got = fill(reader, frame.as_mut_slice())?;
-    if got < length as usize {
-        return Err(FrameFault::Cut {
-            length: u64::from(length),
-            read: got as u64,
-        });
-    }
+    };
+    read_rest(reader, frame, size)?;
     Ok(true)
 }
 
