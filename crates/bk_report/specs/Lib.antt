@@ -1,0 +1,7 @@
+pub mod Html
+pub mod Numbers
+pub mod Parts
+pub mod Compaction
+pub mod Classes
+pub mod Histogram
+pub mod Totals

@@ -1,0 +1,26 @@
+//! A page on a folder of entry logs: one HTML file that loads nothing, made from numbers that its
+//! caller has counted.
+#![tactic(auto)]
+
+mod compaction;
+mod escape;
+mod histogram;
+mod number;
+mod page;
+mod part;
+mod report;
+mod scale;
+mod size;
+mod totals;
+
+pub use compaction::{Effect, effect_of};
+pub use escape::write_text;
+pub use histogram::{CLASSES, Histogram, size_class};
+pub use number::write_number;
+pub use page::write_page;
+pub use part::Part;
+pub use report::{LedgerRow, LogRow, ManifestRow, ManifestTable, Promise, Report, Thresholds};
+pub use totals::{Totals, totals_of};
+
+#[cfg(test)]
+mod tests;
