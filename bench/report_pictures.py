@@ -3,13 +3,16 @@
 
 usage: bench/report_pictures.py DIR [COUNT..]     COUNT: numbers of logs, else 1 30 3000
 
-Writes DIR/COUNT.html, the page of a made-up folder, which the toolchain makes from the sources without a proof; then
+Writes DIR/COUNT.html, the page of a made-up directory, which the toolchain makes from the sources without a proof; then
 DIR/COUNT-light.png and DIR/COUNT-dark.png, and DIR/COUNT.pdf as it is printed. The browser is $BROWSER, else chromium.
+
+       bench/report_pictures.py --page FILE      writes the picture of the operator's page, docs/report.png
 """
 
 import os
 import subprocess
 import sys
+import tempfile
 from pathlib import Path
 
 TOP = Path(__file__).resolve().parent.parent
@@ -17,10 +20,12 @@ CRATE = TOP / "crates" / "bk_report_sample"
 PIECE = 1_000_000
 WIDTH = 1200
 SCHEMES = {"light": 1, "dark": 0}
+# The page of which docs/report.png is a picture: its logs, and how much of it is seen.
+PAGE_LOGS, PAGE_HEIGHT = 6, 880
 
 
 def page(count):
-    """Returns the page of a made-up folder, which the program writes in pieces."""
+    """Returns the page of a made-up directory, which the program writes in pieces."""
     found, piece = b"", 0
     while len(found) == PIECE * piece:
         command = ["rt", "try", "--", str(count), str(piece)]
@@ -41,21 +46,31 @@ def browse(*words):
     return ran.stdout
 
 
+def picture(page, scheme, height, file):
+    """Writes a picture of a page in a window of this height."""
+    browse(
+        f"--blink-settings=preferredColorScheme={SCHEMES[scheme]}",
+        f"--window-size={WIDTH},{height}",
+        f"--screenshot={file}",
+        page.resolve().as_uri(),
+    )
+
+
 def take(folder, count):
     file = folder / f"{count}.html"
     file.write_bytes(page(count))
-    height = 1900 if count < 10 else 3400
-    for name, scheme in SCHEMES.items():
-        browse(
-            f"--blink-settings=preferredColorScheme={scheme}",
-            f"--window-size={WIDTH},{height}",
-            f"--screenshot={folder / f'{count}-{name}.png'}",
-            file.resolve().as_uri(),
-        )
+    for scheme in SCHEMES:
+        picture(file, scheme, 1900 if count < 10 else 3600, folder / f"{count}-{scheme}.png")
     browse(f"--print-to-pdf={folder / f'{count}.pdf'}", "--no-pdf-header-footer", file.resolve().as_uri())
 
 
 def main(words):
+    if len(words) == 2 and words[0] == "--page":
+        with tempfile.TemporaryDirectory() as folder:
+            file = Path(folder) / "page.html"
+            file.write_bytes(page(PAGE_LOGS))
+            picture(file, "light", PAGE_HEIGHT, words[1])
+        return
     if not words or words[0].startswith("-"):
         sys.exit(__doc__)
     folder = Path(words[0])

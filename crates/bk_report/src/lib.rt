@@ -1,4 +1,4 @@
-//! A page on a folder of entry logs: one HTML file that loads nothing, made from numbers that its
+//! A page on a directory of entry logs: one HTML file that loads nothing, made from numbers that its
 //! caller has counted.
 #![tactic(auto)]
 

@@ -2,7 +2,7 @@
 
 use crate::Histogram;
 
-/// A log of the folder. Its bytes are those of its file; the rest after the five parts is the
+/// A log of the directory. Its bytes are those of its file; the rest after the five parts is the
 /// header.
 #[derive(Drop)]
 pub struct LogRow {
@@ -84,9 +84,9 @@ pub struct ManifestTable {
 /// What a page shows.
 #[derive(Drop)]
 pub struct Report {
-    /// The name of the folder.
+    /// The name of the directory.
     pub folder: String,
-    /// When the folder was read.
+    /// When the directory was read.
     pub time: String,
     /// The logs, by rising id.
     pub logs: Vec<LogRow>,

@@ -214,8 +214,10 @@ fn page_shows_each_part_and_no_text_as_markup(rt: HostRuntime) -> Result<(), Fai
         "Deleted ledgers: 2 (12, 13).",
         "Fenced ledgers: 0.",
         "<span title=\"373 bytes\">373 B</span>",
-    ] {
-        assert!(rt; page.contains(part), "{part}");
+    ]
+    .iter()
+    {
+        assert!(rt; page.contains(*part), "{part}");
     }
     Ok(())
 }
@@ -261,8 +263,10 @@ fn write_that_fails_is_reported(rt: HostRuntime) -> Result<(), Fail> {
     logs.push(mixed(0))?;
     let report = report(rt.alloc(), logs)?;
     let length = page_of(rt.alloc(), &report)?.len();
-    for part in 0..30 {
-        let room = length / 30 * part;
+    assert!(rt; length > 15_000);
+    for room in [
+        0, 15, 1000, 4000, 5000, 5500, 6000, 7000, 9000, 11_000, 13_000, 15_000,
+    ] {
         assert!(rt;
             write_page(&report, &mut Full { room }).is_err(),
             "with room for {room}"

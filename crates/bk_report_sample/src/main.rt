@@ -1,4 +1,4 @@
-//! Writes the page of a made-up folder, to be looked at.
+//! Writes the page of a made-up directory, to be looked at.
 //!
 //! The words are the number of logs, 1 without a word, and which million bytes of the page are
 //! written, 0 without a word: some runners take no more output at once.

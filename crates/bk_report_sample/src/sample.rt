@@ -1,4 +1,4 @@
-//! A made-up folder. Its numbers are plausible, and the same at each call.
+//! A made-up directory. Its numbers are plausible, and the same at each call.
 
 use bk_report::{
     Histogram, LedgerRow, LogRow, ManifestRow, ManifestTable, Promise, Report, Thresholds,
@@ -11,7 +11,7 @@ const HEADER: u64 = 1024;
 /// The greatest number of ledgers that are shown.
 const LEDGERS: u64 = 20;
 
-/// Returns a report on a made-up folder of so many logs.
+/// Returns a report on a made-up directory of so many logs.
 pub(crate) fn sample_of(alloc: Global, count: u32) -> Result<Report, AllocError> {
     let mut logs = Vec::new(alloc);
     for log in 0..count {

@@ -1,5 +1,7 @@
 //! What a compaction would free, as a curve over the threshold.
 
+ghost use Rattle.std.specs.Prelude.{◌≤◌};
+
 use super::thresholds::write_table;
 use crate::scale::scaled;
 use crate::size::write_size;
@@ -147,7 +149,9 @@ fn place(threshold: u32) -> u64 {
 }
 
 /// Returns the place of an amount from the top.
-fn level(bytes: u64, most: u64) -> u64 {
+fn level(bytes: u64, most: u64) -> u64
+    ensures { result ≤ BOTTOM }
+{
     BOTTOM - scaled(bytes, most, HEIGHT)
 }
 

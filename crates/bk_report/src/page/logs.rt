@@ -17,7 +17,7 @@ const MOST_BARS: usize = 100;
 pub(super) fn write_section<W: Write>(logs: &[LogRow], most: u64, out: &mut W) -> io::Result<()> {
     out.write_all(b"<section>\n<h2>Logs</h2>\n")?;
     if logs.is_empty() {
-        return out.write_all(b"<p>The folder has no log.</p>\n</section>\n");
+        return out.write_all(b"<p>The directory has no log.</p>\n</section>\n");
     }
     out.write_all(LEGEND.as_bytes())?;
     if logs.len() <= MOST_BARS {

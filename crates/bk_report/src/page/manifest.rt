@@ -49,18 +49,26 @@ fn write_manifest<W: Write>(
 fn write_ledgers<W: Write>(name: &'static str, ledgers: &[u64], out: &mut W) -> io::Result<()> {
     write!(out, "<p>{name}: ")?;
     write_number(out, ledgers.len() as u64)?;
-    let mut before = " (";
-    for ledger in ledgers.iter().take(MOST_LISTED) {
-        write!(out, "{before}{ledger}")?;
-        before = ", ";
-    }
-    if ledgers.len() > MOST_LISTED {
-        out.write_all(b", ..")?;
-    }
     if !ledgers.is_empty() {
+        out.write_all(b" (")?;
+        write_ids(ledgers, out)?;
         out.write_all(b")")?;
     }
     out.write_all(b".</p>\n")
+}
+
+/// Writes the ids of ledgers, separated by commas; dots for those past the greatest number.
+fn write_ids<W: Write>(ledgers: &[u64], out: &mut W) -> io::Result<()> {
+    for (place, ledger) in ledgers.iter().enumerate() {
+        if place == MOST_LISTED {
+            return out.write_all(b", ..");
+        }
+        if place > 0 {
+            out.write_all(b", ")?;
+        }
+        write!(out, "{ledger}")?;
+    }
+    Ok(())
 }
 
 /// Writes the table of the logs of a manifest.

@@ -62,7 +62,7 @@ fn write_row<W: Write>(
     out.write_all(b"<tr><td class=\"text\">")?;
     write_titled_size(out, bound_of(class))?;
     out.write_all(b"</td><td class=\"text\">")?;
-    write_titled_size(out, bound_of(class + 1))?;
+    write_titled_size(out, bound_of(class.saturating_add(1)))?;
     out.write_all(b"</td><td class=\"chart\">")?;
     write_amount_bar("live", count, most, out)?;
     out.write_all(b"</td><td>")?;

@@ -26,9 +26,9 @@ code { font: .92em ui-monospace, monospace; }
 .quiet { color: var(--quiet); }
 .bad { color: var(--doubtful); }
 .good { color: var(--good); }
-.tiles { display: grid; grid-template-columns: repeat(auto-fit, minmax(10.4rem, 1fr)); gap: .6rem; margin: 1.2rem 0; padding: 0; }
+.tiles { display: grid; grid-template-columns: repeat(auto-fit, minmax(9.4rem, 1fr)); gap: .6rem; margin: 1.2rem 0; padding: 0; }
 .tiles li { list-style: none; background: var(--panel); border: 1px solid var(--line); border-radius: 6px; padding: .5rem .75rem; color: var(--quiet); }
-.tiles b { display: block; font-size: 1.2rem; font-weight: 600; color: var(--ink); }
+.tiles b { display: block; font-size: 1.15rem; font-weight: 600; color: var(--ink); }
 .tiles b.bad { color: var(--doubtful); }
 .tiles b.good { color: var(--good); }
 a { color: inherit; }
@@ -48,12 +48,12 @@ a { color: inherit; }
     "
 .scroll { overflow-x: auto; }
 table { border-collapse: collapse; width: 100%; font-variant-numeric: tabular-nums; font-size: .9rem; }
-th, td { padding: .25rem .55rem; text-align: right; border-bottom: 1px solid var(--line); white-space: nowrap; }
+th, td { padding: .25rem .42rem; text-align: right; border-bottom: 1px solid var(--line); white-space: nowrap; }
 th { font-weight: 600; color: var(--quiet); }
 th:first-child, td:first-child { padding-left: 0; }
 td.text, th.text { text-align: left; white-space: normal; overflow-wrap: break-word; min-width: 5.5rem; }
 th.id, td.id { text-align: left; width: 1%; padding-right: 1.2rem; }
-td.chart { width: 30%; min-width: 9rem; }
+td.chart { width: 30%; min-width: 7rem; }
 table.narrow { max-width: 52rem; }
 tr.mark td { font-weight: 600; }
 svg { display: block; width: 100%; }
