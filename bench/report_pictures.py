@@ -21,7 +21,7 @@ PIECE = 1_000_000
 WIDTH = 1200
 SCHEMES = {"light": 1, "dark": 0}
 # The page of which docs/report.png is a picture: its logs, and how much of it is seen.
-PAGE_LOGS, PAGE_HEIGHT = 6, 880
+PAGE_LOGS, PAGE_HEIGHT, PAGE_SCALE = 6, 1120, 0.75
 
 
 def page(count):
@@ -46,13 +46,14 @@ def browse(*words):
     return ran.stdout
 
 
-def picture(page, scheme, height, file):
+def picture(html, scheme, height, file, scale=1):
     """Writes a picture of a page in a window of this height."""
     browse(
+        f"--force-device-scale-factor={scale}",
         f"--blink-settings=preferredColorScheme={SCHEMES[scheme]}",
         f"--window-size={WIDTH},{height}",
         f"--screenshot={file}",
-        page.resolve().as_uri(),
+        html.resolve().as_uri(),
     )
 
 
@@ -69,7 +70,7 @@ def main(words):
         with tempfile.TemporaryDirectory() as folder:
             file = Path(folder) / "page.html"
             file.write_bytes(page(PAGE_LOGS))
-            picture(file, "light", PAGE_HEIGHT, words[1])
+            picture(file, "light", PAGE_HEIGHT, words[1], PAGE_SCALE)
         return
     if not words or words[0].startswith("-"):
         sys.exit(__doc__)

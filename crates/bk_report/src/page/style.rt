@@ -51,7 +51,7 @@ table { border-collapse: collapse; width: 100%; font-variant-numeric: tabular-nu
 th, td { padding: .25rem .42rem; text-align: right; border-bottom: 1px solid var(--line); white-space: nowrap; }
 th { font-weight: 600; color: var(--quiet); }
 th:first-child, td:first-child { padding-left: 0; }
-td.text, th.text { text-align: left; white-space: normal; overflow-wrap: break-word; min-width: 5.5rem; }
+td.text, th.text { text-align: left; white-space: normal; overflow-wrap: break-word; min-width: 6.2rem; }
 th.id, td.id { text-align: left; width: 1%; padding-right: 1.2rem; }
 td.chart { width: 30%; min-width: 7rem; }
 table.narrow { max-width: 52rem; }
