@@ -6,7 +6,9 @@ ghost use Rattle.std.specs.FinMap as map;
 ghost use Rattle.bk_disk.specs.Disk.{FailsExactlyOnDiskFault};
 
 use crate::folder::{Folder, fault_of};
-use crate::{DirView, DiskFault, FaultWatch, FileFault, FolderFault, LogDisk, WatermarkDisk};
+use crate::{
+    CutDisk, DirView, DiskFault, FaultWatch, FileFault, FolderFault, LogDisk, WatermarkDisk,
+};
 use std::alloc::{AllocError, Global};
 
 /// A directory of entry logs, each a file with the name of `name_of`. Files of other names are
@@ -211,6 +213,15 @@ impl LogDisk for DirDisk {
 
     fn remove(&mut self, alloc: Global, log: u32) -> Result<(), DiskFault> {
         let answer = self.folder.unlink(alloc, log);
+        counted(&mut self.failures, answer)
+    }
+}
+
+/// What stands behind the first `length` bytes of the file is first copied to a new file beside it,
+/// `N.log.cut.K`, which is synced. Then the file is truncated and synced.
+impl CutDisk for DirDisk {
+    fn cut(&mut self, alloc: Global, log: u32, length: u64) -> Result<(), DiskFault> {
+        let answer = self.folder.cut(alloc, log, length);
         counted(&mut self.failures, answer)
     }
 }

@@ -6,6 +6,7 @@
 //! for later calls on the log if its contents or its file are in doubt (`trouble.rt`).
 
 mod aside;
+mod cutting;
 mod marks;
 mod writing;
 

@@ -4,7 +4,9 @@
 
 mod blocks;
 mod chunks;
+mod copying;
 mod countdown;
+mod cut_disk;
 mod dir_disk;
 mod dir_view;
 mod disk;
@@ -29,6 +31,7 @@ mod refusal;
 mod trouble;
 mod unsynced;
 
+pub use cut_disk::CutDisk;
 pub use dir_disk::DirDisk;
 pub use dir_view::DirView;
 pub use disk::{LogDisk, LogView};

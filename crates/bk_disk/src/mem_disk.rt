@@ -8,7 +8,7 @@ ghost use Rattle.bk_disk.specs.Logs.{listed, IsListing};
 ghost use Rattle.bk_disk.specs.Watermarks.{full_watermarks};
 
 use crate::blocks::Blocks;
-use crate::{DiskFault, LogDisk, MemView, WatermarkDisk};
+use crate::{CutDisk, DiskFault, LogDisk, MemView, WatermarkDisk};
 use bk_record::MAX_LOG_LENGTH;
 use std::alloc::{AllocError, Global};
 use std::collections::BTreeMap;
@@ -159,6 +159,20 @@ impl LogDisk for MemDisk {
             Some(_) => Ok(()),
             None => Err(DiskFault::NoLog),
         }
+    }
+}
+
+#[tactic(auto, using(crate::proofs::FileMaps::file_maps, crate::proofs::Cutting::uncut_keeps))]
+impl CutDisk for MemDisk {
+    fn cut(&mut self, alloc: Global, log: u32, length: u64) -> Result<(), DiskFault> {
+        let Some(file) = self.logs.get_mut(&log) else {
+            return Err(DiskFault::NoLog);
+        };
+        if file.len() <= length {
+            return Ok(());
+        }
+        file.truncate(alloc, length as usize)
+            .map_err(|_| DiskFault::Memory)
     }
 }
 
