@@ -7,7 +7,8 @@ ghost use Rattle.bk_disk.specs.Disk.{FailsExactlyOnDiskFault};
 
 use crate::folder::{Folder, fault_of};
 use crate::{
-    CutDisk, DirView, DiskFault, FaultWatch, FileFault, FolderFault, LogDisk, WatermarkDisk,
+    CutDisk, DirView, DiskFault, FaultWatch, FileFault, FolderFault, FolderFile, LogDisk,
+    WatermarkDisk,
 };
 use std::alloc::{AllocError, Global};
 
@@ -129,6 +130,19 @@ impl DirDisk {
     /// is refused.
     pub fn fault_watch(&self, alloc: Global) -> Result<FaultWatch, AllocError> {
         self.folder.watch().share(alloc)
+    }
+
+    /// Returns the file of this name beside the logs, which need not exist. The name is no log's.
+    /// Becomes the writer of the directory first.
+    ///
+    /// # Errors
+    ///
+    /// - those of `open_to_write`.
+    pub fn file(&mut self, alloc: Global, name: &str) -> Result<FolderFile, FolderFault> {
+        match self.folder.file(alloc, name) {
+            Ok(file) => Ok(file),
+            Err(refusal) => Err(refusal.folder_fault(alloc)),
+        }
     }
 
     /// Returns whether a log of the directory has a watermark. Fails with `Disk`, `Memory`, or with

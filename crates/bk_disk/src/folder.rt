@@ -20,7 +20,7 @@ use crate::reason::{Finding, Reason};
 use crate::refusal::{Refusal, device_fault};
 use crate::trouble::{State, Troubles};
 use crate::unsynced::write_again;
-use crate::{DiskFault, FaultWatch, FolderFault, log_of};
+use crate::{DiskFault, FaultWatch, FolderFault, FolderFile, log_of};
 use std::alloc::Global;
 use std::fs::{self, DirEntry, File, Metadata, OpenOptions};
 use std::io::{self, ErrorKind};
@@ -114,6 +114,13 @@ impl Folder {
             }
             Err(error) => Err(Refusal::at(alloc, &self.path, error)),
         }
+    }
+
+    /// Returns the file of this name beside the logs, once this disk is the writer.
+    pub(crate) fn file(&mut self, alloc: Global, name: &str) -> Result<FolderFile, Refusal> {
+        self.lock(alloc)?;
+        let watch = self.watch.share(alloc).map_err(|_| Refusal::Memory)?;
+        FolderFile::new(&self.rt, &self.path, name, watch).map_err(|_| Refusal::Memory)
     }
 
     // Locks the directory before a call that writes.
