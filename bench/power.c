@@ -5,7 +5,6 @@
 //                      opening   of a file that is open to read alone, as an opening and a roll have it
 //                      publish   of another file
 //                      folder    of a directory
-//                      manifest  of a file named MANIFEST..
 //                      all       each of these
 //   POWER_MESSAGES   the device that gets a message `marker N` when the program has read entry N of the ledger
 //                    MARKER; each number once, by rising numbers
@@ -77,13 +76,9 @@ static void change_fd(int fd) {
 // ---- syncs
 
 static const char *kind_of(int fd) {
-    char path[PATH_MAX];
     struct stat found;
     if (!fstat(fd, &found) && S_ISDIR(found.st_mode))
         return ",folder,";
-    name_of(fd, path);
-    if (strstr(path, "/MANIFEST"))
-        return ",manifest,";
     return (fcntl(fd, F_GETFL) & O_ACCMODE) == O_RDONLY ? ",opening," : ",publish,";
 }
 
