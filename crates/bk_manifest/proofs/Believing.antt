@@ -96,6 +96,20 @@ opened bytes read synced found same was all =
     let b = front_believed bytes synced found.generation found.stop was.0 m.each m.generation front m.stop (omega (arith, size, m.stop)) (omega (arith, size, m.stop, all)) in
     record { believed = b; records = durable_are bytes synced found.generation found.stop b ∙ sym m.records }
 
+-- ---- a rewritten file
+
+pub record IsRewritten (bytes : List ℕ) (synced generation : ℕ) (facts : List Fact) : Type 0 where
+  pub believed : IsBelieved bytes synced generation (length bytes)
+  pub records : facts_found (content_of (take (length bytes) bytes)) ≡ facts
+
+pub rewritten_believed : (bytes : List ℕ) (synced generation : ℕ) (facts : List Fact) → AreFacts facts → generation < 2 ^ 64
+    → bytes ≡ written generation (facts ∷ []) → length bytes ≤ synced → IsRewritten bytes synced generation facts
+unfolding front_believed
+rewritten_believed bytes synced generation facts legal small is all =
+    let front : take (length bytes) bytes ≡ written generation (facts ∷ []) = take_all (length bytes) bytes (omega arith) ∙ is in
+    let b = front_believed bytes synced generation (length bytes) (facts ∷ []) (legal, tt) small front (ap length is) (omega arith) all in
+    record { believed = b; records = durable_are bytes synced generation (length bytes) b ∙ append-nil facts }
+
 -- ---- one batch more
 
 batches_push : (generation place : ℕ) (batches : List (List Fact)) (facts : List Fact)

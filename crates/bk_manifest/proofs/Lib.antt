@@ -10,3 +10,5 @@ pub mod States
 pub mod Fronts
 pub mod Found
 pub mod Believing
+pub mod Kept
+pub mod Forgetting

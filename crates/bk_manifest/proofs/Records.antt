@@ -7,7 +7,7 @@ use Rattle.std.proofs.lemmas.List.{length-append}
 use Rattle.std.proofs.lemmas.List.Concat.{flat_map-cons}
 use Rattle.bk_manifest.specs.declared.fault.Fault.TheVariants.{UnknownKind}
 use Rattle.bk_manifest.specs.Fact.{Fact, made_log, durable_log, removed_log, deleted_ledger, fenced_ledger, attribute, fact_bytes, Fits, body_of}
-use Rattle.bk_manifest.specs.Reading.{IsBytes, ◌>>=◌, number_at, string_at, numbered_at, durable_at, attribute_at, fact_of_kind, fact_at, facts_at}
+use Rattle.bk_manifest.specs.Reading.{IsBytes, ◌>>=◌, number_at, string_at, numbered_at, measured_at, attribute_at, fact_of_kind, fact_at, facts_at}
 use Rattle.bk_manifest.proofs.ReadFields.{bind_ok, ok_is, Takes, Takes-then, wide32, wide64, IsWide, number_takes, number_again, string, string_takes, string_again}
 use Rattle.bk_manifest.proofs.Loops.{nothing_left}
 
@@ -15,12 +15,14 @@ use Rattle.bk_manifest.proofs.Loops.{nothing_left}
 
 -- a record that was written is read, whatever follows it
 pub fact_again : (at : ℕ) (f : Fact) (rest : List ℕ) → Fits f → fact_at at (fact_bytes f ++ rest) ≡ Ok (f, rest)
-unfolding fact_at fact_of_kind fact_bytes numbered_at durable_at attribute_at
+unfolding fact_at fact_of_kind fact_bytes numbered_at measured_at attribute_at
 fact_again at (made_log log) rest fits = rw (number_again w32 (2 ^ 32) wide32 at log rest fits) refl
 fact_again at (durable_log log size) rest fits =
     ap (λ (b : List ℕ). fact_at at (2 ∷ b)) (append_assoc (to_be_bytes w32 log) (to_be_bytes w64 size) rest)
     ∙ rw (number_again w32 (2 ^ 32) wide32 at log (to_be_bytes w64 size ++ rest) fits.0, number_again w64 (2 ^ 64) wide64 at size rest fits.1) refl
-fact_again at (removed_log log) rest fits = rw (number_again w32 (2 ^ 32) wide32 at log rest fits) refl
+fact_again at (removed_log log size) rest fits =
+    ap (λ (b : List ℕ). fact_at at (3 ∷ b)) (append_assoc (to_be_bytes w32 log) (to_be_bytes w64 size) rest)
+    ∙ rw (number_again w32 (2 ^ 32) wide32 at log (to_be_bytes w64 size ++ rest) fits.0, number_again w64 (2 ^ 64) wide64 at size rest fits.1) refl
 fact_again at (deleted_ledger ledger) rest fits = rw (number_again w64 (2 ^ 64) wide64 at ledger rest fits) refl
 fact_again at (fenced_ledger ledger) rest fits = rw (number_again w64 (2 ^ 64) wide64 at ledger rest fits) refl
 fact_again at (attribute ledger kind bytes) rest fits =
@@ -38,7 +40,7 @@ pub fact_some : (f : Fact) → 1 ≤ length (fact_bytes f)
 unfolding fact_bytes
 fact_some (made_log log) = omega arith
 fact_some (durable_log log size) = omega arith
-fact_some (removed_log log) = omega arith
+fact_some (removed_log log size) = omega arith
 fact_some (deleted_ledger ledger) = omega arith
 fact_some (fenced_ledger ledger) = omega arith
 fact_some (attribute ledger kind bytes) = omega arith
@@ -94,17 +96,19 @@ numbered_takes w limit wide of code text legal at kind bytes x fits is e =
     subst (λ (y : Fact × List ℕ). Takes (kind ∷ bytes) (fact_bytes y.0) y.1 × Fits y.0) (ok_is made x a.2)
     (spelled kind code bytes (to_be_bytes w a.0.0) a.0.1 (of a.0.0) is (text a.0.0) t.0 (legal a.0.0 t.1))
 
-durable_takes : (at kind : ℕ) (bytes : List ℕ) (x : Fact × List ℕ) → IsBytes bytes → kind ≡ 2 → durable_at at bytes ≡ Ok x → Spelled kind bytes x
-unfolding durable_at fact_bytes
-durable_takes at kind bytes x fits is e =
-    let a = bind_ok (number_at w32 at bytes) (λ log. number_at w64 at log.1 >>= λ size. Ok (durable_log log.0 size.0, size.1)) x e in
-    let b = bind_ok (number_at w64 at a.0.1) (λ size. Ok (durable_log a.0.0 size.0, size.1)) x a.2 in
+measured_takes : (of : ℕ → ℕ → Fact) (code : ℕ) → ((log size : ℕ) → fact_bytes (of log size) ≡ code ∷ (to_be_bytes w32 log ++ to_be_bytes w64 size))
+    → ((log size : ℕ) → log < 2 ^ 32 → size < 2 ^ 64 → Fits (of log size))
+    → (at kind : ℕ) (bytes : List ℕ) (x : Fact × List ℕ) → IsBytes bytes → kind ≡ code → measured_at of at bytes ≡ Ok x → Spelled kind bytes x
+unfolding measured_at
+measured_takes of code text legal at kind bytes x fits is e =
+    let a = bind_ok (number_at w32 at bytes) (λ log. number_at w64 at log.1 >>= λ size. Ok (of log.0 size.0, size.1)) x e in
+    let b = bind_ok (number_at w64 at a.0.1) (λ size. Ok (of a.0.0 size.0, size.1)) x a.2 in
     let s = number_takes w32 (2 ^ 32) wide32 at bytes a.0.0 a.0.1 fits a.1 in
     let t = number_takes w64 (2 ^ 64) wide64 at a.0.1 b.0.0 b.0.1 s.0.rest_fits b.1 in
     let both = Takes-then bytes (to_be_bytes w32 a.0.0) a.0.1 (to_be_bytes w64 b.0.0) b.0.1 s.0 t.0 in
-    let made : Fact × List ℕ = (durable_log a.0.0 b.0.0, b.0.1) in
+    let made : Fact × List ℕ = (of a.0.0 b.0.0, b.0.1) in
     subst (λ (y : Fact × List ℕ). Takes (kind ∷ bytes) (fact_bytes y.0) y.1 × Fits y.0) (ok_is made x b.2)
-    (spelled kind 2 bytes (to_be_bytes w32 a.0.0 ++ to_be_bytes w64 b.0.0) b.0.1 (durable_log a.0.0 b.0.0) is refl both (s.1, t.1))
+    (spelled kind code bytes (to_be_bytes w32 a.0.0 ++ to_be_bytes w64 b.0.0) b.0.1 (of a.0.0 b.0.0) is (text a.0.0 b.0.0) both (legal a.0.0 b.0.0 s.1 t.1))
 
 attribute_takes : (at kind : ℕ) (bytes : List ℕ) (x : Fact × List ℕ) → IsBytes bytes → kind ≡ 6 → attribute_at at bytes ≡ Ok x → Spelled kind bytes x
 unfolding attribute_at fact_bytes
@@ -127,10 +131,10 @@ unfolding fact_of_kind fact_bytes
 kind_takes at kind bytes x fits e =
     elim (chosen (eqb kind 1) (numbered_at w32 made_log at bytes) _ (Ok x) e) [
       | inl h ↦ numbered_takes w32 (2 ^ 32) wide32 made_log 1 (λ n. refl) (λ n low. low) at kind bytes x fits (eqb-true _ _ h.0) h.1
-      | inr n1 ↦ elim (chosen (eqb kind 2) (durable_at at bytes) _ (Ok x) n1.1) [
-        | inl h ↦ durable_takes at kind bytes x fits (eqb-true _ _ h.0) h.1
-        | inr n2 ↦ elim (chosen (eqb kind 3) (numbered_at w32 removed_log at bytes) _ (Ok x) n2.1) [
-          | inl h ↦ numbered_takes w32 (2 ^ 32) wide32 removed_log 3 (λ n. refl) (λ n low. low) at kind bytes x fits (eqb-true _ _ h.0) h.1
+      | inr n1 ↦ elim (chosen (eqb kind 2) (measured_at durable_log at bytes) _ (Ok x) n1.1) [
+        | inl h ↦ measured_takes durable_log 2 (λ log size. refl) (λ log size low short. (low, short)) at kind bytes x fits (eqb-true _ _ h.0) h.1
+        | inr n2 ↦ elim (chosen (eqb kind 3) (measured_at removed_log at bytes) _ (Ok x) n2.1) [
+          | inl h ↦ measured_takes removed_log 3 (λ log size. refl) (λ log size low short. (low, short)) at kind bytes x fits (eqb-true _ _ h.0) h.1
           | inr n3 ↦ elim (chosen (eqb kind 4) (numbered_at w64 deleted_ledger at bytes) _ (Ok x) n3.1) [
             | inl h ↦ numbered_takes w64 (2 ^ 64) wide64 deleted_ledger 4 (λ n. refl) (λ n low. low) at kind bytes x fits (eqb-true _ _ h.0) h.1
             | inr n4 ↦ elim (chosen (eqb kind 5) (numbered_at w64 fenced_ledger at bytes) _ (Ok x) n4.1) [

@@ -9,7 +9,7 @@ use Rattle.bk_manifest.specs.declared.record.Record.TheVariants.{MadeLog, Durabl
 pub data Fact : Type 0 where
   made_log : (log : ℕ) → Fact
   durable_log : (log length : ℕ) → Fact
-  removed_log : (log : ℕ) → Fact
+  removed_log : (log length : ℕ) → Fact
   deleted_ledger : (ledger : ℕ) → Fact
   fenced_ledger : (ledger : ℕ) → Fact
   attribute : (ledger kind : ℕ) (bytes : List ℕ) → Fact
@@ -17,7 +17,7 @@ pub data Fact : Type 0 where
 abbrev pub fact : Record → Fact
 fact (MadeLog log) = made_log log
 fact (DurableLog log length) = durable_log log length
-fact (RemovedLog log) = removed_log log
+fact (RemovedLog log length) = removed_log log length
 fact (DeletedLedger ledger) = deleted_ledger ledger
 fact (FencedLedger ledger) = fenced_ledger ledger
 fact (Attribute ledger kind bytes) = attribute ledger kind bytes.items
@@ -30,7 +30,7 @@ facts records = map fact records
 unfoldable pub fact_bytes : Fact → List ℕ
 fact_bytes (made_log log) = 1 ∷ to_be_bytes w32 log
 fact_bytes (durable_log log length) = 2 ∷ (to_be_bytes w32 log ++ to_be_bytes w64 length)
-fact_bytes (removed_log log) = 3 ∷ to_be_bytes w32 log
+fact_bytes (removed_log log length) = 3 ∷ (to_be_bytes w32 log ++ to_be_bytes w64 length)
 fact_bytes (deleted_ledger ledger) = 4 ∷ to_be_bytes w64 ledger
 fact_bytes (fenced_ledger ledger) = 5 ∷ to_be_bytes w64 ledger
 fact_bytes (attribute ledger kind bytes) =
@@ -40,7 +40,7 @@ fact_bytes (attribute ledger kind bytes) =
 abbrev pub Fits : Fact → Type 0
 Fits (made_log log) = log < 2 ^ 32
 Fits (durable_log log length) = (log < 2 ^ 32) × (length < 2 ^ 64)
-Fits (removed_log log) = log < 2 ^ 32
+Fits (removed_log log length) = (log < 2 ^ 32) × (length < 2 ^ 64)
 Fits (deleted_ledger ledger) = ledger < 2 ^ 64
 Fits (fenced_ledger ledger) = ledger < 2 ^ 64
 Fits (attribute ledger kind bytes) = (ledger < 2 ^ 64) × (kind < 2 ^ 32) × (length bytes < 2 ^ 32)

@@ -1,7 +1,10 @@
 pub mod Checksum
 pub mod Fact
+pub mod FactCode
 pub mod Reading
 pub mod Batch
 pub mod File
+pub mod Subject
 pub mod State
+pub mod Plan
 pub mod Keeping

@@ -44,11 +44,12 @@ numbered_at w of at bytes = do
   n ← number_at w at bytes
   Ok (of n.0, n.1)
 
-unfoldable pub durable_at : ℕ → List ℕ → Result (Fact × List ℕ) Fault
-durable_at at bytes = do
+-- a record of a log and a length
+unfoldable pub measured_at : (ℕ → ℕ → Fact) → ℕ → List ℕ → Result (Fact × List ℕ) Fault
+measured_at of at bytes = do
   log ← number_at w32 at bytes
   length ← number_at w64 at log.1
-  Ok (durable_log log.0 length.0, length.1)
+  Ok (of log.0 length.0, length.1)
 
 unfoldable pub attribute_at : ℕ → List ℕ → Result (Fact × List ℕ) Fault
 attribute_at at bytes = do
@@ -60,8 +61,8 @@ attribute_at at bytes = do
 unfoldable pub fact_of_kind : ℕ → ℕ → List ℕ → Result (Fact × List ℕ) Fault
 fact_of_kind at kind bytes =
     if kind == 1 then numbered_at w32 made_log at bytes
-    else if kind == 2 then durable_at at bytes
-    else if kind == 3 then numbered_at w32 removed_log at bytes
+    else if kind == 2 then measured_at durable_log at bytes
+    else if kind == 3 then measured_at removed_log at bytes
     else if kind == 4 then numbered_at w64 deleted_ledger at bytes
     else if kind == 5 then numbered_at w64 fenced_ledger at bytes
     else if kind == 6 then attribute_at at bytes

@@ -2,8 +2,8 @@
 
 ghost use Rattle.std.specs.Prelude.{◌≡◌, ◌<◌, length, IfOk};
 ghost use Rattle.std.specs.Int.{w32, w64};
-ghost use Rattle.bk_manifest.specs.Fact.{fact, facts, made_log, removed_log, deleted_ledger, fenced_ledger};
-ghost use Rattle.bk_manifest.specs.Reading.{Gives, number_at, string_at, durable_at, attribute_at, fact_of_kind, fact_at, facts_of};
+ghost use Rattle.bk_manifest.specs.Fact.{fact, facts, made_log, durable_log, removed_log, deleted_ledger, fenced_ledger};
+ghost use Rattle.bk_manifest.specs.Reading.{Gives, number_at, string_at, measured_at, attribute_at, fact_of_kind, fact_at, facts_of};
 
 use crate::{Fault, ReadError, Record};
 use std::alloc::Global;
@@ -64,14 +64,24 @@ fn bytes_at(alloc: Global, batch: u64, bytes: &[u8]) -> Result<(Vec<u8>, &[u8]),
     Ok((Vec::from_slice(alloc, value)?, rest))
 }
 
-#[tactic(auto, unfolding(crate::specs::Reading::durable_at))]
-fn durable_log(batch: u64, bytes: &[u8]) -> Result<(Record, &[u8]), ReadError>
-    ensures value { Gives (λ x. (fact x.0, x.1.now)) result (durable_at batch bytes.now) }
+#[tactic(auto, unfolding(crate::specs::Reading::measured_at))]
+fn durable_record(batch: u64, bytes: &[u8]) -> Result<(Record, &[u8]), ReadError>
+    ensures value { Gives (λ x. (fact x.0, x.1.now)) result (measured_at durable_log batch bytes.now) }
     ensures shorter { IfOk result (λ x. length x.1.now < length bytes.now) }
 {
     let (log, rest) = u32_at(batch, bytes)?;
     let (length, rest) = u64_at(batch, rest)?;
     Ok((Record::DurableLog { log, length }, rest))
+}
+
+#[tactic(auto, unfolding(crate::specs::Reading::measured_at))]
+fn removed_record(batch: u64, bytes: &[u8]) -> Result<(Record, &[u8]), ReadError>
+    ensures value { Gives (λ x. (fact x.0, x.1.now)) result (measured_at removed_log batch bytes.now) }
+    ensures shorter { IfOk result (λ x. length x.1.now < length bytes.now) }
+{
+    let (log, rest) = u32_at(batch, bytes)?;
+    let (length, rest) = u64_at(batch, rest)?;
+    Ok((Record::RemovedLog { log, length }, rest))
 }
 
 #[tactic(auto, unfolding(crate::specs::Reading::attribute_at))]
@@ -108,11 +118,8 @@ fn record_of_kind(
             let (log, rest) = u32_at(batch, bytes)?;
             Ok((Record::MadeLog(log), rest))
         }
-        DURABLE_LOG => durable_log(batch, bytes),
-        REMOVED_LOG => {
-            let (log, rest) = u32_at(batch, bytes)?;
-            Ok((Record::RemovedLog(log), rest))
-        }
+        DURABLE_LOG => durable_record(batch, bytes),
+        REMOVED_LOG => removed_record(batch, bytes),
         DELETED_LEDGER => {
             let (ledger, rest) = u64_at(batch, bytes)?;
             Ok((Record::DeletedLedger(ledger), rest))

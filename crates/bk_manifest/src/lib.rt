@@ -7,19 +7,22 @@ mod fault;
 mod fields;
 mod laws;
 mod manifest;
-mod mem_file;
+mod mem_manifest;
 mod piece;
 mod reading;
 mod record;
+mod rewriting;
 mod state;
+mod subject;
 mod writing;
 
 pub use fault::{Fault, FileFault, ManifestError, ReadError, WriteError};
 pub use laws::{one_checksum, records_survive, written_manifest_is_read, written_records_are_read};
-pub use manifest::{Manifest, ManifestFile};
-pub use mem_file::MemFile;
+pub use manifest::{Manifest, ManifestFile, Opened};
+pub use mem_manifest::{MemManifest, Plan};
 pub use reading::{Contents, HEADER, read_manifest};
 pub use record::Record;
+pub use rewriting::{NotRewritten, rewritten};
 pub use state::{LogState, State};
 pub use writing::{new_header, write_batch};
 

@@ -1,17 +1,22 @@
 //! A manifest that is kept in a file.
 
-ghost use Rattle.std.specs.Prelude.{◌≡◌, ◌++◌, ◌≤◌, ◌^◌, ℕ, Bool, List, [], length, take, IsTrue, IsErrOf, IfOk, OnOk, OnErr, Ok, Err};
-ghost use Rattle.bk_manifest.specs.Fact.{facts, AreFacts};
+ghost use Rattle.std.specs.Prelude.{◌≡◌, ◌++◌, ◌∷◌, ◌≤◌, ◌^◌, ℕ, Bool, List, [], length, take, IsTrue, IsErrOf, IfOk, IfErr, IfSome, IfNone, OnOk, OnErr, Ok, Err};
+ghost use Rattle.bk_manifest.specs.Fact.{Fact, fact, facts, AreFacts};
+ghost use Rattle.bk_manifest.specs.State.{IsStateOf, SameMeaning, without_deletions};
 ghost use Rattle.bk_manifest.specs.declared.fault.Fault.{Fault};
-ghost use Rattle.bk_manifest.specs.File.{content, content_of};
-ghost use Rattle.bk_manifest.specs.Keeping.{FailsExactlyIf, IsSameFile, KeepsFront, durable};
+ghost use Rattle.bk_manifest.specs.File.{content_of};
+ghost use Rattle.bk_manifest.specs.Keeping.{FailsExactlyIf, IsSameFile, IsOldOrNew, KeepsFront, durable, HasOpened, OnlyNoted, IsOneOf};
 
 use crate::reading::HEADER;
-use crate::{Contents, FileFault, ManifestError, Record, new_header, read_manifest, write_batch};
-use std::alloc::Global;
+use crate::rewriting::replaced;
+use crate::{
+    FileFault, ManifestError, NotRewritten, Record, State, new_header, read_manifest, write_batch,
+};
+use std::alloc::{AllocError, Global};
 use std::marker::Model;
+use std::mem;
 
-/// A file that is only written at its end, after it was cut there.
+/// A file that is written at its end only, after it was cut there, or replaced as a whole.
 ///
 /// `synced` is the number of its bytes that a crash leaves, `failures` how often its device has
 /// failed. The clauses on bytes hold on an honest file, whose calls may fail. On any file each call
@@ -25,41 +30,65 @@ pub trait ManifestFile: Drop {
 
     ghost failures: { Self → ℕ };
 
-    /// Returns the bytes of the file.
+    /// Returns the bytes of the file; none if there is no file. Changes nothing, also on an error.
     fn read(&mut self, alloc: Global) -> Result<Vec<u8>, FileFault>
         ensures honest { honest self.new ≡ honest self.old }
         ensures cause { FailsExactlyIf (failures self.old) (failures self.new) (IsErrOf result FileFault.Disk) }
         ensures same { IsTrue (honest self.old) → IsSameFile (bytes self.old) (synced self.old) (bytes self.new) (synced self.new) }
         ensures ok { IsTrue (honest self.old) → IfOk result (λ found. found.items ≡ bytes self.old) };
 
-    /// Cuts the file at position `at`, and writes the piece there. An error leaves any bytes behind
-    /// that position.
+    /// Cuts the file at position `at`, and writes the piece there, which is not durable before the
+    /// next `sync`. An error leaves the bytes before that position, and any bytes after it.
     fn write_at(&mut self, at: usize, piece: &[u8]) -> Result<(), FileFault>
         ensures honest { honest self.new ≡ honest self.old }
         ensures cause { FailsExactlyIf (failures self.old) (failures self.new) (IsErrOf result FileFault.Disk) }
         ensures front { IsTrue (honest self.old) → at ≤ length (bytes self.old) → KeepsFront at (bytes self.old) (synced self.old) (bytes self.new) (synced self.new) }
+        ensures unsynced { IsTrue (honest self.old) → synced self.new ≤ at }
         ensures ok { IsTrue (honest self.old) → OnOk result (bytes self.new ≡ take at (bytes self.old) ++ piece.now) };
 
-    /// Makes all bytes of the file durable.
+    /// Makes all bytes of the file durable, and a replacing that failed. An error leaves the bytes as
+    /// they were, and those that were durable are; which others are is not known.
     fn sync(&mut self) -> Result<(), FileFault>
         ensures honest { honest self.new ≡ honest self.old }
         ensures cause { FailsExactlyIf (failures self.old) (failures self.new) (IsErrOf result FileFault.Disk) }
         ensures same { IsTrue (honest self.old) → IsSameFile (bytes self.old) (synced self.old) (bytes self.new) (synced self.new) }
         ensures ok { IsTrue (honest self.old) → OnOk result (length (bytes self.new) ≤ synced self.new) };
+
+    /// Puts a file of these bytes in the place of this one, and makes it durable: a new file, its sync,
+    /// a rename, and a sync of the directory. An error leaves the old file or all of the new one; a
+    /// crash after the error may leave the other of the two, and never a mixture.
+    fn replace(&mut self, alloc: Global, whole: &[u8]) -> Result<(), FileFault>
+        ensures honest { honest self.new ≡ honest self.old }
+        ensures cause { FailsExactlyIf (failures self.old) (failures self.new) (IsErrOf result FileFault.Disk) }
+        ensures one { IsTrue (honest self.old) → IsOldOrNew (bytes self.old) (synced self.old) whole.now (bytes self.new) (synced self.new) }
+        ensures ok { IsTrue (honest self.old) → OnOk result (bytes self.new ≡ whole.now) }
+        ensures durable { IsTrue (honest self.old) → OnOk result (length (bytes self.new) ≤ synced self.new) };
 }
 
-/// A manifest in a file. On an honest file the records that it counts as durable are those of bytes
-/// that were synced.
+/// A manifest in a file, and the state that its records mean. On an honest file the state is that of
+/// bytes that were synced. Records are noted first, and are durable after the next `commit`.
 #[derive(Drop)]
 pub struct Manifest<F: ManifestFile> {
     file: F,
     generation: u64,
     end: usize,
+    state: State,
+    noted: Vec<Record>,
+}
+
+/// A manifest that was opened.
+#[derive(Drop)]
+pub struct Opened<F: ManifestFile> {
+    pub manifest: Manifest<F>,
+    /// Number of records in the file, with dead ones.
+    pub records: usize,
+    /// Number of torn bytes at the end. The next `commit` writes over them.
+    pub torn: usize,
 }
 
 impl<F: ManifestFile> Model for Manifest<F> {
-    ghost use Rattle.std.specs.Prelude.{IsTrue};
-    ghost use Rattle.bk_manifest.specs.Keeping.{Kept, kept_code, IsBelieved};
+    ghost use Rattle.bk_manifest.specs.Fact.{facts};
+    ghost use Rattle.bk_manifest.specs.Keeping.{Kept, kept_code, IsKept};
 
     ghost Value = { Kept };
 
@@ -72,83 +101,196 @@ impl<F: ManifestFile> Model for Manifest<F> {
       failures = F.failures m.file;
       generation = m.generation;
       stop = m.end;
+      pending = facts m.noted.items;
     } };
 
-    ghost invariant = { λ m. IsTrue (F.honest m.file) → IsBelieved (F.bytes m.file) (F.synced m.file) m.generation m.end };
+    ghost invariant = { λ m. IsKept (F.bytes m.file) (F.synced m.file) (F.honest m.file) m.generation m.end m.state (facts m.noted.items) };
 }
 
 impl<F: ManifestFile> Manifest<F> {
-    /// Makes a manifest of this generation without records. What the file had is lost.
+    /// Makes a manifest of this generation without records, in the place of what the file had.
     ///
     /// # Errors
     ///
     /// - `Memory` if an allocation is refused.
-    /// - `Disk` if the device fails.
+    /// - `Disk` if the device fails. The old file is there, or the new one.
     pub fn create(alloc: Global, file: F, generation: u64) -> Result<Manifest<F>, ManifestError>
         ensures honest { IfOk result (λ m. m.honest ≡ F.honest file) }
         ensures empty { IsTrue (F.honest file) → IfOk result (λ m. durable m ≡ []) }
+        ensures pending { IfOk result (λ m. m.pending ≡ []) }
     {
         let mut file = file;
         let header = new_header(alloc, generation)?;
-        file.write_at(0, &header)?;
-        file.sync()?;
+        file.replace(alloc, &header)?;
+        let state = State::new(alloc);
+        let noted = Vec::new(alloc);
         Ok(Manifest {
             file,
             generation,
             end: HEADER,
+            state,
+            noted,
         })
     }
 
-    /// Opens the manifest of a file, and returns what it has. Syncs the file, since a program that
-    /// ended may have left bytes that are not durable. A torn end stays until the next `commit`.
+    /// Opens the manifest of a file. Returns `None` if the file is empty or absent. Syncs the file,
+    /// since a program that ended may have left bytes that are not durable. A torn end stays until the
+    /// next `commit` writes over it.
     ///
     /// # Errors
     ///
     /// - `Memory` if an allocation is refused.
     /// - `Disk` if the device fails.
     /// - `Fault` as `read_manifest` reports.
-    pub fn open(alloc: Global, file: F) -> Result<(Manifest<F>, Contents), ManifestError>
-        ensures honest { IfOk result (λ opened. opened.0.honest ≡ F.honest file) }
-        ensures read { IsTrue (F.honest file) → IfOk result (λ opened. content_of (F.bytes file) ≡ Ok (content opened.1)) }
+    pub fn open(alloc: Global, file: F) -> Result<Option<Opened<F>>, ManifestError>
+        ensures honest { IfOk result (λ found. IfSome found (λ opened. opened.manifest.honest ≡ F.honest file)) }
+        ensures absent { IsTrue (F.honest file) → IfOk result (λ found. IfNone found (F.bytes file ≡ [])) }
+        ensures found { IsTrue (F.honest file) → IfOk result (λ found. IfSome found (λ opened. HasOpened (F.bytes file) opened.manifest opened.records opened.torn)) }
         ensures fault { IsTrue (F.honest file) → (fault : Fault) → IsErrOf result (ManifestError.Fault fault) → content_of (F.bytes file) ≡ Err fault }
-        ensures durable { IsTrue (F.honest file) → IfOk result (λ opened. durable opened.0 ≡ facts opened.1.records.items) }
     {
         let mut file = file;
         let bytes = file.read(alloc)?;
+        if bytes.is_empty() {
+            return Ok(None);
+        }
         let contents = read_manifest(alloc, &bytes)?;
         file.sync()?;
+        let records = contents.records.len();
+        let state = State::of(alloc, contents.records)?;
+        let noted = Vec::new(alloc);
         let manifest = Manifest {
             file,
             generation: contents.generation,
             end: contents.end,
+            state,
+            noted,
         };
-        Ok((manifest, contents))
+        Ok(Some(Opened {
+            manifest,
+            records,
+            torn: contents.torn,
+        }))
     }
 
-    /// Writes a batch of these records and syncs the file. Then the records are durable. An error
-    /// makes none of them durable in this value; the next call writes over what it left.
+    /// Notes a record for the next `commit`. Fails if an allocation is refused; then it is not noted.
+    pub fn note(&mut self, one: Record) -> Result<(), AllocError>
+        ensures ok { OnOk result (self.new.pending ≡ self.old.pending ++ fact one ∷ []) }
+        ensures err { OnErr result (self.new.pending ≡ self.old.pending) }
+        ensures same { OnlyNoted self.old self.new }
+    {
+        self.state.make_room(&one)?;
+        self.noted.push(one)?;
+        Ok(())
+    }
+
+    /// Notes a record in the place of all that were noted. Fails if an allocation is refused; then
+    /// those stay noted.
+    pub fn note_only(&mut self, alloc: Global, one: Record) -> Result<(), AllocError>
+        ensures ok { OnOk result (self.new.pending ≡ fact one ∷ []) }
+        ensures err { OnErr result (self.new.pending ≡ self.old.pending) }
+        ensures same { OnlyNoted self.old self.new }
+    {
+        self.state.make_room(&one)?;
+        let mut noted = Vec::new(alloc);
+        noted.push(one)?;
+        self.noted = noted;
+        Ok(())
+    }
+
+    /// Forgets the noted records.
+    pub fn forget_noted(&mut self)
+        ensures none { self.new.pending ≡ [] }
+        ensures same { OnlyNoted self.old self.new }
+    {
+        self.noted.clear();
+    }
+
+    /// Writes all noted records as one batch and syncs the file once. Then they are durable, and the
+    /// state has them.
+    ///
+    /// An error changes neither the durable records nor the noted ones: call `commit` again, which
+    /// writes the batch anew at the same position before it syncs, or `forget_noted`. A crash after the
+    /// error may leave the batch whole, so its records may be found.
     ///
     /// # Errors
     ///
     /// - `TooLong` if the bytes of an attribute, or of all records together, are 2^32 or more, or the
     ///   file would be too long.
     /// - `Memory` if an allocation is refused.
-    /// - `Disk` if the device fails. After a crash some of the records may be found.
-    pub fn commit(&mut self, alloc: Global, records: &[Record]) -> Result<(), ManifestError>
+    /// - `Disk` if the device fails.
+    pub fn commit(&mut self, alloc: Global) -> Result<(), ManifestError>
         ensures honest { self.new.honest ≡ self.old.honest }
         ensures cause { FailsExactlyIf self.old.failures self.new.failures (IsErrOf result ManifestError.Disk) }
-        ensures ok { IsTrue self.old.honest → OnOk result (durable self.new ≡ durable self.old ++ facts records.now) }
+        ensures ok { IsTrue self.old.honest → OnOk result (durable self.new ≡ durable self.old ++ self.old.pending) }
+        ensures none { OnOk result (self.new.pending ≡ []) }
         ensures err { IsTrue self.old.honest → OnErr result (durable self.new ≡ durable self.old) }
-        ensures too_long { IsErrOf result ManifestError.TooLong → AreFacts (facts records.now) → 2 ^ 63 ≤ self.old.stop }
+        ensures kept { OnErr result (self.new.pending ≡ self.old.pending) }
+        ensures too_long { IsErrOf result ManifestError.TooLong → AreFacts self.old.pending → 2 ^ 63 ≤ self.old.stop }
     {
-        let batch = write_batch(alloc, self.generation, self.end as u64, records)?;
+        let batch = write_batch(alloc, self.generation, self.end as u64, &self.noted)?;
         let Some(end) = self.end.checked_add(batch.len()) else {
             return Err(ManifestError::TooLong);
         };
         self.file.write_at(self.end, &batch)?;
         self.file.sync()?;
+        let none = Vec::new(alloc);
+        let noted = mem::replace(&mut self.noted, none);
+        self.state.settle(noted);
         self.end = end;
         Ok(())
+    }
+
+    /// Replaces the file by the shortest manifest of the same meaning, of the next generation, without
+    /// the deletions of the ledgers `forgotten`: those of which no log has an entry any more. Noted
+    /// records stay noted.
+    ///
+    /// # Errors
+    ///
+    /// Those of `commit`, with the file. It is the old one or the new one: open it again.
+    pub fn rewrite(self, alloc: Global, forgotten: &[u64]) -> Result<Manifest<F>, NotRewritten<F>>
+        ensures honest { IfOk result (λ m. m.honest ≡ self.honest) }
+        ensures ok { IsTrue self.honest → IfOk result (λ m. SameMeaning (without_deletions forgotten.now (durable self)) (durable m)) }
+        ensures pending { IfOk result (λ m. m.pending ≡ self.pending) }
+        ensures err { IsTrue self.honest → IfErr result (λ left. IsOneOf (F.bytes left.file) (F.synced left.file) (durable self) (without_deletions forgotten.now (durable self))) }
+    {
+        let Manifest {
+            mut file,
+            generation,
+            mut state,
+            noted,
+            ..
+        } = self;
+        if let Err(error) = state.forget_deletions(forgotten) {
+            return Err(NotRewritten {
+                file,
+                error: ManifestError::from(error),
+            });
+        }
+        let generation = generation.wrapping_add(1);
+        match replaced(alloc, &mut file, generation, &state) {
+            Ok(end) => Ok(Manifest {
+                file,
+                generation,
+                end,
+                state,
+                noted,
+            }),
+            Err(error) => Err(NotRewritten { file, error }),
+        }
+    }
+
+    /// Returns the state of the durable records.
+    pub fn state(&self) -> &State
+        ensures { IsTrue self.now.honest → IsStateOf (durable self.now) result.now }
+    {
+        &self.state
+    }
+
+    /// Returns the noted records.
+    pub fn noted(&self) -> &[Record]
+        ensures { facts result.now ≡ self.now.pending }
+    {
+        &self.noted
     }
 
     /// Returns the file.

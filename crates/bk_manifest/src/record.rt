@@ -10,8 +10,11 @@ pub enum Record {
         log: u32,
         length: u64,
     },
-    /// The log's file is about to be removed.
-    RemovedLog(u32),
+    /// The log's file is about to be removed. `length` of its bytes were durable.
+    RemovedLog {
+        log: u32,
+        length: u64,
+    },
     /// The ledger is deleted.
     DeletedLedger(u64),
     /// The ledger is fenced.

@@ -38,14 +38,14 @@ fn put_u64(out: &mut Vec<u8>, kind: u8, number: u64) -> Result<(), WriteError>
     Ok(())
 }
 
-/// Appends the durable length of a log.
-fn put_durable(out: &mut Vec<u8>, log: u32, length: u64) -> Result<(), WriteError>
-    ensures ok { OnOk result (out.new.items ≡ out.old.items ++ DURABLE_LOG ∷ (to_be_bytes w32 log ++ to_be_bytes w64 length)) }
+/// Appends a kind, a log and a length.
+fn put_length(out: &mut Vec<u8>, kind: u8, log: u32, length: u64) -> Result<(), WriteError>
+    ensures ok { OnOk result (out.new.items ≡ out.old.items ++ kind ∷ (to_be_bytes w32 log ++ to_be_bytes w64 length)) }
     ensures fits_log { log < 2 ^ 32 }
     ensures fits_length { length < 2 ^ 64 }
     ensures only { IsErrOf result WriteError.TooLong → ⊥ }
 {
-    out.push(DURABLE_LOG)?;
+    out.push(kind)?;
     out.extend_from_slice(&log.to_be_bytes())?;
     out.extend_from_slice(&length.to_be_bytes())?;
     Ok(())
@@ -78,8 +78,8 @@ fn put_record(out: &mut Vec<u8>, one: &Record) -> Result<(), WriteError>
 {
     match one {
         Record::MadeLog(log) => put_u32(out, MADE_LOG, *log),
-        Record::DurableLog { log, length } => put_durable(out, *log, *length),
-        Record::RemovedLog(log) => put_u32(out, REMOVED_LOG, *log),
+        Record::DurableLog { log, length } => put_length(out, DURABLE_LOG, *log, *length),
+        Record::RemovedLog { log, length } => put_length(out, REMOVED_LOG, *log, *length),
         Record::DeletedLedger(ledger) => put_u64(out, DELETED_LEDGER, *ledger),
         Record::FencedLedger(ledger) => put_u64(out, FENCED_LEDGER, *ledger),
         Record::Attribute {
