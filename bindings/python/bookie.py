@@ -1,0 +1,249 @@
+"""Client of `bk_serve`: one directory, served by a child process.
+
+    with Bookie(["bk_serve", "/var/bookie"]) as bookie:
+        receipt = bookie.add(1, 0, b"hello")
+        sent = [bookie.send("add", ledger=1, entry=e, content=b"x") for e in range(1, 1000)]
+        for reply in sent:
+            reply.result()          # a Message; a refusal raises Refused
+        bookie.flush()              # everything accepted so far is durable
+        assert bookie.read(1, 0) == b"hello"
+
+Requests may be sent ahead, from any thread: `send` returns a future. Each other method waits.
+"""
+
+import subprocess
+import threading
+from concurrent.futures import Future
+from typing import NamedTuple
+
+import frames
+
+
+class Refused(Exception):
+    """The server refused a request. `name` is the refusal, and `reply` has its fields."""
+
+    def __init__(self, reply):
+        fields = " ".join(str(value) for value in reply.fields.values())
+        super().__init__(f"{reply.name} {fields}".strip())
+        self.name, self.reply = reply.name, reply
+
+
+class Ended(Exception):
+    """The session has ended: the server stopped, was killed, or met a fault of a frame."""
+
+
+class Receipt(NamedTuple):
+    """Evidence that an entry was accepted."""
+
+    number: int
+    ledger: int
+    entry: int
+    digest: bytes
+
+
+class Bookie:
+    """A session. `command` is the program and its arguments."""
+
+    def __init__(self, command, **options):
+        self.process = subprocess.Popen(command, stdin=subprocess.PIPE, stdout=subprocess.PIPE, **options)
+        # The reader takes `_lock` alone, which nobody holds while a write blocks: so replies are always read.
+        self._lock, self._writing = threading.Lock(), threading.Lock()
+        self._waiting, self._last, self._why = {}, 0, None
+        self._room = threading.BoundedSemaphore(1)
+        self._reader = threading.Thread(target=self._read_all, daemon=True)
+        self._reader.start()
+        try:
+            self.limits = self._call("hello", magic=frames.MAGIC, lowest=frames.VERSION, highest=frames.VERSION)
+        except BaseException:
+            self.kill()
+            raise
+        self._room = threading.BoundedSemaphore(self.limits.in_flight)
+
+    # ---- requests and replies
+
+    def send(self, name, **fields):
+        """Sends a request. Returns the future of its reply. Blocks while `in_flight` are unanswered."""
+        future, room = Future(), self._room
+        room.acquire()
+        future.add_done_callback(lambda _: room.release())
+        with self._writing:
+            with self._lock:
+                why, id = self._why, self._last + 1
+                if why is None:
+                    try:
+                        frame = frames.encode(frames.BY_NAME[name], id, fields)
+                    except BaseException as error:
+                        future.set_exception(error)
+                        raise
+                    self._last, self._waiting[id] = id, future
+            if why is not None:
+                future.set_exception(Ended(why))
+                return future
+            try:
+                self.process.stdin.write(frame)
+                self.process.stdin.flush()
+            except OSError:
+                pass  # the reader meets the end of the output and fails what is waiting
+        return future
+
+    def _call(self, name, **fields):
+        return self.send(name, **fields).result()
+
+    def _read_all(self):
+        why = "the server ended"
+        try:
+            while (frame := frames.read_frame(self.process.stdout)) is not None:
+                id, body = frame
+                reply = frames.decode(frames.STATUSES, body)
+                if reply.name in frames.ENDED:
+                    why = str(Refused(reply))
+                    break
+                with self._lock:
+                    future = self._waiting.pop(id, None)
+                if future is None:
+                    why = f"reply to no request: {id}"
+                    break
+                if reply.name in frames.REFUSED:
+                    future.set_exception(Refused(reply))
+                else:
+                    future.set_result(reply)
+        except (OSError, ValueError, frames.Fault) as error:
+            why = str(error)
+        with self._lock:
+            self._why, left = why, list(self._waiting.values())
+            self._waiting.clear()
+        for future in left:
+            future.set_exception(Ended(why))
+
+    # ---- entries
+
+    def add(self, ledger, entry, content, recovery=False):
+        """Adds an entry. Returns its receipt, or None if the store already has an entry of this key."""
+        name = "add_recovery" if recovery else "add"
+        return receipt_of(ledger, entry, self._call(name, ledger=ledger, entry=entry, content=content))
+
+    def read(self, ledger, entry):
+        """Returns the content of an entry, or None if there is no such entry."""
+        reply = self._call("read", ledger=ledger, entry=entry)
+        return reply.content if reply.name == "entry" else None
+
+    def read_last(self, ledger):
+        """Returns the greatest entry id of a ledger and the content of that entry, or None."""
+        reply = self._call("read_last", ledger=ledger)
+        return (reply.entry, reply.content) if reply.name == "entry" else None
+
+    def read_back(self, receipt):
+        """Returns the content of the entry of a receipt."""
+        reply = self._call("read_back", **receipt._asdict())
+        return reply.content if reply.name == "entry" else None
+
+    def last_entry(self, ledger):
+        """Returns the greatest entry id of a ledger, or None."""
+        reply = self._call("last_entry", ledger=ledger)
+        return reply.entry if reply.name == "last" else None
+
+    def holds(self, ledger, entry):
+        """Returns whether the store has an entry."""
+        return self._call("holds", ledger=ledger, entry=entry).name == "yes"
+
+    def entries(self, ledger, start=0):
+        """Yields the entry ids of a ledger from `start` on, rising."""
+        return self._pages("entries", start, ledger=ledger)
+
+    def ledgers(self, start=0):
+        """Yields the ids of the ledgers that have entries from `start` on, rising."""
+        return self._pages("ledgers", start)
+
+    def _pages(self, name, start, **fields):
+        while ids := self._call(name, **{"from": start}, most=self.limits.page, **fields).ids:
+            page = [int.from_bytes(ids[i : i + 8], "big") for i in range(0, len(ids), 8)]
+            yield from page
+            start = page[-1] + 1
+
+    # ---- ledgers
+
+    def fence(self, ledger):
+        """Fences a ledger. Returns whether it was not fenced before."""
+        return self._call("fence", ledger=ledger).name == "fenced_now"
+
+    def is_fenced(self, ledger):
+        return self._call("is_fenced", ledger=ledger).name == "yes"
+
+    def delete(self, ledger):
+        """Deletes a ledger. Returns how many entries it had."""
+        return self._call("delete", ledger=ledger).entries
+
+    def set_master_key(self, ledger, key):
+        self._call("set_master_key", ledger=ledger, key=key)
+
+    def master_key(self, ledger):
+        reply = self._call("master_key", ledger=ledger)
+        return reply.value if reply.name == "attribute" else None
+
+    def set_explicit_lac(self, ledger, lac):
+        self._call("set_explicit_lac", ledger=ledger, lac=lac)
+
+    def explicit_lac(self, ledger):
+        reply = self._call("explicit_lac", ledger=ledger)
+        return reply.value if reply.name == "attribute" else None
+
+    # ---- store
+
+    def flush(self):
+        """Makes everything that was accepted durable. Returns how many entries this published."""
+        return self._call("flush").entries
+
+    def checkpoint(self):
+        """Flushes. Returns the number of marks of the trail that are durable."""
+        return self._call("checkpoint").front
+
+    def compact(self, minor=0, major=0):
+        """Compacts logs whose live share is below a threshold, in thousandths; 0 omits a kind."""
+        return self._call("compact", minor=minor, major=major)
+
+    def stats(self):
+        return self._call("stats")
+
+    def seal(self):
+        """Flushes and seals the open log. Returns its id, or None if no log is open."""
+        reply = self._call("seal")
+        return reply.log if reply.name == "sealed" else None
+
+    # ---- end
+
+    def close(self):
+        """Ends the session in order. Returns the exit status of the server. A second call does nothing."""
+        try:
+            if self._why is None:
+                self._call("close")
+        except Ended:
+            pass
+        finally:
+            status = self._end()
+        return status
+
+    def kill(self):
+        """Ends the server at once, as a crash does."""
+        self.process.kill()
+        return self._end()
+
+    def _end(self):
+        try:
+            self.process.stdin.close()
+        except OSError:
+            pass
+        status = self.process.wait()
+        self._reader.join()
+        self.process.stdout.close()
+        return status
+
+    def __enter__(self):
+        return self
+
+    def __exit__(self, *_):
+        self.close()
+
+
+def receipt_of(ledger, entry, reply):
+    """Returns the receipt of a reply to an add, or None if the entry was held."""
+    return Receipt(reply.number, ledger, entry, reply.digest) if reply.name == "accepted" else None

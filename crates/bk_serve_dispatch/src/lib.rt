@@ -1,0 +1,14 @@
+//! Sessions: requests read from a reader, carried out by a service, and answered to a writer.
+#![tactic(auto)]
+
+mod ending;
+mod greeting;
+mod judging;
+mod service;
+mod session;
+
+pub use ending::{End, finish, tell_end};
+pub use greeting::greet;
+pub use judging::judge;
+pub use service::Service;
+pub use session::{Buffers, serve_requests};

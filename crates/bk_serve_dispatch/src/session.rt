@@ -1,0 +1,134 @@
+//! A session after its hello.
+
+ghost use Rattle.std.specs.Prelude.{◌≡◌};
+ghost use Rattle.bk_serve_dispatch.specs.Session.{Answers, Serves, Turns, point};
+ghost use Rattle.bk_serve_core.specs.Requests.{ask};
+
+use crate::ending::End;
+use crate::judging::judge;
+use crate::service::Service;
+use bk_serve_core::{Ended, FrameFault, LONGEST_FRAME, Request, read_frame, write_frames};
+use std::alloc::Global;
+use std::io::{Read, Write};
+
+/// Memory that a session uses again for each frame.
+#[derive(Drop)]
+pub struct Buffers {
+    pub(crate) frame: Vec<u8>,
+    pub(crate) out: Vec<u8>,
+}
+
+impl Buffers {
+    /// Returns empty buffers.
+    pub fn new(alloc: Global) -> Buffers {
+        Buffers {
+            frame: Vec::new(alloc),
+            out: Vec::new(alloc),
+        }
+    }
+}
+
+/// What one turn of a session does.
+pub(crate) enum Turn {
+    /// The request with this id was answered, and is no close.
+    Answered(u64),
+    /// The session ends.
+    Ended(End),
+}
+
+/// Returns the fault of a session whose frame could not be read.
+pub(crate) fn unread(fault: FrameFault) -> Ended {
+    match fault {
+        FrameFault::Short(length) => Ended::Short {
+            length: u64::from(length),
+        },
+        FrameFault::Oversized(length) => Ended::Oversized {
+            length: u64::from(length),
+            largest: u64::from(LONGEST_FRAME),
+        },
+        FrameFault::Cut { length, read } => Ended::Cut { length, read },
+        FrameFault::Device => Ended::InputFailed,
+        FrameFault::Memory => Ended::NoMemory,
+    }
+}
+
+/// Carries out a request and writes its reply.
+fn answer<S: Service, W: Write>(
+    service: &mut S,
+    writer: &mut W,
+    id: u64,
+    request: &Request<'_>,
+    out: &mut Vec<u8>,
+) -> Turn
+    ensures { Answers S.answers service.old (ask request.now) id service.new (W.contents writer.old) (W.contents writer.new) result }
+{
+    out.clear();
+    if service.call(id, request, out).is_err() {
+        return Turn::Ended(End::Fault {
+            id,
+            ended: Ended::NoMemory,
+        });
+    }
+    if write_frames(writer, out).is_err() {
+        return Turn::Ended(End::OutputFailed);
+    }
+    if matches!(request, Request::Close) {
+        Turn::Ended(End::Closed)
+    } else {
+        Turn::Answered(id)
+    }
+}
+
+/// Reads a frame, carries out its request and writes the reply.
+fn take_turn<S: Service, R: Read, W: Write>(
+    service: &mut S,
+    reader: &mut R,
+    writer: &mut W,
+    last: u64,
+    buffers: &mut Buffers,
+) -> Turn
+    ensures { Turns S.answers (point last service.old (R.remaining reader.old) (W.contents writer.old))
+        service.new (R.remaining reader.new) (W.contents writer.new) result }
+{
+    match read_frame(reader, &mut buffers.frame) {
+        Ok(true) => {}
+        Ok(false) => return Turn::Ended(End::Over),
+        Err(fault) => {
+            return Turn::Ended(End::Fault {
+                id: 0,
+                ended: unread(fault),
+            });
+        }
+    }
+    match judge(&buffers.frame, last) {
+        Ok((id, request)) => answer(service, writer, id, &request, &mut buffers.out),
+        Err((id, ended)) => Turn::Ended(End::Fault { id, ended }),
+    }
+}
+
+/// Serves the requests after a hello with the id `first`, until a close, the end of the input or a
+/// fault. Each request is answered by one frame with its id before the next one is read.
+///
+/// The fault of a frame is not written: see `finish`.
+pub fn serve_requests<S: Service, R: Read, W: Write>(
+    service: &mut S,
+    reader: &mut R,
+    writer: &mut W,
+    first: u64,
+    buffers: &mut Buffers,
+) -> End
+    ensures { Serves S.answers (point first service.old (R.remaining reader.old) (W.contents writer.old))
+        service.new (R.remaining reader.new) (W.contents writer.new) result }
+{
+    let mut last = first;
+    for _ in 0..u64::MAX {
+        match take_turn(service, reader, writer, last, buffers) {
+            Turn::Answered(id) => last = id,
+            Turn::Ended(end) => return end,
+        }
+    }
+    End::Fault {
+        id: 0,
+        ended: Ended::InputFailed,
+    }
+}
