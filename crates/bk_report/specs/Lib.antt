@@ -1,0 +1,9 @@
+pub mod Html
+pub mod Numbers
+pub mod Parts
+pub mod Compaction
+pub mod Classes
+pub mod Histogram
+pub mod Totals
+pub mod Counting
+pub mod Surveying

@@ -1,0 +1,5 @@
+//! Tests of `bk_report`.
+#![tactic(auto)]
+
+#[cfg(test)]
+mod tests;
