@@ -13,7 +13,7 @@ use Rattle.bk_record.proofs.NumberMaps.{get-insert_same}
 use Rattle.bk_record.specs.Files.{Files, file_of}
 use Rattle.bk_record.specs.Longer.{IsLonger}
 use Rattle.bk_record.proofs.Longer.{longer_same, longer_append, longer_trans}
-use Rattle.bk_disk.specs.Durable.{IsDurable, DurableGrows, IsDroppedFromDurable, SyncDurability, ListDurability, RemoveDurability}
+use Rattle.bk_disk.specs.Durable.{IsDurable, IsAllDurable, DurableGrows, IsDroppedFromDurable, SyncDurability, ListDurability, RemoveDurability}
 use Rattle.bk_disk.specs.Disk.{files_after_append, files_after_patch, patched_file, Appends, Patches, Creates, Syncs, Removes}
 use Rattle.bk_disk.specs.declared.fault.DiskFault.{DiskFault}
 use Rattle.bk_disk.specs.declared.fault.DiskFault.TheVariants.{Disk, Exists, NoLog, PastEnd, TooLong, Memory}
@@ -42,7 +42,15 @@ pub none_back : {T : Type 0} (result : Result T DiskFault) → ListDurability re
 none_back (Ok x) = refl
 none_back (Err fault) = tt
 
-pub ruleset kept_rules = (keeps_same, keeps_equal, none_back)
+-- a removal that failed before it began
+pub drops_nothing : (files : Files) (log : ℕ) (kept gone : Files) → IsDroppedFromDurable files log kept gone kept gone
+drops_nothing files log kept gone = record { more = λ other file apart is. (file, is, longer_same file); back = λ other file is. inl is }
+
+-- a disk whose files are all durable
+pub all_durable : (files : Files) (log : ℕ) → IsAllDurable files log files
+all_durable files log = λ file is. (file, is, longer_same file)
+
+pub ruleset kept_rules = (keeps_same, keeps_equal, none_back, drops_nothing, all_durable)
 
 -- ---- a disk that keeps all that its files have: each call
 
@@ -152,7 +160,7 @@ removed_keeps old log = record {
 pub removes_keep : {T : Type 0} (old new : Files) (log : ℕ) (result : Result T DiskFault) → Removes old log result new
     → RemoveDurability old log result old map.empty new map.empty
 removes_keep old new log (Ok x) turn = subst (λ (f : Files). IsDroppedFromDurable old log old map.empty f map.empty) (sym turn.1) (removed_keeps old log)
-removes_keep old new log (Err Disk) turn = equal_keeps old new turn
+removes_keep old new log (Err Disk) turn = subst (λ (f : Files). IsDroppedFromDurable old log old map.empty f map.empty) (sym turn) (drops_nothing old log old map.empty)
 removes_keep old new log (Err NoLog) turn = equal_keeps old new turn.1
 removes_keep old new log (Err Memory) turn = equal_keeps old new turn.1
 removes_keep old new log (Err Exists) turn = absurd turn

@@ -10,3 +10,4 @@ pub mod Digits
 pub mod DurableGrows
 pub mod Marks
 mod Doubts
+pub mod Cutting

@@ -127,6 +127,17 @@ impl Blocks {
         Ok(())
     }
 
+    pub(crate) fn truncate(&mut self, alloc: Global, end: usize) -> Result<(), AllocError>
+        requires { end ≤ length self.old }
+        ensures ok { OnOk result (self.new ≡ take end self.old) }
+        ensures err { OnErr result (self.new ≡ self.old) }
+    {
+        let _length = self.len();
+        let front = self.read(alloc, 0, end)?;
+        *self = Blocks::of(alloc, &front)?;
+        Ok(())
+    }
+
     pub(crate) fn patch(&mut self, bytes: &[u8; 12]) -> Result<(), AllocError>
         requires { 20 ≤ length self.old }
         ensures ok { OnOk result (self.new ≡ take 8 self.old ++ bytes.now ++ drop 20 self.old) }

@@ -6,7 +6,10 @@ ghost use Rattle.std.specs.FinMap as map;
 ghost use Rattle.bk_disk.specs.Disk.{FailsExactlyOnDiskFault};
 
 use crate::folder::{Folder, fault_of};
-use crate::{DirView, DiskFault, FaultWatch, FileFault, FolderFault, LogDisk, WatermarkDisk};
+use crate::{
+    CutDisk, DirView, DiskFault, FaultWatch, FileFault, FolderFault, FolderFile, LogDisk,
+    WatermarkDisk,
+};
 use std::alloc::{AllocError, Global};
 
 /// A directory of entry logs, each a file with the name of `name_of`. Files of other names are
@@ -43,9 +46,10 @@ use std::alloc::{AllocError, Global};
 ///
 /// # After a failed removal
 ///
-/// If `remove` returns `Disk`, a second call ends the removal. If the last sync of the directory
-/// failed, `list` syncs it first, and returns `Disk` if that fails. So a log that was removed and is
-/// not listed does not come back.
+/// If `remove` returns `Disk`, the file may be gone while its directory is not synced: a crash
+/// leaves the log or not. A second call ends the removal. Until then reads of a log without a file
+/// return `Disk`. If the last sync of the directory failed, `list` syncs it first, and returns
+/// `Disk` if that fails. So a log that was removed and is not listed does not come back.
 #[derive(Drop)]
 pub struct DirDisk {
     folder: Folder,
@@ -129,6 +133,19 @@ impl DirDisk {
         self.folder.watch().share(alloc)
     }
 
+    /// Returns the file of this name beside the logs, which need not exist. The name is no log's.
+    /// Becomes the writer of the directory first.
+    ///
+    /// # Errors
+    ///
+    /// - those of `open_to_write`.
+    pub fn file(&mut self, alloc: Global, name: &str) -> Result<FolderFile, FolderFault> {
+        match self.folder.file(alloc, name) {
+            Ok(file) => Ok(file),
+            Err(refusal) => Err(refusal.folder_fault(alloc)),
+        }
+    }
+
     /// Returns whether a log of the directory has a watermark. Fails with `Disk`, `Memory`, or with
     /// `NoLog` if a log is removed meanwhile.
     pub fn has_marks(&mut self, alloc: Global) -> Result<bool, DiskFault> {
@@ -168,6 +185,17 @@ impl LogDisk for DirDisk {
     ghost failures = { λ disk. disk.failures };
 
     fn bounds(&self) {}
+
+    /// Returns whether a write, a sync or a removal of the log failed, or somebody else changed or
+    /// removed it: each further `append`, `patch` and `sync` of it returns `Disk`.
+    fn is_lost(&self, log: u32) -> bool {
+        self.folder.is_lost(log)
+    }
+
+    /// Returns false: the system does not tell what is durable.
+    fn is_kept(&self, _log: u32) -> bool {
+        false
+    }
 
     fn list(&mut self, alloc: Global) -> Result<Vec<u32>, DiskFault> {
         let answer = self.folder.ids(alloc);
@@ -211,6 +239,15 @@ impl LogDisk for DirDisk {
 
     fn remove(&mut self, alloc: Global, log: u32) -> Result<(), DiskFault> {
         let answer = self.folder.unlink(alloc, log);
+        counted(&mut self.failures, answer)
+    }
+}
+
+/// What stands behind the first `length` bytes of the file is first copied to a new file beside it,
+/// `N.log.cut.K`, which is synced. Then the file is truncated and synced.
+impl CutDisk for DirDisk {
+    fn cut(&mut self, alloc: Global, log: u32, length: u64) -> Result<(), DiskFault> {
+        let answer = self.folder.cut(alloc, log, length);
         counted(&mut self.failures, answer)
     }
 }

@@ -8,7 +8,7 @@ ghost use Rattle.std.specs.Prelude.{◌≡◌, ℕ, ◌<◌, ◌^◌, Bool, fals
 ghost use Rattle.std.specs.List.{All};
 ghost use Rattle.bk_record.specs.Files.{Files};
 ghost use Rattle.bk_disk.specs.Disk.{AreLogFiles, FailsExactlyOnDiskFault, Lists, Measures, Creates, Appends, Patches, Syncs};
-ghost use Rattle.bk_disk.specs.Durable.{DurableGrows, SyncDurability, ListDurability, RemoveDurability};
+ghost use Rattle.bk_disk.specs.Durable.{DurableGrows, IsAllDurable, SyncDurability, ListDurability, RemoveDurability};
 ghost use Rattle.bk_disk.specs.Disk.{Reads, Views, Removes, ReadsView, ReadsInto, view_end};
 
 use crate::DiskFault;
@@ -70,8 +70,8 @@ pub trait LogView: Send + Sync + Drop {
 /// A set of entry logs, each a file of bytes with the id of the log.
 ///
 /// `synced` is what a crash leaves of each log at least. `gone` are the removed files that a crash
-/// may bring back. A call never makes less durable than before; a disk may make more durable at any
-/// time.
+/// may bring back. A call never makes less durable than before, except a removal, also one that
+/// fails; a disk may make more durable at any time.
 ///
 /// # Errors
 ///
@@ -95,6 +95,16 @@ pub trait LogDisk: Send + Drop {
     /// most 2^32 - 1 bytes, also after a failed append.
     fn bounds(&self)
         ensures { IsTrue (honest self.now) → AreLogFiles (files self.now) };
+
+    /// Returns whether the device has lost bytes of a log for good: then no `sync` of the log
+    /// succeeds until it is removed. Calls no device.
+    fn is_lost(&self, log: u32) -> bool
+        ensures { IsTrue (honest self.now) → result ≡ false };
+
+    /// Returns whether all bytes of a log are durable already, so that no `sync` of it is needed.
+    /// Calls no device.
+    fn is_kept(&self, log: u32) -> bool
+        ensures { IsTrue (honest self.now) → IsTrue result → IsAllDurable (files self.now) log (synced self.now) };
 
     /// Returns the ids of all logs, rising. After it no crash brings back a file that was removed
     /// before.
@@ -173,7 +183,8 @@ pub trait LogDisk: Send + Drop {
             → Views Self.View.bytes Self.View.honest (files self.old) log result (files self.new) };
 
     /// Removes a log, which a crash may bring back. Views of it stay. Fails with `NoLog` if there
-    /// is no such log.
+    /// is no such log. After `Disk` a crash may leave the log or not, and a second call ends the
+    /// removal.
     fn remove(&mut self, alloc: Global, log: u32) -> Result<(), DiskFault>
         ensures honest { honest self.new ≡ honest self.old }
         ensures durable { IsTrue (honest self.old) → RemoveDurability (files self.old) log result (synced self.old) (gone self.old) (synced self.new) (gone self.new) }

@@ -3,10 +3,11 @@
 ghost use Rattle.std.specs.Prelude.{◌≡◌, ◌<◌, ◌^◌, false, IsTrue};
 ghost use Rattle.bk_disk.specs.Disk.{FailsExactlyOnDiskFault, Lists, Measures, Creates, Appends, Patches, Syncs, Reads, Views, Removes};
 ghost use Rattle.bk_disk.specs.Durable.{DurableGrows, SyncDurability, ListDurability, RemoveDurability};
+ghost use Rattle.bk_disk.specs.Cutting.{Cuts, KeepsFrontDurable};
 ghost use Rattle.bk_disk.specs.Failing.{failure_count, Counts, FailsUntouched, FailsKeeping, CountsView};
 
 use crate::countdown::Countdown;
-use crate::{DiskFault, FaultView, LogDisk};
+use crate::{CutDisk, DiskFault, FaultView, LogDisk};
 use std::alloc::Global;
 use std::marker::Model;
 
@@ -119,6 +120,15 @@ impl<D: LogDisk> LogDisk for FaultDisk<D> {
 
     fn bounds(&self) {
         self.inner.bounds()
+    }
+
+    /// Returns whether the inner disk has lost the log. An injected failure loses none.
+    fn is_lost(&self, log: u32) -> bool {
+        self.inner.is_lost(log)
+    }
+
+    fn is_kept(&self, log: u32) -> bool {
+        self.inner.is_kept(log)
     }
 
     fn list(&mut self, alloc: Global) -> Result<Vec<u32>, DiskFault>
@@ -262,5 +272,23 @@ impl<D: LogDisk> LogDisk for FaultDisk<D> {
             return Err(DiskFault::Disk);
         }
         self.inner.remove(alloc, log)
+    }
+}
+
+#[tactic(auto, using(crate::proofs::Cutting::uncut_keeps))]
+impl<D: CutDisk> CutDisk for FaultDisk<D> {
+    fn cut(&mut self, alloc: Global, log: u32, length: u64) -> Result<(), DiskFault>
+        ensures honest { self.new.honest ≡ self.old.honest }
+        ensures durable { IsTrue self.old.honest → KeepsFrontDurable log length self.old.synced self.old.gone self.new.synced self.new.gone }
+        ensures cause { FailsExactlyOnDiskFault (failure_count self.old) (failure_count self.new) result }
+        ensures transition { IsTrue self.old.honest → Cuts self.old.files log length result self.new.files }
+        ensures counts { Counts self.old self.new result }
+        ensures untouched { FailsUntouched self.old self.new }
+        ensures views { self.new.views ≡ self.old.views }
+    {
+        if self.calls.count() {
+            return Err(DiskFault::Disk);
+        }
+        self.inner.cut(alloc, log, length)
     }
 }

@@ -6,6 +6,7 @@
 //! for later calls on the log if its contents or its file are in doubt (`trouble.rt`).
 
 mod aside;
+mod cutting;
 mod marks;
 mod writing;
 
@@ -19,7 +20,7 @@ use crate::reason::{Finding, Reason};
 use crate::refusal::{Refusal, device_fault};
 use crate::trouble::{State, Troubles};
 use crate::unsynced::write_again;
-use crate::{DiskFault, FaultWatch, FolderFault, log_of};
+use crate::{DiskFault, FaultWatch, FolderFault, FolderFile, log_of};
 use std::alloc::Global;
 use std::fs::{self, DirEntry, File, Metadata, OpenOptions};
 use std::io::{self, ErrorKind};
@@ -115,6 +116,13 @@ impl Folder {
         }
     }
 
+    /// Returns the file of this name beside the logs, once this disk is the writer.
+    pub(crate) fn file(&mut self, alloc: Global, name: &str) -> Result<FolderFile, Refusal> {
+        self.lock(alloc)?;
+        let watch = self.watch.share(alloc).map_err(|_| Refusal::Memory)?;
+        FolderFile::new(&self.rt, &self.path, name, watch).map_err(|_| Refusal::Memory)
+    }
+
     // Locks the directory before a call that writes.
     fn begin_write(&mut self, alloc: Global) -> Result<(), DiskFault> {
         match self.lock(alloc) {
@@ -161,10 +169,19 @@ impl Folder {
         }
     }
 
+    // Returns the path of a log's file, and what it is. Fails as `seek` does, and with `Disk` if
+    // the removal of the log has not ended.
+    fn find(&mut self, alloc: Global, log: u32) -> Result<(String, Metadata), DiskFault> {
+        match self.seek(alloc, log) {
+            Err(DiskFault::NoLog) if self.is_left(log, State::Gone) => Err(DiskFault::Disk),
+            found => found,
+        }
+    }
+
     // Returns the path of a log's file, and what it is. Fails with `Disk` if the name is a link in
     // a directory that is written, or if the file that is kept open is not the one of the name, or
     // has another length than it was left with.
-    fn find(&mut self, alloc: Global, log: u32) -> Result<(String, Metadata), DiskFault> {
+    fn seek(&mut self, alloc: Global, log: u32) -> Result<(String, Metadata), DiskFault> {
         let path = self.path_of(alloc, log)?;
         let found = match self.look(&path) {
             Ok(found) => found,
@@ -180,8 +197,9 @@ impl Folder {
             return Err(self.refuse_log(path, failed));
         }
         match self.compare(log, &found) {
-            None => Ok((path, found)),
-            Some((state, failed)) => Err(self.lose(log, state, path, failed)),
+            Ok(None) => Ok((path, found)),
+            Ok(Some((state, failed))) => Err(self.lose(log, state, path, failed)),
+            Err(failed) => Err(self.refuse(path, failed)),
         }
     }
 
@@ -195,19 +213,20 @@ impl Folder {
     }
 
     // Compares what was found of a log with the file that is kept open. Returns the state of the
-    // log if they differ.
-    fn compare(&mut self, log: u32, found: &Metadata) -> Option<(State, Failed)> {
+    // log if they differ. Fails if the system does not tell what the open file is; then nothing is
+    // known against the log, and it stays as it is.
+    fn compare(&mut self, log: u32, found: &Metadata) -> Result<Option<(State, Failed)>, Failed> {
         if let Some(kept) = self.kept.find(log) {
-            return match kept.look_at(found) {
-                Seen::Same => None,
-                Seen::Changed => Some((State::Lost, changed())),
-                Seen::Other => Some((State::Replaced, replaced())),
+            return match kept.look_at(found)? {
+                Seen::Same => Ok(None),
+                Seen::Changed => Ok(Some((State::Lost, changed()))),
+                Seen::Other => Ok(Some((State::Replaced, replaced()))),
             };
         }
         if self.is_left(log, State::Replaced) {
-            return Some((State::Replaced, replaced()));
+            return Ok(Some((State::Replaced, replaced())));
         }
-        None
+        Ok(None)
     }
 
     // Opens a log's file.

@@ -100,12 +100,14 @@ impl KeptLog {
         }
     }
 
-    /// Compares the open file with what the log's name leads to now.
-    pub(crate) fn look_at(&self, named: &Metadata) -> Seen {
+    /// Compares the open file with what the log's name leads to now. Fails if the system does not
+    /// tell what the open file is.
+    pub(crate) fn look_at(&self, named: &Metadata) -> Result<Seen, Failed> {
         match self.file.metadata() {
-            Ok(kept) if !is_same_file(&kept, named) => Seen::Other,
-            Ok(kept) if kept.len() == self.length => Seen::Same,
-            _ => Seen::Changed,
+            Ok(kept) if !is_same_file(&kept, named) => Ok(Seen::Other),
+            Ok(kept) if kept.len() == self.length => Ok(Seen::Same),
+            Ok(_) => Ok(Seen::Changed),
+            Err(reason) => Err(Failed::new(Operation::Open, reason)),
         }
     }
 }

@@ -4,7 +4,9 @@
 
 mod blocks;
 mod chunks;
+mod copying;
 mod countdown;
+mod cut_disk;
 mod dir_disk;
 mod dir_view;
 mod disk;
@@ -15,6 +17,7 @@ mod fault_watch;
 mod file_fault;
 mod folder;
 mod folder_fault;
+mod folder_file;
 mod kept;
 mod lock;
 mod log_names;
@@ -29,6 +32,7 @@ mod refusal;
 mod trouble;
 mod unsynced;
 
+pub use cut_disk::CutDisk;
 pub use dir_disk::DirDisk;
 pub use dir_view::DirView;
 pub use disk::{LogDisk, LogView};
@@ -38,6 +42,7 @@ pub use fault_view::FaultView;
 pub use fault_watch::FaultWatch;
 pub use file_fault::{FileFault, Operation};
 pub use folder_fault::FolderFault;
+pub use folder_file::FolderFile;
 pub use mark_disk::WatermarkDisk;
 pub use mem_disk::MemDisk;
 pub use mem_view::MemView;

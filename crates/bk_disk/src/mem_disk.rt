@@ -2,13 +2,14 @@
 //!
 //! Only allocations fail. A call whose allocation is refused leaves the files unchanged.
 
-ghost use Rattle.std.specs.Prelude.{◌≡◌, true, IfOk};
+ghost use Rattle.std.specs.Prelude.{◌≡◌, true, IsTrue, IfOk};
 ghost use Rattle.std.specs.FinMap as map;
+ghost use Rattle.bk_disk.specs.Durable.{IsAllDurable};
 ghost use Rattle.bk_disk.specs.Logs.{listed, IsListing};
 ghost use Rattle.bk_disk.specs.Watermarks.{full_watermarks};
 
 use crate::blocks::Blocks;
-use crate::{DiskFault, LogDisk, MemView, WatermarkDisk};
+use crate::{CutDisk, DiskFault, LogDisk, MemView, WatermarkDisk};
 use bk_record::MAX_LOG_LENGTH;
 use std::alloc::{AllocError, Global};
 use std::collections::BTreeMap;
@@ -76,6 +77,20 @@ impl LogDisk for MemDisk {
 
     fn bounds(&self) {
         let _ = &self.logs;
+    }
+
+    fn is_lost(&self, _log: u32) -> bool {
+        let _ = &self.logs;
+        false
+    }
+
+    /// Returns true: a crash takes nothing from a disk in memory.
+    fn is_kept(&self, log: u32) -> bool
+        ensures always { IsTrue result }
+        ensures durable { IsTrue true → IsTrue result → IsAllDurable self.now log self.now }
+    {
+        let _ = &self.logs;
+        true
     }
 
     fn list(&mut self, alloc: Global) -> Result<Vec<u32>, DiskFault> {
@@ -159,6 +174,20 @@ impl LogDisk for MemDisk {
             Some(_) => Ok(()),
             None => Err(DiskFault::NoLog),
         }
+    }
+}
+
+#[tactic(auto, using(crate::proofs::FileMaps::file_maps, crate::proofs::Cutting::uncut_keeps))]
+impl CutDisk for MemDisk {
+    fn cut(&mut self, alloc: Global, log: u32, length: u64) -> Result<(), DiskFault> {
+        let Some(file) = self.logs.get_mut(&log) else {
+            return Err(DiskFault::NoLog);
+        };
+        if file.len() <= length {
+            return Ok(());
+        }
+        file.truncate(alloc, length as usize)
+            .map_err(|_| DiskFault::Memory)
     }
 }
 

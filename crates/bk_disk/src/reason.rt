@@ -45,6 +45,8 @@ pub(crate) enum Finding {
     Unnoted,
     /// There is a copy of a log that is missing.
     CopyAlone,
+    /// A file of this crate has a second name.
+    TwoNames,
 }
 
 impl Finding {
@@ -79,6 +81,7 @@ impl Finding {
             Finding::Shorter => "the file is shorter than it was",
             Finding::Unnoted => "no memory to note which log failed",
             Finding::CopyAlone => "a copy of a log that is missing: move it away, or back",
+            Finding::TwoNames => "a file with a second name: remove one of them",
         }
     }
 }

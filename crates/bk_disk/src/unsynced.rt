@@ -16,8 +16,7 @@
 //! synced, and a directory that the next disk goes on with. A copy that a crash left has nothing
 //! more of that, so it is removed, but only if the log can be read to its end.
 
-ghost use Rattle.std.specs.Prelude.{◌/◌, ◌≤◌};
-
+use crate::copying::{CopyFailed, copy_bytes, read_bytes};
 use crate::file_fault::{Failed, Operation};
 use crate::folder::open_found;
 use crate::lock::WriterLock;
@@ -27,11 +26,7 @@ use crate::reason::{Finding, Reason};
 use crate::refusal::Refusal;
 use std::alloc::{AllocError, Global};
 use std::fs::{self, File, OpenOptions};
-use std::io::{self, ErrorKind, Write};
-use std::os::unix::fs::FileExt;
-
-/// The number of bytes that are copied at a time.
-const PIECE: u64 = 32_768;
+use std::io::{self, ErrorKind};
 
 /// A directory whose logs are written again.
 #[derive(Drop)]
@@ -126,7 +121,7 @@ impl Again<'_> {
         let file = self.open(&paths.log)?;
         let found = self.tried(&paths.log, Operation::Open, file.metadata())?;
         if is_copied {
-            self.read_all(&paths.log, &file, found.len())?;
+            self.tried(&paths.log, Operation::Read, read_bytes(&file, found.len()))?;
             self.remove(&paths.copy)?;
         }
         let copied = self.copy(paths, &file, found.len());
@@ -145,28 +140,18 @@ impl Again<'_> {
             .create_new(true)
             .open(self.rt, paths.copy.as_str());
         let mut copy = self.tried(&paths.copy, Operation::Create, made)?;
-        for number in 0..length / PIECE + 1 {
-            let mut piece = [0; PIECE as usize];
-            let read = read_piece(file, number, length, &mut piece);
-            let bytes = self.tried(&paths.log, Operation::Read, read)?;
-            self.tried(&paths.copy, Operation::Write, copy.write_all(bytes))?;
+        match copy_bytes(file, 0, length, &mut copy) {
+            Ok(()) => {}
+            Err(CopyFailed::Read(error)) => {
+                return self.tried(&paths.log, Operation::Read, Err(error));
+            }
+            Err(CopyFailed::Write(error)) => {
+                return self.tried(&paths.copy, Operation::Write, Err(error));
+            }
         }
         self.tried(&paths.copy, Operation::Sync, copy.sync_all())?;
         let renamed = fs::rename(self.rt, paths.copy.as_str(), paths.log.as_str());
         self.tried(&paths.copy, Operation::Rename, renamed)
-    }
-
-    // Reads a log of this length to its end.
-    fn read_all(&self, path: &str, file: &File, length: u64) -> Result<(), Refusal> {
-        for number in 0..length / PIECE + 1 {
-            let mut piece = [0; PIECE as usize];
-            self.tried(
-                path,
-                Operation::Read,
-                read_piece(file, number, length, &mut piece),
-            )?;
-        }
-        Ok(())
     }
 
     // Opens the file of a log, which is no link.
@@ -205,19 +190,4 @@ impl Again<'_> {
             }
         }
     }
-}
-
-// Reads the piece of this number of a file of this length.
-fn read_piece<'a>(
-    file: &File,
-    number: u64,
-    length: u64,
-    piece: &'a mut [u8; PIECE as usize],
-) -> io::Result<&'a [u8]>
-    requires { number ≤ length / 32768 }
-{
-    let at = number * PIECE;
-    let n = (length - at).min(PIECE) as usize;
-    file.read_exact_at(&mut piece[..n], at)?;
-    Ok(&piece[..n])
 }

@@ -2,9 +2,11 @@
 
 mod again;
 mod aside;
+mod beside;
 mod bound;
 mod calls;
 mod change;
+mod cutting;
 mod failing;
 mod folder;
 mod hostile;

@@ -1,6 +1,6 @@
 //! The index: a finite map from keys to locations, in pages of up to 256 entries.
 
-ghost use Rattle.std.specs.Prelude.{◌≡◌, ◌↔◌, ℕ, ◌==◌, ◌≤◌, ◌^◌, List, length, filter, sum, slice_get, Some, IsTrue, IsSome, IsOk, IfOk, OnOk, OnErr};
+ghost use Rattle.std.specs.Prelude.{◌≡◌, ◌↔◌, ◌==◌, ◌≤◌, ◌^◌, length, filter, map as each, Some, IsTrue, IsSome, IsOk, IfOk, OnOk, OnErr};
 ghost use Rattle.std.specs.Bool.{OnTrue, OnFalse};
 ghost use Rattle.std.specs.FinMap as map;
 ghost use Rattle.bk_index.specs.Keyed.{without_ledger, ledger_count, log_count};
@@ -143,25 +143,14 @@ impl Index {
         self.pages.count_in(log) as u64
     }
 
-    /// Returns the pages of the entries. Its `len` and `page_len` refer to the same pages.
+    /// Returns the pages of the entries: their number by `len`, the length of each by `page_len`.
+    /// The lengths are from 1 to 256 and add up to the number of keys.
     pub fn as_pages(&self) -> &Pages
-        ensures { all_pairs result.now ≡ map.entries self.now }
+        ensures items { all_pairs result.now ≡ map.entries self.now }
+        ensures lens { ArePageLens (each length result.now) (map.len self.now) }
     {
+        // Lemma: the pages' sizes.
+        let _pages = self.pages.len();
         &self.pages
-    }
-
-    /// Returns the number of pages, those of `as_pages`.
-    pub fn pages(&self) -> usize
-        ensures { (lens : List ℕ) × ArePageLens lens (map.len self.now) × (result ≡ length lens) }
-    {
-        self.pages.len()
-    }
-
-    /// Returns the number of entries of a page, from 1 to 256, or `None` exactly from the number of
-    /// pages on. The pages are those of `as_pages`.
-    pub fn page_len(&self, number: usize) -> Option<usize>
-        ensures { (lens : List ℕ) × ArePageLens lens (map.len self.now) × (result ≡ slice_get lens number) }
-    {
-        self.pages.page_len(number)
     }
 }

@@ -6,3 +6,4 @@ pub mod KeeperRuled
 pub mod KeeperSteps
 pub mod LeaseSteps
 pub mod KeeperSeen
+pub mod CloseResults

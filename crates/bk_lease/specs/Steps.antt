@@ -1,14 +1,15 @@
 -- The atomic steps on a slot's word: the value that each finds, and the view of the seat after it.
 -- Read `pin_step` and `close_step` first.
-use Rattle.std.specs.Prelude.{◌≡◌, ◌≢◌, ℕ, ◌+◌, ◌<◌, ◌≤◌, List, slice_set, Option, Some, None}
-use Rattle.atomic_table.specs.Table.{Me, Step}
+use Rattle.std.specs.Prelude.{◌≡◌, ◌≢◌, ℕ, ◌+◌, ◌%◌, ◌^◌, ◌<◌, ◌≤◌, ◌==◌, if◌then◌else◌, List, slice_set, Option, Some, None, Result, Ok, Err}
+use mathlib.Core.Option.{none}
+use Rattle.atomic_table.specs.Table.{Me, Step, step}
 use Rattle.bk_lease.specs.declared.slot.Slot.{Slot}
 use Rattle.bk_lease.specs.declared.slot.Slot.TheVariants.{Free, Open, Closed}
 use Rattle.bk_lease.specs.declared.rule.Pin.{Pin}
 use Rattle.bk_lease.specs.declared.rule.Register.{Register}
 use Rattle.bk_lease.specs.declared.rule.Role.{Role}
 use Rattle.bk_lease.specs.declared.rule.Role.TheVariants.{Keeper, Held, Spent}
-use Rattle.bk_lease.specs.Leases.{state_at, held_on, open_word, RuledBy}
+use Rattle.bk_lease.specs.Leases.{state_at, held_on, open_word, closed_word, RuledBy}
 
 -- a seat as the table sees it: its view, and the places of the table that it took (none here)
 abbrev pub SeatView : Type 0
@@ -34,6 +35,14 @@ with_granted register = record register { pending = None; given = register.given
 abbrev pub pin_on : ℕ → ℕ → Pin
 pin_on slot met = record { slot = slot; met = met }
 
+-- a keeper's view that has the slot open for this log, and no pin under way
+abbrev pub IsOpenFor : SeatView → ℕ → ℕ → Type 0
+IsOpenFor me slot log = (register : Register) × (me.0 ≡ Keeper register) × (state_at register.slots slot ≡ Open log) × (register.pending ≡ None)
+
+-- the same for some log
+abbrev pub IsIdleOn : SeatView → ℕ → Type 0
+IsIdleOn me slot = (log : ℕ) × IsOpenFor me slot log
+
 -- the keeper's register changes by `next`; all else is unchanged
 abbrev pub Advances : SeatView → SeatView → (Register → Register) → Type 0
 Advances me me' next = (register : Register) → me.0 ≡ Keeper register → me' ≡ (Keeper (next register), me.1)
@@ -58,6 +67,10 @@ open_step made me found me' = (log : ℕ) → made.first ≡ open_word log 0 →
 abbrev pub pin_step : OneStep → SeatView → ℕ → SeatView → Type 0
 pin_step made me found me' = OnOpen made me (λ register log.
     (met : ℕ) × CountsSeats register made.word log found met × (me' ≡ (Keeper (with_pending register (Some (pin_on made.word met))), me.1)))
+
+-- the operation of a pin: one lease is added to the word
+abbrev pub pin_made : ℕ → ℕ → OneStep
+pin_made slots slot = step slots slot 1 0 none
 
 -- undo: no pin is under way
 abbrev pub undo_step : OneStep → SeatView → ℕ → SeatView → Type 0
@@ -90,6 +103,14 @@ abbrev pub close_step : OneStep → SeatView → ℕ → SeatView → Type 0
 close_step made me found me' = OnOpen made me (λ register log.
     (found ≡ made.first → (me' ≡ (Keeper (with_slot register made.word (Closed log)), me.1)) × Meets register made.word 0)
     × (found ≢ made.first → (me' ≡ me) × ((met : ℕ) × (0 < met) × CountsSeats register made.word log found met)))
+
+-- the operation of a close: the word of a slot without leases becomes that of a closed one
+abbrev pub close_made : ℕ → ℕ → ℕ → OneStep
+close_made slots slot log = step slots slot (open_word log 0) (closed_word log) none
+
+-- its answer: the count in the word that it found, if the slot was not closed
+abbrev pub close_result : ℕ → ℕ → Result (Unit {0}) ℕ
+close_result log found = if found == open_word log 0 then Ok tt else Err (found % 2 ^ 32)
 
 -- free: the slot is free
 abbrev pub free_step : OneStep → SeatView → ℕ → SeatView → Type 0

@@ -9,11 +9,12 @@ ghost use Rattle.bk_lease.specs.Leases.{state_at, log_at, IsOpen, IsClosed, MayO
 ghost use Rattle.bk_lease.specs.Slots.{IsFree, taken_count};
 
 use crate::answers::{Closed, Leased, PinFault};
+use crate::counting::{closed, pinned};
 use crate::lease::Lease;
 use crate::rule::{Board, Role};
 use crate::seat::LeaseSeat;
 use crate::slot::Slot;
-use crate::steps::{CloseStep, FreeStep, GrantStep, NeverStep, OpenStep, PinStep, UndoStep};
+use crate::steps::{FreeStep, GrantStep, NeverStep, OpenStep, UndoStep};
 use crate::word;
 use atomic_table::Seat;
 use std::marker::Model;
@@ -136,9 +137,9 @@ impl Keeper {
             return Err(PinFault::NoSeat);
         };
         let log = self.log_at(slot);
+        let met = pinned(&self.table, &mut self.seat, slot);
         let shared = &self.table.shared;
-        let found = shared.fetch_add::<PinStep>(&mut self.seat, slot, 1);
-        if word::count_of(found) >= self.most {
+        if met >= self.most {
             shared.fetch_sub::<UndoStep>(&mut self.seat, slot, 1);
             return Err(PinFault::TooMany);
         }
@@ -162,16 +163,13 @@ impl Keeper {
         ensures err { OnErr result (self.new ≡ self.old) }
     {
         let log = self.log_at(slot);
-        let unleased = word::unleased(log);
-        let closed = word::closed(log);
-        let shared = &self.table.shared;
-        let found = shared.compare_exchange::<CloseStep>(&mut self.seat, slot, unleased, closed);
-        if found != unleased {
-            let count = word::count_of(found);
-            return Err(Leased { count });
+        match closed(&self.table, &mut self.seat, slot, log) {
+            Ok(()) => {
+                self.slots[slot] = Slot::Closed(log);
+                Ok(Closed { slot, log })
+            }
+            Err(count) => Err(Leased { count }),
         }
-        self.slots[slot] = Slot::Closed(log);
-        Ok(Closed { slot, log })
     }
 
     /// Frees a closed slot.

@@ -6,6 +6,7 @@
 //! wait. A slot is closed by an atomic step that finds it without leases.
 
 mod answers;
+mod counting;
 mod keeper;
 mod lease;
 mod rule;

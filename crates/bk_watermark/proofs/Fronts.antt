@@ -1,6 +1,6 @@
 -- Durable bytes of each log before its watermark.
 use Rattle.std.proofs.Common.{◌≡◌, ◌≢◌, ◌⊎◌, inl, inr, ℕ, ◌+◌, ◌-◌, ◌≤◌, Bool, true, false, cond, List, [], ◌∷◌, ◌++◌, length, take, drop, Option, Some, None, option_map, unwrap_or}
-use Rattle.std.proofs.Common.{refl, sym, ap, ◌∙◌, subst, arith, append_assoc, length-append, length-drop, length-take}
+use Rattle.std.proofs.Common.{Err, refl, sym, ap, ◌∙◌, subst, arith, append_assoc, length-append, length-drop, length-take}
 use Rattle.std.proofs.Math.Decide.{dec_le}
 use Rattle.std.proofs.Math.Seq.{take-append-add}
 use Rattle.std.proofs.lemmas.List.{drop-take, take-append-drop, nil_from_length, take_all}
@@ -17,7 +17,9 @@ use Rattle.bk_record.specs.Longer.{IsLonger}
 use Rattle.bk_record.proofs.Longer.{longer_trans}
 use Rattle.bk_record.proofs.Maps.{get-insert_else, get-remove_here, get-remove_else}
 use Rattle.bk_record.proofs.NumberMaps.{get-insert_same}
-use Rattle.bk_disk.specs.Durable.{IsDurable, DurableGrows, IsDroppedFromDurable}
+use Rattle.bk_disk.specs.Durable.{IsDurable, DurableGrows, IsDroppedFromDurable, RemoveDurability}
+use Rattle.bk_disk.specs.declared.fault.DiskFault.{DiskFault}
+use Rattle.bk_disk.specs.declared.fault.DiskFault.TheVariants.{Disk}
 use Rattle.bk_disk.specs.Watermarks.{IsDurableUpTo}
 use Rattle.bk_watermark.specs.Marking.{Written, fronts, sure_fronts, AreCovered, AreHigher, IsNextMark}
 use Rattle.bk_watermark.specs.declared.marks.Mark.{Mark}
@@ -170,6 +172,12 @@ higher_put marks log sure last above = record {
     | inr apart ↦ (mark, get-insert_else nat_cmp_total nat_cmp-IsAntisymmetric marks log _ other apart ∙ is, omega arith)
   ];
 }
+
+-- what is durable after a removal that failed
+pub not_removed : (files : Files) (log : ℕ) (fault : DiskFault) (kept gone kept' gone' : Files) → fault ≡ Disk
+    → RemoveDurability {T = Unit {0}} files log (Err fault) kept gone kept' gone' → IsDroppedFromDurable files log kept gone kept' gone'
+not_removed files log fault kept gone kept' gone' is turn =
+    subst (λ (f : DiskFault). RemoveDurability {T = Unit {0}} files log (Err f) kept gone kept' gone') is turn
 
 -- a removed log has no watermark
 pub fronts_gone : (files : Files) (log : ℕ) (kept gone kept' gone' : Files) (marks : Written) → IsDroppedFromDurable files log kept gone kept' gone'

@@ -1,6 +1,6 @@
 //! A disk over another one that writes a durability watermark at each sync of a log.
 
-ghost use Rattle.std.specs.Prelude.{◌≡◌, IsTrue, IfOk, OnOk};
+ghost use Rattle.std.specs.Prelude.{◌≡◌, IsTrue, IsErrOf, IfOk, OnOk};
 ghost use Rattle.bk_record.specs.Files.{file_of};
 ghost use Rattle.bk_disk.specs.Disk.{FailsExactlyOnDiskFault, Syncs};
 ghost use Rattle.bk_disk.specs.Durable.{DurableGrows, SyncDurability};
@@ -55,11 +55,12 @@ impl<D: WatermarkDisk> WatermarkedDisk<D> {
     /// The disk is dropped. Some logs may be truncated and others not; the next opening truncates
     /// the rest.
     ///
-    /// - `Disk`: the device failed.
+    /// - `Disk`: the device failed. Does not occur if it never fails.
     /// - `Memory`: out of memory.
     pub fn open(inner: D, alloc: Global) -> Result<Self, DiskFault>
-        ensures { IfOk result (λ disk. (disk.honest ≡ D.honest inner)
+        ensures opened { IfOk result (λ disk. (disk.honest ≡ D.honest inner)
             × (IsTrue (D.honest inner) → AreTruncated (D.files inner) (D.marks inner) disk.files)) }
+        ensures unfailing { ((any : D) → D.failures any ≡ 0) → ¬ (IsErrOf result DiskFault.Disk) }
     {
         let mut inner = inner;
         inner.truncate_to_watermarks(alloc)?;
@@ -103,6 +104,16 @@ impl<D: WatermarkDisk> LogDisk for WatermarkedDisk<D> {
 
     fn bounds(&self) {
         self.inner.bounds()
+    }
+
+    fn is_lost(&self, log: u32) -> bool {
+        self.inner.is_lost(log)
+    }
+
+    /// Returns false: a sync also writes the watermark.
+    fn is_kept(&self, _log: u32) -> bool {
+        let _ = &self.inner;
+        false
     }
 
     fn list(&mut self, alloc: Global) -> Result<Vec<u32>, DiskFault> {
@@ -161,8 +172,17 @@ impl<D: WatermarkDisk> LogDisk for WatermarkedDisk<D> {
     }
 
     fn remove(&mut self, alloc: Global, log: u32) -> Result<(), DiskFault> {
-        self.inner.remove(alloc, log)?;
-        self.marks.remove(log);
-        Ok(())
+        match self.inner.remove(alloc, log) {
+            Ok(()) => {
+                self.marks.remove(log);
+                Ok(())
+            }
+            Err(DiskFault::Disk) => {
+                // The file may be gone.
+                self.marks.remove(log);
+                Err(DiskFault::Disk)
+            }
+            Err(fault) => Err(fault),
+        }
     }
 }

@@ -8,6 +8,7 @@ use std::process::Abort;
 mod fetches;
 mod hostile;
 mod large;
+mod narrow;
 mod scans;
 mod texts;
 mod writes;

@@ -1,5 +1,8 @@
 //! Logs that this disk sets aside for the next one, since a write or a sync of them failed.
 
+ghost use Rattle.std.specs.Prelude.{◌≡◌, None, is_some, OnOk};
+ghost use Rattle.bk_disk.specs.Doubts.{trouble_of};
+
 use super::Folder;
 use crate::file_fault::{Failed, FileFault, Operation};
 use crate::names::unsynced_name_of;
@@ -43,7 +46,9 @@ impl Folder {
     }
 
     // Fails with `Disk` if an earlier call leaves a log that cannot be written or synced.
-    pub(super) fn check_trouble(&self, alloc: Global, log: u32) -> Result<(), DiskFault> {
+    pub(super) fn check_trouble(&self, alloc: Global, log: u32) -> Result<(), DiskFault>
+        ensures { OnOk result (trouble_of self.now.troubles log ≡ None) }
+    {
         let Some(trouble) = self.troubles.find(log) else {
             return Ok(());
         };
@@ -51,6 +56,13 @@ impl Folder {
         let fault = FileFault::of_log(path, trouble.failed, trouble.unmarked);
         self.watch.note(Some(fault));
         Err(DiskFault::Disk)
+    }
+
+    /// Returns whether a failed call left a log that cannot be written or synced.
+    pub(crate) fn is_lost(&self, log: u32) -> bool
+        ensures { result ≡ is_some (trouble_of self.now.troubles log) }
+    {
+        self.troubles.find(log).is_some()
     }
 
     // Returns whether a failed call left a log in this state.

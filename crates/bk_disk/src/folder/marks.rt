@@ -100,7 +100,7 @@ impl Folder {
     }
 
     // Opens a log's file to read and write it.
-    fn open_to_change(&mut self, alloc: Global, log: u32) -> Result<Opened, DiskFault> {
+    pub(super) fn open_to_change(&mut self, alloc: Global, log: u32) -> Result<Opened, DiskFault> {
         self.open_log(alloc, log, OpenOptions::new().read(true).write(true))
     }
 }

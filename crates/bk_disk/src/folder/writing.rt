@@ -1,6 +1,7 @@
 //! Calls that make, write, sync and remove the file of a log.
 
-ghost use Rattle.std.specs.Prelude.{◌≤◌, length};
+ghost use Rattle.std.specs.Prelude.{◌≡◌, ◌≤◌, false, length, is_ok, IsSome};
+ghost use Rattle.bk_disk.specs.Doubts.{trouble_of};
 
 use super::{Folder, Opened};
 use crate::DiskFault;
@@ -135,10 +136,22 @@ impl Folder {
         true
     }
 
-    /// Syncs a log's file.
-    pub(crate) fn write_through(&mut self, alloc: Global, log: u32) -> Result<(), DiskFault> {
+    /// Syncs a log's file. If somebody removed the file, its bytes are lost. A log that is lost
+    /// stays so.
+    pub(crate) fn write_through(&mut self, alloc: Global, log: u32) -> Result<(), DiskFault>
+        ensures lost { IsSome (trouble_of self.old.troubles log) → is_ok result ≡ false }
+        ensures stays { IsSome (trouble_of self.old.troubles log) → self.new.troubles ≡ self.old.troubles }
+    {
         self.check_trouble(alloc, log)?;
-        let (path, _) = self.find(alloc, log)?;
+        let path = match self.seek(alloc, log) {
+            Ok((path, _)) => path,
+            Err(fault) => {
+                if fault == DiskFault::NoLog {
+                    self.note(log, State::Gone, missing());
+                }
+                return Err(fault);
+            }
+        };
         let synced = match self.kept.find(log) {
             Some(kept) => kept.sync(),
             None => {
@@ -160,11 +173,12 @@ impl Folder {
         }
     }
 
-    /// Removes a log's file and the file that sets it aside, and syncs the directory. If this fails with `Disk`, a second call does
-    /// the rest. If another file has the name of a log that this disk writes, the file stays.
+    /// Removes a log's file and the file that sets it aside, and syncs the directory. If this fails
+    /// with `Disk`, a second call does the rest. If another file has the name of a log that this
+    /// disk writes, the file stays.
     pub(crate) fn unlink(&mut self, alloc: Global, log: u32) -> Result<(), DiskFault> {
         self.begin_write(alloc)?;
-        let path = match self.find(alloc, log) {
+        let path = match self.seek(alloc, log) {
             Ok((path, _)) => path,
             Err(DiskFault::NoLog) if self.is_left(log, State::Gone) => {
                 return self.end_removal(log);
@@ -204,6 +218,11 @@ impl Folder {
             }
         }
     }
+}
+
+// Returns why a log is lost whose file somebody removed.
+fn missing() -> Failed {
+    Failed::new(Operation::Open, io::Error::from(ErrorKind::NotFound))
 }
 
 // Syncs the directory at a path.

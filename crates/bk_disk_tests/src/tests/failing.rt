@@ -104,6 +104,23 @@ fn a_failing_append_keeps_the_first_bytes(rt: HostRuntime) {
     }
 }
 
+// What the disk says of log 4 without a call of its device: whether it is lost, and whether it is
+// kept.
+fn said_of(disk: &impl LogDisk) -> (bool, bool) {
+    (disk.is_lost(4), disk.is_kept(4))
+}
+
+#[test]
+fn a_disk_in_memory_loses_nothing_and_keeps_all(rt: HostRuntime) {
+    let alloc = rt.alloc();
+    assert!(rt; said_of(&one_log(&rt, alloc)) == (false, true));
+    let mut disk = FaultDisk::new(one_log(&rt, alloc), 1, 0);
+    assert!(rt; said_of(&disk) == (false, true));
+    assert!(rt; !disk.has_failed());
+    assert!(rt; disk.sync(alloc, 4) == Err(DiskFault::Disk));
+    assert!(rt; said_of(&disk) == (false, true));
+}
+
 const NO_LOG: [Row; 3] = [
     (Call::Append(9, b"appended"), Want::Fault(DiskFault::Disk)),
     (Call::List, Want::Ids(&[4])),

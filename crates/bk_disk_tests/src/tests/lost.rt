@@ -1,6 +1,6 @@
 //! Logs of a real directory on which a call failed, and what is reported of it.
 
-use super::change::Change::{Cut, Fill, Grow, Rename, Write};
+use super::change::Change::{Cut, Fill, Grow, Remove, Rename, Write};
 use super::sight::Sight::Has;
 use super::stage::{Act, begin, run};
 use super::table::{Call, Row, Want};
@@ -51,14 +51,20 @@ const MADE_AGAIN: [Row; 5] = [
     (Call::Sync(1), Want::Done),
 ];
 
-const CLOSED: [Act; 7] = [
+const CLOSED: [Act; 13] = [
     Act::Open,
     Act::Calls(&BEGUN),
+    Act::IsLost(1, false),
+    Act::IsKept(1, false),
     Act::Do(Grow("1.log", b"xy")),
+    Act::IsLost(1, false),
     Act::Calls(&LOST),
+    Act::IsLost(1, true),
+    Act::IsLost(2, false),
     Act::Calls(&MORE),
     Act::Calls(&LOST),
     Act::Calls(&MADE_AGAIN),
+    Act::IsLost(1, false),
 ];
 
 #[test]
@@ -87,6 +93,36 @@ const OTHER: [Act; 6] = [
 #[test]
 fn another_file_of_the_name_is_not_removed(rt: HostRuntime) {
     run(&rt, &rt, "bk_disk_other", &OTHER);
+}
+
+const MISSED: [Row; 2] = [
+    (Call::Length(1), Want::Fault(DiskFault::NoLog)),
+    (Call::Sync(1), Want::Fault(DiskFault::NoLog)),
+];
+
+// From then on the log counts as one whose removal has not ended.
+const MISSING: [Row; 4] = [
+    (Call::Sync(1), DISK),
+    (Call::Append(1, b"x"), DISK),
+    (Call::Length(1), DISK),
+    (Call::Remove(1), Want::Done),
+];
+
+const REMOVED: [Act; 9] = [
+    Act::Open,
+    Act::Calls(&BEGUN),
+    Act::Do(Remove("1.log")),
+    Act::IsLost(1, false),
+    Act::Calls(&MISSED),
+    Act::IsLost(1, true),
+    Act::Calls(&MISSING),
+    Act::IsLost(1, false),
+    Act::Calls(&NO_LOG),
+];
+
+#[test]
+fn a_log_that_somebody_removed_is_lost_once_it_is_synced(rt: HostRuntime) {
+    run(&rt, &rt, "bk_disk_missing", &REMOVED);
 }
 
 const NO_LOG: [Row; 1] = [(Call::Length(31), Want::Fault(DiskFault::NoLog))];

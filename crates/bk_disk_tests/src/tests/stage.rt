@@ -3,7 +3,7 @@
 use super::change::{Change, do_change};
 use super::sight::{Sight, inode_of, is_seen};
 use super::table::{Answer, Row, Want, check, is_wanted};
-use bk_disk::{DirDisk, DirView, FolderFault, LogDisk, LogView, WatermarkDisk};
+use bk_disk::{CutDisk, DirDisk, DirView, FolderFault, LogDisk, LogView, WatermarkDisk};
 use std::alloc::Global;
 use std::fs;
 use std::process::{self, Abort};
@@ -53,6 +53,12 @@ pub(super) enum Act {
     Watermark(u16, u64),
     /// Whether a log has a watermark.
     HasMarks(bool),
+    /// Cuts a log to a length.
+    Cut(u16, u64),
+    /// Whether the bytes of a log are lost: log, answer.
+    IsLost(u16, bool),
+    /// Whether all bytes of a log are durable: log, answer.
+    IsKept(u16, bool),
 }
 
 /// A test on a directory: the disk, another one, and the views that are kept.
@@ -154,6 +160,9 @@ impl Stage {
             Act::Truncate => disk.truncate_to_watermarks(alloc).is_ok(),
             Act::Watermark(log, mark) => disk.write_watermark(alloc, u32::from(log), mark).is_ok(),
             Act::HasMarks(has) => disk.has_marks(alloc) == Ok(has),
+            Act::Cut(log, length) => disk.cut(alloc, u32::from(log), length).is_ok(),
+            Act::IsLost(log, is) => disk.is_lost(u32::from(log)) == is,
+            Act::IsKept(log, is) => disk.is_kept(u32::from(log)) == is,
             _ => false,
         }
     }

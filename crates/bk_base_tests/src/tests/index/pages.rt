@@ -9,16 +9,15 @@ use std::test::Fail;
 // Whether the pages have exactly these lengths, in this order.
 fn has_pages(index: &Index, lens: &[usize]) -> bool {
     let pages = index.as_pages();
-    if index.pages() != lens.len() || pages.len() != lens.len() {
+    if pages.len() != lens.len() {
         return false;
     }
     for (number, len) in lens.iter().enumerate() {
-        let found = (index.page_len(number), pages.page_len(number));
-        if found != (Some(*len), Some(*len)) {
+        if pages.page_len(number) != Some(*len) {
             return false;
         }
     }
-    index.page_len(lens.len()).is_none()
+    pages.page_len(lens.len()).is_none()
 }
 
 // Inserts 256 entries of ledger 1.
@@ -66,9 +65,10 @@ fn fill(index: &mut Index) -> Result<(), AllocError> {
 }
 
 fn entries_in_pages(index: &Index) -> usize {
+    let pages = index.as_pages();
     let mut entries = 0usize;
-    for number in 0..index.pages() {
-        entries = entries.saturating_add(index.page_len(number).unwrap_or(0));
+    for number in 0..pages.len() {
+        entries = entries.saturating_add(pages.page_len(number).unwrap_or(0));
     }
     entries
 }
