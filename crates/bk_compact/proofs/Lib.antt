@@ -13,3 +13,4 @@ mod Switched
 mod Sealed
 mod Turns
 mod CompactFrames
+pub mod Ends

@@ -1,5 +1,5 @@
 -- Entries are examined one after another, in the order of a scan of the source log.
-use Rattle.std.proofs.Common.{◌≡◌, ◌≢◌, inl, inr, ℕ, ◌+◌, ◌-◌, ◌<◌, ◌≤◌, ◌^◌, Bool, true, false}
+use Rattle.std.proofs.Common.{◌≡◌, ◌≢◌, inl, inr, ℕ, zero, suc, ◌+◌, ◌-◌, ◌<◌, ◌≤◌, ◌^◌, Bool, true, false}
 use Rattle.std.proofs.Common.{IsTrue, List, [], ◌∷◌, ◌++◌, length, take, drop, not}
 use Rattle.std.proofs.Common.{Some, None, Ok, Err, refl, sym, ap, subst, ◌∙◌, arith, length-append}
 use Rattle.std.specs.Option.{option_and_then}
@@ -27,7 +27,7 @@ use Rattle.bk_compact.specs.declared.entries.Stopped.{Stopped}
 use Rattle.bk_compact.specs.declared.entries.Stopped.TheVariants as stops
 use Rattle.bk_compact.specs.Compacting.{AreFound, Examines, HasUnsoundSource}
 use Rattle.bk_compact.specs.Compacting.{Steps, behind, entries_left, with_job}
-use Rattle.bk_compact.specs.JobSteps.{CopiesAll, CopiesNext, ExaminesOne, IsAhead, IsCopying, IsNextFound, IsTakenOut}
+use Rattle.bk_compact.specs.JobSteps.{CopiesAll, CopiesNext, ExaminesOne, IsAhead, IsCopying, IsNextFound, IsTakenOut, LeavesEntry}
 use Rattle.bk_compact.specs.JobSteps.{ScansFrom, StopsAt, stop_after}
 use Rattle.bk_compact.proofs.Positions.{none_bad}
 use Rattle.bk_compact.proofs.Stored.{scan_found, scan_come, scan_taken, source_bytes, source_honest, source_spelled}
@@ -93,6 +93,13 @@ going_starts view s kept job is last scan scans =
       come = λ _. ap (λ n. drop n (entries_from view.bytes job.at)) (sym given);
     }
 
+abbrev no_pairs : List (ℕ × List ℕ)
+no_pairs = []
+
+drop_none : (n : ℕ) → drop n no_pairs ≡ no_pairs
+drop_none zero = refl
+drop_none (suc n) = refl
+
 module _ (view : View) (s : State) (job : Job) (number : ℕ) (scan : Scan) (copied : ℕ) (t : State) (kept : SatisfiesInvariant t) (after : Job)
     (so_far : IsGoing view s job number scan copied t after) where
   was_honest : IsTrue t.honest → IsTrue s.honest
@@ -122,6 +129,15 @@ module _ (view : View) (s : State) (job : Job) (number : ℕ) (scan : Scan) (cop
         (ap (λ (b : List ℕ). entries_from b after.at) so_far.file ∙ so_far.come (was_honest honest)
         ∙ ap (λ (b : List ℕ). drop scan.given (entries_from b job.at)) (sym so_far.file)
         ∙ ap (λ n. drop scan.given (entries_from scan.file n)) (sym so_far.from))
+
+    -- so an entry was left when copying began
+    pub found_left : IsTrue t.honest → ¬ (entries_left s job ≡ [])
+    found_left honest none =
+        let listed = (next_found honest).listed in
+        let come : entries_from scan.file after.at ≡ drop scan.given (entries_left s job) =
+        ap (λ (b : List ℕ). entries_from b after.at) so_far.file ∙ so_far.come (was_honest honest)
+        ∙ ap (drop scan.given) (ap (λ (b : List ℕ). entries_from b job.at) (sym so_far.parts)) in
+        let empty : entries_from scan.file after.at ≡ [] = come ∙ ap (drop scan.given) none ∙ drop_none scan.given in cc
 
     pub going_ahead : IsAhead t after found
     going_ahead =
@@ -267,6 +283,13 @@ module _ (view : View) (s : State) (job : Job) (number : ℕ) (scan : Scan) (cop
             ),
           )
 
+    -- the same for the reason to stop
+    pub stops_left : (stopped : Stopped) → LeavesEntry s job (stop_after copied stopped)
+    stops_left (stops.Memory done) = λ honest. found_left (so_far.stays.honest ∙ honest)
+    stops_left stops.Unread = tt
+    stops_left stops.Failed = tt
+    stops_left stops.Odd = tt
+
   -- ---- no entry was found
 
   module _ (n : ℕ) (within_n : number ≤ n) where
@@ -327,20 +350,47 @@ module _ (view : View) (s : State) (job : Job) (number : ℕ) (scan : Scan) (cop
       λ honest. some_left (entries_left s job) so_far.steps.founds (so_far.steps.first honest) (omega (arith, some, so_far.long)),
     )
 
+    -- out of memory after an entry was examined
+    pub going_short : 1 ≤ number → CopiesNext s job n (Err (stops.Memory copied)) t after
+    going_short some = (
+      ((t, steps_at, (λ _. refl), refl), so_far.copying.out),
+      λ honest. some_left (entries_left s job) so_far.steps.founds (so_far.steps.first honest) (omega (arith, some, so_far.long)),
+    )
+
+    -- before, whether an entry is left
+    module _ (first : number ≡ 0) where
+      whole_left : IsTrue t.honest → entries_from view.bytes after.at ≡ entries_left s job
+      whole_left honest =
+          let none : scan.given ≡ 0 = so_far.given ∙ first in
+          so_far.come (was_honest honest) ∙ ap (λ k. drop k (entries_from view.bytes job.at)) none
+          ∙ ap (λ (b : List ℕ). entries_from b job.at) (sym so_far.parts)
+
+      pub told_none : s.job ≡ None → (IsTrue t.honest → entries_from view.bytes after.at ≡ []) → CopiesNext s job n (Ok None) t after
+      told_none out ends =
+          let same = none_examined (with_job s None) job so_far.steps.founds copied t after so_far.steps.examined (omega (arith, first, so_far.long)) in (
+            λ honest. let there : IsTrue t.honest = so_far.stays.honest ∙ honest in sym (whole_left there) ∙ ends there,
+            same.0 ∙ sym (out_same s out),
+            same.1,
+            so_far.copying.out,
+          )
+
+      pub told_some : (IsTrue t.honest → ¬ (entries_from view.bytes after.at ≡ [])) → CopiesNext s job n (Err (stops.Memory copied)) t after
+      told_some ends = (
+        ((t, steps_at, (λ _. refl), refl), so_far.copying.out),
+        λ honest none. let there : IsTrue t.honest = so_far.stays.honest ∙ honest in ends there (whole_left there ∙ none),
+      )
+
     pub going_none : number ≡ 0 → s.job ≡ None → (scan' : Scan) → NextMoves scan (Ok None) scan' → (IsTrue scan.honest → ScanNextTransition scan (Ok None) scan')
         → CopiesNext s job n (Ok None) t after
-    going_none zero out scan' moves turn =
-        let same = none_examined (with_job s None) job so_far.steps.founds copied t after so_far.steps.examined (omega (arith, zero, so_far.long)) in (
-          λ honest. let long = ended_long scan' moves turn honest in no_entries (entries_left s job) (omega (arith, zero, long)),
+    going_none first out scan' moves turn =
+        let same = none_examined (with_job s None) job so_far.steps.founds copied t after so_far.steps.examined (omega (arith, first, so_far.long)) in (
+          λ honest. let long = ended_long scan' moves turn honest in no_entries (entries_left s job) (omega (arith, first, long)),
           same.0 ∙ sym (out_same s out),
           same.1,
           so_far.copying.out,
         )
 
     -- the source log could not be read
-    pub going_memory : CopiesAll s job n (Err (stops.Memory copied)) t after
-    going_memory = ((t, steps_at, (λ _. refl), refl), so_far.copying.out)
-
     pub going_unread : scan.sound ≡ false → CopiesAll s job n (Err stops.Unread) t after
     going_unread unsound = ((copied, steps_at), (view, so_far.was, sym so_far.is_sound ∙ unsound), so_far.copying.out)
 

@@ -74,9 +74,9 @@ module _ (s : State) (job : Job) (running : IsRunning s Copy job) (n : ℕ) (mid
     (mid, (after, (steps_back s job n k mid after all.0.0, all.0.1), left, back)),
   )
 
-  pub memory_turn : (done : ℕ) → CopiesAll (with_job s None) job n (Err (stops.Memory done)) mid after → t ≡ with_job mid (Some after)
-      → CopyTransition s n (Err (step_faults.Memory done)) t
-  memory_turn done all back =
+  pub memory_turn : (done : ℕ) → IsAtEnd s job false → CopiesAll (with_job s None) job n (Err (stops.Memory done)) mid after
+      → t ≡ with_job mid (Some after) → CopyTransition s n (Err (step_faults.Memory done)) t
+  memory_turn done left all back =
       let was = all.0.0 in
       let same : mid ≡ record was { files = mid.files } = all.0.3 in (
         job,
@@ -91,6 +91,7 @@ module _ (s : State) (job : Job) (running : IsRunning s Copy job) (n : ℕ) (mid
               left = back ∙ ap (λ (x : State). with_job x (Some after)) same
                   ∙ ap (λ f. record was { files = f; job = Some after }) (sym (ap (λ (x : State). x.files) back));
             },
+            left,
           ),
         ),
       )
@@ -164,8 +165,9 @@ told_next s out job taken n t after is_out same told result is next =
 
 -- copying did not begin
 module _ (s : State) (job : Job) (running : IsRunning s Copy job) (n : ℕ) where
-  pub refused_turn : CopyTransition s n (Err (step_faults.Memory 0)) s
-  refused_turn = (job, running, (with_job s None, (job, unbegun s job n, record { files = λ _. refl; left = back_same s job running.runs })))
+  pub refused_turn : IsAtEnd s job false → CopyTransition s n (Err (step_faults.Memory 0)) s
+  refused_turn left =
+      (job, running, (with_job s None, (job, unbegun s job n, record { files = λ _. refl; left = back_same s job running.runs }, left)))
 
   pub unsound_turn : HasUnsoundSource s job → CopyTransition s n (Err step_faults.Disk) s
   unsound_turn unsound =
@@ -292,5 +294,4 @@ module _ (s t : State) (job : Job) (running : IsRunning s Copy job) (set : SetLo
 
       no_disk : (r : Unread) → ¬ (IsErrOf {T = Bool} (Err r) unreads.Disk) → fault_of_unread r ≡ step_faults.Disk → ⊥
       no_disk unreads.Disk not told = not refl
-      no_disk unreads.Memory not told = cc
       no_disk unreads.Odd not told = cc

@@ -157,9 +157,10 @@ pub record ContinuesCopying (mid : State) (after : Job) (t : State) : Type 0 whe
   pub files : IsTrue mid.honest → t.files ≡ mid.files
   pub left : t ≡ record mid { files = t.files; job = Some after }
 
--- Copying failed with this fault after these steps.
+-- Copying failed with this fault after these steps. If memory is short, an entry was left.
 abbrev pub AbortsCopying : State → Job → ℕ → StepFault → State → Type 0
-AbortsCopying s job n (step_faults.Memory done) t = (mid : State) × ((after : Job) × Steps s job n done mid after × ContinuesCopying mid after t)
+AbortsCopying s job n (step_faults.Memory done) t = (mid : State) × ((after : Job) × Steps s job n done mid after × ContinuesCopying mid after t
+    × (IsTrue s.honest → ¬ (entries_left s job ≡ [])))
 AbortsCopying s job n step_faults.Disk t = (copied : ℕ) × ((mid : State) × ((after : Job) × Steps s job n copied mid after
     × ((HasUnsoundSource s job × (t ≡ with_job mid (Some after)))
     ⊎ ((found : Found) × ((payload : List ℕ) × Copies mid after found payload (Err log_faults.Disk) t)))))
@@ -185,9 +186,9 @@ CopyTransition s n (Err fault) t = (job : Job) × IsRunning s Copy job × Aborts
 
 -- ---- the end of copying
 
--- the source log could not be read from the position of the job on
+-- the source log could not be read from the position of the job on, which needs no memory
 abbrev pub SourceFails : State → Job → StepFault → Type 0
-SourceFails s job (step_faults.Memory done) = done ≡ 0
+SourceFails s job (step_faults.Memory done) = ⊥
 SourceFails s job step_faults.Disk = HasUnsoundSource s job
 SourceFails s job step_faults.Odd = s.honest ≡ false
 SourceFails s job step_faults.LogsFull = ⊥

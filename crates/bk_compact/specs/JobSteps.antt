@@ -7,8 +7,6 @@ use Rattle.bk_disk.specs.Disk.{view_end}
 use Rattle.bk_log.specs.declared.found.Found.{Found}
 use Rattle.bk_log.specs.declared.fault.LogFault.{LogFault}
 use Rattle.bk_log.specs.declared.fault.LogFault.TheVariants as log_faults
-use Rattle.bk_log.specs.declared.fault.ScanFault.{ScanFault}
-use Rattle.bk_log.specs.declared.fault.ScanFault.TheVariants as scan_faults
 use Rattle.bk_log.specs.Places.{HasEntryAt}
 use Rattle.bk_log.specs.Scanned.{new_scan}
 use Rattle.bk_log.specs.Scanning.{Scan}
@@ -53,16 +51,8 @@ pub record IsScanOf (bytes : List ℕ) (honest : Bool) (scan : Scan) : Type 0 wh
   pub file_is : scan.file ≡ bytes
   pub honest_is : scan.honest ≡ honest
 
--- the fault of a scan of the source log; on an honest disk it has no bad length
-abbrev pub unread_of_scan : ScanFault → Unread
-unread_of_scan (scan_faults.BadLength at value) = unreads.Odd
-unread_of_scan scan_faults.Disk = unreads.Disk
-unread_of_scan scan_faults.Memory = unreads.Memory
-unread_of_scan scan_faults.Odd = unreads.Odd
-
--- the same, as a fault of the step
+-- a source log that could not be read, as a fault of the step
 abbrev pub fault_of_unread : Unread → StepFault
-fault_of_unread unreads.Memory = step_faults.Memory 0
 fault_of_unread unreads.Disk = step_faults.Disk
 fault_of_unread unreads.Odd = step_faults.Odd
 
@@ -142,12 +132,19 @@ CopiesAll s job n (Err stops.Odd) t after = (s.honest ≡ false) × ((copied : �
     × (SetLogStateTransition mid job.copy Readable t
     ⊎ ((found : Found) × ((payload : List ℕ) × Copies mid last found payload (Err log_faults.Odd) t))))))
 
+-- out of memory: an entry is left
+abbrev pub LeavesEntry : State → Job → Stopped → Type 0
+LeavesEntry s job (stops.Memory done) = IsAtEnd s job false
+LeavesEntry s job stops.Unread = Unit {0}
+LeavesEntry s job stops.Failed = Unit {0}
+LeavesEntry s job stops.Odd = Unit {0}
+
 -- The result of examining n entries, at least one: `None` if no entry is left, which leaves all
 -- unchanged.
 abbrev pub CopiesNext : State → Job → ℕ → Result (Option ℕ) Stopped → State → Job → Type 0
 CopiesNext s job n (Ok None) t after = IsAtEnd s job true × (t ≡ s) × (after ≡ job) × IsTakenOut t after
 CopiesNext s job n (Ok (Some k)) t after = CopiesAll s job n (Ok k) t after × IsAtEnd s job false
-CopiesNext s job n (Err stopped) t after = CopiesAll s job n (Err stopped) t after
+CopiesNext s job n (Err stopped) t after = CopiesAll s job n (Err stopped) t after × LeavesEntry s job stopped
 
 -- ---- switching
 

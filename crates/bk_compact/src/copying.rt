@@ -29,8 +29,8 @@ use bk_store::{Phase, StepFault, Store};
 ///
 /// In the order in which entries are examined:
 ///
-/// - `Memory { done }`: an allocation failed. `done` entries were copied and are not copied again;
-///   the next call continues with the entry that failed.
+/// - `Memory { done }`: an allocation failed, and an entry was left. `done` entries were copied and
+///   are not copied again; the next call continues with the entry that failed.
 /// - `Disk`: the source log could not be read. The compaction continues as after `Memory`.
 /// - `Disk`: an append to the target log failed. The compaction ends, and the target log is
 ///   Readable as it is.
@@ -54,11 +54,29 @@ pub fn copy<D: LogDisk>(store: &mut Store<D>, count: u64) -> Result<CopyAnswer, 
     if count > 0 {
         return go_on(store, count);
     }
-    // With `count` 0 nothing is examined; the result only depends on whether an entry is left.
+    examine_none(store, count)
+}
+
+/// Returns the result of a call that examines nothing: `AtEnd` if no entry is left, else
+/// `Copied(0)` if none was asked for, and `Memory` if the view's owner was refused.
+fn examine_none<D: LogDisk>(store: &mut Store<D>, count: u64) -> Result<CopyAnswer, StepFault>
+    requires runs { (job : JobState) × IsRunning store.old CopyPhase job }
+    ensures transition { CopyTransition store.old count result store.new }
+    ensures sound { AreSound D.View.sound → ReportsDeviceFault store.old result store.new }
+    ensures frame { PreservesContents store.old store.new }
+{
+    store.reveal_invariant();
+    let Some(job) = store.job() else {
+        unreachable!();
+    };
     match is_at_end(store, job) {
         Ok(true) => Ok(CopyAnswer::AtEnd),
-        Ok(false) => Ok(CopyAnswer::Copied(0)),
-        Err(Unread::Memory) => Err(StepFault::Memory { done: 0 }),
+        Ok(false) => {
+            if count == 0 {
+                return Ok(CopyAnswer::Copied(0));
+            }
+            Err(StepFault::Memory { done: 0 })
+        }
         Err(Unread::Disk) => Err(StepFault::Disk),
         Err(Unread::Odd) => {
             abandon(store);
@@ -84,7 +102,7 @@ fn go_on<D: LogDisk>(store: &mut Store<D>, count: u64) -> Result<CopyAnswer, Ste
         unreachable!();
     };
     let Ok(view) = view.clone() else {
-        return Err(StepFault::Memory { done: 0 });
+        return examine_none(store, count);
     };
     let Some(mut taken) = store.take_job() else {
         unreachable!();

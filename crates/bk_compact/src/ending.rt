@@ -24,7 +24,7 @@ use bk_store::{LogState, Phase, StepFault, Store};
 /// The compaction ends with every error, and the target log is Readable as it is:
 ///
 /// - `Disk`: the source log could not be read, or the device failed.
-/// - `Memory { done: 0 }`: an allocation failed.
+/// - `Memory { done: 0 }`: an allocation failed, and every entry was examined.
 /// - `Odd`: the disk is not honest.
 pub fn end_copy<D: LogDisk>(store: &mut Store<D>) -> Result<EndAnswer, StepFault>
     ensures transition { EndCopyTransition store.old result store.new }

@@ -12,7 +12,7 @@ ghost use Rattle.bk_store.specs.Contents.{PreservesContents};
 ghost use Rattle.bk_compact.specs.Compacting.{behind, place_of};
 ghost use Rattle.bk_compact.specs.JobSteps.{CopiesEntry, CopiesNext, ExaminesOne, IsAhead, IsCopying, IsEntry, IsScanOf, stop_after};
 
-use crate::scanning::scan_from;
+use crate::scanning::{Unread, is_end, scan_from};
 use bk_disk::LogDisk;
 use bk_index::Near;
 use bk_log::{FetchFault, Found, LogFault, ScanFault, Scanner, fetch};
@@ -83,7 +83,18 @@ pub(crate) fn copy_entries<D: LogDisk>(
                 }
                 Err(stopped) => return Err(stopped.after(copied)),
             },
-            Err(ScanFault::Memory) => return Err(Stopped::Memory(copied)),
+            Err(ScanFault::Memory) => {
+                if number > 0 {
+                    return Err(Stopped::Memory(copied));
+                }
+                // The first record may be foreign, and no entry behind it.
+                match is_end(view, job.at()) {
+                    Ok(true) => return Ok(None),
+                    Ok(false) => return Err(Stopped::Memory(copied)),
+                    Err(Unread::Disk) => return Err(Stopped::Unread),
+                    Err(Unread::Odd) => return Err(odd(store, job)),
+                }
+            }
             Err(ScanFault::Disk) => return Err(Stopped::Unread),
             Err(ScanFault::BadLength { .. }) => return Err(odd(store, job)),
             Err(ScanFault::Odd) => return Err(odd(store, job)),

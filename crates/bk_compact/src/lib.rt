@@ -10,6 +10,7 @@ mod copying;
 mod ending;
 mod entries;
 mod finishing;
+mod front;
 mod scanning;
 mod switching;
 

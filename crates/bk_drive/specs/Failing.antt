@@ -1,5 +1,5 @@
--- Which answers report a device failure, and what a disk that never fails is.
-use Rattle.std.specs.Prelude.{◌≡◌, ℕ, ◌+◌, ◌<◌, ◌≤◌, List, IsErrOf}
+-- Which answers report a device failure.
+use Rattle.std.specs.Prelude.{ℕ, ◌+◌, ◌<◌, ◌≤◌, List, IsErrOf}
 use Rattle.std.specs.List.{All}
 use Rattle.bk_log.specs.declared.fault.FetchFault.TheVariants as fetch_faults
 use Rattle.bk_store.specs.declared.step_fault.StepFault.TheVariants as step_faults
@@ -39,7 +39,3 @@ pub record AnswerReportsFailure (before now : ℕ) (answer : Answer) : Type 0 wh
 -- No answer is `Disk`.
 abbrev pub NoneIsDiskFault : List Answer → Type 0
 NoneIsDiskFault = All (λ answer. ¬ (IsDiskFault answer))
-
--- The device never fails: the failure count of every disk of this type is 0.
-abbrev pub NeverFails : {D : Type 0} → (D → ℕ) → Type 0
-NeverFails {D} failures = (disk : D) → failures disk ≡ 0

@@ -4,14 +4,14 @@ ghost use Rattle.std.specs.Prelude.{◌≡◌, ◌↔◌, ◌<◌, ◌≤◌, �
 ghost use Rattle.bk_disk.specs.Disk.{AreSound};
 ghost use Rattle.bk_store.specs.Limits.{IsAllowed};
 ghost use Rattle.bk_store.specs.Transitions.{AddTransition};
-ghost use Rattle.bk_store.specs.Opening.{OpenFails};
+ghost use Rattle.bk_store.specs.Opening.{NeverFails, OpenFails};
 ghost use Rattle.bk_store.specs.Abstract.{AbstractState, StoreRefines};
 ghost use Rattle.bk_drive.specs.Abstract.{AbstractMachine, HasAt, abstract_after_work};
 ghost use Rattle.bk_lease.specs.Leases.{IsClosed};
 ghost use Rattle.bk_drive.specs.Machine.{ReaderLease, WorkTransition, MachineTransition, AbstractTransition, HasNoReader, Closes, ClosesOrRemoves};
 ghost use Rattle.bk_drive.specs.Headline.{MachineRefines, Headline};
 ghost use Rattle.bk_drive.specs.ReaderLeases.{AreOpenLeases, IsClosedOrRemoved};
-ghost use Rattle.bk_drive.specs.Failing.{IsDiskFault, AnswerReportsFailure, NoneIsDiskFault, NeverFails};
+ghost use Rattle.bk_drive.specs.Failing.{IsDiskFault, AnswerReportsFailure, NoneIsDiskFault};
 ghost use Rattle.bk_drive.specs.Frame.{SlotsFrame, CachesFrame, FailureCountByAnswer};
 ghost use Rattle.bk_store.specs.Frame.{CoreUnchanged};
 
@@ -89,7 +89,8 @@ fn call<D: LogDisk>(store: &mut Store<D>, work: Work) -> Answer
 /// # Errors
 ///
 /// Those of `Store::open`, in its order, then `Memory` if the room for the answers cannot be
-/// allocated. The disk is dropped with every error.
+/// allocated. The disk is dropped with every error. `Disk` does not occur if the device never fails
+/// and views are sound.
 pub fn drive<D: LogDisk>(
     alloc: Global,
     disk: D,
@@ -103,6 +104,7 @@ pub fn drive<D: LogDisk>(
     ensures fails { IfErr result (λ fault. IsTrue (D.honest disk) → OpenFails (D.files disk) settings fault) }
     ensures unfailing { NeverFails D.failures → AreSound D.View.sound
         → IfOk result (λ ran. NoneIsDiskFault ran.answers.items) }
+    ensures unfailing_opening { NeverFails D.failures → AreSound D.View.sound → ¬ (IsErrOf result OpenFault.Disk) }
     ensures one_answer { IfOk result (λ ran. length ran.answers.items ≡ length steps.now) }
 {
     let mut store = Store::open(alloc, disk, settings, dead)?;

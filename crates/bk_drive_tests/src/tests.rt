@@ -16,9 +16,11 @@ use std::process::Abort;
 
 mod calls;
 mod compaction_series;
+mod disks;
 mod leasing;
 mod life;
 mod logs;
+mod lost;
 mod tally;
 mod using;
 

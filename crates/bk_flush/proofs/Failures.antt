@@ -10,7 +10,7 @@ use Rattle.bk_store.specs.declared.answer.MakeFault.{MakeFault}
 use Rattle.bk_store.specs.declared.answer.MakeFault.TheVariants as makes
 use Rattle.bk_store.specs.declared.log.LogState.TheVariants.{Writing}
 use Rattle.bk_store.specs.Faults.{ReportsDeviceFault, step_fault_of, step_fault_of_make}
-use Rattle.bk_flush.specs.Flushing.{SealFilledTransition, IsRefused, RestartsOnDeviceFault, NoNewLog, ReadyLogTransition, WriteOneTransition}
+use Rattle.bk_flush.specs.Flushing.{SealFilledTransition, IsRefused, RestartsOnDeviceFault, NoNewLog, ReadyLogTransition, WriteOneTransition, FailsShowing}
 use Rattle.bk_flush.specs.Publishing.{ShowsLogs}
 use Rattle.bk_flush.specs.declared.answer.WriteAnswer.{WriteAnswer}
 use Rattle.bk_flush.specs.declared.answer.WriteAnswer.TheVariants as writes
@@ -107,12 +107,16 @@ unput_failures s t id key payload log_faults.Odd turn = let is : t.failures ≡ 
 
 -- ---- a log that could not be published
 
+stopped_failures : (s t : State) (failed : ℕ) → FailsShowing s failed t → t.failures ≡ s.failures + failed
+stopped_failures s t failed is = elim is.stays [
+  | inl same ↦ same_failures is.mid t same ∙ is.stops.failures
+  | inr lost ↦ ap (λ (x : State). x.failures) lost.1.left ∙ is.stops.failures
+]
+
 pub unshown_caused : {T : Type 0} (s t : State) (fault : StepFault) → ShowsLogs s (Err fault) t → ReportsDeviceFault {T = T} s (Err fault) t
-unshown_caused s t step_faults.Disk turn =
-    caused_err s t step_faults.Disk (ap (λ (x : State). x.failures) turn.restarts.left ∙ turn.stops.failures)
+unshown_caused s t step_faults.Disk turn = caused_err s t step_faults.Disk (stopped_failures s t 1 turn)
 unshown_caused s t (step_faults.Memory done) turn = caused_err s t (step_faults.Memory done) turn.1.failures
-unshown_caused s t step_faults.Odd turn =
-    caused_err s t step_faults.Odd (ap (λ (x : State). x.failures) turn.1.restarts.left ∙ turn.1.stops.failures)
+unshown_caused s t step_faults.Odd turn = caused_err s t step_faults.Odd (stopped_failures s t 0 turn.1)
 unshown_caused s t step_faults.LogsFull turn = absurd turn
 unshown_caused s t step_faults.NoMoreIds turn = absurd turn
 

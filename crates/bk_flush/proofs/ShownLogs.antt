@@ -16,7 +16,7 @@ use Rattle.bk_store.proofs.LogMaps.{log-inserted, log-insert_else}
 use Rattle.bk_store.proofs.InvariantJob.{flush_idle}
 use Rattle.bk_store.proofs.SameContents.{stays_on}
 use Rattle.bk_store.specs.Faults.{step_fault_of}
-use Rattle.bk_flush.specs.Flushing.{HasPlace, IsShown, RestartsOnDeviceFault, ShowsThose, ShowsPlaced, StopsShowing}
+use Rattle.bk_flush.specs.Flushing.{HasPlace, IsShown, RestartsIfLost, ShowsThose, ShowsPlaced, StopsShowing}
 use Rattle.bk_flush.specs.Publishing.{AllShown, ShowsLogs}
 use Rattle.bk_store.specs.declared.step_fault.StepFault.{StepFault}
 use Rattle.bk_flush.proofs.NextLogs.{IsNextLog}
@@ -161,18 +161,18 @@ module _ (s t : State) (from : ℕ) (is : IsShowing s from t) where
         stops u 0 files (left ∙ ap (λ n. record t { files = u.files; failures = n }) none)
 
     pub not_shown : (cause : LogFault) (fault : StepFault) (u after : State) → PublishLogTransition t log (Err cause) u → fault ≡ step_fault_of cause
-        → RestartsOnDeviceFault fault u after → ShowsLogs s (Err fault) after
+        → RestartsIfLost fault u after → ShowsLogs s (Err fault) after
     not_shown cause fault u after turn is_told left =
-        subst (λ f. ShowsLogs s (Err f) after) (sym is_told) (by_cause cause turn (subst (λ f. RestartsOnDeviceFault f u after) is_told left))
+        subst (λ f. ShowsLogs s (Err f) after) (sym is_told) (by_cause cause turn (subst (λ f. RestartsIfLost f u after) is_told left))
       where
-        by_cause : (cause : LogFault) → PublishLogTransition t log (Err cause) u → RestartsOnDeviceFault (step_fault_of cause) u after
+        by_cause : (cause : LogFault) → PublishLogTransition t log (Err cause) u → RestartsIfLost (step_fault_of cause) u after
             → ShowsLogs s (Err (step_fault_of cause)) after
-        by_cause log_faults.Disk turn left = record { mid = u; stops = stops u 1 turn.0 turn.1; restarts = left }
+        by_cause log_faults.Disk turn left = record { mid = u; stops = stops u 1 turn.0 turn.1; stays = left }
         by_cause log_faults.Memory turn left = (refl, subst (StopsShowing s 0) (sym left) (stops_even u turn.0 turn.1))
         by_cause log_faults.Odd turn left =
             let never : IsTrue t.honest → ⊥ = λ honest. let wrong = sym turn.0 ∙ honest in cc in (
               sym is.stays.honest ∙ turn.0,
-              record { mid = u; stops = stops_even u (λ honest. absurd (never honest)) turn.1; restarts = left },
+              record { mid = u; stops = stops_even u (λ honest. absurd (never honest)) turn.1; stays = left },
             )
         by_cause log_faults.Failed never left = absurd never
 

@@ -10,7 +10,7 @@ use Rattle.bk_store.specs.Frame.{CoreUnchanged, SlotsUnchanged, FrameUnchanged}
 use Rattle.bk_store.proofs.RemovedLogs.{gone_ruled}
 use Rattle.bk_store.proofs.FrameLemmas.{still_as, still_same, then, stays_then, slots_then, slots_same}
 use Rattle.bk_store.proofs.PrimitiveFrames.{make_still, write_still, seals_still, restarts_still}
-use Rattle.bk_flush.specs.Flushing.{RestartsOnDeviceFault, SealFilledTransition, NoNewLog, IsRefused, ReadyLogTransition, WriteOneTransition, ShowsThose, StopsShowing, RestartsShowing, Publishes}
+use Rattle.bk_flush.specs.Flushing.{RestartsOnDeviceFault, SealFilledTransition, NoNewLog, IsRefused, ReadyLogTransition, WriteOneTransition, ShowsThose, StopsShowing, FailsShowing, Publishes}
 use Rattle.bk_flush.specs.Flushing.{PublishCachesFrame, PublishTransition}
 use Rattle.bk_flush.specs.Publishing.{ShowsLogs}
 use Rattle.bk_flush.specs.declared.answer.WriteAnswer.{WriteAnswer}
@@ -90,8 +90,11 @@ shown_still Those s t shows = (
 pub stops_still : {s t : State} {failed : ℕ} → StopsShowing s failed t → FrameUnchanged s t
 stops_still {s = s} {t = t} stops = shown_still _ s t stops.before
 
-restarts_showing_still : {s t : State} {failed : ℕ} → RestartsShowing s failed t → FrameUnchanged s t
-restarts_showing_still stopped = then (stops_still stopped.stops) (restarts_still stopped.restarts)
+fails_showing_still : {s t : State} {failed : ℕ} → FailsShowing s failed t → FrameUnchanged s t
+fails_showing_still {t = t} stopped = then (stops_still stopped.stops) (elim stopped.stays [
+  | inl same ↦ still_same stopped.mid t same
+  | inr lost ↦ restarts_still lost.1
+])
 
 pub publishes_still : {s t : State} {done : ℕ} → Publishes s done t → FrameUnchanged s t
 publishes_still {s = s} {t = t} done =
@@ -117,9 +120,9 @@ PublishStays s r t = CoreUnchanged s t × PublishCachesFrame s r t × SlotsUncha
 
 -- a log could not be published
 pub unshown_stays : (s t : State) (fault : StepFault) → ShowsLogs s (Err fault) t → PublishStays s (Err fault) t
-unshown_stays s t step_faults.Disk turn = restarts_showing_still turn
+unshown_stays s t step_faults.Disk turn = fails_showing_still turn
 unshown_stays s t (step_faults.Memory done) turn = stops_still turn.1
-unshown_stays s t step_faults.Odd turn = restarts_showing_still turn.1
+unshown_stays s t step_faults.Odd turn = fails_showing_still turn.1
 unshown_stays s t step_faults.LogsFull turn = absurd turn
 unshown_stays s t step_faults.NoMoreIds turn = absurd turn
 
@@ -130,11 +133,11 @@ publish_stays s t (Ok (publishes.Published n)) turn =
     let still = publishes_still turn.2.1 in
     let ended = ends_stays turn.2.0 t turn.2.2 in
     (stays_then still.0 ended.0, (ended.1.0 ∙ still.1.active, ended.1.1), slots_then still.2 ended.2)
-publish_stays s t (Err step_faults.Disk) turn = restarts_showing_still turn.1
+publish_stays s t (Err step_faults.Disk) turn = fails_showing_still turn.1
 publish_stays s t (Err (step_faults.Memory done)) turn = elim turn.1 [
   | inl unshown ↦ stops_still unshown.1
   | inr unnamed ↦ publishes_still unnamed.1
 ]
-publish_stays s t (Err step_faults.Odd) turn = restarts_showing_still turn.2
+publish_stays s t (Err step_faults.Odd) turn = fails_showing_still turn.2
 publish_stays s t (Err step_faults.LogsFull) turn = absurd turn
 publish_stays s t (Err step_faults.NoMoreIds) turn = absurd turn

@@ -32,7 +32,7 @@ use Rattle.bk_store.specs.declared.step_fault.StepFault.TheVariants as step_faul
 
 -- ---- faults
 
--- Effect of a failed write on the running flush: an I/O error restarts it, any other fault leaves
+-- Effect of a failed write or seal on the running flush: an I/O error restarts it, any other fault leaves
 -- it unchanged.
 abbrev pub RestartsOnDeviceFault : StepFault → State → State → Type 0
 RestartsOnDeviceFault step_faults.Disk s t = RestartFlushTransition s t
@@ -40,6 +40,18 @@ RestartsOnDeviceFault (step_faults.Memory done) s t = t ≡ s
 RestartsOnDeviceFault step_faults.LogsFull s t = t ≡ s
 RestartsOnDeviceFault step_faults.NoMoreIds s t = t ≡ s
 RestartsOnDeviceFault step_faults.Odd s t = RestartFlushTransition s t
+
+-- the flush goes on, unless the disk has lost a log of it; an honest disk loses none
+abbrev pub StaysUnlessLost : State → State → Type 0
+StaysUnlessLost s t = (t ≡ s) ⊎ ((s.honest ≡ false) × RestartFlushTransition s t)
+
+-- effect of a failed publish on the running flush
+abbrev pub RestartsIfLost : StepFault → State → State → Type 0
+RestartsIfLost step_faults.Disk s t = StaysUnlessLost s t
+RestartsIfLost (step_faults.Memory done) s t = t ≡ s
+RestartsIfLost step_faults.LogsFull s t = t ≡ s
+RestartsIfLost step_faults.NoMoreIds s t = t ≡ s
+RestartsIfLost step_faults.Odd s t = StaysUnlessLost s t
 
 -- ---- the current log
 
@@ -161,11 +173,12 @@ pub record StopsShowing (s : State) (failed : ℕ) (t : State) : Type 0 where
   pub before : ShowsThose (λ id. HasPlace s id × (id < refused)) s t
   pub failures : t.failures ≡ s.failures + failed
 
--- The same, up to a log at which the device failed; then the flush restarts.
-pub record RestartsShowing (s : State) (failed : ℕ) (t : State) : Type 0 where
+-- The same, up to a log at which the device failed. The flush goes on with its places, unless the
+-- disk has lost a log of it.
+pub record FailsShowing (s : State) (failed : ℕ) (t : State) : Type 0 where
   pub mid : State
   pub stops : StopsShowing s failed mid
-  pub restarts : RestartFlushTransition mid t
+  pub stays : StaysUnlessLost mid t
 
 -- the places of the first `done` entries of the flush, by key
 abbrev pub first_places : ℕ → State → List (EntryKey × Place)
@@ -197,16 +210,17 @@ pub record IsWritten (s : State) : Type 0 where
   pub placed : AllPlaced s
 
 -- A publish publishes each log that has a place, adds each entry to the index, and ends the flush.
--- Out of memory leaves the flush running with all its entries; a later publish adds an entry again
--- at the same place. An I/O error restarts the flush.
+-- An error leaves the flush running with all its entries; a later publish begins anew, and adds an
+-- entry again at the same place. Only a disk that lost a log of the flush, and so is not honest,
+-- restarts it.
 abbrev pub PublishTransition : State → Result PublishAnswer StepFault → State → Type 0
 PublishTransition s (Ok publishes.NoFlush) t = (s.caches.flush ≡ None) × (t ≡ s)
 PublishTransition s (Ok publishes.NotAllWritten) t = (key : EntryKey) × ((payload : List ℕ) × IsFirstUnplaced s key payload × (t ≡ s))
 PublishTransition s (Ok (publishes.Published n)) t = IsWritten s × (n ≡ finite.len (flush_of s.caches)) × ((mid : State) × Publishes s n mid × EndFlushTransition mid t)
-PublishTransition s (Err step_faults.Disk) t = IsWritten s × RestartsShowing s 1 t
+PublishTransition s (Err step_faults.Disk) t = IsWritten s × FailsShowing s 1 t
 PublishTransition s (Err (step_faults.Memory done)) t = IsWritten s
     × (((done ≡ 0) × StopsShowing s 0 t) ⊎ ((done < finite.len (flush_of s.caches)) × Publishes s done t))
-PublishTransition s (Err step_faults.Odd) t = IsWritten s × (s.honest ≡ false) × RestartsShowing s 0 t
+PublishTransition s (Err step_faults.Odd) t = IsWritten s × (s.honest ≡ false) × FailsShowing s 0 t
 PublishTransition s (Err step_faults.LogsFull) t = ⊥
 PublishTransition s (Err step_faults.NoMoreIds) t = ⊥
 

@@ -5,17 +5,16 @@ use Rattle.bk_record.specs.Key.{EntryKey}
 use Rattle.bk_record.specs.Location.{Place}
 use Rattle.bk_store.specs.State.{State}
 use Rattle.bk_store.specs.Primitives.{ShowsAll}
-use Rattle.bk_flush.specs.Flushing.{NamesFirst, ShowsPlaced, StopsShowing, RestartsShowing}
+use Rattle.bk_flush.specs.Flushing.{NamesFirst, ShowsPlaced, StopsShowing, FailsShowing}
 use Rattle.bk_store.specs.declared.step_fault.StepFault.{StepFault}
 use Rattle.bk_store.specs.declared.step_fault.StepFault.TheVariants as step_faults
 
--- Each log that has a place is published. An error leaves those with lower ids published; an I/O
--- error also restarts the flush.
+-- Each log that has a place is published. An error leaves those with lower ids published.
 abbrev pub ShowsLogs : State → Result (Unit {0}) StepFault → State → Type 0
 ShowsLogs s (Ok _) t = ShowsPlaced s t
-ShowsLogs s (Err step_faults.Disk) t = RestartsShowing s 1 t
+ShowsLogs s (Err step_faults.Disk) t = FailsShowing s 1 t
 ShowsLogs s (Err (step_faults.Memory done)) t = (done ≡ 0) × StopsShowing s 0 t
-ShowsLogs s (Err step_faults.Odd) t = (s.honest ≡ false) × RestartsShowing s 0 t
+ShowsLogs s (Err step_faults.Odd) t = (s.honest ≡ false) × FailsShowing s 0 t
 ShowsLogs s (Err step_faults.LogsFull) t = ⊥
 ShowsLogs s (Err step_faults.NoMoreIds) t = ⊥
 

@@ -1,8 +1,8 @@
 //! Publishing: syncs the logs of a flush, then adds its entries to the index.
 //!
-//! Out of memory leaves the flush running with all its entries cached, so a later publish can
-//! finish it. An I/O error restarts the flush: after a failed sync the kernel may report success
-//! for data that it dropped, so the entries are written again to another log.
+//! An error leaves the flush running with all its entries and places, so a later publish can finish
+//! it. If the disk has lost a log of the flush, the flush restarts: after a failed sync the kernel
+//! may report success for data that it dropped, so the entries are written again to another log.
 
 ghost use Rattle.std.specs.Prelude.{◌≡◌, IsTrue, OnOk};
 ghost use Rattle.bk_store.specs.Contents.{SameContents, PreservesContents};
@@ -12,7 +12,7 @@ ghost use Rattle.bk_flush.specs.Flushing.{PublishCachesFrame, PublishTransition}
 ghost use Rattle.bk_flush.specs.Publishing.{AllShown, NamesEntries, ShowsLogs};
 
 use crate::PublishAnswer;
-use crate::faults::flush_fault;
+use crate::faults::publish_fault;
 use bk_disk::LogDisk;
 use bk_store::{StepFault, Store};
 
@@ -25,7 +25,8 @@ use bk_store::{StepFault, Store};
 /// # Errors
 ///
 /// - `Disk`: a log could not be synced or viewed. `Odd`: the disk is not honest. The logs with
-///   lower ids are published, and the flush restarts with all its entries.
+///   lower ids are published, no entry is in the index, and the flush continues. It restarts with
+///   all its entries if the disk has lost a log of it.
 /// - `Memory { done }`: an allocation failed. If a log could not be published, `done` is 0 and the
 ///   logs with lower ids are published. Otherwise all logs are published, and the first `done`
 ///   entries are in the index. The flush continues.
@@ -51,8 +52,7 @@ pub fn publish<D: LogDisk>(store: &mut Store<D>) -> Result<PublishAnswer, StepFa
     Ok(PublishAnswer::Published(entries))
 }
 
-/// Publishes each log that has a place of the flush, once, by rising id. Restarts the flush on an
-/// I/O error.
+/// Publishes each log that has a place of the flush, once, by rising id.
 ///
 /// Log ids rise with the keys, so one pass over the places meets each log once.
 fn show_logs<D: LogDisk>(store: &mut Store<D>) -> Result<(), StepFault>
@@ -72,7 +72,7 @@ fn show_logs<D: LogDisk>(store: &mut Store<D>) -> Result<(), StepFault>
         }
         store.reveal_invariant();
         if let Err(fault) = store.publish_log(log) {
-            return Err(flush_fault(store, fault));
+            return Err(publish_fault(store, fault));
         }
         from = log + 1;
     }

@@ -68,6 +68,7 @@ fn write_to_next_log<D: LogDisk>(store: &mut Store<D>) -> Result<WriteAnswer, St
 }
 
 /// Appends the next entry of the flush. Restarts the flush on an I/O error.
+#[inline(always)]
 fn append<D: LogDisk>(store: &mut Store<D>) -> Result<Appended, StepFault>
     ensures transition { AppendTransition store.old result store.new }
     ensures frame { PreservesContents store.old store.new }

@@ -13,10 +13,10 @@ use Rattle.bk_store.specs.Contents.{contents_at}
 use Rattle.bk_store.specs.Opening.{IsOpened}
 use Rattle.bk_store.specs.Transitions.{valid_ledgers}
 use Rattle.bk_store.specs.declared.settings.Settings.{Settings}
-use Rattle.bk_compact.specs.Compacting.{BeginTransition}
+use Rattle.bk_compact.specs.Compacting.{BeginTransition, Chooses, threshold_of}
 use Rattle.bk_compact.specs.declared.answer.BeginAnswer.TheVariants as begins
 use Rattle.bk_compact.specs.declared.answer.Kind.{Kind}
-use Rattle.bk_offline_gc.specs.Sweeping.{IsSwept, SweepFrame, SameFileContents, live_at}
+use Rattle.bk_offline_gc.specs.Sweeping.{SweepFrame, SameFileContents, live_at}
 
 -- ---- empty caches
 
@@ -51,6 +51,8 @@ opened_means honest files settings dead s t is_honest same_honest opened left = 
 
 -- ---- the end of a sweep
 
--- if nothing qualifies for compaction, `IsSwept` holds
-pub nothing_left : (s t : State) (kind : Kind) → BeginTransition s kind (Ok begins.NothingToDo) t → IsSwept t kind
-nothing_left s t kind turn = subst (λ (x : State). IsSwept x kind) (sym turn.2) (record { idle = turn.0; none = turn.1 })
+-- nothing qualifies for compaction
+pub nothing_left : (s t : State) (kind : Kind) → BeginTransition s kind (Ok begins.NothingToDo) t
+    → (t ≡ s) × (IsTrue t.honest → Chooses t (threshold_of t.settings kind) None)
+nothing_left s t kind turn =
+    (turn.2, subst (λ (x : State). IsTrue x.honest → Chooses x (threshold_of x.settings kind) None) (sym turn.2) turn.1)

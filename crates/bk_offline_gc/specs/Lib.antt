@@ -1,1 +1,4 @@
+pub mod Faults
+pub mod Planning
+pub mod Stages
 pub mod Sweeping

@@ -17,6 +17,9 @@ pub struct Swept {
     pub moved: u64,
     /// Number of bytes read from compacted logs, with their headers.
     pub read: u64,
+    /// Number of logs that no index entry points into and that are kept for their leases. Counted at
+    /// the end of a sweep.
+    pub kept: u64,
 }
 
 impl Swept {
@@ -27,6 +30,7 @@ impl Swept {
         removed: 0,
         moved: 0,
         read: 0,
+        kept: 0,
     };
 }
 
@@ -63,18 +67,33 @@ pub enum SweepFault {
 }
 
 impl From<OpenFault> for SweepFault {
+    ghost use Rattle.std.specs.Prelude.{◌≡◌};
+    ghost use Rattle.bk_offline_gc.specs.declared.answer.SweepFault.TheVariants as sweeps;
+
+    ghost from_gives = { λ fault e. e ≡ sweeps.Open fault };
+
     fn from(fault: OpenFault) -> SweepFault {
         SweepFault::Open(fault)
     }
 }
 
 impl From<StepFault> for SweepFault {
+    ghost use Rattle.std.specs.Prelude.{◌≡◌};
+    ghost use Rattle.bk_offline_gc.specs.declared.answer.SweepFault.TheVariants as sweeps;
+
+    ghost from_gives = { λ fault e. e ≡ sweeps.Step fault };
+
     fn from(fault: StepFault) -> SweepFault {
         SweepFault::Step(fault)
     }
 }
 
 impl From<CollectFault> for SweepFault {
+    ghost use Rattle.std.specs.Prelude.{◌≡◌};
+    ghost use Rattle.bk_offline_gc.specs.declared.answer.SweepFault.TheVariants as sweeps;
+
+    ghost from_gives = { λ fault e. e ≡ sweeps.Collect fault };
+
     fn from(fault: CollectFault) -> SweepFault {
         SweepFault::Collect(fault)
     }

@@ -1,7 +1,8 @@
 //! The plan of a sweep. Does not change the store.
 
-ghost use Rattle.std.specs.Prelude.{◌≡◌};
+ghost use Rattle.std.specs.Prelude.{◌≡◌, All, IfOk, IfSome, OnOk};
 ghost use Rattle.bk_compact.specs.Compacting.{threshold_of};
+ghost use Rattle.bk_offline_gc.specs.Planning.{HasFate, HasVerdict, IsPlanned};
 
 use crate::SweepFault;
 use bk_compact::Kind;
@@ -33,13 +34,13 @@ pub enum Fate {
 
 /// Whether a sweep would compact or remove a log.
 #[derive(Clone, Copy)]
-enum Verdict {
+pub(crate) enum Verdict {
     /// It would be kept.
     Stays,
     /// It would be removed: no index entry points into it.
     Unnamed,
-    /// It would be compacted.
-    Wasted,
+    /// It would be compacted: this many index entries point into it.
+    Wasted(u64),
 }
 
 /// Returns the logs that a sweep of this kind would compact or remove, by rising id, with the
@@ -50,19 +51,36 @@ enum Verdict {
 /// - `Memory`: out of memory.
 /// - `Disk`: a log could not be read.
 /// - `Odd`: the disk returned what no honest disk can.
-pub fn plan<D: LogDisk>(store: &Store<D>, kind: Kind) -> Result<Vec<Planned>, SweepFault> {
+pub fn plan<D: LogDisk>(store: &Store<D>, kind: Kind) -> Result<Vec<Planned>, SweepFault>
+    ensures { IfOk result (λ planned. All (λ p. IsPlanned store.now (threshold_of store.now.settings kind) p) planned.items) }
+{
     let threshold = threshold(store, kind);
     let mut planned = Vec::new(store.alloc());
     let mut from = 0;
     while let Some(log) = store.log_from(from) {
-        if let Some(fate) = fate_of(store, threshold, log)? {
-            let Ok(()) = planned.push(Planned { log, fate }) else {
-                return Err(SweepFault::Memory);
-            };
-        }
+        add_planned(store, threshold, log, &mut planned)?;
         from = log + 1;
     }
     Ok(planned)
+}
+
+/// Adds a log to a plan if the sweep would compact or remove it.
+fn add_planned<D: LogDisk>(
+    store: &Store<D>,
+    threshold: u32,
+    log: u32,
+    planned: &mut Vec<Planned>,
+) -> Result<(), SweepFault>
+    ensures { OnOk result (All (λ p. IsPlanned store.now threshold p) planned.old.items
+        → All (λ p. IsPlanned store.now threshold p) planned.new.items) }
+{
+    match fate_of(store, threshold, log)? {
+        None => Ok(()),
+        Some(fate) => match planned.push(Planned { log, fate }) {
+            Ok(()) => Ok(()),
+            Err(_) => Err(SweepFault::Memory),
+        },
+    }
 }
 
 /// Returns the number of logs that a sweep of this kind would compact or remove. Reads no log.
@@ -73,7 +91,7 @@ pub(crate) fn count_planned<D: LogDisk>(store: &Store<D>, kind: Kind) -> u64 {
     while let Some(log) = store.log_from(from) {
         match verdict_of(store, threshold, log) {
             Verdict::Stays => {}
-            Verdict::Unnamed | Verdict::Wasted => count = count.saturating_add(1),
+            Verdict::Unnamed | Verdict::Wasted(_) => count = count.saturating_add(1),
         }
         from = log + 1;
     }
@@ -96,17 +114,24 @@ fn fate_of<D: LogDisk>(
     store: &Store<D>,
     threshold: u32,
     log: u32,
-) -> Result<Option<Fate>, SweepFault> {
+) -> Result<Option<Fate>, SweepFault>
+    ensures { IfOk result (λ fate. IfSome fate (λ f. HasFate store.now threshold log f)) }
+{
     match verdict_of(store, threshold, log) {
         Verdict::Stays => Ok(None),
         Verdict::Unnamed => Ok(Some(Fate::Removed)),
-        Verdict::Wasted => Ok(Some(read_copy(store, log)?)),
+        Verdict::Wasted(entries) => {
+            let length = copy_length(store, log)?;
+            Ok(Some(Fate::Compacted { entries, length }))
+        }
     }
 }
 
 /// Returns whether a sweep would compact or remove a log: a Readable log that no index entry points
 /// into, or whose live share is below the threshold.
-fn verdict_of<D: LogDisk>(store: &Store<D>, threshold: u32, log: u32) -> Verdict {
+fn verdict_of<D: LogDisk>(store: &Store<D>, threshold: u32, log: u32) -> Verdict
+    ensures { HasVerdict store.now threshold log result }
+{
     let (Some(state), Some(named)) = (store.log_state(log), store.named(log)) else {
         return Verdict::Stays;
     };
@@ -117,14 +142,15 @@ fn verdict_of<D: LogDisk>(store: &Store<D>, threshold: u32, log: u32) -> Verdict
         return Verdict::Unnamed;
     }
     if store.least_used(threshold, &[log]) == Some(log) {
-        Verdict::Wasted
+        Verdict::Wasted(named)
     } else {
         Verdict::Stays
     }
 }
 
-/// Returns the fate of a log to be compacted: the entries that the index points to would be copied.
-fn read_copy<D: LogDisk>(store: &Store<D>, log: u32) -> Result<Fate, SweepFault> {
+/// Returns the length of the target log of a log to be compacted: the entries that the index points
+/// to would be copied.
+fn copy_length<D: LogDisk>(store: &Store<D>, log: u32) -> Result<u64, SweepFault> {
     let Some(view) = store.log_view(log) else {
         return Err(SweepFault::Odd);
     };
@@ -147,7 +173,7 @@ fn read_copy<D: LogDisk>(store: &Store<D>, log: u32) -> Result<Fate, SweepFault>
             Err(ScanFault::BadLength { .. } | ScanFault::Odd) => return Err(SweepFault::Odd),
         }
     }
-    Ok(copied.fate())
+    Ok(copied.length())
 }
 
 /// Returns whether the index points to an entry that was found in a log.
@@ -161,7 +187,6 @@ fn is_named<D: LogDisk>(store: &Store<D>, log: u32, found: &Found) -> bool {
 /// Sizes of the entries found so far that would be copied.
 #[derive(Drop)]
 struct Copied {
-    entries: u64,
     bytes: u64,
     ledgers: BTreeSet<u64>,
 }
@@ -170,7 +195,6 @@ impl Copied {
     /// Returns the sizes of no entries.
     fn new<D: LogDisk>(store: &Store<D>) -> Copied {
         Copied {
-            entries: 0,
             bytes: 0,
             ledgers: BTreeSet::new(store.alloc()),
         }
@@ -182,7 +206,6 @@ impl Copied {
     ///
     /// - `Memory`: out of memory.
     fn take(&mut self, found: &Found) -> Result<(), SweepFault> {
-        self.entries = self.entries.saturating_add(1);
         self.bytes = self.bytes.saturating_add(u64::from(found.size));
         match self.ledgers.insert(found.key.ledger()) {
             Ok(_) => Ok(()),
@@ -190,18 +213,15 @@ impl Copied {
         }
     }
 
-    /// Returns the number of entries and the length of the target log. Its length is that of a
-    /// header, the records, and the map of their ledgers in full batches.
-    fn fate(&self) -> Fate {
+    /// Returns the length of the target log: that of a header, the records, and the map of their
+    /// ledgers in full batches.
+    fn length(&self) -> u64 {
         let ledgers = self.ledgers.len() as u64;
         let heads = ledgers
             .div_ceil(BATCH_LEDGERS)
             .saturating_mul(BATCH_HEAD as u64);
         let pairs = ledgers.saturating_mul(PAIR as u64);
         let records = (HEADER_LENGTH as u64).saturating_add(self.bytes);
-        Fate::Compacted {
-            entries: self.entries,
-            length: records.saturating_add(heads.saturating_add(pairs)),
-        }
+        records.saturating_add(heads.saturating_add(pairs))
     }
 }

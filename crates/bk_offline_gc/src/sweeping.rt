@@ -1,11 +1,13 @@
 //! Offline garbage collection: compacts one log after another until none is below the threshold,
 //! and removes logs that no index entry points into.
 
-ghost use Rattle.std.specs.Prelude.{◌≡◌, IfOk, IsTrue, OnOk};
+ghost use Rattle.std.specs.Prelude.{◌≡◌, None, Err, IfErr, IfOk, IsSome, IsTrue, OnOk};
+ghost use Rattle.bk_disk.specs.Disk.{AreSound};
 ghost use Rattle.bk_store.specs.Transitions.{valid_ledgers};
-ghost use Rattle.bk_offline_gc.specs.Sweeping.{IsSwept, SweepFrame, SameFileContents};
+ghost use Rattle.bk_offline_gc.specs.Faults.{IsOddFault, ReportsFaults};
+ghost use Rattle.bk_offline_gc.specs.Sweeping.{HasKept, IsSwept, SweepFrame, SameFileContents};
 
-use crate::clearing::{clear, clear_all};
+use crate::clearing::{clear_all, count_kept};
 use crate::compacting::compact_next;
 use crate::planning::count_planned;
 use crate::{SweepFault, Swept, Watch};
@@ -23,35 +25,57 @@ pub struct Done<D: LogDisk> {
 
 /// Removes each log that no index entry points into. Then compacts one log after another until none
 /// has a live share below the threshold of this kind. Removes a compacted log when the index points
-/// to the copies. Keeps logs with a lease.
+/// to the copies. Keeps logs with a lease, and counts them.
 ///
 /// No entry is lost, also on errors: a log is removed only after its live entries are in a synced
 /// log.
 ///
 /// # Errors
 ///
-/// The error of the step that failed. Completed steps are not undone; calling again continues from
-/// there.
+/// - `JobRunning`: a compaction is running. Nothing changes.
+/// - The error of the step that failed. Completed steps are not undone, and a compaction that began
+///   is given up; calling again continues from there.
 pub fn sweep<D: LogDisk, W: Watch>(
     store: &mut Store<D>,
     kind: Kind,
     watch: &mut W,
 ) -> Result<Swept, SweepFault>
     ensures leaves { SweepFrame store.old store.new }
+    ensures running { IsSome store.old.job → (result ≡ Err SweepFault.JobRunning) × (store.new ≡ store.old) }
+    ensures idle { store.old.job ≡ None → store.new.job ≡ None }
+    ensures cause { store.old.job ≡ None → ReportsFaults (AreSound D.View.sound) store.old result store.new }
     ensures done { OnOk result (IsSwept store.new kind) }
+    ensures kept { IfOk result (λ swept. HasKept store.new swept.kept) }
+{
+    if store.job().is_some() {
+        return Err(SweepFault::JobRunning);
+    }
+    sweep_all(store, kind, watch)
+}
+
+/// Sweeps a store without a running compaction.
+fn sweep_all<D: LogDisk, W: Watch>(
+    store: &mut Store<D>,
+    kind: Kind,
+    watch: &mut W,
+) -> Result<Swept, SweepFault>
+    requires { store.old.job ≡ None }
+    ensures leaves { SweepFrame store.old store.new }
+    ensures idle { store.new.job ≡ None }
+    ensures cause { ReportsFaults (AreSound D.View.sound) store.old result store.new }
+    ensures done { OnOk result (IsSwept store.new kind) }
+    ensures kept { IfOk result (λ swept. HasKept store.new swept.kept) }
 {
     let mut swept = Swept {
         planned: count_planned(store, kind),
         ..Swept::NOTHING
     };
     clear_all(store, &mut swept, watch)?;
-    for _round in 0..u64::MAX {
-        match compact_next(store, kind, &mut swept, watch)? {
-            None => return Ok(swept),
-            Some(source) => clear(store, source, &mut swept, watch)?,
-        }
+    while compact_next(store, kind, &mut swept, watch)? {
+        clear_all(store, &mut swept, watch)?;
     }
-    Err(SweepFault::Odd)
+    swept.kept = count_kept(store);
+    Ok(swept)
 }
 
 /// Opens a store on the logs of a disk and sweeps it. `dead` lists the ledgers deleted earlier;
@@ -59,7 +83,8 @@ pub fn sweep<D: LogDisk, W: Watch>(
 ///
 /// # Errors
 ///
-/// Those of `Store::open`, then those of `sweep`. The disk is dropped.
+/// Those of `Store::open`, then those of `sweep`. The disk is dropped. `Odd` does not occur on an
+/// honest disk.
 pub fn sweep_disk<D: LogDisk, W: Watch>(
     alloc: Global,
     disk: D,
@@ -69,9 +94,14 @@ pub fn sweep_disk<D: LogDisk, W: Watch>(
     watch: &mut W,
 ) -> Result<Done<D>, SweepFault>
     ensures honest { IfOk result (λ done. done.store.honest ≡ D.honest disk) }
+    ensures settings { IfOk result (λ done. done.store.settings ≡ settings) }
+    ensures dead { IfOk result (λ done. done.store.ledgers.dead ≡ valid_ledgers dead.now) }
     ensures same { IsTrue (D.honest disk)
         → IfOk result (λ done. SameFileContents (valid_ledgers dead.now) (D.files disk) done.store.files) }
+    ensures cause { IfOk result (λ done. done.store.failures ≡ D.failures disk) }
+    ensures odd { IfErr result (λ fault. IsTrue (D.honest disk) → ¬ (IsOddFault fault)) }
     ensures done { IfOk result (λ done. IsSwept done.store kind) }
+    ensures kept { IfOk result (λ done. HasKept done.store done.swept.kept) }
 {
     let mut store = Store::open(alloc, disk, settings, dead)?;
     let swept = sweep(&mut store, kind, watch)?;

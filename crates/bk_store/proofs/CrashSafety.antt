@@ -26,17 +26,17 @@ nothing_open : (b : Bool) (part : List ℕ) → part ≡ [] → cond b part [] �
 nothing_open true part is = is
 nothing_open false part is = refl
 
-open_safe : (synced : Files) (id : ℕ) (b : Bool) (part : List ℕ) → IsDurable synced id part → IsSafe synced id (cond b part [])
-open_safe synced id true part kept = inr kept
+open_safe : (synced : Files) (id : ℕ) (b : Bool) (part : List ℕ) → (b ≡ true → IsDurable synced id part) → IsSafe synced id (cond b part [])
+open_safe synced id true part kept = inr (kept refl)
 open_safe synced id false part kept = inl refl
 
-part_safe : (synced : Files) (id : ℕ) (log : Log) → ((view : View) → log.view ≡ Some view → IsDurable synced id view.bytes)
+part_safe : (synced : Files) (id : ℕ) (log : Log) → ((view : View) → log.view ≡ Some view → is_open log.state ≡ true → IsDurable synced id view.bytes)
     → IsSafe synced id (shown_part log)
 part_safe synced id log kept = elim (some_or_none log.view) [
   | inl none ↦ inl (nothing_open (is_open log.state) (published_part log) (ap (λ (o : Option View). option_map_or (λ (v : View). v.bytes) o []) none))
   | inr there ↦
       let same : there.0.bytes ≡ published_part log = sym (ap (λ (o : Option View). option_map_or (λ (v : View). v.bytes) o []) there.1) in
-      open_safe synced id (is_open log.state) (published_part log) (subst (IsDurable synced id) same (kept there.0 there.1))
+      open_safe synced id (is_open log.state) (published_part log) (λ opened. subst (IsDurable synced id) same (kept there.0 there.1 opened))
 ]
 
 synced_parts : (p : StoreParts) → ContentInvariant p → AreSynced p.synced (open_parts p.state.logs)

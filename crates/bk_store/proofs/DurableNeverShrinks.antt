@@ -23,7 +23,7 @@ backed_on id log on old = record {
   honest = old.honest;
   spelled = old.spelled;
   shown = old.shown;
-  kept = λ view is. on view.bytes (old.kept view is);
+  kept = λ view is opened. on view.bytes (old.kept view is opened);
 }
 
 promises_on : (p : StoreParts) (synced gone : Files) → DurableGrows p.synced p.gone synced gone → ContentInvariant p → ContentInvariant (record p { synced = synced; gone = gone })

@@ -151,7 +151,7 @@ module _ (p q : StoreParts) (keeps : StoreInvariant p) (state : LogState) (fault
                 honest = λ v wrong. absurd (cc);
                 spelled = spelled_short (file_of q.state.files p.state.next) left.0;
                 shown = λ v wrong. absurd (cc);
-                kept = λ v wrong. absurd (cc);
+                kept = λ v wrong _. absurd (cc);
               },
             )))
             (is.left ∙ ap (λ b. with_next p.state q.state.files failures (logs_left p.state b is.slot) (keeper_left p.state b is.slot)) made)
@@ -196,7 +196,7 @@ made p q state id keeps written none turn beside writes unfilled =
         honest = λ v wrong. absurd (cc);
         spelled = spelled_short (file_of q.state.files p.state.next) short;
         shown = λ v wrong. absurd (cc);
-        kept = λ v wrong. absurd (cc);
+        kept = λ v wrong _. absurd (cc);
       },
     )))
     is.left

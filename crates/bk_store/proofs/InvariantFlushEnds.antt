@@ -148,7 +148,7 @@ module _ (p : StoreParts) (keeps : StoreInvariant p) (rule : LogState → Log �
             honest = λ view seen. old.honest view (sym (mild.view l) ∙ seen);
             spelled = old.spelled;
             shown = λ view seen. old.shown view (sym (mild.view l) ∙ seen);
-            kept = λ view seen. old.kept view (sym (mild.view l) ∙ seen);
+            kept = λ view seen opened. old.kept view (sym (mild.view l) ∙ seen) (sym (mild.opened l) ∙ opened);
           });
       fresh = reveal_invariant.logs.fresh;
     };

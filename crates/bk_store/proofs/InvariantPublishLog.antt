@@ -43,7 +43,7 @@ module _ (p : StoreParts) (keeps : StoreInvariant p) (id : ℕ) (log : Log) (hel
         honest = λ v is. let one : view ≡ v = cc in subst (λ (x : View). IsTrue x.is_honest) one honest;
         spelled = old.spelled;
         shown = λ v is. let one : view ≡ v = cc in subst (λ (x : View). HasNoBadLength x.bytes) one (subst HasNoBadLength file old.spelled);
-        kept = λ v is. let one : view ≡ v = cc in subst (λ (x : View). IsDurable p.synced id x.bytes) one synced;
+        kept = λ v is _. let one : view ≡ v = cc in subst (λ (x : View). IsDurable p.synced id x.bytes) one synced;
       })
       (subst (λ f. AreSums entry_measure (set.contains p.state.ledgers.dead) f (log_count p.state.index) p.accounts) (λ i q. sym (same q) i) reveal_invariant.counted)
 

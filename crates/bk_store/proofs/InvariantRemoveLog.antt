@@ -185,8 +185,8 @@ module _ (p : StoreParts) (keeps : StoreInvariant p) (id : ℕ) (log : Log) (hel
           honest = old.honest;
           spelled = subst HasNoBadLength (sym (only q other.0)) old.spelled;
           shown = old.shown;
-          kept = λ view seen.
-              let was = old.kept view seen in
+          kept = λ view seen opened.
+              let was = old.kept view seen opened in
               let now = let_go.more q was.0 other.0 was.1 in
               (now.0, now.1, longer_trans view.bytes was.0 now.0 was.2 now.2);
         }
@@ -242,6 +242,57 @@ module _ (p : StoreParts) (keeps : StoreInvariant p) (id : ℕ) (log : Log) (hel
     promises = λ honest. removed_promises (gone honest) (let_go honest) (keeps.promises honest);
   }
 
+-- ---- a removal that failed: the log is closed still, and nothing of it need be durable
+
+module _ (p : StoreParts) (keeps : StoreInvariant p) (id : ℕ) (log : Log) (held : finite.get p.state.logs id ≡ Some log) (closed : log.state ≡ Closed)
+    (synced gone' : Files) (let_go : IsDroppedFromDurable p.state.files id p.synced p.gone synced gone') where
+  backed_else : (reveal_invariant : ContentInvariant p) (q : ℕ) (l : Log) → finite.get p.state.logs q ≡ Some l → LogMatchesFile p.state.files synced q l
+  backed_else reveal_invariant q l is =
+      let old = reveal_invariant.logs.each q l is in
+      record {
+        stands = old.stands;
+        writes = old.writes;
+        honest = old.honest;
+        spelled = old.spelled;
+        shown = old.shown;
+        kept = λ view seen opened. elim (same_or_apart q id) [
+          | inl here ↦
+              let both : Some l ≡ Some log = sym is ∙ ap (finite.get p.state.logs) here ∙ held in
+              let one : l ≡ log = cc in
+              absurd (let wrong : true ≡ false = sym opened ∙ ap (λ (x : Log). is_open x.state) one ∙ ap is_open closed in cc)
+          | inr apart ↦
+              let was = old.kept view seen opened in
+              let now = let_go.more q was.0 apart was.1 in
+              (now.0, now.1, longer_trans view.bytes was.0 now.0 was.2 now.2)
+        ];
+      }
+
+  dropped_promises : ContentInvariant p → ContentInvariant (record p { synced = synced; gone = gone' })
+  dropped_promises reveal_invariant = record {
+    map = record {
+      carried = reveal_invariant.map.carried;
+      carries = reveal_invariant.map.carries;
+      harmless = harmless_let_go_of p.state.files p.gone gone' id let_go.back reveal_invariant.map.carries reveal_invariant.map.harmless;
+      recent = reveal_invariant.map.recent;
+      replays = reveal_invariant.map.replays;
+    };
+    shows = reveal_invariant.shows;
+    counted = reveal_invariant.counted;
+    logs = record {
+      each = backed_else reveal_invariant;
+      fresh = reveal_invariant.logs.fresh;
+    };
+    placed = reveal_invariant.placed;
+  }
+
+not_removed : (p q : StoreParts) (id : ℕ) → StoreInvariant p → (log : Log) → finite.get p.state.logs id ≡ Some log → log.state ≡ Closed
+    → (IsTrue p.state.honest → IsDroppedFromDurable p.state.files id p.synced p.gone q.synced q.gone) → StoreInvariant (with_durable_of p q)
+not_removed p q id keeps log held closed let_go = record {
+  fits = keeps.fits;
+  job = keeps.job;
+  promises = λ honest. dropped_promises p keeps id log held closed q.synced q.gone (let_go honest) (keeps.promises honest);
+}
+
 pub keeps_remove : (p q : StoreParts) (id : ℕ) (result : Result (Unit {0}) LogFault) → StoreInvariant p → IsIn p.state id Closed → RemoveLogTransition p.state id result q.state
     → RemoveLogInternals (with_durable_of p q) id result q → RemovalDurability p id result q → StoreInvariant q
 keeps_remove p q id (Ok _) keeps known turn beside let_go =
@@ -249,7 +300,8 @@ keeps_remove p q id (Ok _) keeps known turn beside let_go =
     (removed_kept p keeps id turn.0 turn.1 (one_log p id turn.0 Closed turn.1 known) q.state.files q.synced q.gone turn.2 let_go)
 keeps_remove p q id (Err log_faults.Disk) keeps known turn beside on =
     subst StoreInvariant (sym (beside ∙ ap (with_state (with_durable_of p q)) turn.1))
-    (keeps_failures (with_durable_of p q) q.state.files (p.state.failures + 1) (keeps_on p q keeps on) turn.0)
+    (keeps_failures (with_durable_of p q) q.state.files (p.state.failures + 1)
+    (not_removed p q id keeps known.log known.held known.state_is on) turn.0)
 keeps_remove p q id (Err log_faults.Memory) keeps known turn beside on =
     subst StoreInvariant (sym (beside ∙ ap (with_state (with_durable_of p q)) turn.1))
     (keeps_failures (with_durable_of p q) q.state.files p.state.failures (keeps_on p q keeps on) turn.0)

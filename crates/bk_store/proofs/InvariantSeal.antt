@@ -68,7 +68,7 @@ module _ (p : StoreParts) (keeps : StoreInvariant p) (id : ℕ) (state : LogStat
         honest = old.honest;
         spelled = gains.spelled old.spelled;
         shown = old.shown;
-        kept = old.kept;
+        kept = λ view seen _. old.kept view seen was_open;
       })
       (subst (λ f. AreSums entry_measure (set.contains p.state.ledgers.dead) f (log_count p.state.index) p.accounts) (λ i q. sym (same q) i) reveal_invariant.counted)
 

@@ -41,12 +41,12 @@ not_flushed log (inr (inr is)) (inr wrong) = cc
 module _ (p : StoreParts) (keeps : StoreInvariant p) (id : ℕ) (state : LogState) (log : Log) (held : finite.get p.state.logs id ≡ Some log) (idle : IsIdle p.state id)
     (other : ¬ (IsFlushed log)) (closed : is_written state ≡ false) (unflushed : ¬ ((state ≡ Writing) ⊎ (state ≡ Filled)))
     (keeper : SlotTable) (seated : IsSeated p.state.settings keeper (finite.insert p.state.logs id (unwritten_log state log))) where
-  keeps_closed : ((key : EntryKey) (place : Place) → finite.get p.state.index key ≡ Some place
+  keeps_closed : (is_open state ≡ true → is_open log.state ≡ true) → ((key : EntryKey) (place : Place) → finite.get p.state.index key ≡ Some place
       → HasOpenView (finite.insert p.state.logs id (unwritten_log state log)) place.log)
       → (IndexIsPublished (file_of p.state.files) (open_parts p.state.logs) p.state.index
       → IndexIsPublished (file_of p.state.files) (open_parts (finite.insert p.state.logs id (unwritten_log state log))) p.state.index)
       → StoreInvariant (with_one_in keeper p id (unwritten_log state log) p.state.files p.state.failures p.accounts p.writing)
-  keeps_closed sent shows =
+  keeps_closed was_open sent shows =
       let fits = keeps.fits in
       let files = p.state.files in
       let new = unwritten_log state log in
@@ -63,7 +63,14 @@ module _ (p : StoreParts) (keeps : StoreInvariant p) (id : ℕ) (state : LogStat
             let same = entries_stay p.state.logs id log new held files files (λ _ _. refl) refl in
             promises_in p id log new held files p.state.failures p.accounts p.writing keeper fits reveal_invariant [] (gains_same files files id refl)
             (λ at payload key never. absurd never) (λ _. shows reveal_invariant.shows)
-            (record { stands = old.stands; writes = λ w wrong. absurd (cc); honest = old.honest; spelled = old.spelled; shown = old.shown; kept = old.kept })
+            (record {
+              stands = old.stands;
+              writes = λ w wrong. absurd (cc);
+              honest = old.honest;
+              spelled = old.spelled;
+              shown = old.shown;
+              kept = λ view seen opened. old.kept view seen (was_open opened);
+            })
             (subst (λ f. AreSums entry_measure (set.contains p.state.ledgers.dead) f (log_count p.state.index) p.accounts) (λ i q. sym (same q) i) reveal_invariant.counted);
       }
 
@@ -83,7 +90,7 @@ module _ (p : StoreParts) (keeps : StoreInvariant p) (id : ℕ) (log : Log) (hel
       let new = unwritten_log Readable log in
       let opened : is_open new.state ≡ is_open log.state = sym (ap is_open was) in
       keeps_closed p keeps id Readable log held idle (not_flushed log (inl was)) refl (λ wrong. elim wrong [ inl w ↦ cc | inr w ↦ cc ])
-      p.state.keeper (still_seated Readable (sym (ap (slot_state id) was)))
+      p.state.keeper (still_seated Readable (sym (ap (slot_state id) was))) (λ _. ap is_open was)
       (λ key place is. views_stay p.state.logs id log new held (λ v _ view_is. (refl, (v, view_is))) place.log (keeps.fits.sent key place is))
       (λ shows. subst (λ ps. IndexIsPublished (file_of p.state.files) ps p.state.index) (λ i q. sym (parts_same p.state.logs id log new held opened refl q) i) shows)
 
@@ -93,7 +100,7 @@ module _ (p : StoreParts) (keeps : StoreInvariant p) (id : ℕ) (log : Log) (hel
       let new = unwritten_log Retired log in
       let unnamed = log_count-zero p.state.index id none in
       keeps_closed p keeps id Retired log held idle (not_flushed log (inr (inl was))) refl (λ wrong. elim wrong [ inl w ↦ cc | inr w ↦ cc ])
-      p.state.keeper (still_seated Retired (sym (ap (slot_state id) was)))
+      p.state.keeper (still_seated Retired (sym (ap (slot_state id) was))) (λ wrong. absurd (cc))
       (λ key place is. views_else p.state.logs id log new held place.log (unnamed key place is) (keeps.fits.sent key place is))
       (λ shows. shows_hidden shows (open_parts (finite.insert p.state.logs id new)) id (parts_else p.state.logs id log new held)
       (parts_here p.state.logs id log new held) unnamed)
@@ -107,7 +114,7 @@ module _ (p : StoreParts) (keeps : StoreInvariant p) (id : ℕ) (log : Log) (hel
       let hidden : is_open new.state ≡ is_open log.state = sym (ap is_open was) in
       let idle : IsIdle p.state id = λ job is. job_apart p.state job (keeps.job job is) id log held (λ wrong. cc) (λ wrong. cc) in
       keeps_closed p keeps id Closed log held idle (not_flushed log (inr (inr was))) refl (λ wrong. elim wrong [ inl w ↦ cc | inr w ↦ cc ])
-      (with_slot p.state.keeper log.slot (slots.Closed id)) (seated_closed p.state.settings p.state.keeper p.state.logs keeps.fits.logs.seated id log held)
+      (with_slot p.state.keeper log.slot (slots.Closed id)) (seated_closed p.state.settings p.state.keeper p.state.logs keeps.fits.logs.seated id log held) (λ wrong. absurd (cc))
       (λ key place is. views_stay p.state.logs id log new held (λ v wrong _. absurd (let both : true ≡ false = sym wrong ∙ ap is_open was in cc))
       place.log (keeps.fits.sent key place is))
       (λ shows. subst (λ ps. IndexIsPublished (file_of p.state.files) ps p.state.index) (λ i q. sym (parts_same p.state.logs id log new held hidden refl q) i) shows)

@@ -314,7 +314,7 @@ module _ (settings : Settings) (honest : Bool) (files synced gone : Files) (fail
               honest = λ view shows. subst (λ (v : View). IsTrue v.is_honest) (same_Some r.0.view view shows) (whole_read r.0 r.1.0.there).honest;
               spelled = subst HasNoBadLength (sym (file_is id r.0 r.1.0)) (whole_read r.0 r.1.0.there).opens.whole;
               shown = λ view shows. subst (λ (v : View). HasNoBadLength v.bytes) (same_Some r.0.view view shows) (whole_read r.0 r.1.0.there).opens.whole;
-              kept = λ view shows. subst (λ (v : View). IsDurable synced id v.bytes) (same_Some r.0.view view shows)
+              kept = λ view shows _. subst (λ (v : View). IsDurable synced id v.bytes) (same_Some r.0.view view shows)
                   (subst (IsDurable synced id) (file_is id r.0 r.1.0) (kept id (subst (λ n. In n ids) r.1.0.own (id_in r.0 r.1.0.there))));
             });
         fresh = λ id past. elim (some_or_none (finite.get files id)) [

@@ -23,6 +23,7 @@ use Rattle.bk_accounts.specs.Book.{total_in, after_ready, after_count, after_cou
 use Rattle.bk_accounts.proofs.BookLaws.{total_in-after_count, total_in-after_count_dead, total_in-after_ready}
 use Rattle.bk_store.specs.Opening.{IsHeaded, FileFails}
 use Rattle.bk_store.specs.Found.{IsScanned, IsFoundAt, AreFoundAt, with_entry, with_entries, bytes_found, open_fault_of_scan}
+use Rattle.bk_store.specs.declared.answer.OpenFault.TheVariants as open_faults
 use Rattle.bk_store.specs.declared.open.tally.Tally.{Tally}
 
 -- ---- entries of one log, as they come
@@ -151,3 +152,10 @@ module _ (log end : ℕ) (honest : Bool) (file : List ℕ) (old : Tally) (s : Sc
   scan_refused scans.Disk s' moves turn whole short is headed = tt
   scan_refused scans.Memory s' moves turn whole short is headed = tt
   scan_refused scans.Odd s' moves turn whole short is headed = turn (is_honest is)
+
+-- an opening fails with `Disk` by a scan only if the scan does
+pub disk_told : (id : ℕ) (fault : ScanFault) → open_fault_of_scan id fault ≡ open_faults.Disk → fault ≡ scans.Disk
+disk_told id (scans.BadLength at value) is = cc
+disk_told id scans.Disk is = refl
+disk_told id scans.Memory is = cc
+disk_told id scans.Odd is = cc

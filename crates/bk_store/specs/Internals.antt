@@ -33,10 +33,13 @@ with_durable_of p q = record p { synced = q.synced; gone = q.gone }
 abbrev pub DurableNeverShrinks : StoreParts → StoreParts → Type 0
 DurableNeverShrinks p q = IsTrue p.state.honest → DurableGrows p.synced p.gone q.synced q.gone
 
--- a removed log is no longer durable
+-- a log that is removed is no longer durable, also if the removal failed
 abbrev pub RemovalDurability : StoreParts → ℕ → Result (Unit {0}) LogFault → StoreParts → Type 0
 RemovalDurability p id (Ok _) q = IsTrue p.state.honest → IsDroppedFromDurable p.state.files id p.synced p.gone q.synced q.gone
-RemovalDurability p id (Err _) q = DurableNeverShrinks p q
+RemovalDurability p id (Err log_faults.Disk) q = IsTrue p.state.honest → IsDroppedFromDurable p.state.files id p.synced p.gone q.synced q.gone
+RemovalDurability p id (Err log_faults.Memory) q = DurableNeverShrinks p q
+RemovalDurability p id (Err log_faults.Failed) q = DurableNeverShrinks p q
+RemovalDurability p id (Err log_faults.Odd) q = DurableNeverShrinks p q
 
 -- ---- creating a log
 

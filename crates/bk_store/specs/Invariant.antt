@@ -36,7 +36,7 @@ use Rattle.bk_store.specs.Jobs.{Job}
 use Rattle.bk_store.specs.JobInvariant.{JobInvariant}
 use Rattle.bk_store.specs.Trail.{MapMatchesTrail}
 use Rattle.bk_store.specs.Ledgers.{KnownLedgers, LedgersMatchTrail}
-use Rattle.bk_store.specs.Logs.{View, Log, Logs, HasOpenView, IsFlushLog, is_written, open_parts, acknowledged_part}
+use Rattle.bk_store.specs.Logs.{View, Log, Logs, HasOpenView, IsFlushLog, is_open, is_written, open_parts, acknowledged_part}
 use Rattle.bk_store.specs.State.{StoreParts}
 use Rattle.bk_store.specs.Limits.{IsAllowed}
 use Rattle.bk_lease.specs.Values.{SlotTable}
@@ -119,14 +119,14 @@ abbrev pub acknowledged_entries : Files → Logs → ℕ → Option (List (ℕ �
 acknowledged_entries files logs id = option_map (λ log. entries_of (acknowledged_part files id log)) (finite.get logs id)
 
 -- a log and its file on an honest disk: the writer is that file's, and the view is a prefix of the
--- file and was synced; a scan of either meets no bad length
+-- file and, of an open log, was synced; a scan of either meets no bad length
 pub record LogMatchesFile (files synced : Files) (id : ℕ) (log : Log) : Type 0 where
   pub stands : IsSome (finite.get files id)
   pub writes : (w : writers.Writing) → log.writer ≡ Some w → writers.Writes files w
   pub honest : (view : View) → log.view ≡ Some view → IsTrue view.is_honest
   pub spelled : HasNoBadLength (file_of files id)
   pub shown : (view : View) → log.view ≡ Some view → HasNoBadLength view.bytes
-  pub kept : (view : View) → log.view ≡ Some view → IsDurable synced id view.bytes
+  pub kept : (view : View) → log.view ≡ Some view → is_open log.state ≡ true → IsDurable synced id view.bytes
 
 -- an entry of the flush with a place is at that place
 pub record IsWrittenAt (flush : Option Payloads) (files : Files) (key : EntryKey) (place : Place) : Type 0 where

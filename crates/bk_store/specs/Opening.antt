@@ -72,6 +72,11 @@ OpenFails files settings (open_faults.Log id cause) = IsAllowed settings × HasS
 OpenFails files settings (open_faults.TooLong id) = IsAllowed settings × HasSlots files settings × FirstFails files (open_faults.TooLong id)
 OpenFails files settings open_faults.Odd = ⊥
 
+-- The device never fails: the failure count of every disk of this type is 0. If views are sound
+-- too, no opening fails with `Disk`.
+abbrev pub NeverFails : {D : Type 0} → (D → ℕ) → Type 0
+NeverFails {D} failures = (disk : D) → failures disk ≡ 0
+
 -- ---- the store
 
 -- a log found is held with a view of its whole file, all of it acknowledged

@@ -3,14 +3,17 @@
 ghost use Rattle.std.specs.Prelude.{◌≡◌, ℕ, List, false, None, Ok, IfSome, IfNone};
 ghost use Rattle.std.specs.FinMap as map;
 ghost use Rattle.bk_record.specs.Record.{read_added};
+ghost use Rattle.sha2.specs.Sha256.{sha256};
 ghost use Rattle.bk_store.specs.Transitions.{AddTransition, is_dead};
 ghost use Rattle.bk_store.specs.Ledgers.{is_barred};
 
 use crate::fields::Fields;
 use crate::{AddFault, Added, Prepared};
-use bk_cache::{CacheAdd, CacheFault};
+use bk_cache::{CacheAdd, CacheFault, share};
 use bk_disk::LogDisk;
 use bk_record::{Key, check_add};
+use sha2::{Digest, Sha256};
+use std::sync::Arc;
 
 /// Who adds an entry. Only a recovery may add to a fenced ledger.
 #[derive(Clone, Copy, Debug, PartialEq, Eq)]
@@ -30,43 +33,51 @@ impl<D: LogDisk> Fields<D> {
         if let Some(answer) = self.answered(kind, &key) {
             return answer;
         }
-        let Ok(entry) = Prepared::of(self.alloc, key, payload) else {
+        let Ok(copy) = share(self.alloc, payload) else {
             return self.refuse(kind, &key, payload);
         };
-        self.accept(kind, key, entry)
+        self.accept(kind, key, copy, &Sha256::digest(payload))
     }
 
     pub fn add_prepared(&mut self, kind: AddKind, entry: Prepared) -> Result<Added, AddFault>
         ensures transition { AddTransition self.old.state kind entry result self.new.state }
         ensures internals { self.new ≡ record self.old { state = self.new.state } }
     {
-        let key = entry.key;
+        let Prepared {
+            key,
+            payload,
+            digest,
+        } = entry;
         if let Some(answer) = self.answered(kind, &key) {
             return answer;
         }
-        self.accept(kind, key, entry)
+        self.accept(kind, key, payload, &digest)
     }
 
     /// Adds an entry of a live ledger that no fence bars, and whose key the index does not have.
-    fn accept(&mut self, kind: AddKind, key: Key, entry: Prepared) -> Result<Added, AddFault>
-        requires reads { read_added entry ≡ Ok key }
+    ///
+    /// Takes its parts, since an entry that is moved as a whole is copied each time.
+    fn accept(
+        &mut self,
+        kind: AddKind,
+        key: Key,
+        payload: Arc<Vec<u8>>,
+        digest: &[u8; 32],
+    ) -> Result<Added, AddFault>
+        requires reads { read_added payload.value.items ≡ Ok key }
+        requires digested { digest.now ≡ sha256 payload.value.items }
         requires lives { is_dead self.old.state key.ledger ≡ false }
         requires unbarred { is_barred kind self.old.state.ledgers.fenced key.ledger ≡ false }
         requires unnamed { map.get self.old.state.index key ≡ None }
-        ensures transition { AddTransition self.old.state kind entry result self.new.state }
+        ensures transition { AddTransition self.old.state kind payload.value.items result self.new.state }
         ensures internals { self.new ≡ record self.old { state = self.new.state } }
     {
-        let Prepared {
-            payload,
-            digest,
-            ..
-        } = entry;
         // The mark needs room first, so that every accepted entry has its mark.
         if self.ledgers.ready().is_err() {
             return self.refuse(kind, &key, &payload);
         }
         match self.caches.put(key, payload) {
-            Ok(CacheAdd::Taken) => Ok(Added::Accepted(self.ledgers.accept(key, digest))),
+            Ok(CacheAdd::Taken) => Ok(Added::Accepted(self.ledgers.accept(key, *digest))),
             Ok(CacheAdd::Held) => Ok(Added::Held),
             Err(CacheFault::Full { used, limit }) => Err(AddFault::Full { used, limit }),
             Err(CacheFault::Memory) => Err(AddFault::Memory),

@@ -1,6 +1,6 @@
 //! Beginning, restarting and ending a flush.
 
-ghost use Rattle.std.specs.Prelude.{◌≡◌, ℕ, Some};
+ghost use Rattle.std.specs.Prelude.{◌≡◌, ℕ, false, Some, IsTrue};
 ghost use Rattle.bk_record.specs.Files.{In};
 ghost use Rattle.bk_store.specs.Invariant.{StoreInvariant};
 ghost use Rattle.bk_store.specs.Primitives.{AllIndexed, RestartFlushTransition, EndFlushTransition};
@@ -18,6 +18,18 @@ impl<D: LogDisk> Fields<D> {
         ensures internals { self.new ≡ record self.old { state = self.new.state } }
     {
         self.caches.swap()
+    }
+
+    /// Returns whether the disk has lost a log of the flush.
+    pub fn has_lost_log(&self) -> bool
+        ensures { IsTrue self.now.state.honest → result ≡ false }
+    {
+        for log in &self.filled {
+            if self.disk.is_lost(*log) {
+                return true;
+            }
+        }
+        false
     }
 
     /// Restarts the flush.

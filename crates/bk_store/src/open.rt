@@ -1,9 +1,10 @@
 //! Opening a store on existing files, with a list of deleted ledgers.
 
 ghost use Rattle.std.specs.Prelude.{◌≡◌, ◌↔◌, IsTrue, IsErrOf, IfOk, IfErr};
+ghost use Rattle.bk_disk.specs.Disk.{AreSound};
 ghost use Rattle.bk_store.specs.Invariant.{StoreInvariant};
 ghost use Rattle.bk_store.specs.Limits.{IsAllowed};
-ghost use Rattle.bk_store.specs.Opening.{IsOpened, OpenFails};
+ghost use Rattle.bk_store.specs.Opening.{IsOpened, NeverFails, OpenFails};
 
 mod fault;
 mod found;
@@ -41,6 +42,7 @@ impl<D: LogDisk> Fields<D> {
         ensures failures { IfOk result (λ p. p.state.failures ≡ D.failures disk) }
         ensures opened { IfOk result (λ p. IsOpened (D.honest disk) (D.files disk) settings dead.now p.state) }
         ensures fails { IfErr result (λ fault. IsTrue (D.honest disk) → OpenFails (D.files disk) settings fault) }
+        ensures unfailing { NeverFails D.failures → AreSound D.View.sound → ¬ (IsErrOf result OpenFault.Disk) }
     {
         if !settings.is_allowed() {
             return Err(OpenFault::Settings);

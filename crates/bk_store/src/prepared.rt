@@ -1,15 +1,13 @@
 //! An entry that is ready to be added. The work on its payload is done before the store is called,
 //! so that a lock around the store is held for less time.
 
-ghost use Rattle.std.specs.Prelude.{◌≡◌, Ok, IfOk};
-ghost use Rattle.bk_record.specs.Record.{read_added};
 ghost use Rattle.bk_store.specs.Preparing.{IsPrepared};
 
 use crate::AddFault;
 use bk_cache::share;
 use bk_record::{Key, check_add};
 use sha2::{Digest, Sha256};
-use std::alloc::{AllocError, Global};
+use std::alloc::Global;
 use std::marker::Model;
 use std::sync::Arc;
 
@@ -46,15 +44,6 @@ impl Prepared {
         ensures { IsPrepared payload.now result }
     {
         let key = check_add(payload)?;
-        let entry = Prepared::of(alloc, key, payload)?;
-        Ok(entry)
-    }
-
-    /// Copies a payload of this key, and computes its SHA-256. Fails only if out of memory.
-    pub(crate) fn of(alloc: Global, key: Key, payload: &[u8]) -> Result<Prepared, AllocError>
-        requires { read_added payload.now ≡ Ok key }
-        ensures { IfOk result (λ entry. entry ≡ payload.now) }
-    {
         let copy = share(alloc, payload)?;
         Ok(Prepared {
             key,

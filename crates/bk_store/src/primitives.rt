@@ -4,7 +4,7 @@
 //! `Leasing.antt`, preserves the store invariant, and leaves the logical contents unchanged (clause
 //! `contents`).
 
-ghost use Rattle.std.specs.Prelude.{◌≡◌, None, IsSome, IsTrue, true, option_map};
+ghost use Rattle.std.specs.Prelude.{◌≡◌, None, IsSome, IsTrue, true, false, option_map};
 ghost use Rattle.std.specs.List.{All};
 ghost use Rattle.std.specs.FinMap as map;
 ghost use Rattle.bk_record.specs.Location.{Place};
@@ -107,6 +107,13 @@ impl<D: LogDisk> Store<D> {
         ensures contents { IsTrue self.old.honest → SameContents self.old self.new }
     {
         self.fields.index_placed(number)
+    }
+
+    /// Returns whether the disk has lost bytes of a log of the flush for good. Calls no device.
+    pub fn has_lost_log(&self) -> bool
+        ensures { IsTrue self.now.honest → result ≡ false }
+    {
+        self.fields.has_lost_log()
     }
 
     /// Restarts the flush: its logs become Readable, its places are dropped, its cache is kept.
@@ -242,8 +249,8 @@ impl<D: LogDisk> Store<D> {
     ///
     /// # Errors
     ///
-    /// `Memory`, `Disk` and `Odd`. The log stays closed, and its file remains. `Failed` does not
-    /// occur.
+    /// `Memory`, `Disk` and `Odd`. The log stays closed, and its file remains; after `Disk` a crash
+    /// may leave it or not. `Failed` does not occur.
     pub fn remove_log(&mut self, log: u32) -> Result<(), LogFault>
         requires { IsIn self.old log Closed }
         ensures transition { RemoveLogTransition self.old log result self.new }

@@ -13,7 +13,7 @@ use bk_lease::Closed;
 use bk_log::LogFault;
 
 impl<D: LogDisk> Fields<D> {
-    /// Removes a closed log. After a crash its file may be back.
+    /// Removes a closed log. After a crash its file may be back, or gone if the removal failed.
     #[tactic(auto, using(bk_disk::proofs::DurableGrows::kept_rules))]
     pub fn remove_log(&mut self, log: u32) -> Result<(), LogFault>
         requires keeps { StoreInvariant self.old }

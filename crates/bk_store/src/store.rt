@@ -6,9 +6,10 @@
 
 ghost use Rattle.std.specs.Prelude.{◌≡◌, ◌↔◌, Some, IsTrue, IsErrOf, IfOk, IfErr, length, option_map};
 ghost use Rattle.std.specs.FinMap as map;
+ghost use Rattle.bk_disk.specs.Disk.{AreSound};
 ghost use Rattle.bk_store.specs.Abstract.{SatisfiesInvariant};
 ghost use Rattle.bk_store.specs.Limits.{IsAllowed};
-ghost use Rattle.bk_store.specs.Opening.{IsOpened, OpenFails};
+ghost use Rattle.bk_store.specs.Opening.{IsOpened, NeverFails, OpenFails};
 ghost use Rattle.bk_store.specs.CrashSafety.{SurvivesCrash};
 ghost use Rattle.bk_store.specs.Transitions.{AddTransition, TakeTransition, DeleteTransition, FenceTransition, SwapTransition};
 ghost use Rattle.bk_store.specs.declared.adding.AddKind.TheVariants.{Ordinary, Recovery};
@@ -46,10 +47,10 @@ impl<D: LogDisk> Model for Store<D> {
 impl<D: LogDisk> Store<D> {
     /// Opens a store on the entry logs of a disk.
     ///
-    /// Syncs and scans every log once, in order of log id, and builds the index and the accounts in
-    /// memory; no log is loaded as a whole. If a key has several records, the last one wins, by log
-    /// id, then position. All bytes found are published, and logs found are never appended to. The
-    /// next log id is one more than the largest id found, or 0.
+    /// Scans every log once, in order of log id, and syncs it unless the disk keeps it already. Builds
+    /// the index and the accounts in memory; no log is loaded as a whole. If a key has several
+    /// records, the last one wins, by log id, then position. All bytes found are published, and logs
+    /// found are never appended to. The next log id is one more than the largest id found, or 0.
     ///
     /// `dead` lists the ledgers deleted earlier; deletions are not stored in the logs. Duplicates
     /// and values above 2^63 - 1 are ignored.
@@ -65,7 +66,8 @@ impl<D: LogDisk> Store<D> {
     ///   header is an empty log. A torn record at the end is ignored.
     ///
     /// `Disk` (the device failed, or a view could not be read), `Memory` and `Odd` can occur at any
-    /// point. A successful open met no device failure.
+    /// point. A successful open met no device failure. `Disk` does not occur if the device never
+    /// fails and views are sound.
     pub fn open(
         alloc: Global,
         disk: D,
@@ -77,6 +79,7 @@ impl<D: LogDisk> Store<D> {
         ensures failures { IfOk result (λ s. s.failures ≡ D.failures disk) }
         ensures opened { IfOk result (λ s. IsOpened (D.honest disk) (D.files disk) settings dead.now s) }
         ensures fails { IfErr result (λ fault. IsTrue (D.honest disk) → OpenFails (D.files disk) settings fault) }
+        ensures unfailing { NeverFails D.failures → AreSound D.View.sound → ¬ (IsErrOf result OpenFault.Disk) }
     {
         let fields = Fields::open(alloc, disk, settings, dead)?;
         Ok(Store { fields })

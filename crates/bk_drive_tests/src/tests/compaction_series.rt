@@ -4,7 +4,7 @@
 //! A refused call is made again. A compaction that a fault ended starts again. A refused roll is
 //! not repeated, since no log is open then. If opening fails, the run ends.
 //!
-//! `life.rt` has the calls. `rt try --test --fail-alloc N` refuses the Nth allocation of each test.
+//! `life.rt` has the calls. The gate refuses each allocation in turn (`.ci/refusals.txt`).
 
 use super::life::{Call, Part, Row, Rule, rows_of};
 use super::logs::found;
@@ -222,21 +222,21 @@ fn outcome(alloc: Global, call: u64, kept: usize) -> Result<Tally, OpenFault> {
 /// Up to the device call with this number: the step that fails with `Disk` if the call fails, and
 /// the target log then.
 ///
-/// Opening lists the logs, syncs each, and reads its length, its header and its view. A new log is
+/// Opening lists the logs, and reads the length, the header and the view of each. A new log is
 /// created and gets its header. An entry is one call. A publish syncs and views its log. A roll
 /// appends the map and patches the header, and the end of a copying does all four.
 const CALLS: [(u64, &str, u32); 11] = [
-    (13, "open", 0),
-    (19, "write", 5),
-    (21, "publish", 5),
-    (23, "roll", 4),
-    (25, "begin", 5),
-    (28, "copy", 5),
-    (31, "write", 4),
-    (33, "publish", 4),
-    (37, "end", 6),
-    (38, "remove", 4),
-    (59, "open", 0),
+    (10, "open", 0),
+    (16, "write", 5),
+    (18, "publish", 4),
+    (20, "roll", 4),
+    (22, "begin", 5),
+    (25, "copy", 5),
+    (28, "write", 4),
+    (30, "publish", 4),
+    (34, "end", 6),
+    (35, "remove", 4),
+    (51, "open", 0),
 ];
 
 /// Returns the step that fails with `Disk` if this device call fails, and the target log then.
@@ -265,7 +265,7 @@ fn is_expected(ran: &Result<Tally, OpenFault>, call: u64) -> bool {
 
 /// Returns the first failing call with an unexpected result, or 0.
 fn first_unexpected(alloc: Global, kept: usize) -> u64 {
-    for call in 1..=60 {
+    for call in 1..=52 {
         if !is_expected(&outcome(alloc, call, kept), call) {
             return call;
         }

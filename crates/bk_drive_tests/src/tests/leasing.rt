@@ -17,10 +17,12 @@ const TWO_LEASES: Settings = Settings {
     ..SETTINGS
 };
 
-/// A store, absent after its disk was returned, and the leases that are held.
+/// A store, absent after its disk was returned, the returned disk, and the leases that are held.
 #[derive(Drop)]
 struct Lender {
+    alloc: Global,
     store: Option<Store<Disk>>,
+    disk: Option<Disk>,
     leases: Vec<Leased>,
 }
 
@@ -33,17 +35,19 @@ enum Asked {
     GiveBack,
     /// Asks the store for its disk.
     Disk,
+    /// Opens a store on the returned disk.
+    Open,
 }
 
 /// Asks a store for its disk. Returns the store if it is refused, with the number of leases on the
 /// lowest leased log, plus 100 for each log below it.
-fn given_back(store: Store<Disk>) -> (Option<Store<Disk>>, Told) {
+fn given_back(store: Store<Disk>) -> Result<Disk, (Store<Disk>, Told)> {
     match store.into_disk() {
-        Ok(_) => (None, ("disk", 0)),
+        Ok(disk) => Ok(disk),
         Err(refused) => {
             let below = u64::from(refused.log).saturating_mul(100);
             let told = ("leases", below.saturating_add(refused.count));
-            (Some(refused.store), told)
+            Err((refused.store, told))
         }
     }
 }
@@ -78,9 +82,29 @@ impl Lender {
         let Some(store) = self.store.take() else {
             return ("no store", 0);
         };
-        let (store, told) = given_back(store);
-        self.store = store;
-        told
+        match given_back(store) {
+            Ok(disk) => {
+                self.disk = Some(disk);
+                ("disk", 0)
+            }
+            Err((store, told)) => {
+                self.store = Some(store);
+                told
+            }
+        }
+    }
+
+    fn open_again(&mut self) -> Told {
+        let Some(disk) = self.disk.take() else {
+            return ("no disk", 0);
+        };
+        match opened(self.alloc, disk, TWO_LEASES, &[]) {
+            Ok(store) => {
+                self.store = Some(store);
+                ("opened", 0)
+            }
+            Err(_) => ("not opened", 0),
+        }
     }
 
     fn told_by(&mut self, asked: Asked) -> Told {
@@ -88,6 +112,7 @@ impl Lender {
             Asked::Hold(ledger) => self.hold(ledger),
             Asked::GiveBack => self.give_back(),
             Asked::Disk => self.ask_for_disk(),
+            Asked::Open => self.open_again(),
         }
     }
 }
@@ -98,7 +123,9 @@ fn make_lender(alloc: Global) -> Result<Lender, OpenFault> {
     };
     let disk = FaultDisk::new(disk, 0, 0);
     Ok(Lender {
+        alloc,
         store: Some(opened(alloc, disk, TWO_LEASES, &[])?),
+        disk: None,
         leases: Vec::new(alloc),
     })
 }
@@ -128,8 +155,9 @@ static COUNTED: [(Asked, Told); 7] = [
     (Asked::Hold(2), ("leased", 1049)),
 ];
 
-/// The disk is returned only when no lease is held. A refusal leaves the store unchanged.
-static REFUSED: [(Asked, Told); 9] = [
+/// The disk is returned only when no lease is held. A refusal leaves the store unchanged. A store
+/// opened on the disk that is returned at last has the same entries.
+static REFUSED: [(Asked, Told); 12] = [
     (Asked::Hold(3), ("leased", LOG + 1028)),
     (Asked::Hold(3), ("leased", LOG + 1028)),
     (Asked::Disk, ("leases", 102)),
@@ -139,6 +167,9 @@ static REFUSED: [(Asked, Told); 9] = [
     (Asked::GiveBack, ("given back", 0)),
     (Asked::GiveBack, ("given back", 0)),
     (Asked::Disk, ("disk", 0)),
+    (Asked::Open, ("opened", 0)),
+    (Asked::Hold(3), ("leased", LOG + 1028)),
+    (Asked::Hold(2), ("leased", 1049)),
 ];
 
 #[test]

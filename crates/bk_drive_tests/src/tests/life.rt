@@ -102,11 +102,11 @@ const END_WRITE: Row = Row(
     Again,
 );
 
-/// The same after a publish that was refused.
+/// The same after a publish that was refused: the flush goes on with its places.
 const REWRITE: Row = Row(
     "write",
     Do(Work::WriteOne),
-    Either("wrote", "all written"),
+    Word("all written"),
     Unpublished,
 );
 

@@ -1,8 +1,8 @@
-//! Reading one log at opening: sync, length, header, view, entries.
+//! Reading one log at opening: sync if the disk does not keep it, length, header, view, entries.
 
 ghost use Rattle.std.specs.Prelude.{◌≡◌, ◌<◌, ◌^◌, ℕ, List, IsTrue, IsErrOf, IfOk, IfErr, OnOk, length};
 ghost use Rattle.bk_record.specs.Files.{file_of};
-ghost use Rattle.bk_disk.specs.Disk.{FailsExactlyIf, IsFile};
+ghost use Rattle.bk_disk.specs.Disk.{AreSound, FailsExactlyIf, IsFile};
 ghost use Rattle.bk_disk.specs.Durable.{IsDurable, DurableGrows};
 ghost use Rattle.bk_accounts.specs.Book.{IsNotOpen};
 ghost use Rattle.bk_store.specs.Opening.{IsHeaded, FileFails};
@@ -34,6 +34,7 @@ pub(super) fn find<D: LogDisk>(
     ensures durable { IsTrue (D.honest disk.old) → DurableGrows (D.synced disk.old) (D.gone disk.old) (D.synced disk.new) (D.gone disk.new) }
     ensures synced { IsTrue (D.honest disk.old) → OnOk result (IsDurable (D.synced disk.new) id (file_of (D.files disk.old) id)) }
     ensures failures { OnOk result (D.failures disk.new ≡ D.failures disk.old) }
+    ensures sound { AreSound D.View.sound → IsErrOf result OpenFault.Disk → D.failures disk.old < D.failures disk.new }
     ensures never { ¬ (IsErrOf result OpenFault.Settings) }
     ensures files { IsTrue (D.honest disk.old) → D.files disk.new ≡ D.files disk.old }
     ensures ok { IfOk result (λ log. IsTaken (D.honest disk.old) (D.files disk.old) id slot log tally.old tally.new) }
@@ -62,7 +63,7 @@ pub(super) fn find<D: LogDisk>(
     })
 }
 
-/// Syncs a log, then checks its length and its header.
+/// Makes a log durable, then checks its length and its header.
 #[tactic(auto, using(bk_disk::proofs::DurableGrows::kept_rules))]
 fn check_file<D: LogDisk>(disk: &mut D, alloc: Global, id: u32) -> Result<(), OpenFault>
     ensures honest { D.honest disk.new ≡ D.honest disk.old }
@@ -74,25 +75,30 @@ fn check_file<D: LogDisk>(disk: &mut D, alloc: Global, id: u32) -> Result<(), Op
         → OnOk result ((length file < 2 ^ 32) × IsHeaded file) }
     ensures err { (file : List ℕ) → IsTrue (D.honest disk.old) → IsFile (D.files disk.old) id file
         → IfErr result (FileFails id file) }
-    ensures synced { IsTrue (D.honest disk.old) → OnOk result (IsDurable (D.synced disk.new) id (file_of (D.files disk.old) id)) }
+    ensures synced { (file : List ℕ) → IsTrue (D.honest disk.old) → IsFile (D.files disk.old) id file
+        → OnOk result (IsDurable (D.synced disk.new) id file) }
 {
     keep(disk, alloc, id)?;
     judge_file(disk, alloc, id)
 }
 
-/// Syncs a log. Its bytes may be in the page cache only, and the index must point only to bytes on
-/// the device.
+/// Syncs a log, unless the disk keeps all of it already. Its bytes may be in the page cache only,
+/// and the index must point only to bytes on the device.
 #[tactic(auto, using(bk_disk::proofs::DurableGrows::kept_rules))]
 fn keep<D: LogDisk>(disk: &mut D, alloc: Global, id: u32) -> Result<(), OpenFault>
     ensures honest { D.honest disk.new ≡ D.honest disk.old }
     ensures durable { IsTrue (D.honest disk.old) → DurableGrows (D.synced disk.old) (D.gone disk.old) (D.synced disk.new) (D.gone disk.new) }
-    ensures synced { IsTrue (D.honest disk.old) → OnOk result (IsDurable (D.synced disk.new) id (file_of (D.files disk.old) id)) }
+    ensures synced { (file : List ℕ) → IsTrue (D.honest disk.old) → IsFile (D.files disk.old) id file
+        → OnOk result (IsDurable (D.synced disk.new) id file) }
     ensures cause { FailsExactlyIf (D.failures disk.old) (D.failures disk.new) (IsErrOf result OpenFault.Disk) }
     ensures never { ¬ (IsErrOf result OpenFault.Settings) }
     ensures files { IsTrue (D.honest disk.old) → D.files disk.new ≡ D.files disk.old }
     ensures err { (file : List ℕ) → IsTrue (D.honest disk.old) → IsFile (D.files disk.old) id file
         → IfErr result (FileFails id file) }
 {
+    if disk.is_kept(id) {
+        return Ok(());
+    }
     disk.sync(alloc, id)?;
     Ok(())
 }

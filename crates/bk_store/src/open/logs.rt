@@ -1,7 +1,8 @@
 //! Reading all logs at opening.
 
-ghost use Rattle.std.specs.Prelude.{◌≡◌, ◌≤◌, IsTrue, IsErrOf, IfOk, IfErr, OnOk, length, replicate};
+ghost use Rattle.std.specs.Prelude.{◌≡◌, ◌<◌, ◌≤◌, IsTrue, IsErrOf, IfOk, IfErr, OnOk, length, replicate};
 ghost use Rattle.std.specs.FinMap as map;
+ghost use Rattle.bk_disk.specs.Disk.{AreSound};
 ghost use Rattle.bk_disk.specs.Durable.{DurableGrows};
 ghost use Rattle.bk_store.specs.Opening.{FirstFails};
 ghost use Rattle.bk_store.specs.Found.{AreTaken, AllDurable};
@@ -37,6 +38,7 @@ pub(super) fn find_all<D: LogDisk>(
     ensures durable { IsTrue (D.honest disk.old) → DurableGrows (D.synced disk.old) (D.gone disk.old) (D.synced disk.new) (D.gone disk.new) }
     ensures synced { IsTrue (D.honest disk.old) → OnOk result (AllDurable (D.files disk.old) (D.synced disk.new) ids.now) }
     ensures failures { OnOk result (D.failures disk.new ≡ D.failures disk.old) }
+    ensures sound { AreSound D.View.sound → IsErrOf result OpenFault.Disk → D.failures disk.old < D.failures disk.new }
     ensures never { ¬ (IsErrOf result OpenFault.Settings) }
     ensures files { IsTrue (D.honest disk.old) → D.files disk.new ≡ D.files disk.old }
     ensures ok { IfOk result (λ next. AreTaken (D.honest disk.old) (D.files disk.old) ids.now next tally.old tally.new logs.old logs.new) }

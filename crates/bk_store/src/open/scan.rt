@@ -1,6 +1,6 @@
 //! Scanning a log at opening, entry by entry, so no log is held in memory.
 
-ghost use Rattle.std.specs.Prelude.{◌≡◌, ◌<◌, ◌≤◌, ◌^◌, IsTrue, IsErrOf, Some, IfErr, OnOk};
+ghost use Rattle.std.specs.Prelude.{◌≡◌, ◌<◌, ◌≤◌, ◌^◌, false, IsTrue, IsErrOf, Some, IfErr, OnOk};
 ghost use Rattle.bk_record.specs.Files.{header_length};
 ghost use Rattle.bk_disk.specs.Disk.{view_end};
 ghost use Rattle.bk_accounts.specs.Book.{total_in};
@@ -30,6 +30,7 @@ pub(super) fn scan<V: LogView>(
     requires whole { IsTrue (V.honest view.now) → end ≡ view_end (V.bytes view.now) }
     requires fresh { total_in tally.old.accounts log ≡ Some 0 }
     ensures never { ¬ (IsErrOf result OpenFault.Settings) }
+    ensures cause { IsErrOf result OpenFault.Disk → V.sound view.now ≡ false }
     ensures ok { OnOk result (IsScanned log end (V.honest view.now) (V.bytes view.now) tally.old tally.new) }
     ensures err { IfErr result (λ fault. IsTrue (V.honest view.now) → IsHeaded (V.bytes view.now) → FileFails log (V.bytes view.now) fault) }
 {

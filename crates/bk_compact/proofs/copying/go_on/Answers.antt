@@ -6,12 +6,9 @@ use Rattle.bk_compact.specs.declared.answer.CopyAnswer.TheVariants as copies
 use Rattle.bk_store.specs.declared.step_fault.StepFault.TheVariants as step_faults
 use Rattle.bk_compact.specs.declared.entries.Stopped.TheVariants as stops
 use Rattle.bk_compact.specs.JobSteps.{IsCopying}
-use Rattle.bk_compact.proofs.Turns.{taken_copying, refused_turn, copied_turn, none_turn, memory_turn, unread_turn}
+use Rattle.bk_compact.proofs.Turns.{taken_copying, copied_turn, none_turn, memory_turn, unread_turn}
 use Rattle.bk_compact.proofs.Turns.{failed_turn, odd_turn, told_next, copy_caused, failed_once, never_unsound}
 use Rattle.bk_compact.proofs.copying.go_on.Goals as goal
-
-pub returns-in_default-clone-clause-transition : goal.returns-in_default-clone-clause-transition
-returns-in_default-clone-clause-transition g c = refused_turn c.args.store.now c.requires.runs.0 c.requires.runs.1 c.args.count
 
 pub copy_entries-requires-clause-copying : goal.copy_entries-requires-clause-copying
 copy_entries-requires-clause-copying g c κs within =
@@ -53,7 +50,7 @@ returns-in-Err-Memory-clause-transition g c =
     let next = told_next s c.take_job.new.self job c.in-Some-take_job.taken.job c.args.count c.copy_entries.new.store c.copy_entries.new.job
     c.take_job.ensures.left same _ (Err (stops.Memory c.in-Err-Memory.done)) (ap Err c.in-Err-Memory.field-0-is) c.in-Err-Memory.ensures.transition in
     memory_turn s job c.requires.runs.1 c.args.count c.copy_entries.new.store c.copy_entries.new.job c.set_job-in-Err-Memory.new.self
-    c.in-Err-Memory.done next c.set_job-in-Err-Memory.ensures
+    c.in-Err-Memory.done next.1 next.0 c.set_job-in-Err-Memory.ensures
 
 pub returns-in-Err-Memory-clause-sound : goal.returns-in-Err-Memory-clause-sound
 returns-in-Err-Memory-clause-sound g c = λ _. copy_caused c.args.store.now c.args.count (Err (step_faults.Memory c.in-Err-Memory.done)) c.set_job-in-Err-Memory.new.self (returns-in-Err-Memory-clause-transition g c) (λ wrong. cc)
@@ -65,7 +62,7 @@ returns-in-Err-Unread-clause-transition g c =
     let same = same_Some c.in-Some-take_job.taken.job job (c.in-Some-take_job.ensures.job ∙ c.requires.runs.1.runs) in
     let next = told_next s c.take_job.new.self job c.in-Some-take_job.taken.job c.args.count c.copy_entries.new.store c.copy_entries.new.job
     c.take_job.ensures.left same _ (Err stops.Unread) (ap Err c.in-Err-Unread.field-0-is) c.in-Err-Unread.ensures.transition in
-    unread_turn s job c.requires.runs.1 c.args.count c.copy_entries.new.store c.copy_entries.new.job c.set_job-in-Err-Unread.new.self next
+    unread_turn s job c.requires.runs.1 c.args.count c.copy_entries.new.store c.copy_entries.new.job c.set_job-in-Err-Unread.new.self next.0
     c.set_job-in-Err-Unread.ensures
 
 pub returns-in-Err-Unread-clause-sound : goal.returns-in-Err-Unread-clause-sound
@@ -81,7 +78,7 @@ returns-in-Err-Unread-clause-sound g c = λ sound.
     subst (λ (n : ℕ). last_view s.logs n
     ≡ Some (view_of g.D.View.LogView.bytes g.D.View.LogView.honest g.D.View.LogView.sound c.in-Some-log_view.view.now.value))
     (c.source.ensures ∙ ap (λ (j : Job). j.source) own) (sym c.in-Some-log_view.ensures) in
-    absurd (never_unsound g.D.View.LogView.bytes g.D.View.LogView.honest g.D.View.LogView.sound sound s job c.in-Some-log_view.view.now.value last next.1)
+    absurd (never_unsound g.D.View.LogView.bytes g.D.View.LogView.honest g.D.View.LogView.sound sound s job c.in-Some-log_view.view.now.value last next.0.1)
 
 pub returns-in-Err-Failed-clause-transition : goal.returns-in-Err-Failed-clause-transition
 returns-in-Err-Failed-clause-transition g c =
@@ -90,7 +87,7 @@ returns-in-Err-Failed-clause-transition g c =
     let same = same_Some c.in-Some-take_job.taken.job job (c.in-Some-take_job.ensures.job ∙ c.requires.runs.1.runs) in
     let next = told_next s c.take_job.new.self job c.in-Some-take_job.taken.job c.args.count c.copy_entries.new.store c.copy_entries.new.job
     c.take_job.ensures.left same _ (Err stops.Failed) (ap Err c.in-Err-Failed.field-0-is) c.in-Err-Failed.ensures.transition in
-    failed_turn s job c.requires.runs.1 c.args.count c.copy_entries.new.store c.copy_entries.new.job c.copy_entries.new.store next
+    failed_turn s job c.requires.runs.1 c.args.count c.copy_entries.new.store c.copy_entries.new.job c.copy_entries.new.store next.0
 
 pub returns-in-Err-Failed-clause-sound : goal.returns-in-Err-Failed-clause-sound
 returns-in-Err-Failed-clause-sound g c = λ _.
@@ -99,7 +96,7 @@ returns-in-Err-Failed-clause-sound g c = λ _.
     let same = same_Some c.in-Some-take_job.taken.job job (c.in-Some-take_job.ensures.job ∙ c.requires.runs.1.runs) in
     let next = told_next s c.take_job.new.self job c.in-Some-take_job.taken.job c.args.count c.copy_entries.new.store c.copy_entries.new.job
     c.take_job.ensures.left same _ (Err stops.Failed) (ap Err c.in-Err-Failed.field-0-is) c.in-Err-Failed.ensures.transition in
-    failed_once s job c.args.count c.copy_entries.new.store c.copy_entries.new.job next
+    failed_once s job c.args.count c.copy_entries.new.store c.copy_entries.new.job next.0
 
 pub returns-clause-transition : goal.returns-clause-transition
 returns-clause-transition g c =
@@ -108,7 +105,7 @@ returns-clause-transition g c =
     let same = same_Some c.in-Some-take_job.taken.job job (c.in-Some-take_job.ensures.job ∙ c.requires.runs.1.runs) in
     let next = told_next s c.take_job.new.self job c.in-Some-take_job.taken.job c.args.count c.copy_entries.new.store c.copy_entries.new.job
     c.take_job.ensures.left same _ (Err stops.Odd) (ap Err c.in-Err-Odd.field-0-is) c.in-Err-Odd.ensures.transition in
-    odd_turn s job c.requires.runs.1 c.args.count c.copy_entries.new.store c.copy_entries.new.job c.copy_entries.new.store next
+    odd_turn s job c.requires.runs.1 c.args.count c.copy_entries.new.store c.copy_entries.new.job c.copy_entries.new.store next.0
 
 pub returns-clause-sound : goal.returns-clause-sound
 returns-clause-sound g c = λ _.

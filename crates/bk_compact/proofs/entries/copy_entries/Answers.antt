@@ -8,10 +8,16 @@ use Rattle.bk_compact.specs.declared.entries.Stopped.{Stopped}
 use Rattle.bk_disk.specs.Disk.{view_end}
 use Rattle.bk_store.proofs.SameContents.{stays_on}
 use Rattle.bk_compact.specs.Compacting.{with_job}
-use Rattle.bk_compact.specs.JobSteps.{CopiesAll, ScansFrom}
+use Rattle.bk_log.specs.Growing.{HasNoBadLength}
+use Rattle.bk_store.specs.JobInvariant.{IsReadTo, entries_from}
+use Rattle.std.proofs.lemmas.Bool.{false_from_ne_true}
+use Rattle.bk_compact.specs.declared.scanning.Unread.{Unread}
+use Rattle.bk_compact.specs.Fronts.{TellsEnd}
+use Rattle.bk_compact.proofs.Ends.{told_end}
+use Rattle.bk_compact.specs.JobSteps.{CopiesNext, ScansFrom}
 use Rattle.bk_compact.proofs.Stepping.{IsGoing, going_starts, going_ahead, going_on, going_stops, going_done, going_ends, going_some, going_none}
 use Rattle.bk_compact.proofs.Examined.{copied_few}
-use Rattle.bk_compact.proofs.Stepping.{going_memory, going_unread, going_odd, never_bad, never_odd}
+use Rattle.bk_compact.proofs.Stepping.{stops_left, going_short, told_none, told_some, going_unread, going_odd, never_bad, never_odd}
 use Rattle.bk_compact.proofs.Examined.{one}
 use Rattle.bk_compact.proofs.SteppingEnds.{short_odd}
 use Rattle.bk_compact.proofs.entries.copy_entries.Goals as goal
@@ -20,10 +26,12 @@ use Rattle.bk_compact.proofs.entries.copy_entries.Goals.{then-is_copied, else-is
 pub returns-in_default-clause-transition : goal.returns-in_default-clause-transition
 returns-in_default-clause-transition g c =
     let view : View = view_of g.D.View.LogView.bytes g.D.View.LogView.honest g.D.View.LogView.sound c.args.view.now in
-    subst (λ (r : Stopped). CopiesAll c.args.store.now c.args.job.now c.args.count (Err r) c.odd.new.store c.args.job.now) (sym c.odd.ensures.value)
-    (short_odd view c.args.store.now c.reveal_invariant.ensures c.args.job.now c.requires.copying c.requires.view
-    (λ truth. subst (λ n. view_end view.bytes < n) c.at.ensures (c.in_default.ensures.none truth))
-    c.args.count c.odd.new.store c.args.job.now c.odd.ensures.transition)
+    subst (λ (r : Stopped). CopiesNext c.args.store.now c.args.job.now c.args.count (Err r) c.odd.new.store c.args.job.now) (sym c.odd.ensures.value) (
+      short_odd view c.args.store.now c.reveal_invariant.ensures c.args.job.now c.requires.copying c.requires.view
+          (λ truth. subst (λ n. view_end view.bytes < n) c.at.ensures (c.in_default.ensures.none truth))
+          c.args.count c.odd.new.store c.args.job.now c.odd.ensures.transition,
+      tt,
+    )
 
 pub loop-number-init : goal.loop-number-init
 loop-number-init g c =
@@ -122,30 +130,77 @@ returns-in-Err-clause-transition g c =
     let moves = subst (λ (o : Option Found). NextMoves c.loop-number.scanner (Ok o) c.next.new.self) is c.in-Ok-Some.ensures.moves in
     let turn = subst (λ (o : Option Found). IsTrue c.loop-number.scanner.honest → ScanNextTransition c.loop-number.scanner (Ok o) c.next.new.self) is
     c.in-Ok-Some.ensures.transition in
-    subst (λ (r : Stopped). CopiesAll c.args.store.now c.args.job.now c.args.count (Err r) c.examine.new.store c.examine.new.job) (sym c.after.ensures)
-    (going_stops view c.args.store.now c.args.job.now c.loop-number.number c.loop-number.scanner c.loop-number.copied c.loop-number.store
-    c.reveal_invariant-in-loop-number.ensures c.loop-number.job c.loop-number.invariant
-    c.in-Ok-Some.found c.next.new.self moves turn c.in-Err.stopped c.examine.new.store c.examine.new.job c.args.count (omega arith) c.in-Err.ensures.transition)
+    let left = stops_left view c.args.store.now c.args.job.now c.loop-number.number c.loop-number.scanner c.loop-number.copied c.loop-number.store
+    c.reveal_invariant-in-loop-number.ensures c.loop-number.job c.loop-number.invariant c.in-Ok-Some.found c.next.new.self moves turn c.in-Err.stopped in
+    subst (λ (r : Stopped). CopiesNext c.args.store.now c.args.job.now c.args.count (Err r) c.examine.new.store c.examine.new.job) (sym c.after.ensures) (
+      going_stops view c.args.store.now c.args.job.now c.loop-number.number c.loop-number.scanner c.loop-number.copied c.loop-number.store
+          c.reveal_invariant-in-loop-number.ensures c.loop-number.job c.loop-number.invariant
+          c.in-Ok-Some.found c.next.new.self moves turn c.in-Err.stopped c.examine.new.store c.examine.new.job c.args.count (omega arith) c.in-Err.ensures.transition,
+      left,
+    )
 
 pub returns-in-Err-clause-frame : goal.returns-in-Err-clause-frame
 returns-in-Err-clause-frame g c = stays_on _ _ _ c.loop-number.invariant.stays c.examine.ensures.frame
 
-pub returns-in-Err-Memory-clause-transition : goal.returns-in-Err-Memory-clause-transition
-returns-in-Err-Memory-clause-transition g c =
+pub returns-then-number-gt0-clause-transition : goal.returns-then-number-gt0-clause-transition
+returns-then-number-gt0-clause-transition g c =
     let view : View = view_of g.D.View.LogView.bytes g.D.View.LogView.honest g.D.View.LogView.sound c.args.view.now in
-    going_memory view c.args.store.now c.args.job.now c.loop-number.number c.loop-number.scanner c.loop-number.copied c.loop-number.store
-    c.reveal_invariant-in-loop-number.ensures c.loop-number.job c.loop-number.invariant
-    c.args.count (omega arith)
+    going_short view c.args.store.now c.args.job.now c.loop-number.number c.loop-number.scanner c.loop-number.copied c.loop-number.store
+    c.reveal_invariant-in-loop-number.ensures c.loop-number.job c.loop-number.invariant c.args.count (omega arith) (omega arith)
 
-pub returns-in-Err-Memory-clause-frame : goal.returns-in-Err-Memory-clause-frame
-returns-in-Err-Memory-clause-frame g c = c.loop-number.invariant.stays
+pub returns-then-number-gt0-clause-frame : goal.returns-then-number-gt0-clause-frame
+returns-then-number-gt0-clause-frame g c = c.loop-number.invariant.stays
+
+pub returns-in-Ok-true-clause-transition : goal.returns-in-Ok-true-clause-transition
+returns-in-Ok-true-clause-transition g c =
+    let view : View = view_of g.D.View.LogView.bytes g.D.View.LogView.honest g.D.View.LogView.sound c.args.view.now in
+    let so_far = c.loop-number.invariant in
+    let turn = subst (λ (n : ℕ). IsTrue view.is_honest → IsReadTo view.bytes n → HasNoBadLength view.bytes
+    → TellsEnd (entries_from view.bytes n) (Ok c.in-Ok-true.field-0)) c.at-in-Err-Memory.ensures c.in-Ok-true.ensures.transition in
+    let told = told_end view c.loop-number.store c.reveal_invariant-in-loop-number.ensures c.loop-number.job so_far.copying.out.keeps so_far.last
+    (Ok c.in-Ok-true.field-0) turn in
+    told_none view c.args.store.now c.args.job.now c.loop-number.number c.loop-number.scanner c.loop-number.copied c.loop-number.store
+    c.reveal_invariant-in-loop-number.ensures c.loop-number.job so_far c.args.count (omega arith) (omega arith) c.requires.copying.out.none
+    (λ honest. subst (λ (b : Bool). TellsEnd (entries_from view.bytes c.loop-number.job.at) (Ok b)) c.in-Ok-true.field-0-test (told honest))
+
+pub returns-in-Ok-false-clause-transition : goal.returns-in-Ok-false-clause-transition
+returns-in-Ok-false-clause-transition g c =
+    let view : View = view_of g.D.View.LogView.bytes g.D.View.LogView.honest g.D.View.LogView.sound c.args.view.now in
+    let so_far = c.loop-number.invariant in
+    let turn = subst (λ (n : ℕ). IsTrue view.is_honest → IsReadTo view.bytes n → HasNoBadLength view.bytes
+    → TellsEnd (entries_from view.bytes n) (Ok c.in-Ok-false.field-0)) c.at-in-Err-Memory.ensures c.in-Ok-false.ensures.transition in
+    let told = told_end view c.loop-number.store c.reveal_invariant-in-loop-number.ensures c.loop-number.job so_far.copying.out.keeps so_far.last
+    (Ok c.in-Ok-false.field-0) turn in
+    told_some view c.args.store.now c.args.job.now c.loop-number.number c.loop-number.scanner c.loop-number.copied c.loop-number.store
+    c.reveal_invariant-in-loop-number.ensures c.loop-number.job so_far c.args.count (omega arith) (omega arith)
+    (λ honest. subst (λ (b : Bool). TellsEnd (entries_from view.bytes c.loop-number.job.at) (Ok b)) c.in-Ok-false.field-0-test (told honest))
+
+pub returns-in-Err-Odd-is_end-clause-transition : goal.returns-in-Err-Odd-is_end-clause-transition
+returns-in-Err-Odd-is_end-clause-transition g c =
+    let view : View = view_of g.D.View.LogView.bytes g.D.View.LogView.honest g.D.View.LogView.sound c.args.view.now in
+    let so_far = c.loop-number.invariant in
+    let turn = subst (λ (n : ℕ). IsTrue view.is_honest → IsReadTo view.bytes n → HasNoBadLength view.bytes
+    → TellsEnd (entries_from view.bytes n) (Err c.in-Err-Odd-is_end.field-0)) c.at-in-Err-Memory.ensures c.in-Err-Odd-is_end.ensures.transition in
+    let told = told_end view c.loop-number.store c.reveal_invariant-in-loop-number.ensures c.loop-number.job so_far.copying.out.keeps so_far.last
+    (Err c.in-Err-Odd-is_end.field-0) turn in
+    let odd = false_from_ne_true c.loop-number.store.honest
+    (λ honest. subst (λ (u : Unread). TellsEnd (entries_from view.bytes c.loop-number.job.at) (Err u)) c.in-Err-Odd-is_end.field-0-is (told honest)) in
+    subst (λ (r : Stopped). CopiesNext c.args.store.now c.args.job.now c.args.count (Err r) c.odd-in-Err-Odd-is_end.new.store c.loop-number.job)
+    (sym c.odd-in-Err-Odd-is_end.ensures.value) (
+      going_odd view c.args.store.now c.args.job.now c.loop-number.number c.loop-number.scanner c.loop-number.copied c.loop-number.store
+          c.reveal_invariant-in-loop-number.ensures c.loop-number.job so_far c.args.count (omega arith) c.odd-in-Err-Odd-is_end.new.store c.loop-number.job odd
+          c.odd-in-Err-Odd-is_end.ensures.transition,
+      tt,
+    )
 
 pub returns-in-Err-Disk-clause-transition : goal.returns-in-Err-Disk-clause-transition
 returns-in-Err-Disk-clause-transition g c =
-    let view : View = view_of g.D.View.LogView.bytes g.D.View.LogView.honest g.D.View.LogView.sound c.args.view.now in
-    going_unread view c.args.store.now c.args.job.now c.loop-number.number c.loop-number.scanner c.loop-number.copied c.loop-number.store
-    c.reveal_invariant-in-loop-number.ensures c.loop-number.job c.loop-number.invariant
-    c.args.count (omega arith) (c.in-Err-Disk.ensures.cause (ap Err c.in-Err-Disk.field-0-is))
+    let view : View = view_of g.D.View.LogView.bytes g.D.View.LogView.honest g.D.View.LogView.sound c.args.view.now in (
+      going_unread view c.args.store.now c.args.job.now c.loop-number.number c.loop-number.scanner c.loop-number.copied c.loop-number.store
+          c.reveal_invariant-in-loop-number.ensures c.loop-number.job c.loop-number.invariant
+          c.args.count (omega arith) (c.in-Err-Disk.ensures.cause (ap Err c.in-Err-Disk.field-0-is)),
+      tt,
+    )
 
 pub returns-in-Err-Disk-clause-frame : goal.returns-in-Err-Disk-clause-frame
 returns-in-Err-Disk-clause-frame g c = c.loop-number.invariant.stays
@@ -161,15 +216,17 @@ returns-in-Err-BadLength-clause-transition g c =
     let moves = subst (λ (o : ScanFault). NextMoves c.loop-number.scanner (Err o) c.next.new.self) is c.in-Err-BadLength.ensures.moves in
     let turn = subst (λ (o : ScanFault). IsTrue c.loop-number.scanner.honest → ScanNextTransition c.loop-number.scanner (Err o) c.next.new.self) is
     c.in-Err-BadLength.ensures.transition in
-    subst (λ (r : Stopped). CopiesAll c.args.store.now c.args.job.now c.args.count (Err r) c.odd-in-Err-BadLength.new.store c.loop-number.job)
-    (sym c.odd-in-Err-BadLength.ensures.value)
-    (going_odd view c.args.store.now c.args.job.now c.loop-number.number c.loop-number.scanner c.loop-number.copied c.loop-number.store
-    c.reveal_invariant-in-loop-number.ensures c.loop-number.job c.loop-number.invariant
-    c.args.count (omega arith) c.odd-in-Err-BadLength.new.store c.loop-number.job
-    (never_bad view c.args.store.now c.args.job.now c.loop-number.number c.loop-number.scanner c.loop-number.copied c.loop-number.store
-    c.reveal_invariant-in-loop-number.ensures c.loop-number.job c.loop-number.invariant c.in-Err-BadLength.field-0-0 c.in-Err-BadLength.field-0-1
-    c.next.new.self moves turn)
-    c.odd-in-Err-BadLength.ensures.transition)
+    subst (λ (r : Stopped). CopiesNext c.args.store.now c.args.job.now c.args.count (Err r) c.odd-in-Err-BadLength.new.store c.loop-number.job)
+    (sym c.odd-in-Err-BadLength.ensures.value) (
+      going_odd view c.args.store.now c.args.job.now c.loop-number.number c.loop-number.scanner c.loop-number.copied c.loop-number.store
+          c.reveal_invariant-in-loop-number.ensures c.loop-number.job c.loop-number.invariant
+          c.args.count (omega arith) c.odd-in-Err-BadLength.new.store c.loop-number.job
+          (never_bad view c.args.store.now c.args.job.now c.loop-number.number c.loop-number.scanner c.loop-number.copied c.loop-number.store
+          c.reveal_invariant-in-loop-number.ensures c.loop-number.job c.loop-number.invariant c.in-Err-BadLength.field-0-0 c.in-Err-BadLength.field-0-1
+          c.next.new.self moves turn)
+          c.odd-in-Err-BadLength.ensures.transition,
+      tt,
+    )
 
 pub returns-in-Err-BadLength-clause-frame : goal.returns-in-Err-BadLength-clause-frame
 returns-in-Err-BadLength-clause-frame g c = stays_on _ _ _ c.loop-number.invariant.stays c.odd-in-Err-BadLength.ensures.frame
@@ -184,14 +241,16 @@ returns-in-Err-Odd-clause-transition g c =
     let moves = subst (λ (o : ScanFault). NextMoves c.loop-number.scanner (Err o) c.next.new.self) is c.in-Err-Odd.ensures.moves in
     let turn = subst (λ (o : ScanFault). IsTrue c.loop-number.scanner.honest → ScanNextTransition c.loop-number.scanner (Err o) c.next.new.self) is
     c.in-Err-Odd.ensures.transition in
-    subst (λ (r : Stopped). CopiesAll c.args.store.now c.args.job.now c.args.count (Err r) c.odd-in-Err-Odd.new.store c.loop-number.job)
-    (sym c.odd-in-Err-Odd.ensures.value)
-    (going_odd view c.args.store.now c.args.job.now c.loop-number.number c.loop-number.scanner c.loop-number.copied c.loop-number.store
-    c.reveal_invariant-in-loop-number.ensures c.loop-number.job c.loop-number.invariant
-    c.args.count (omega arith) c.odd-in-Err-Odd.new.store c.loop-number.job
-    (never_odd view c.args.store.now c.args.job.now c.loop-number.number c.loop-number.scanner c.loop-number.copied c.loop-number.store
-    c.reveal_invariant-in-loop-number.ensures c.loop-number.job c.loop-number.invariant c.next.new.self turn)
-    c.odd-in-Err-Odd.ensures.transition)
+    subst (λ (r : Stopped). CopiesNext c.args.store.now c.args.job.now c.args.count (Err r) c.odd-in-Err-Odd.new.store c.loop-number.job)
+    (sym c.odd-in-Err-Odd.ensures.value) (
+      going_odd view c.args.store.now c.args.job.now c.loop-number.number c.loop-number.scanner c.loop-number.copied c.loop-number.store
+          c.reveal_invariant-in-loop-number.ensures c.loop-number.job c.loop-number.invariant
+          c.args.count (omega arith) c.odd-in-Err-Odd.new.store c.loop-number.job
+          (never_odd view c.args.store.now c.args.job.now c.loop-number.number c.loop-number.scanner c.loop-number.copied c.loop-number.store
+          c.reveal_invariant-in-loop-number.ensures c.loop-number.job c.loop-number.invariant c.next.new.self turn)
+          c.odd-in-Err-Odd.ensures.transition,
+      tt,
+    )
 
 pub returns-in-Err-Odd-clause-frame : goal.returns-in-Err-Odd-clause-frame
 returns-in-Err-Odd-clause-frame g c = stays_on _ _ _ c.loop-number.invariant.stays c.odd-in-Err-Odd.ensures.frame

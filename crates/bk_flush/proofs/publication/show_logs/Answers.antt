@@ -28,13 +28,13 @@ returns-in-Err-clause-transition g c =
     let log = c.log-log.ensures.value in
     let next = next_placed s c.reveal_invariant.ensures c.loop-number.number c.loop-number.from _ c.loop-number.invariant.1 at (omega (arith, above, log)) in
     not_shown s c.loop-number.store c.loop-number.from is c.log-log.result (subst (λ n. IsNextLog s c.loop-number.from (Some n)) (sym log) next)
-    c.in-Err.fault c.flush_fault.result c.publish_log.new.self c.flush_fault.new.store c.in-Err.ensures.transition c.flush_fault.ensures.value
-    c.flush_fault.ensures.left
+    c.in-Err.fault c.publish_fault.result c.publish_log.new.self c.publish_fault.new.store c.in-Err.ensures.transition c.publish_fault.ensures.value
+    c.publish_fault.ensures.left
 
 pub returns-in-Err-clause-frame : goal.returns-in-Err-clause-frame
 returns-in-Err-clause-frame g c =
     refused_stays c.args.store.now c.loop-number.store c.loop-number.from c.loop-number.invariant.0 c.log-log.result c.in-Err.fault c.publish_log.new.self
-    c.flush_fault.new.store c.in-Err.ensures.transition c.in-Err.ensures.contents c.flush_fault.ensures.frame
+    c.publish_fault.new.store c.in-Err.ensures.transition c.in-Err.ensures.contents c.publish_fault.ensures.frame
 
 pub loop-number-preserved : goal.loop-number-preserved
 loop-number-preserved g c =

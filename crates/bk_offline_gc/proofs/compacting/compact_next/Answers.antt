@@ -1,8 +1,16 @@
 use Rattle.std.proofs.Common.{Ok, subst}
 use Rattle.bk_compact.specs.Compacting.{BeginTransition}
 use Rattle.bk_compact.specs.declared.answer.BeginAnswer.{BeginAnswer}
+use Rattle.bk_offline_gc.proofs.Copying.{begun_copies}
 use Rattle.bk_offline_gc.proofs.Leaving.{nothing_left}
 use Rattle.bk_offline_gc.proofs.compacting.compact_next.Goals as goal
+
+pub compact-requires-after_bounds : goal.compact-requires-after_bounds
+compact-requires-after_bounds g c κs within =
+    let s = c.args.store.now in
+    let t = c.begin.new.store in
+    let turn = subst (λ (r : BeginAnswer). BeginTransition s c.args.kind (Ok r) t) c.in-Chosen.is c.in_ok-begin.ensures.transition in
+    begun_copies s t c.args.kind c.in-Chosen.field-0 turn
 
 pub returns-in-NothingToDo-clause-none : goal.returns-in-NothingToDo-clause-none
 returns-in-NothingToDo-clause-none g c =

@@ -1,5 +1,10 @@
-use Rattle.bk_offline_gc.specs.Sweeping.{SweepFrame}
+use Rattle.std.proofs.Common.{◌-◌}
+use Rattle.bk_offline_gc.specs.Stages.{HasCopiedTo}
 use Rattle.bk_offline_gc.proofs.compacting.copy_all.Given as goal
 
-abbrev pub invariant-loop-piece : goal.invariant-loop-piece
-invariant-loop-piece g l = SweepFrame l.initial.store l.store
+-- the job comes to later and later positions
+abbrev pub invariant-loop-count : goal.invariant-loop-count
+invariant-loop-count g l = HasCopiedTo l.initial.store l.at l.store
+
+abbrev pub decreases-loop-count : goal.decreases-loop-count
+decreases-loop-count g l = 18446744073709551615 - l.at

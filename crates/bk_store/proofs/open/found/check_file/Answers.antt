@@ -7,6 +7,6 @@ pub returns-clause-durable : goal.returns-clause-durable
 returns-clause-durable g c = both_keep c.in_ok-keep.ensures.honest c.in_ok-keep.ensures.durable c.judge_file.ensures.durable
 
 pub returns-clause-synced : goal.returns-clause-synced
-returns-clause-synced g c = λ is.
+returns-clause-synced g c = λ file is stands.
     on_any c.judge_file.result
-    (kept_on (c.judge_file.ensures.durable (c.in_ok-keep.ensures.honest ∙ is)) c.args.id _ (c.in_ok-keep.ensures.synced is))
+    (kept_on (c.judge_file.ensures.durable (c.in_ok-keep.ensures.honest ∙ is)) c.args.id file (c.in_ok-keep.ensures.synced file is stands))

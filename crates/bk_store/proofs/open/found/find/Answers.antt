@@ -1,6 +1,7 @@
-use Rattle.std.proofs.Common.{◌≡◌, false, is_err, IsTrue, IfErr, Err, sym, ap, subst, ◌∙◌}
+use Rattle.std.proofs.Common.{◌≡◌, ℕ, false, is_err, IsTrue, IfErr, Err, List, [], Option, unwrap_or, sym, ap, subst, ◌∙◌}
 use Rattle.std.proofs.lemmas.Result.{err_from_is_err_and}
 use Rattle.bk_disk.specs.Disk.{IsFile}
+use Rattle.bk_disk.specs.Durable.{IsDurable}
 use Rattle.bk_store.specs.Logs.{view_of, found_log}
 use Rattle.bk_store.specs.Opening.{FileFails}
 use Rattle.bk_store.specs.Found.{IsTaken}
@@ -55,4 +56,11 @@ returns-in_err-scan-clause-durable g c = both_keep c.in_ok-check_file.ensures.ho
 
 pub returns-clause-synced : goal.returns-clause-synced
 returns-clause-synced g c = λ is.
-    kept_on (c.in_ok-view.ensures.durable (c.in_ok-check_file.ensures.honest ∙ is)) c.args.id _ (c.in_ok-check_file.ensures.synced is)
+    let files = g.D.LogDisk.files c.args.disk.now in
+    let bytes = g.D.View.LogView.bytes c.in_ok-view.view in
+    let stands : IsFile files c.args.id bytes =
+    subst (λ fs. IsFile fs c.args.id bytes) (c.in_ok-check_file.ensures.files is)
+    (c.in_ok-view.ensures.transition (c.in_ok-check_file.ensures.honest ∙ is)).0 in
+    subst (IsDurable _ c.args.id) (sym (ap (λ (o : Option (List ℕ)). unwrap_or o []) stands))
+    (kept_on (c.in_ok-view.ensures.durable (c.in_ok-check_file.ensures.honest ∙ is)) c.args.id bytes
+    (c.in_ok-check_file.ensures.synced bytes is stands))

@@ -1,0 +1,89 @@
+-- The parts of a sweep: what each leaves for the next.
+use Rattle.std.specs.Prelude.{◌≡◌, ◌≢◌, ◌↔◌, ℕ, ◌<◌, ◌≤◌, ◌^◌, false, IsTrue, [], length, Contains, List, Some, None}
+use Rattle.std.specs.FinMap as finite
+use Rattle.bk_store.specs.State.{State}
+use Rattle.bk_store.specs.Logs.{Log}
+use Rattle.bk_store.specs.Jobs.{Job}
+use Rattle.bk_store.specs.Primitives.{IsIn}
+use Rattle.bk_store.specs.declared.job.Phase.TheVariants.{Copy, Switch}
+use Rattle.bk_store.specs.declared.log.LogState.TheVariants.{Retired}
+use Rattle.bk_compact.specs.Compacting.{IsRunning, IsUndisturbed, entries_left}
+use Rattle.bk_offline_gc.specs.Sweeping.{IsFalling, IsLeft, SweepFrame}
+
+-- ---- removing
+
+-- a part of a sweep that changes at most this log
+pub record Touches (s : State) (log : ℕ) (t : State) : Type 0 where
+  pub job : t.job ≡ s.job
+  pub next : t.next ≡ s.next
+  pub index : t.index ≡ s.index
+  pub others : (id : ℕ) → id ≢ log → finite.get t.logs id ≡ finite.get s.logs id
+
+-- if the log is held, nothing is left to do with it
+abbrev pub IsDoneWith : State → ℕ → Type 0
+IsDoneWith s log = (held : Log) → finite.get s.logs log ≡ Some held → IsLeft s log held.state
+
+-- the same of every log
+abbrev pub IsCleared : State → Type 0
+IsCleared s = (log : ℕ) → IsDoneWith s log
+
+-- each log below this id is done with
+pub record IsClearedTo (s : State) (from : ℕ) (t : State) : Type 0 where
+  pub frame : SweepFrame s t
+  pub failures : t.failures ≡ s.failures
+  pub idle : t.job ≡ None
+  pub next : t.next ≡ s.next
+  pub done : (log : ℕ) → log < from → IsDoneWith t log
+
+-- of the logs below this id, so many are Retired
+pub record HasKeptTo (s : State) (from count : ℕ) : Type 0 where
+  pub logs : List ℕ
+  pub all : (log : ℕ) → Contains logs log ↔ (IsIn s log Retired × (log < from))
+  pub falling : IsFalling logs
+  pub counted : length logs ≡ count
+  pub few : count ≤ from
+
+-- a sweep so far, between two compactions
+pub record IsSweeping (s t : State) : Type 0 where
+  pub frame : SweepFrame s t
+  pub failures : t.failures ≡ s.failures
+  pub idle : t.job ≡ None
+  pub cleared : IsCleared t
+
+-- ---- compacting
+
+-- a compaction is copying, and the index was not rebuilt since it began
+pub record Copies (s : State) : Type 0 where
+  pub job : Job
+  pub running : IsRunning s Copy job
+  pub kept : job.rebuilt ≡ false
+
+-- the copying has come to this position at least
+pub record HasCopiedTo (s : State) (at : ℕ) (t : State) : Type 0 where
+  pub frame : SweepFrame s t
+  pub failures : t.failures ≡ s.failures
+  pub next : t.next ≡ s.next
+  pub copies : Copies t
+  pub place : at ≤ copies.job.at
+
+-- every entry of the source log was examined
+pub record HasCopied (s : State) : Type 0 where
+  pub copies : Copies s
+  pub all : IsTrue s.honest → entries_left s copies.job ≡ []
+
+-- the target log is published
+pub record CanSwitchAll (s : State) : Type 0 where
+  pub job : Job
+  pub running : IsRunning s Switch job
+  pub kept : job.rebuilt ≡ false
+
+-- all relocations were taken, and the index was not rebuilt
+pub record HasSwitched (s t : State) : Type 0 where
+  pub source : ℕ
+  pub undisturbed : IsUndisturbed t source
+  pub next : t.next ≡ s.next
+
+-- a log was created
+pub record HasNewLog (s t : State) : Type 0 where
+  pub more : s.next < t.next
+  pub most : t.next ≤ 2 ^ 31
