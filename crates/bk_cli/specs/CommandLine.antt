@@ -31,7 +31,7 @@ script = with_rule (with_rule (with_rule (with_rule (with_rule (with_rule (with_
 
 -- the program, which is called with a command
 abbrev pub program : App
-program = with_subcommand (on_top (λ shape. record shape { subcommand_required = true }) (new_app (codes "bk_shell"))) script.top
+program = with_subcommand (on_top (λ shape. record shape { subcommand_required = true }) (new_app (codes "bookie"))) script.top
 
 -- the word is a number from `least` to `most`, without a sign or leading zeros
 abbrev pub IsNumberIn : ℕ → ℕ → Text → ℕ → Type 0

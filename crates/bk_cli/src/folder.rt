@@ -273,6 +273,7 @@ pub fn form_of(found: &ArgMatches<'_>) -> Form {
 /// Returns the command line of the commands on a directory.
 fn folder_commands<'a>(alloc: Global) -> Result<Command<'a>, AllocError> {
     let mut commands = Command::new(alloc, PROGRAM)
+        .bin_name(PROGRAM)?
         .about("Entry log storage of a bookie")
         .subcommand_required(true)
         .arg(json_arg(alloc))?;

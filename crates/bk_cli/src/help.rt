@@ -5,8 +5,8 @@ use crate::rows::{READING, WRITING};
 use std::fmt;
 use std::fmt::{Display, Formatter};
 
-/// The program's name.
-pub(crate) const PROGRAM: &str = "bk_shell";
+/// The program's name in its texts, whatever its file is called.
+pub(crate) const PROGRAM: &str = "bookie";
 
 /// Summary of `script` in one line.
 pub(crate) const ABOUT_SCRIPT: &str =
@@ -17,7 +17,7 @@ pub const ABOUT: &str = "Entry log storage of a bookie\n\n";
 
 /// Usage of the program.
 const CALLED: &str = "\
-Usage: bk_shell COMMAND [OPTIONS] [WORDS]
+Usage: bookie COMMAND [OPTIONS] [WORDS]
 
 ";
 
@@ -31,7 +31,7 @@ General:
   help COMMAND                          Show the help of a command, with examples
   --help, --version
 
-With --json, after bk_shell or after the command, each line about a directory is a JSON object.
+With --json, after ./bookie or after the command, each line about a directory is a JSON object.
 
 ";
 
@@ -55,9 +55,10 @@ impl Display for Commands {
     }
 }
 
-/// The program's version, and the toolchain that it is written for. The program cannot know whether
-/// it was proved or is run from its sources; `./bookie` can, and adds a line.
-pub const VERSION: &str = "bk_shell 0.1.0\ntoolchain rattle-kit-13f logic dac8208d650f15bf\n";
+/// The program's version, and the logic that its proofs are of, whatever release of the toolchain has
+/// it. The program cannot know whether it was proved or is run from its sources; `./bookie` can, and
+/// adds a line.
+pub const VERSION: &str = "bookie 0.1.0\nlogic dac8208d650f15bf\n";
 
 /// The help of the program after the list of its commands.
 pub const PROGRAM_HELP: &str = "\
@@ -73,7 +74,7 @@ Exit status:
   2  the command line is wrong
 
 Example:
-  $ bk_shell check /var/bookie/current
+  $ ./bookie check /var/bookie/current
   0 ok
   1 fault bad length 52310 7
   2 unsealed
@@ -173,7 +174,7 @@ Exit status:
   2  the command line is wrong
 
 Examples:
-  $ printf 'add 1 0 hello\\nswap\\nwrite\\npublish\\ntake 0 1 0\\nfetch 0\\nrelease 0\\nroll\\n' | bk_shell script
+  $ printf 'add 1 0 hello\\nswap\\nwrite\\npublish\\ntake 0 1 0\\nfetch 0\\nrelease 0\\nroll\\n' | ./bookie script
   accepted
   swapped 1
   wrote 1028
@@ -184,12 +185,12 @@ Examples:
   sealed 0
 
 On a directory that the first call creates and the second finds:
-  $ printf 'add 1 0 hello\\nswap\\nwrite\\npublish\\n' | bk_shell script --folder logs
+  $ printf 'add 1 0 hello\\nswap\\nwrite\\npublish\\n' | ./bookie script --folder logs
   accepted
   swapped 1
   wrote 1028
   published 1
-  $ printf 'take 0 1 0\\nfetch 0\\n' | bk_shell script --folder logs
+  $ printf 'take 0 1 0\\nfetch 0\\n' | ./bookie script --folder logs
   leased 1028
   bytes 68656c6c6f
 ";

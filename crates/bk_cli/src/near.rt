@@ -27,7 +27,7 @@ pub fn near_command_error<S: AsStr>(
     };
     let told = format!(in alloc; "unrecognized command '{word}'; there is '{name}'")?;
     let mut program = Command::new(alloc, PROGRAM).override_usage(
-        "bk_shell COMMAND [OPTIONS] [WORDS]",
+        "bookie COMMAND [OPTIONS] [WORDS]",
     );
     Ok(Some(program.error(ErrorKind::InvalidSubcommand, &told)?))
 }

@@ -123,7 +123,7 @@ pub(crate) struct Usage {
 
 impl Display for Usage {
     fn fmt<W: fmt::Write>(&self, f: &mut Formatter<W>) -> fmt::Result {
-        write!(f, "bk_shell {} [OPTIONS] <DIR>", self.row.name)?;
+        write!(f, "bookie {} [OPTIONS] <DIR>", self.row.name)?;
         for operand in self.row.operands {
             if operand.is_required {
                 write!(f, " <{}>", operand.name)?;

@@ -210,8 +210,8 @@ pub fn text_of(alloc: Global, error: &Error) -> Result<String, AllocError> {
 
 /// Returns the unknown option in the text of an error; `None` if `script` was not called.
 fn unknown_word<'t>(error: &Error, text: &'t str) -> Option<&'t str> {
-    let is_on_folder = text.contains("<DIR>") && !text.contains("bk_shell script ");
-    let is_load = text.contains("bk_shell load ");
+    let is_on_folder = text.contains("<DIR>") && !text.contains("bookie script ");
+    let is_load = text.contains("bookie load ");
     if error.kind() != ErrorKind::UnknownArgument || is_on_folder || is_load {
         return None;
     }
@@ -241,7 +241,7 @@ fn script_error(alloc: Global, kind: ErrorKind, told: &str) -> Result<Error, All
     ensures { IfOk result (λ error. kind_of error ≡ kind) }
 {
     let mut script = Command::new(alloc, "script").override_usage(
-        "bk_shell script [OPTIONS] [LEDGER]...",
+        "bookie script [OPTIONS] [LEDGER]...",
     );
     script.error(kind, told)
 }
@@ -263,7 +263,8 @@ fn command<'a>(alloc: Global) -> Result<Command<'a>, AllocError>
         .arg(folder_arg(alloc))?
         .arg(marks_arg(alloc))?
         .arg(ledgers_arg(alloc))?;
-    Command::new(alloc, "bk_shell")
+    Command::new(alloc, "bookie")
+        .bin_name("bookie")?
         .about("Entry log storage of a bookie")
         .after_help(PROGRAM_HELP)
         .subcommand_required(true)

@@ -48,6 +48,20 @@ impl LogDisk for FolderDisk {
 
     fn bounds(&self) {}
 
+    fn is_lost(&self, log: u32) -> bool {
+        match self {
+            FolderDisk::Plain(disk) => disk.is_lost(log),
+            FolderDisk::Marked(disk) => disk.is_lost(log),
+        }
+    }
+
+    fn is_kept(&self, log: u32) -> bool {
+        match self {
+            FolderDisk::Plain(disk) => disk.is_kept(log),
+            FolderDisk::Marked(disk) => disk.is_kept(log),
+        }
+    }
+
     fn list(&mut self, alloc: Global) -> Result<Vec<u32>, DiskFault> {
         match self {
             FolderDisk::Plain(disk) => disk.list(alloc),

@@ -160,6 +160,14 @@ impl LogDisk for OpeningDisk {
 
     fn bounds(&self) {}
 
+    fn is_lost(&self, log: u32) -> bool {
+        self.disk.is_lost(log)
+    }
+
+    fn is_kept(&self, log: u32) -> bool {
+        self.disk.is_kept(log)
+    }
+
     fn list(&mut self, alloc: Global) -> Result<Vec<u32>, DiskFault> {
         let answer = self.disk.list(alloc);
         self.failed.see(&answer);

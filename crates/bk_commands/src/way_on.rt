@@ -11,12 +11,14 @@ pub(crate) enum WayOn {
     Cut,
     /// The header of a log is invalid, as that of a new log may be after a crash.
     MoveAway,
+    /// A file is longer than a log.
+    TooLong,
     /// A bookie's index would point into logs that are removed.
     RebuildIndex,
 }
 
 impl WayOn {
-    /// Returns the way on after a refused opening; `None` if no log is to blame, or one is too long.
+    /// Returns the way on after a refused opening; `None` if no log is to blame.
     pub(crate) fn behind(fault: &OpenFault) -> Option<WayOn> {
         match fault {
             OpenFault::Log {
@@ -27,11 +29,11 @@ impl WayOn {
                 id: _,
                 cause: LogCause::Header(_),
             } => Some(WayOn::MoveAway),
+            OpenFault::TooLong(_) => Some(WayOn::TooLong),
             OpenFault::Settings
             | OpenFault::Disk
             | OpenFault::Memory
             | OpenFault::LogsFull
-            | OpenFault::TooLong(_)
             | OpenFault::Odd => None,
         }
     }
@@ -41,10 +43,13 @@ impl Display for WayOn {
     fn fmt<W: fmt::Write>(&self, f: &mut Formatter<W>) -> fmt::Result {
         match self {
             WayOn::Cut => f.write_str(
-                "'bk_shell check' tells of all such logs, 'bk_shell seal --cut-torn' cuts one there and keeps a copy",
+                "'./bookie check' lists all such logs, './bookie seal --cut-torn' cuts one there and keeps a copy",
             ),
             WayOn::MoveAway => f.write_str(
-                "where 'bk_shell scan' shows no entry in the log, a crash may have left it so, and its file can be moved away",
+                "if './bookie scan' shows no entry in the log, a crash may have left it so, and its file can be moved away",
+            ),
+            WayOn::TooLong => f.write_str(
+                "a log has at most 4294967295 bytes: move the file away, or put the log back from a copy",
             ),
             WayOn::RebuildIndex => f.write_str(
                 "a bookie's index points into logs that a compaction removes: stop the bookie, compact with --index-is-rebuilt, then rebuild its index with 'bookkeeper shell rebuild-db-ledger-locations-index' before it starts",

@@ -26,12 +26,13 @@ use Rattle.bk_log.proofs.Files.{patched-stands}
 use Rattle.bk_log.proofs.Passes.{bad_stops}
 use Rattle.bk_inspect.specs.declared.cut.Cut.{Cut}
 use Rattle.bk_inspect.specs.declared.cut.CutFault.{CutFault}
-use Rattle.bk_inspect.specs.declared.cut.CutFault.TheVariants.{Unread, Taken, Uncopied, Uncut}
+use Rattle.bk_inspect.specs.declared.cut.CutFault.TheVariants.{Unread, Taken, Blocked, Uncopied, Uncut}
 use Rattle.bk_inspect.specs.declared.header.Head.{Head}
 use Rattle.bk_inspect.specs.declared.header.Head.TheVariants as heads
 use Rattle.bk_inspect.specs.declared.cut.NamedMap.{NamedMap}
 use Rattle.bk_inspect.specs.declared.cut.NamedMap.TheVariants.{Old, Unnamed, Lost, Whole}
 use Rattle.bk_inspect.specs.declared.fault.DirFault.{DirFault}
+use Rattle.bk_inspect.specs.Copying.{HasAside, IsOther, LeavesCopies}
 use Rattle.bk_inspect.specs.Heads.{IsHead}
 use Rattle.bk_inspect.specs.Reading.{OfFile}
 use Rattle.bk_inspect.specs.Sealing.{SealLeaves, SealsOne}
@@ -172,17 +173,17 @@ cleared-stands Lost files log kept file stands = cut-patched files log kept file
 cleared-stands Whole files log kept file stands = cut_to-stands files log kept file stands
 
 -- a copy that was synced
-copy_kept : (copies' synced' : Files) (copies : Files) (log : ℕ) (file : List ℕ) → copies' ≡ map.insert copies log file
-    → map.get synced' log ≡ map.get copies' log → map.get synced' log ≡ Some file
-copy_kept copies' synced' copies log file copied synced = synced ∙ ap (λ (fs : Files). map.get fs log) copied ∙ get-insert_same copies log file
+copy_kept : (copies' synced' : Files) (copies : Files) (log : ℕ) (file : List ℕ) (aside : HasAside copies log file copies')
+    → map.get synced' log ≡ map.get copies' log → map.get synced' log ≡ Some aside.copy
+copy_kept copies' synced' copies log file aside synced = synced ∙ ap (λ (fs : Files). map.get fs log) aside.now ∙ get-insert_same copies log aside.copy
 
 -- a log that was cut once its copy stood
 pub cut_aside : (files mid now files' copies copies' synced' : Files) (log : ℕ) (cut : Cut) → OfFile files log (λ file. IsCutOf file cut) → IsChange cut
-    → mid ≡ files → now ≡ mid → IsNone (map.get copies log)
-    → ((file : List ℕ) → IsFile mid log file → cut.at + cut.bytes ≡ length file → copies' ≡ map.insert copies log file)
+    → mid ≡ files → now ≡ mid
+    → ((file : List ℕ) → IsFile mid log file → cut.at + cut.bytes ≡ length file → HasAside copies log file copies')
     → map.get synced' log ≡ map.get copies' log → files' ≡ clear_if cut.map (cut_to now log cut.at) log
     → IsCutAside files copies log cut files' copies' synced'
-cut_aside files mid now files' copies copies' synced' log cut found some first second free copied synced wrote =
+cut_aside files mid now files' copies copies' synced' log cut found some first second copied synced wrote =
     let file = found.0 in
     let copy = copied file (ap (λ (fs : Files). map.get fs log) first ∙ found.1) found.2.all in
     record {
@@ -190,8 +191,7 @@ cut_aside files mid now files' copies copies' synced' log cut found some first s
       stands = found.1;
       cuts = found.2;
       some = some;
-      free = free;
-      copied = copy;
+      aside = copy;
       kept = copy_kept copies' synced' copies log file copy synced;
       now = wrote ∙ ap (λ (fs : Files). clear_if cut.map (cut_to fs log cut.at) log) (second ∙ first)
           ∙ cleared-stands cut.map files log cut.at file found.1;
@@ -221,10 +221,10 @@ left_of files now files' log cut file fault stands same (inr (inr (lost, (left, 
     ))
 
 pub cut_failed : (files mid now files' copies copies' synced' : Files) (log : ℕ) (cut : Cut) (fault : DirFault) → OfFile files log (λ file. IsCutOf file cut)
-    → mid ≡ files → now ≡ mid → IsNone (map.get copies log)
-    → ((file : List ℕ) → IsFile mid log file → cut.at + cut.bytes ≡ length file → copies' ≡ map.insert copies log file)
+    → mid ≡ files → now ≡ mid
+    → ((file : List ℕ) → IsFile mid log file → cut.at + cut.bytes ≡ length file → HasAside copies log file copies')
     → map.get synced' log ≡ map.get copies' log → WritesCut now log cut (Err fault) files' → IsLeftAside files copies log files' copies' synced'
-cut_failed files mid now files' copies copies' synced' log cut fault found first second free copied synced wrote =
+cut_failed files mid now files' copies copies' synced' log cut fault found first second copied synced wrote =
     let file = found.0 in
     let copy = copied file (ap (λ (fs : Files). map.get fs log) first ∙ found.1) found.2.all in
     record {
@@ -232,11 +232,23 @@ cut_failed files mid now files' copies copies' synced' log cut fault found first
       cut = cut;
       stands = found.1;
       cuts = found.2;
-      free = free;
-      copied = copy;
+      aside = copy;
       kept = copy_kept copies' synced' copies log file copy synced;
       left = left_of files now files' log cut file fault found.1 (second ∙ first) wrote;
     }
+
+-- a log whose copy is of something else, or could not be written
+pub cut_taken : (files mid copies : Files) (log : ℕ) (cut : Cut) → OfFile files log (λ file. IsCutOf file cut) → mid ≡ files
+    → ((file : List ℕ) → IsFile mid log file → cut.at + cut.bytes ≡ length file → IsOther copies log file) → OfFile files log (IsOther copies log)
+cut_taken files mid copies log cut found first other =
+    (found.0, found.1, other found.0 (ap (λ (fs : Files). map.get fs log) first ∙ found.1) found.2.all)
+
+pub cut_uncopied : (files mid copies copies' : Files) (log : ℕ) (cut : Cut) → OfFile files log (λ file. IsCutOf file cut) → mid ≡ files
+    → ((copies' ≡ copies) ⊎ ((file : List ℕ) → IsFile mid log file → cut.at + cut.bytes ≡ length file → HasAside copies log file copies'))
+    → LeavesCopies files copies log copies'
+cut_uncopied files mid copies copies' log cut found first (inl same) = inl same
+cut_uncopied files mid copies copies' log cut found first (inr copied) =
+    inr (found.0, found.1, copied found.0 (ap (λ (fs : Files). map.get fs log) first ∙ found.1) found.2.all)
 
 -- ---- cutting and sealing
 
@@ -270,5 +282,6 @@ pub uncut_leaves : (files copies files' copies' synced' : Files) (log : ℕ) (fa
     → CutTransition files copies log (Err fault) files' copies' synced' → LosesNothing files copies log files' copies' synced'
 uncut_leaves files copies files' copies' synced' log (Unread why) turn = inl (inl turn.0, inl turn.1)
 uncut_leaves files copies files' copies' synced' log Taken turn = inl (inl turn.1.0, inl turn.1.1)
+uncut_leaves files copies files' copies' synced' log Blocked turn = inl (inl turn.0, inl turn.1)
 uncut_leaves files copies files' copies' synced' log (Uncopied why) turn = inl (inl turn.0, turn.1)
 uncut_leaves files copies files' copies' synced' log (Uncut why) turn = inr (inr turn)

@@ -1,27 +1,26 @@
 -- Cutting a log after its last whole record, and clearing its header if the map that it names is not there, once the log is copied
 -- aside; and sealing what is left. Read `CutsAndSeals` and `LosesNothing` first, at the end.
-use Rattle.std.specs.Prelude.{◌≡◌, ◌≢◌, ℕ, ◌+◌, ◌<◌, ◌≤◌, false, List, [], length, take, drop, Option, Some, None, IsSome, IsNone, Result, Ok, Err, ◌⊎◌}
+use Rattle.std.specs.Prelude.{◌≡◌, ◌≢◌, ℕ, ◌+◌, ◌<◌, ◌≤◌, false, List, [], length, take, drop, Option, Some, None, Result, Ok, Err, ◌⊎◌}
 use Rattle.std.specs.Option.{option_map_or}
 use Rattle.std.specs.FinMap as map
 use Rattle.bk_record.specs.Body.{Body, IsBadAt, starts_with_record}
 use Rattle.bk_record.specs.Files.{Files, header_length, records_of, rest_of}
 use Rattle.bk_record.specs.Scan.{entries_of}
-use Rattle.bk_disk.specs.Disk.{IsFile, files_after_append, files_after_patch, patched_file}
+use Rattle.bk_disk.specs.Disk.{IsFile, files_after_patch, patched_file}
 use Rattle.bk_head.specs.declared.header.Header.{Header}
 use Rattle.bk_head.specs.Header.{IsHeader, patch_of}
 use Rattle.bk_head.specs.Ledgers.{LedgersMap}
 use Rattle.bk_log.specs.Sizes.{sizes_of}
 use Rattle.bk_log.specs.declared.fault.ScanFault.{ScanFault}
 use Rattle.bk_log.specs.declared.fault.ScanFault.TheVariants.{BadLength, Disk, Memory, Odd}
+use Rattle.bk_inspect.specs.Copying.{HasAside, IsOther, LeavesCopies}
 use Rattle.bk_inspect.specs.Heads.{NamesNoMap}
 use Rattle.bk_inspect.specs.Maps.{IsMapIn}
 use Rattle.bk_inspect.specs.Reading.{OfFile}
 use Rattle.bk_inspect.specs.Sealing.{SealsOne, SealLeaves, open_header}
-use Rattle.bk_inspect.specs.declared.aside.CopyFault.{CopyFault}
-use Rattle.bk_inspect.specs.declared.aside.CopyFault.TheVariants as copying
 use Rattle.bk_inspect.specs.declared.cut.Cut.{Cut}
 use Rattle.bk_inspect.specs.declared.cut.CutFault.{CutFault}
-use Rattle.bk_inspect.specs.declared.cut.CutFault.TheVariants.{Unread, Taken, Uncopied, Uncut}
+use Rattle.bk_inspect.specs.declared.cut.CutFault.TheVariants.{Unread, Taken, Blocked, Uncopied, Uncut}
 use Rattle.bk_inspect.specs.declared.cut.NamedMap.{NamedMap}
 use Rattle.bk_inspect.specs.declared.cut.NamedMap.TheVariants.{Old, Unnamed, Lost, Whole}
 use Rattle.bk_inspect.specs.declared.fault.DirFault.{DirFault}
@@ -73,30 +72,6 @@ abbrev pub CutsOff : {T F : Type 0} → Files → ℕ → ℕ → Result T F →
 CutsOff files log kept (Ok _) files' = files' ≡ cut_to files log kept
 CutsOff files log kept (Err _) files' = (files' ≡ files) ⊎ (files' ≡ cut_to files log kept)
 
--- ---- copies
-
--- bytes of a log from a position on at the end of its copy; some bytes if the call fails
-abbrev pub CopiesPiece : Files → Files → ℕ → ℕ → ℕ → Result (Unit {0}) DirFault → Files → Type 0
-CopiesPiece files copies log at n (Ok _) copies' =
-    OfFile files log (λ file. (at + n ≤ length file) × (copies' ≡ files_after_append copies log (take n (drop at file))))
-CopiesPiece files copies log at n (Err fault) copies' = (piece : List ℕ) × (copies' ≡ files_after_append copies log piece)
-
--- all bytes of a log at the end of its copy; some bytes if the call fails
-abbrev pub CopiesBytes : Files → Files → ℕ → ℕ → Result (Unit {0}) DirFault → Files → Type 0
-CopiesBytes files copies log n (Ok _) copies' = (file : List ℕ) → IsFile files log file → n ≡ length file → copies' ≡ files_after_append copies log file
-CopiesBytes files copies log n (Err fault) copies' = (piece : List ℕ) × (copies' ≡ files_after_append copies log piece)
-
--- the copies unchanged, or with a part of a copy that was not there
-abbrev pub LeavesCopies : Files → ℕ → Files → Type 0
-LeavesCopies copies log copies' = (copies' ≡ copies) ⊎ (IsNone (map.get copies log) × ((part : List ℕ) × (copies' ≡ map.insert copies log part)))
-
--- a log copied aside, of which there was no copy
-abbrev pub CopiesAside : Files → Files → ℕ → ℕ → Result (Unit {0}) CopyFault → Files → Type 0
-CopiesAside files copies log n (Ok _) copies' =
-    IsNone (map.get copies log) × ((file : List ℕ) → IsFile files log file → n ≡ length file → copies' ≡ map.insert copies log file)
-CopiesAside files copies log n (Err copying.Taken) copies' = IsSome (map.get copies log) × (copies' ≡ copies)
-CopiesAside files copies log n (Err (copying.Broken fault)) copies' = LeavesCopies copies log copies'
-
 -- ---- cutting
 
 -- a log's bytes with zeros where its header names a map, if that map is lost
@@ -127,16 +102,15 @@ WritesCut files log cut (Err fault) files' = (files' ≡ files)
 abbrev pub IsChange : Cut → Type 0
 IsChange cut = (0 < cut.bytes) ⊎ (cut.map ≡ Lost)
 
--- All bytes of the log are aside, where nothing was, and are synced there. The log has its whole records, and its header names no
+-- All bytes of the log are aside, and are synced there. The log has its whole records, and its header names no
 -- map that is lost.
 pub record IsCutAside (files copies : Files) (log : ℕ) (cut : Cut) (files' copies' synced' : Files) : Type 0 where
   pub file : List ℕ
   pub stands : IsFile files log file
   pub cuts : IsCutOf file cut
   pub some : IsChange cut
-  pub free : IsNone (map.get copies log)
-  pub copied : copies' ≡ map.insert copies log file
-  pub kept : map.get synced' log ≡ Some file
+  pub aside : HasAside copies log file copies'
+  pub kept : map.get synced' log ≡ Some aside.copy
   pub now : files' ≡ map.insert files log (cleared_if cut.map (take cut.at file))
 
 -- All bytes of the log are aside and synced there, and the log is cut or not; if its map is lost, the part of its header that is to
@@ -146,9 +120,8 @@ pub record IsLeftAside (files copies : Files) (log : ℕ) (files' copies' synced
   pub cut : Cut
   pub stands : IsFile files log file
   pub cuts : IsCutOf file cut
-  pub free : IsNone (map.get copies log)
-  pub copied : copies' ≡ map.insert copies log file
-  pub kept : map.get synced' log ≡ Some file
+  pub aside : HasAside copies log file copies'
+  pub kept : map.get synced' log ≡ Some aside.copy
   pub left : (files' ≡ files) ⊎ ((files' ≡ map.insert files log (take cut.at file))
       ⊎ ((cut.map ≡ Lost) × ((left : List ℕ) × ((length left ≡ 12) × (files' ≡ map.insert files log (patched_file (take cut.at file) left))))))
 
@@ -157,8 +130,9 @@ abbrev pub CutTransition : Files → Files → ℕ → Result (Option Cut) CutFa
 CutTransition files copies log (Ok None) files' copies' synced' = (files' ≡ files) × (copies' ≡ copies)
 CutTransition files copies log (Ok (Some cut)) files' copies' synced' = IsCutAside files copies log cut files' copies' synced'
 CutTransition files copies log (Err (Unread fault)) files' copies' synced' = (files' ≡ files) × (copies' ≡ copies)
-CutTransition files copies log (Err Taken) files' copies' synced' = IsSome (map.get copies log) × ((files' ≡ files) × (copies' ≡ copies))
-CutTransition files copies log (Err (Uncopied fault)) files' copies' synced' = (files' ≡ files) × LeavesCopies copies log copies'
+CutTransition files copies log (Err Taken) files' copies' synced' = OfFile files log (IsOther copies log) × ((files' ≡ files) × (copies' ≡ copies))
+CutTransition files copies log (Err Blocked) files' copies' synced' = (files' ≡ files) × (copies' ≡ copies)
+CutTransition files copies log (Err (Uncopied fault)) files' copies' synced' = (files' ≡ files) × LeavesCopies files copies log copies'
 CutTransition files copies log (Err (Uncut fault)) files' copies' synced' = IsLeftAside files copies log files' copies' synced'
 
 -- a log that was cut is sealed, unless its header has no place for a map or names one that is there
@@ -177,6 +151,6 @@ CutsAndSeals files copies log files' copies' synced' = (SealsOne files log files
 -- What the command may leave: the log with all its bytes, and what a sealing leaves after them, where the header named no map;
 -- or a synced copy of all its bytes aside, and the log as a cut, or a sealing after the cut, leaves it.
 abbrev pub LosesNothing : Files → Files → ℕ → Files → Files → Files → Type 0
-LosesNothing files copies log files' copies' synced' = (SealLeaves files log files' × LeavesCopies copies log copies')
+LosesNothing files copies log files' copies' synced' = (SealLeaves files log files' × LeavesCopies files copies log copies')
     ⊎ (((cut : Cut) × ((mid : Files) × (IsCutAside files copies log cut mid copies' synced' × SealLeaves mid log files')))
     ⊎ IsLeftAside files copies log files' copies' synced')

@@ -7,4 +7,5 @@ pub mod Digests
 pub mod Parts
 pub mod Shown
 pub mod Sealing
+pub mod Copying
 pub mod Cutting

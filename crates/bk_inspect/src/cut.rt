@@ -56,8 +56,10 @@ pub(crate) struct Cut {
 pub(crate) enum CutFault {
     /// Its header is invalid, or it could not be read. Nothing was written.
     Unread(SealFault),
-    /// Something is at the place of the copy. Nothing was written.
+    /// Something else than a copy of the log is at the place of the copy. Nothing was written.
     Taken,
+    /// Something else than a draft of the copy has its name. Nothing was written.
+    Blocked,
     /// The copy cannot be written. The log is unchanged.
     Uncopied(DirFault),
     /// The cut failed. The copy is there. The log is unchanged, cut, or cut with any bytes where
@@ -66,8 +68,8 @@ pub(crate) enum CutFault {
 }
 
 /// Cuts a log after its last whole record, and clears its header if the map that it names is not
-/// there then, once all its bytes are copied aside. `None` if there is nothing to cut or to clear:
-/// then nothing is copied.
+/// there then, once all its bytes are copied aside. Goes on with the copy of a call that was killed.
+/// `None` if there is nothing to cut or to clear: then nothing is copied.
 pub(crate) fn cut_log<D: CutDisk, A: Aside>(
     alloc: Global,
     disk: &mut D,
@@ -89,6 +91,7 @@ pub(crate) fn cut_log<D: CutDisk, A: Aside>(
     match copy_log(alloc, disk, aside, log, cut.at + cut.bytes) {
         Ok(()) => {}
         Err(CopyFault::Taken) => return Err(CutFault::Taken),
+        Err(CopyFault::Blocked) => return Err(CutFault::Blocked),
         Err(CopyFault::Broken(fault)) => return Err(CutFault::Uncopied(fault)),
     }
     match write_cut(alloc, disk, log, &cut) {
@@ -145,7 +148,7 @@ fn find_cut<D: LogDisk>(alloc: Global, disk: &mut D, log: u32) -> Result<Cut, Se
     let view = view_of(alloc, disk, log)?;
     let end = view.end().max(HEADER);
     if end > GREATEST {
-        return Err(SealFault::Broken(DirFault::Odd));
+        return Err(SealFault::Refused(Refusal::TooLong(end)));
     }
     let at = whole_end(alloc, &view, end)?;
     if end < at {

@@ -1,53 +1,75 @@
-//! A directory of the system in which a log is cut. The copy of log 31 is the file `1f.log.torn`
-//! beside `1f.log`: no reader takes that name for a log.
+//! A directory of the system in which a log is cut.
 
 ghost use Rattle.std.specs.Prelude.{false};
 ghost use Rattle.std.specs.FinMap as map;
 
-use crate::cutting::{Aside, CutDisk};
-use bk_disk::{DirDisk, DirView, DiskFault, LogDisk, name_of};
+use crate::cutting::{CutDisk, FailedCall};
+use bk_disk::{DirDisk, DirView, DiskFault, LogDisk, Operation, name_of};
 use std::alloc::{AllocError, Global};
-use std::fs::{self, File, OpenOptions};
-use std::io::{self, ErrorKind, Write};
+use std::fs::OpenOptions;
+use std::io::{self, ErrorKind};
 
-/// The end of the name of a copy, after the name of the log.
-const ENDING: &str = ".torn";
-
-/// A call of the system that failed: the file and the reason.
+/// A call of the system that failed: the file, the operation and the reason.
 #[derive(Drop)]
-struct Refused {
+pub(crate) struct Refused {
     path: String,
+    operation: Operation,
     reason: io::Error,
 }
 
-/// Returns the text of a failed call: the file and the reason.
-fn told(alloc: Global, refused: &Option<Refused>) -> Result<Option<String>, AllocError> {
-    match refused {
-        Some(Refused { path, reason }) => Ok(Some(format!(in alloc; "{path}: {reason}")?)),
-        None => Ok(None),
+impl Refused {
+    /// Returns the failed call of a report. The only error is out of memory.
+    pub(crate) fn told(
+        alloc: Global,
+        refused: &Option<Refused>,
+    ) -> Result<Option<FailedCall>, AllocError> {
+        match refused {
+            Some(
+                Refused {
+                    path,
+                    operation,
+                    reason,
+                },
+            ) => Ok(Some(FailedCall {
+                file: String::from_str(alloc, path)?,
+                operation: *operation,
+                reason: reason.to_string(alloc)?,
+            })),
+            None => Ok(None),
+        }
     }
 }
 
+/// A call of the system that failed on a file, and the reason.
+pub(crate) type Failed = (Operation, io::Error);
+
 /// Remembers a failed call, and returns it as `Disk`, or as `Memory`.
-fn refuse(refused: &mut Option<Refused>, path: String, reason: io::Error) -> DiskFault {
+pub(crate) fn refuse(refused: &mut Option<Refused>, path: String, failed: Failed) -> DiskFault {
+    let (operation, reason) = failed;
     let fault = match reason.kind() {
         ErrorKind::OutOfMemory => DiskFault::Memory,
         _ => DiskFault::Disk,
     };
-    *refused = Some(Refused { path, reason });
+    *refused = Some(Refused {
+        path,
+        operation,
+        reason,
+    });
     fault
 }
 
-/// Returns the path of a log.
-fn log_path(alloc: Global, folder: &str, log: u32) -> Result<String, AllocError> {
-    let name = name_of(alloc, log)?;
-    format!(in alloc; "{folder}/{name}")
+/// Returns what a call of the system returned, or the call and the reason.
+pub(crate) fn tried<T>(operation: Operation, outcome: io::Result<T>) -> Result<T, Failed> {
+    match outcome {
+        Ok(value) => Ok(value),
+        Err(reason) => Err((operation, reason)),
+    }
 }
 
-/// Returns the path of a log's copy.
-fn copy_path(alloc: Global, folder: &str, log: u32) -> Result<String, AllocError> {
+/// Returns the path of a log.
+pub(crate) fn log_path(alloc: Global, folder: &str, log: u32) -> Result<String, AllocError> {
     let name = name_of(alloc, log)?;
-    format!(in alloc; "{folder}/{name}{ENDING}")
+    format!(in alloc; "{folder}/{name}")
 }
 
 /// The disk of a directory that can cut a log. It is not honest, as a `DirDisk`.
@@ -77,136 +99,31 @@ impl<'a> CutDisk for CutFolder<'a> {
         match cut_file(&self.rt, &path, length, kept) {
             Ok(true) => Ok(()),
             Ok(false) => Err(DiskFault::PastEnd),
-            Err(reason) => Err(refuse(&mut self.refused, path, reason)),
+            Err(failed) => Err(refuse(&mut self.refused, path, failed)),
         }
     }
 
-    fn cut_reason(&self, alloc: Global) -> Result<Option<String>, AllocError> {
-        told(alloc, &self.refused)
+    fn log_place(&self, alloc: Global, log: u32) -> Result<String, AllocError> {
+        log_path(alloc, self.path, log)
+    }
+
+    fn cut_reason(&self, alloc: Global) -> Result<Option<FailedCall>, AllocError> {
+        Refused::told(alloc, &self.refused)
     }
 }
 
 /// Cuts a file of `length` bytes to its first `kept` ones, and syncs it. Returns false, and leaves
-/// the file, if it has another length. The file is cut in place, so it keeps its owner, its rights
-/// and the links to it.
-fn cut_file(rt: &HostRuntime, path: &str, length: u64, kept: u64) -> io::Result<bool> {
-    let file = OpenOptions::new().write(true).open(rt, path)?;
-    if file.metadata()?.len() != length {
+/// the file, if it has another length. The file is cut in place, so it keeps its owner and its
+/// rights.
+fn cut_file(rt: &HostRuntime, path: &str, length: u64, kept: u64) -> Result<bool, Failed> {
+    let opened = OpenOptions::new().write(true).open(rt, path);
+    let file = tried(Operation::Open, opened)?;
+    if tried(Operation::Open, file.metadata())?.len() != length {
         return Ok(false);
     }
-    file.set_len(kept)?;
-    file.sync_all()?;
+    tried(Operation::Truncate, file.set_len(kept))?;
+    tried(Operation::Sync, file.sync_all())?;
     Ok(true)
-}
-
-/// The copies in a directory of the system. One at a time is written.
-#[derive(Drop)]
-pub(crate) struct AsideFolder<'a> {
-    rt: HostRuntime,
-    path: &'a str,
-    /// The copy that is written.
-    copy: Option<File>,
-    refused: Option<Refused>,
-}
-
-impl<'a> AsideFolder<'a> {
-    /// Returns the copies in the directory at a path.
-    pub(crate) fn new(rt: &HostRuntime, path: &'a str) -> AsideFolder<'a> {
-        AsideFolder {
-            rt: *rt,
-            path,
-            copy: None,
-            refused: None,
-        }
-    }
-
-    /// Returns the result of a call of the system on a log's copy.
-    fn answer(&mut self, alloc: Global, log: u32, done: io::Result<()>) -> Result<(), DiskFault> {
-        match done {
-            Ok(()) => Ok(()),
-            Err(reason) => match self.place(alloc, log) {
-                Ok(path) => Err(refuse(&mut self.refused, path, reason)),
-                Err(_) => Err(DiskFault::Memory),
-            },
-        }
-    }
-}
-
-impl<'a> Aside for AsideFolder<'a> {
-    ghost copies = { λ _. map.empty };
-
-    ghost synced = { λ _. map.empty };
-
-    ghost honest = { λ _. false };
-
-    fn create(&mut self, alloc: Global, log: u32) -> Result<(), DiskFault> {
-        let from = log_path(alloc, self.path, log).map_err(|_| DiskFault::Memory)?;
-        let to = copy_path(alloc, self.path, log).map_err(|_| DiskFault::Memory)?;
-        match begin_copy(&self.rt, &from, &to) {
-            Ok(file) => {
-                self.copy = Some(file);
-                Ok(())
-            }
-            Err(reason) if reason.kind() == ErrorKind::AlreadyExists => Err(DiskFault::Exists),
-            Err(reason) => Err(refuse(&mut self.refused, to, reason)),
-        }
-    }
-
-    fn append(&mut self, alloc: Global, log: u32, bytes: &[u8]) -> Result<(), DiskFault> {
-        let Some(file) = &mut self.copy else {
-            return Err(DiskFault::NoLog);
-        };
-        let done = file.write_all(bytes);
-        self.answer(alloc, log, done)
-    }
-
-    fn sync(&mut self, alloc: Global, log: u32) -> Result<(), DiskFault> {
-        let Some(file) = &self.copy else {
-            return Err(DiskFault::NoLog);
-        };
-        let done = keep_file(&self.rt, file, self.path);
-        self.answer(alloc, log, done)
-    }
-
-    fn remove(&mut self, alloc: Global, log: u32) -> Result<(), DiskFault> {
-        self.copy = None;
-        let path = copy_path(alloc, self.path, log).map_err(|_| DiskFault::Memory)?;
-        match fs::remove_file(&self.rt, path.as_str()) {
-            Ok(()) => Ok(()),
-            Err(_) => Err(DiskFault::Disk),
-        }
-    }
-
-    fn place(&self, alloc: Global, log: u32) -> Result<String, AllocError> {
-        copy_path(alloc, self.path, log)
-    }
-
-    fn copy_reason(&self, alloc: Global) -> Result<Option<String>, AllocError> {
-        told(alloc, &self.refused)
-    }
-}
-
-/// Creates the file of a copy, with the rights of the log and no bytes. Fails if something is
-/// there.
-fn begin_copy(rt: &HostRuntime, from: &str, to: &str) -> io::Result<File> {
-    let rights = fs::metadata(rt, from)?.permissions();
-    let file = OpenOptions::new()
-        .append(true)
-        .create_new(true)
-        .open(rt, to)?;
-    match file.set_permissions(rights) {
-        Ok(()) => Ok(file),
-        Err(reason) => {
-            let _ = fs::remove_file(rt, to);
-            Err(reason)
-        }
-    }
-}
-
-/// Syncs a file, and the directory that it is in.
-fn keep_file(rt: &HostRuntime, file: &File, folder: &str) -> io::Result<()> {
-    file.sync_all()?;
-    File::open(rt, folder)?.sync_all()
 }
 
 impl<'a> LogDisk for CutFolder<'a> {
@@ -223,6 +140,14 @@ impl<'a> LogDisk for CutFolder<'a> {
     ghost failures = { λ folder. folder.disk.failures };
 
     fn bounds(&self) {}
+
+    fn is_lost(&self, log: u32) -> bool {
+        self.disk.is_lost(log)
+    }
+
+    fn is_kept(&self, log: u32) -> bool {
+        self.disk.is_kept(log)
+    }
 
     fn list(&mut self, alloc: Global) -> Result<Vec<u32>, DiskFault> {
         self.disk.list(alloc)

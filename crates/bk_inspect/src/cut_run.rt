@@ -5,23 +5,22 @@ ghost use Rattle.bk_log.specs.Sealing.{KeepsEntries};
 ghost use Rattle.bk_inspect.specs.Cutting.{CutsAndSeals, EndsAs, LosesNothing};
 ghost use Rattle.bk_inspect.specs.Sealing.{SealLeaves};
 
-use crate::cut::{Cut, CutFault, NamedMap, cut_log};
-use crate::cut_folder::{AsideFolder, CutFolder};
+use crate::Form;
+use crate::aside_folder::AsideFolder;
+use crate::cut::{NamedMap, cut_log};
+use crate::cut_folder::CutFolder;
+use crate::cut_told::{show_cut, tell_uncut};
 use crate::cutting::{Aside, CutDisk};
-use crate::fault::{tell_end, tell_fault};
-use crate::folder::{tell_folder, watch_of};
-use crate::form::write_row;
-use crate::seal_run::{run_seal_watched, tell_unsealed};
-use crate::{DirFault, Form};
-use bk_disk::{DirDisk, FaultWatch, LogDisk};
-use serde::Serialize;
-use std::alloc::{AllocError, Global};
-use std::fmt;
-use std::fmt::{Display, Formatter};
+use crate::fault::tell_fault;
+use crate::folder::{open_to_seal, tell_folder, watch_of};
+use crate::seal_run::run_seal_watched;
+use bk_disk::{FaultWatch, LogDisk};
+use std::alloc::Global;
 use std::io::Write;
 
 /// Repairs a log: cuts off what follows its last whole record, clears its header if the ledgers map
-/// that it names is not there then, and seals the log. First all its bytes are copied aside.
+/// that it names is not there then, and seals the log. First all its bytes are copied aside. If a
+/// call was killed after that, the next one goes on with its copy.
 ///
 /// Writes `cut LOG at AT bytes N copy PLACE` if bytes are cut, and `cleared LOG map OFFSET count
 /// COUNT copy PLACE` if the header is cleared. Then it does as `run_seal`, unless the log was cut
@@ -30,12 +29,12 @@ use std::io::Write;
 ///
 /// # Errors
 ///
-/// Those of `run_seal` but `torn N` and `bad length AT N`. And:
+/// Those of `run_seal` but `torn N at AT` and `bad length AT N`. And:
 ///
-/// - `copy exists: PLACE`: something is at the place of the copy. It stays, and the log is
-///   unchanged.
-/// - `disk: FILE: REASON`, the system's, `disk`, `memory`, `odd disk`: the log has all its bytes,
-///   or its copy has them.
+/// - `copy exists: PLACE: it is no copy of FILE`: something else is at the place of the copy, or of
+///   its draft. It stays, and the log is unchanged. The next line has the way on, `help: TEXT`.
+/// - `disk: FILE: OPERATION: REASON`, the system's, `disk`, `memory`, `odd disk`: the log has all
+///   its bytes, or its copy has them.
 /// - `output`, `no room for a map`: the log may be cut and not sealed.
 pub fn run_cut_and_seal<D: CutDisk, A: Aside, W: Write, E: Write>(
     alloc: Global,
@@ -120,8 +119,8 @@ fn seal_cut<D: LogDisk, W: Write, E: Write>(
 }
 
 /// Cuts and seals a log of the directory at a path, as `run_cut_and_seal` does on a disk. The copy
-/// of log 31 is the file `1f.log.torn` in the directory. It takes the writer lock, as
-/// `run_seal_folder`.
+/// of log 31 is the file `1f.log.torn` in the directory, its draft `1f.log.torn.new`. It takes the
+/// writer lock and refuses a log with two names, as `run_seal_folder`.
 pub fn run_cut_and_seal_folder<W: Write, E: Write>(
     rt: &HostRuntime,
     form: Form,
@@ -132,7 +131,7 @@ pub fn run_cut_and_seal_folder<W: Write, E: Write>(
 ) -> u8
     ensures { result ≤ 1 }
 {
-    match DirDisk::open_to_write(rt, path) {
+    match open_to_seal(rt, path, log) {
         Ok(disk) => {
             let alloc = rt.alloc();
             let watch = watch_of(alloc, &disk);
@@ -147,157 +146,5 @@ pub fn run_cut_and_seal_folder<W: Write, E: Write>(
             let _ = tell_folder(rt.alloc(), form, &fault, errors);
             1
         }
-    }
-}
-
-/// The row of a log that was cut.
-#[derive(Clone, Copy, Serialize)]
-struct CutRow<'a> {
-    log: u32,
-    state: &'static str,
-    at: u64,
-    bytes: u64,
-    copy: &'a str,
-}
-
-impl Display for CutRow<'_> {
-    fn fmt<W: fmt::Write>(&self, f: &mut Formatter<W>) -> fmt::Result {
-        write!(
-            f,
-            "cut {} at {} bytes {} copy {}",
-            self.log, self.at, self.bytes, self.copy
-        )
-    }
-}
-
-/// The row of a log whose header was cleared: the map that it named.
-#[derive(Clone, Copy, Serialize)]
-struct ClearedRow<'a> {
-    log: u32,
-    state: &'static str,
-    map: i64,
-    count: i32,
-    copy: &'a str,
-}
-
-impl Display for ClearedRow<'_> {
-    fn fmt<W: fmt::Write>(&self, f: &mut Formatter<W>) -> fmt::Result {
-        write!(
-            f,
-            "cleared {} map {} count {} copy {}",
-            self.log, self.map, self.count, self.copy
-        )
-    }
-}
-
-/// Writes what was cut off a log, and what its header named if it was cleared, and flushes.
-fn show_cut<A: Aside, W: Write>(
-    alloc: Global,
-    form: Form,
-    aside: &A,
-    log: u32,
-    cut: &Cut,
-    writer: &mut W,
-) -> Result<(), DirFault> {
-    let copy = aside.place(alloc, log).map_err(|_| DirFault::Memory)?;
-    if cut.bytes > 0 {
-        let row = CutRow {
-            log,
-            state: "cut",
-            at: cut.at,
-            bytes: cut.bytes,
-            copy: copy.as_str(),
-        };
-        write_row(alloc, form, &row, writer)?;
-    }
-    if cut.map == NamedMap::Lost {
-        let row = ClearedRow {
-            log,
-            state: "cleared",
-            map: cut.header.map_offset,
-            count: cut.header.count,
-            copy: copy.as_str(),
-        };
-        write_row(alloc, form, &row, writer)?;
-    }
-    writer.flush()?;
-    Ok(())
-}
-
-/// The row of a log that was not cut.
-#[derive(Drop, Serialize)]
-struct UncutRow {
-    fault: &'static str,
-    log: u32,
-    #[serde(skip_serializing_if = "Option::is_none")]
-    copy: Option<String>,
-    #[serde(skip_serializing_if = "Option::is_none")]
-    reason: Option<String>,
-}
-
-impl Display for UncutRow {
-    fn fmt<W: fmt::Write>(&self, f: &mut Formatter<W>) -> fmt::Result {
-        write!(f, "fault {}", self.fault)?;
-        if let Some(copy) = &self.copy {
-            write!(f, ": {copy}")?;
-        }
-        if let Some(reason) = &self.reason {
-            write!(f, ": {reason}")?;
-        }
-        Ok(())
-    }
-}
-
-/// Reports why a log is not cut. A failed write is ignored.
-fn tell_uncut<D: CutDisk, A: Aside, E: Write>(
-    alloc: Global,
-    form: Form,
-    watch: Option<&FaultWatch>,
-    disk: &D,
-    aside: &A,
-    log: u32,
-    fault: CutFault,
-    errors: &mut E,
-) {
-    let (fault, row) = match fault {
-        CutFault::Unread(fault) => {
-            return tell_unsealed(alloc, form, watch, log, fault, errors);
-        }
-        CutFault::Taken => (DirFault::Memory, taken_row(alloc, log, aside)),
-        CutFault::Uncopied(fault) => (fault, refused_row(log, aside.copy_reason(alloc))),
-        CutFault::Uncut(fault) => (fault, refused_row(log, disk.cut_reason(alloc))),
-    };
-    match row {
-        Ok(Some(row)) => {
-            let _ = write_row(alloc, form, &row, errors);
-        }
-        Ok(None) => tell_end(alloc, form, watch, Some(log), fault, errors),
-        Err(_) => tell_fault(alloc, form, Some(log), DirFault::Memory, errors),
-    }
-}
-
-/// Returns the row of a log if the place of its copy is taken.
-fn taken_row<A: Aside>(alloc: Global, log: u32, aside: &A) -> Result<Option<UncutRow>, AllocError> {
-    Ok(Some(UncutRow {
-        fault: "copy exists",
-        log,
-        copy: Some(aside.place(alloc, log)?),
-        reason: None,
-    }))
-}
-
-/// Returns the row of a call of the system that failed, if it gave a reason.
-fn refused_row(
-    log: u32,
-    reason: Result<Option<String>, AllocError>,
-) -> Result<Option<UncutRow>, AllocError> {
-    match reason? {
-        Some(reason) => Ok(Some(UncutRow {
-            fault: "disk",
-            log,
-            copy: None,
-            reason: Some(reason),
-        })),
-        None => Ok(None),
     }
 }

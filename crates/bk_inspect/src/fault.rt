@@ -178,8 +178,16 @@ impl FaultMembers {
         }
     }
 
+    /// Returns the members of a fault of a version.
+    pub(crate) fn of_version(fault: &'static str, version: u32) -> FaultMembers {
+        FaultMembers {
+            version: Some(version),
+            ..FaultMembers::named(fault)
+        }
+    }
+
     /// Returns the members of a fault at a position.
-    fn at(fault: &'static str, at: u64) -> FaultMembers {
+    pub(crate) fn at(fault: &'static str, at: u64) -> FaultMembers {
         FaultMembers {
             at: Some(at),
             ..FaultMembers::named(fault)
@@ -192,10 +200,9 @@ impl BytesFault {
     pub(crate) fn members(self) -> FaultMembers {
         match self {
             BytesFault::Head(HeadFault::BadMagic) => FaultMembers::named("bad magic"),
-            BytesFault::Head(HeadFault::Version(version)) => FaultMembers {
-                version: Some(version),
-                ..FaultMembers::named("version")
-            },
+            BytesFault::Head(HeadFault::Version(version)) => {
+                FaultMembers::of_version("version", version)
+            }
             BytesFault::Head(HeadFault::Negative) => FaultMembers::named("negative number"),
             BytesFault::Head(HeadFault::NotAMap(at)) => FaultMembers::at("not a map", at),
             BytesFault::Head(HeadFault::MapLength(at)) => FaultMembers::at("map length", at),

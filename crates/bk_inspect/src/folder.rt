@@ -6,6 +6,7 @@
 ghost use Rattle.std.specs.Prelude.{◌≤◌, false};
 ghost use Rattle.std.specs.FinMap as map;
 
+use crate::cut_folder::log_path;
 use crate::fault::tell_fault;
 use crate::form::{write_object, write_row};
 use crate::run::run_dir_watched;
@@ -16,8 +17,13 @@ use bk_disk::{DirDisk, DiskFault, FaultWatch, FolderFault, LogDisk};
 use serde::Serialize;
 use std::alloc::Global;
 use std::fmt::{Display, Formatter};
-use std::io::{self, Write};
+use std::io::{self, ErrorKind, Write};
+use std::os::unix::fs::MetadataExt;
 use std::{fmt, fs};
+
+/// Why a log is not sealed whose file has another name.
+const TWO_NAMES: &str =
+    "the file has another name: remove that, or put a copy of the file in its place";
 
 /// A command on a directory of the system.
 #[derive(Clone, Copy, Debug)]
@@ -156,6 +162,23 @@ fn run_on<W: Write, E: Write>(
         }
     };
     if folder.tell(form, errors) { 1 } else { status }
+}
+
+/// Opens the directory at a path as its one writer, to seal a log. Fails with `Refused`, which has
+/// the log's path, if its file has another name, under which its bytes would change too.
+pub(crate) fn open_to_seal(rt: &HostRuntime, path: &str, log: u32) -> Result<DirDisk, FolderFault> {
+    let disk = DirDisk::open_to_write(rt, path)?;
+    let path = log_path(rt.alloc(), path, log).map_err(|_| FolderFault::Memory)?;
+    match fs::symlink_metadata(rt, path.as_str()) {
+        Ok(found) if found.nlink() > 1 => Err(FolderFault::Refused {
+            path,
+            reason: io::Error::new(ErrorKind::InvalidInput, TWO_NAMES),
+        }),
+        Ok(_) => Ok(disk),
+        // The disk reports a file that is missing.
+        Err(reason) if reason.kind() == ErrorKind::NotFound => Ok(disk),
+        Err(reason) => Err(FolderFault::Refused { path, reason }),
+    }
 }
 
 /// Returns a watch that reports failed calls of a disk; `None` if memory is refused.
@@ -307,6 +330,14 @@ impl<'a, D: LogDisk> LogDisk for Folder<'a, D> {
     ghost failures = { λ folder. D.failures folder.disk };
 
     fn bounds(&self) {}
+
+    fn is_lost(&self, log: u32) -> bool {
+        self.disk.is_lost(log)
+    }
+
+    fn is_kept(&self, log: u32) -> bool {
+        self.disk.is_kept(log)
+    }
 
     fn list(&mut self, alloc: Global) -> Result<Vec<u32>, DiskFault> {
         match look_over(&self.rt, alloc, self.path) {

@@ -3,12 +3,14 @@
 #![tactic(auto)]
 
 mod aside;
+mod aside_folder;
 mod calls;
 mod check;
 mod command;
 mod cut;
 mod cut_folder;
 mod cut_run;
+mod cut_told;
 mod cutting;
 mod data;
 mod digest;
@@ -21,6 +23,7 @@ mod folder;
 mod form;
 mod front;
 mod header;
+mod help;
 mod ledgers;
 mod listing;
 mod part;
@@ -37,7 +40,7 @@ mod written;
 
 pub use command::{DirCommand, EntryRange, ScanChoice};
 pub use cut_run::{run_cut_and_seal, run_cut_and_seal_folder};
-pub use cutting::{Aside, CutDisk};
+pub use cutting::{Aside, CutDisk, FailedCall};
 pub use digest::{Digest, DigestChoice};
 use fault::{BytesFault, DirFault};
 pub use folder::{FolderCommand, run_folder, run_folder_as, unlisted};

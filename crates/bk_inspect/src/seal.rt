@@ -39,8 +39,10 @@ pub(crate) enum Refusal {
     Old,
     /// Its header names a map.
     Sealed,
-    /// N bytes after its last record are no whole record.
-    Torn(u64),
+    /// The bytes from this position on are no whole record.
+    Torn { at: u64, bytes: u64 },
+    /// It has this many bytes, more than 2^32 - 1.
+    TooLong(u64),
     /// The map would end past byte 2^32 - 1.
     NoRoom,
 }
@@ -127,15 +129,15 @@ fn refuse_head(head: Head) -> Result<(), SealFault>
     }
 }
 
-/// Returns what is to be written to the log of a view. Refuses a log with a torn end, or without
-/// room for the map.
+/// Returns what is to be written to the log of a view. Refuses a log that is too long, or has a torn
+/// end or no room for the map.
 fn plan_of<V: LogView>(alloc: Global, view: &V) -> Result<Plan, SealFault>
     ensures fits { IfOk result (λ plan. plan.offset + length plan.map.items < 2 ^ 32) }
     ensures ok { IsTrue (V.honest view.now) → IfOk result (λ plan. IsPlan (V.bytes view.now) plan) }
 {
     let end = view.end().max(HEADER);
     if end > GREATEST {
-        return Err(SealFault::Broken(DirFault::Odd));
+        return Err(SealFault::Refused(Refusal::TooLong(end)));
     }
     let sizes = whole_sizes(alloc, view, end)?;
     let mut map = Vec::new(alloc);
@@ -176,8 +178,10 @@ pub(crate) fn whole_sizes<V: LogView>(
             Err(_) => return Err(SealFault::Broken(DirFault::Memory)),
         }
     }
-    if scanner.torn() > 0 {
-        return Err(SealFault::Refused(Refusal::Torn(scanner.torn())));
+    let bytes = scanner.torn();
+    if bytes > 0 {
+        let at = end.saturating_sub(bytes);
+        return Err(SealFault::Refused(Refusal::Torn { at, bytes }));
     }
     match sizes.into_map() {
         Ok(sizes) => Ok(sizes),

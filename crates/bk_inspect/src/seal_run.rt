@@ -5,11 +5,12 @@ ghost use Rattle.bk_log.specs.Sealing.{KeepsEntries};
 ghost use Rattle.bk_inspect.specs.Sealing.{SealLeaves, SealsOne};
 
 use crate::fault::{FaultMembers, tell_end, tell_fault};
-use crate::folder::{tell_folder, watch_of};
+use crate::folder::{open_to_seal, tell_folder, watch_of};
 use crate::form::write_row;
+use crate::help::help_of;
 use crate::seal::{Refusal, SealFault, SealedLog, seal_log};
 use crate::{DirFault, Form};
-use bk_disk::{DirDisk, FaultWatch, LogDisk};
+use bk_disk::{FaultWatch, LogDisk};
 use serde::Serialize;
 use std::alloc::Global;
 use std::fmt;
@@ -22,9 +23,11 @@ use std::io::Write;
 ///
 /// # Errors
 ///
-/// - The log is unchanged: `no log`; `short`, below 1024 bytes; `bad magic`, `version V`, an
-///   invalid header; `no map in version 0`; `sealed already`; `bad length AT N`; `torn N`, N bytes
-///   at its end are no whole record; `no room for a map`, which would end past byte 2^32 - 1.
+/// - `log LOG: REASON`. The log is unchanged. The reasons are `no log`; `short`, below 1024 bytes;
+///   `bad magic`, `version V`, an invalid header; `no map in version 0`; `sealed already`; `bad
+///   length AT N`; `torn N at AT`, N bytes at its end are no whole record; `too long N`, more than
+///   2^32 - 1 bytes; `no room for a map`, which would end past byte 2^32 - 1. If there is a way on,
+///   the next line has it, `help: TEXT`.
 /// - `disk`, `memory`, `odd disk`: a part of the map, or all of it, may follow the log. If the
 ///   device failed, bytes 8 to 20 may be any.
 /// - `output`: the log may be sealed.
@@ -71,8 +74,8 @@ pub(crate) fn run_seal_watched<D: LogDisk, W: Write, E: Write>(
 
 /// Seals a log of the directory at a path, as `run_seal` does on a disk. It takes the writer lock:
 /// if another program writes there, `fault in use: ..`. A bookie takes no lock, so it must be
-/// stopped. A directory that cannot be opened or locked is `fault disk: PATH: REASON`, a failed call
-/// of the system `fault disk: FILE: OPERATION: REASON`.
+/// stopped. A directory that cannot be opened or locked, or a log whose file has another name, is
+/// `fault disk: PATH: REASON`, a failed call of the system `fault disk: FILE: OPERATION: REASON`.
 pub fn run_seal_folder<W: Write, E: Write>(
     rt: &HostRuntime,
     form: Form,
@@ -83,7 +86,7 @@ pub fn run_seal_folder<W: Write, E: Write>(
 ) -> u8
     ensures { result ≤ 1 }
 {
-    match DirDisk::open_to_write(rt, path) {
+    match open_to_seal(rt, path, log) {
         Ok(mut disk) => {
             let alloc = rt.alloc();
             let watch = watch_of(alloc, &disk);
@@ -158,19 +161,32 @@ fn write_flushed<W: Write>(
 struct RefusalRow {
     #[serde(flatten)]
     fault: FaultMembers,
+    /// How many bytes are no whole record.
     #[serde(skip_serializing_if = "Option::is_none")]
     torn: Option<u64>,
+    /// How many bytes a log has that is too long.
+    #[serde(skip_serializing_if = "Option::is_none")]
+    bytes: Option<u64>,
     log: u32,
+    #[serde(skip_serializing_if = "Option::is_none")]
+    help: Option<&'static str>,
     #[serde(skip)]
     text: Refusal,
 }
 
 impl Display for RefusalRow {
     fn fmt<W: fmt::Write>(&self, f: &mut Formatter<W>) -> fmt::Result {
+        write!(f, "fault log {}: ", self.log)?;
         match self.text {
-            Refusal::Bytes(fault) => write!(f, "fault {fault}"),
-            Refusal::Torn(bytes) => write!(f, "fault torn {bytes}"),
-            other => write!(f, "fault {}", other.words()),
+            Refusal::Bytes(fault) => write!(f, "{fault}")?,
+            Refusal::Torn { at, bytes } => write!(f, "torn {bytes} at {at}")?,
+            Refusal::TooLong(bytes) => write!(f, "too long {bytes}")?,
+            Refusal::Old => write!(f, "no map in version 0")?,
+            other => write!(f, "{}", other.words())?,
+        }
+        match self.help {
+            Some(help) => write!(f, "\nhelp: {help}"),
+            None => Ok(()),
         }
     }
 }
@@ -182,15 +198,44 @@ impl Refusal {
             Refusal::NoLog => "no log",
             Refusal::Short => "short",
             Refusal::Bytes(_) => "bytes",
-            Refusal::Old => "no map in version 0",
+            Refusal::Old => "no map in version",
             Refusal::Sealed => "sealed already",
-            Refusal::Torn(_) => "torn",
+            Refusal::Torn { .. } => "torn",
+            Refusal::TooLong(_) => "too long",
             Refusal::NoRoom => "no room for a map",
+        }
+    }
+
+    /// The members of its object.
+    fn members(self) -> FaultMembers {
+        match self {
+            Refusal::Bytes(fault) => fault.members(),
+            Refusal::Old => FaultMembers::of_version(self.words(), 0),
+            Refusal::Torn { at, .. } => FaultMembers::at(self.words(), at),
+            other => FaultMembers::named(other.words()),
         }
     }
 }
 
-/// Reports why a log is not sealed. A failed write is ignored.
+/// Returns the row of a log that is refused.
+fn refusal_row(log: u32, refusal: Refusal) -> RefusalRow {
+    RefusalRow {
+        fault: refusal.members(),
+        torn: match refusal {
+            Refusal::Torn { bytes, .. } => Some(bytes),
+            _ => None,
+        },
+        bytes: match refusal {
+            Refusal::TooLong(bytes) => Some(bytes),
+            _ => None,
+        },
+        log,
+        help: help_of(refusal),
+        text: refusal,
+    }
+}
+
+/// Reports why a log is not sealed, and the way on if there is one. A failed write is ignored.
 pub(crate) fn tell_unsealed<E: Write>(
     alloc: Global,
     form: Form,
@@ -199,20 +244,10 @@ pub(crate) fn tell_unsealed<E: Write>(
     fault: SealFault,
     errors: &mut E,
 ) {
-    let refusal = match fault {
-        SealFault::Broken(fault) => return tell_end(alloc, form, watch, Some(log), fault, errors),
-        SealFault::Refused(refusal) => refusal,
-    };
-    let (fault, torn) = match refusal {
-        Refusal::Bytes(fault) => (fault.members(), None),
-        Refusal::Torn(bytes) => (FaultMembers::named("torn"), Some(bytes)),
-        other => (FaultMembers::named(other.words()), None),
-    };
-    let row = RefusalRow {
-        fault,
-        torn,
-        log,
-        text: refusal,
-    };
-    let _ = write_row(alloc, form, &row, errors);
+    match fault {
+        SealFault::Broken(fault) => tell_end(alloc, form, watch, Some(log), fault, errors),
+        SealFault::Refused(refusal) => {
+            let _ = write_row(alloc, form, &refusal_row(log, refusal), errors);
+        }
+    }
 }

@@ -4,7 +4,10 @@ ghost use Rattle.std.specs.Prelude.{◌<◌, ◌^◌};
 
 mod amounts;
 mod cut;
+mod cut_again;
+mod cut_failing;
 mod cut_folder;
+mod cut_mem;
 mod digests;
 mod every_byte;
 mod failing;
@@ -18,6 +21,7 @@ mod recovery;
 mod rows;
 mod seal;
 mod states;
+mod worked;
 
 use bk_disk::{LogDisk, MemDisk};
 use bk_inspect::{DirCommand, run_dir};

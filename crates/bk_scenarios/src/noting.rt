@@ -87,6 +87,14 @@ impl<D: LogDisk> LogDisk for NotingDisk<D> {
         self.inner.bounds()
     }
 
+    fn is_lost(&self, log: u32) -> bool {
+        self.inner.is_lost(log)
+    }
+
+    fn is_kept(&self, log: u32) -> bool {
+        self.inner.is_kept(log)
+    }
+
     fn list(&mut self, alloc: Global) -> Result<Vec<u32>, DiskFault> {
         self.notes.note(format!(in alloc; "list"));
         self.inner.list(alloc)

@@ -1,8 +1,8 @@
 //! Disks that scripts run on.
 
-ghost use Rattle.std.specs.Prelude.{IfOk, IsTrue};
+ghost use Rattle.std.specs.Prelude.{◌≡◌, IsTrue, MatchResult};
 ghost use Rattle.bk_disk.specs.Disk.{AreSound};
-ghost use Rattle.bk_drive.specs.Failing.{NeverFails};
+ghost use Rattle.bk_store.specs.Opening.{NeverFails};
 ghost use Rattle.bk_script.specs.Run.{AnswersSteps};
 
 use bk_disk::{DirDisk, LogDisk, MemDisk};
@@ -17,7 +17,7 @@ pub trait ScriptDisk: LogDisk {
     ///
     /// # Errors
     ///
-    /// Those of `drive`.
+    /// Those of `drive`: not `Disk`, if the device never fails and views are sound.
     fn answers(
         self,
         alloc: Global,
@@ -25,8 +25,10 @@ pub trait ScriptDisk: LogDisk {
         dead: &[u64],
         steps: &[Step],
     ) -> Result<Vec<Answer>, OpenFault>
-        ensures { IfOk result (λ answers. AnswersSteps (IsTrue (Self.honest self)) (NeverFails Self.failures × AreSound Self.View.sound)
-            (Self.files self) settings dead.now steps.now answers.items) };
+        ensures { MatchResult result
+            (λ answers. AnswersSteps (IsTrue (Self.honest self)) (NeverFails Self.failures × AreSound Self.View.sound)
+            (Self.files self) settings dead.now steps.now answers.items)
+            (λ fault. NeverFails Self.failures → AreSound Self.View.sound → ¬ (fault ≡ OpenFault.Disk)) };
 }
 
 impl ScriptDisk for MemDisk {

@@ -33,12 +33,22 @@ pub enum RunFault {
 }
 
 impl From<ScriptFault> for RunFault {
+    ghost use Rattle.std.specs.Prelude.{◌≡◌};
+    ghost use Rattle.bk_script.specs.declared.fault.RunFault.TheVariants.{Script};
+
+    ghost from_gives = { λ fault e. e ≡ Script fault };
+
     fn from(fault: ScriptFault) -> RunFault {
         RunFault::Script(fault)
     }
 }
 
 impl From<io::Error> for RunFault {
+    ghost use Rattle.std.specs.Prelude.{◌≡◌};
+    ghost use Rattle.bk_script.specs.declared.fault.RunFault.TheVariants.{Output};
+
+    ghost from_gives = { λ error e. e ≡ Output error };
+
     fn from(error: io::Error) -> RunFault {
         RunFault::Output(error)
     }

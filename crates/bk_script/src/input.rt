@@ -1,7 +1,8 @@
 //! Reads an input to its end, with a bound on its bytes and on the calls of `read`.
 
-ghost use Rattle.std.specs.Prelude.{◌≤◌, IfOk, OnOk, vec_len};
+ghost use Rattle.std.specs.Prelude.{◌≤◌, IsErrOf, IfOk, OnOk, vec_len};
 ghost use Rattle.std.specs.Io.KnownBytes.{Consumes, IsAtEnd};
+ghost use Rattle.bk_store.specs.declared.answer.OpenFault.{OpenFault};
 
 use crate::ScriptFault;
 use std::alloc::Global;
@@ -23,6 +24,7 @@ pub(crate) fn read_input<R: Read>(alloc: Global, reader: &mut R) -> Result<Vec<u
     ensures bytes { IfOk result (λ input. Consumes (R.remaining reader.old) (R.remaining reader.new) input.items) }
     ensures end { OnOk result (IsAtEnd (R.remaining reader.new)) }
     ensures bound { IfOk result (λ input. vec_len input ≤ MAX_BYTES) }
+    ensures never { (fault : OpenFault) → ¬ (IsErrOf result (ScriptFault.Open fault)) }
 {
     let mut input = Vec::new(alloc);
     let mut chunk = [0; 8192];

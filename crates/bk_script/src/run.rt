@@ -1,11 +1,12 @@
 //! Runs a script. The whole input is read and parsed before the first step, and the answers are
 //! printed after the last.
 
-ghost use Rattle.std.specs.Prelude.{◌≡◌, ◌≤◌, List, IfOk, IfSome, IsErr, IsTrue, OnOk};
+ghost use Rattle.std.specs.Prelude.{◌≡◌, ◌≤◌, List, IfOk, IfSome, IsErr, IsErrOf, IsTrue, OnOk};
 ghost use Rattle.std.specs.Io.KnownBytes.{Appends, Keeps};
 ghost use Rattle.bk_disk.specs.Disk.{AreSound};
 ghost use Rattle.bk_drive.specs.declared.step.Step.{Step};
-ghost use Rattle.bk_drive.specs.Failing.{NeverFails};
+ghost use Rattle.bk_store.specs.Opening.{NeverFails};
+ghost use Rattle.bk_store.specs.declared.answer.OpenFault.TheVariants.{Disk};
 ghost use Rattle.bk_script.specs.Run.{AnswersScript, RunsOn, RunsScript};
 ghost use Rattle.bk_script.specs.Script.{IsScript};
 ghost use Rattle.bk_script.specs.Text.{lines_of};
@@ -75,7 +76,8 @@ fn tell<E: Write>(fault: &RunFault, errors: &mut E) {
 ///
 /// # Errors
 ///
-/// - `Script`: the script is not run, and nothing is written to `writer`.
+/// - `Script`: the script is not run, and nothing is written to `writer`. The reason is not that the
+///   store is not opened with `Disk`, if the device never fails and views are sound.
 /// - `Output`: a write fails.
 pub fn run_on<D: ScriptDisk, R: Read, W: Write>(
     alloc: Global,
@@ -89,6 +91,8 @@ pub fn run_on<D: ScriptDisk, R: Read, W: Write>(
         settings dead.now (R.remaining reader.old) (R.remaining reader.new) (W.contents writer.old) (W.contents writer.new)) }
     ensures bad { IfSome (R.remaining reader.old) (λ input. ((steps : List Step) → ¬ (IsScript input steps))
         → IsErr result × Keeps (W.contents writer.old) (W.contents writer.new)) }
+    ensures unfailing { NeverFails D.failures → AreSound D.View.sound
+        → ¬ (IsErrOf result (RunFault.Script (ScriptFault.Open Disk))) }
 {
     let answers = answers_to(alloc, disk, settings, dead, reader)?;
     write_answers(writer, &answers)?;
@@ -107,6 +111,7 @@ fn answers_to<D: ScriptDisk, R: Read>(
         (D.files disk) settings dead.now (R.remaining reader.old) (R.remaining reader.new) answers.items) }
     ensures bad { IfSome (R.remaining reader.old) (λ input. ((steps : List Step) → ¬ (IsScript input steps))
         → IsErr result) }
+    ensures unfailing { NeverFails D.failures → AreSound D.View.sound → ¬ (IsErrOf result (ScriptFault.Open Disk)) }
 {
     let input = read_input(alloc, reader)?;
     let steps = read_steps(alloc, &input)?;

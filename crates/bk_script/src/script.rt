@@ -1,6 +1,7 @@
 //! Parses a script.
 
-ghost use Rattle.std.specs.Prelude.{◌≡◌, ℕ, IfOk};
+ghost use Rattle.std.specs.Prelude.{◌≡◌, ℕ, IsErrOf, IfOk};
+ghost use Rattle.bk_store.specs.declared.answer.OpenFault.{OpenFault};
 ghost use Rattle.bk_script.specs.Script.{IsScript, IsFirstBad};
 
 use crate::ScriptFault;
@@ -17,6 +18,7 @@ use std::alloc::Global;
 pub(crate) fn read_steps(alloc: Global, input: &[u8]) -> Result<Vec<Step>, ScriptFault>
     ensures ok { IfOk result (λ steps. IsScript input.now steps.items) }
     ensures bad { (number : ℕ) → result ≡ Err (ScriptFault.Bad number) → IsFirstBad input.now number }
+    ensures never { (fault : OpenFault) → ¬ (IsErrOf result (ScriptFault.Open fault)) }
 {
     let mut steps = Vec::new(alloc);
     for (index, line) in input.split(|byte| *byte == b'\n').enumerate() {

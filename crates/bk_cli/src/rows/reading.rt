@@ -36,10 +36,10 @@ Exit status: 0, or 1 if a line says `fault`, `map differs` or `digest`, or on a 
 command line is wrong. `unknown` does not change it.
 
 Examples:
-  $ bk_shell check /var/bookie/current
+  $ ./bookie check /var/bookie/current
   0 ok
   3 unsealed
-  $ bk_shell check --digest auto /var/bookie/current
+  $ ./bookie check --digest auto /var/bookie/current
   digest 1073 1 1
   0 ok
   3 unsealed
@@ -61,7 +61,7 @@ Prints one line per log, by rising id: `ID LENGTH STATE`. STATE is
 Exit status: 0, 1 on a fault, 2 if the command line is wrong.
 
 Example:
-  $ bk_shell logs /var/bookie/current
+  $ ./bookie logs /var/bookie/current
   0 1089 sealed
   3 1049 open
 ",
@@ -85,7 +85,7 @@ counted up to there.
 Exit status: 0, 1 on a fault, 2 if the command line is wrong.
 
 Example:
-  $ bk_shell stat --dead 2 /var/bookie/current
+  $ ./bookie stat --dead 2 /var/bookie/current
   0 1089 1 25 25 1000 sealed
   3 1087 3 63 41 650 open
   logs 2 length 2176 entries 4 bytes 88 live 66 share 750
@@ -107,7 +107,7 @@ counted up to there.
 Exit status: 0, 1 on a fault, 2 if the command line is wrong.
 
 Example:
-  $ bk_shell ledgers /var/bookie/current
+  $ ./bookie ledgers /var/bookie/current
   1 3 66 0 2 2
   2 1 22 5 5 1
 ",
@@ -128,10 +128,10 @@ searched up to there.
 Exit status: 0, 1 on a fault, 2 if the command line is wrong.
 
 Examples:
-  $ bk_shell entries /var/bookie/current 1
+  $ ./bookie entries /var/bookie/current 1
   0 3 1050 21
   2 3 1071 20
-  $ bk_shell entries /var/bookie/current 1 2
+  $ ./bookie entries /var/bookie/current 1 2
   2 3 1071 20
 ",
     },
@@ -151,7 +151,7 @@ searched up to there.
 Exit status: 0, also if the entry is not found; 1 on a fault; 2 if the command line is wrong.
 
 Example:
-  $ bk_shell find /var/bookie/current 1 0
+  $ ./bookie find /var/bookie/current 1 0
   0 1028 68656c6c6f
 ",
     },
@@ -173,10 +173,10 @@ scanned. With --data each line ends with the data in hexadecimal, or `-` if ther
 Exit status: 0, 1 on a fault, 2 if the command line is wrong.
 
 Examples:
-  $ bk_shell scan /var/bookie/current 0
+  $ ./bookie scan /var/bookie/current 0
   1028 1 0 25
   entries 1 foreign 1 torn 0
-  $ bk_shell scan --ledger 1 --data /var/bookie/current 0.log
+  $ ./bookie scan --ledger 1 --data /var/bookie/current 0.log
   1028 1 0 25 68656c6c6f
   entries 1 foreign 1 torn 0
 ",
@@ -193,7 +193,7 @@ the position of the ledgers map, COUNT its number of ledgers. Both are 0 in a lo
 Exit status: 0, 1 on a fault, 2 if the command line is wrong.
 
 Example:
-  $ bk_shell header /var/bookie/current 0
+  $ ./bookie header /var/bookie/current 0
   version 1 map 1049 count 1
 ",
     },
@@ -210,7 +210,7 @@ header.
 Exit status: 0, 1 on a fault, 2 if the command line is wrong.
 
 Example:
-  $ bk_shell map /var/bookie/current 0
+  $ ./bookie map /var/bookie/current 0
   1 25
 ",
     },

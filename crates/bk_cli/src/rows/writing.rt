@@ -56,11 +56,11 @@ Exit status: 0 if all was done; 1 on a fault, `fault TEXT` on the error stream, 
 before stays done; 2 if the command line is wrong.
 
 Examples:
-  $ bk_shell compact --dead 2 --dry-run /var/bookie/current
+  $ ./bookie compact --dead 2 --dry-run /var/bookie/current
   0 1325 compact 1
   1 1085 remove
   before 3 after 2 freed 1321 moved 1
-  $ bk_shell compact --dead 2 /var/bookie/current
+  $ ./bookie compact --dead 2 /var/bookie/current
   before 3 after 2 freed 1321 moved 1
 ",
     },
@@ -74,21 +74,25 @@ Appends the ledgers map of the log's entries, syncs it, then writes its position
 syncs that. A bookie then finds the log's ledgers without reading the whole log. Prints
 `sealed LOG map OFFSET count LEDGERS`.
 
-The log is left as it is, with a fault, in these cases:
+The log is left as it is, with `fault log LOG: REASON`, in these cases:
   short                  the file is shorter than a header (1024 bytes)
   bad magic, version V   the header is invalid
   no map in version 0    the header of this version has no place for a map
   sealed already         the header names a map
   bad length AT N        a length field below 16 follows whole records
-  torn N                 N bytes at the end are no whole record
+  torn N at AT           the N bytes from AT on are no whole record
+  too long N             the file has more than 2^32 - 1 bytes
   no room for a map      it would end past byte 2^32 - 1
+If there is a way on, the line `help: TEXT` names it. A log whose file has another name is left too,
+since its bytes would change under both names.
 
 With --cut-torn a torn end or a bad length is no fault: what follows the last whole record is cut off
 before the log is sealed. If the header names a map that is not there, not whole, or not that of the
 entries, bytes 8 to 20 of the header are cleared. First the whole log is copied to a file beside it,
 1f.log to 1f.log.torn, and synced, so nothing is lost. No reader takes that file for a log, and no
-command removes it. If FILE exists, the log is left, `copy exists: FILE`: move FILE away. It is the
-copy of an earlier call, or a part of one if that call was killed. Lines before the last:
+command removes it. If a call is killed, the next one goes on with its copy, or with the part of it,
+1f.log.torn.new. If one of them is something else, the log is left, `copy exists: FILE`: move FILE
+away and call it again. Lines before the last:
   cut LOG at AT bytes N copy FILE               N bytes from AT on were cut
   cleared LOG map OFFSET count COUNT copy FILE  the header named this map
 A log of version 0, and one whose map is there after the cut, is cut only. A log with nothing to cut
@@ -101,14 +105,15 @@ Exit status: 0 if the log was sealed or cut; 1 on a fault, `fault TEXT` on the e
 line is wrong.
 
 Examples:
-  $ bk_shell seal /var/bookie/current 3.log
+  $ ./bookie seal /var/bookie/current 3.log
   sealed 3 map 1049 count 1
-  $ bk_shell seal /var/bookie/current 31
-  fault torn 10
-  $ bk_shell seal --cut-torn /var/bookie/current 31
+  $ ./bookie seal /var/bookie/current 31
+  fault log 31: torn 10 at 1049
+  help: './bookie seal --cut-torn' cuts off what is no record, and keeps a copy of the log
+  $ ./bookie seal --cut-torn /var/bookie/current 31
   cut 31 at 1049 bytes 10 copy /var/bookie/current/1f.log.torn
   sealed 31 map 1049 count 1
-  $ bk_shell check /var/bookie/current
+  $ ./bookie check /var/bookie/current
   0 ok
   3 ok
   31 ok

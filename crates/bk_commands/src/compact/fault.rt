@@ -27,7 +27,7 @@ pub(super) enum CompactFault {
     /// A file does not name deleted ledgers.
     #[error("{0}")]
     Dead(DeadFault),
-    /// The system does not tell whether a file is at this path.
+    /// The system does not tell whether a file is at this path, or what it has.
     #[error("disk: {path}: {reason}")]
     Name { path: String, reason: io::Error },
     /// The directory has a bookie's index, of which this path is one file.
@@ -252,6 +252,7 @@ fn row_of<'f>(
         }),
         CompactFault::Sweep(SweepFault::Open(OpenFault::TooLong(log))) => Ok(FaultRow {
             log: Some(*log),
+            help: Some(WayOn::TooLong.to_string(alloc)?),
             ..named("log too long")
         }),
         CompactFault::Disk(_)

@@ -8,43 +8,56 @@ use super::rows::{KeptRow, write_row};
 use bk_disk::name_of;
 use bk_inspect::Form;
 use bk_record::HEADER_LENGTH;
-use std::alloc::{AllocError, Global};
+use std::alloc::Global;
 use std::collections::BTreeMap;
 use std::fs;
-use std::io::Write;
+use std::io::{ErrorKind, Write};
 
 /// Returns the logs that a compaction keeps, rising: of these, with their lengths, those that are short and not
 /// empty, and have no copy aside.
+///
+/// # Errors
+///
+/// - `Name`: a short file or its copy cannot be read.
+/// - `Memory`.
 pub(super) fn kept_logs(
     rt: &HostRuntime,
     path: &str,
     lengths: &BTreeMap<u32, u64>,
-) -> Result<Vec<u32>, AllocError> {
+) -> Result<Vec<u32>, CompactFault> {
     let mut kept = Vec::new(rt.alloc());
     for (log, length) in lengths.iter() {
         let is_short = 0 < *length && *length < HEADER_LENGTH as u64;
         if is_short && !is_copied(rt, path, *log)? {
-            kept.push(*log)?;
+            let Ok(()) = kept.push(*log) else {
+                return Err(CompactFault::Memory);
+            };
         }
     }
     Ok(kept)
 }
 
-/// Returns whether the file of a log has a copy aside, as `seal --cut-torn` makes it, with the same bytes.
-fn is_copied(rt: &HostRuntime, path: &str, log: u32) -> Result<bool, AllocError> {
+/// Returns whether the file of a log has a copy aside, as `seal --cut-torn` makes it, with the same
+/// bytes. Follows no link.
+fn is_copied(rt: &HostRuntime, path: &str, log: u32) -> Result<bool, CompactFault> {
     let name = name_of(rt.alloc(), log)?;
     let file = format!(in rt.alloc(); "{path}/{name}")?;
     let copy = format!(in rt.alloc(); "{path}/{name}.torn")?;
-    let is_short = match fs::metadata(rt, copy.as_str()) {
-        Ok(found) => found.is_file() && found.len() < HEADER_LENGTH as u64,
-        Err(_) => false,
-    };
-    if !is_short {
-        return Ok(false);
+    match fs::symlink_metadata(rt, copy.as_str()) {
+        Ok(found) if found.is_file() && found.len() < HEADER_LENGTH as u64 => {}
+        Ok(_) => return Ok(false),
+        Err(reason) if reason.kind() == ErrorKind::NotFound => return Ok(false),
+        Err(reason) => return Err(CompactFault::Name { path: copy, reason }),
     }
-    match (fs::read(rt, file.as_str()), fs::read(rt, copy.as_str())) {
-        (Ok(bytes), Ok(copied)) => Ok(bytes == copied),
-        _ => Ok(false),
+    let bytes = bytes_of(rt, file)?;
+    Ok(bytes == bytes_of(rt, copy)?)
+}
+
+/// Returns the bytes of a file.
+fn bytes_of(rt: &HostRuntime, path: String) -> Result<Vec<u8>, CompactFault> {
+    match fs::read(rt, path.as_str()) {
+        Ok(bytes) => Ok(bytes),
+        Err(reason) => Err(CompactFault::Name { path, reason }),
     }
 }
 

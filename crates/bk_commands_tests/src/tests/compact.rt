@@ -134,8 +134,47 @@ fn a_folder_is_compacted_as_planned(rt: HostRuntime) -> Result<(), Fail> {
     Ok(())
 }
 
+/// The logs of a directory of which only the plan is shown.
+const DRY_LOGS: [&str; 3] = [
+    "bk_shell_dry/0.log",
+    "bk_shell_dry/1.log",
+    "bk_shell_dry/2.log",
+];
+
+/// A dry run without a dead ledger: all lives.
+const DRY: [Row<'static>; 1] = [Row {
+    words: &["bk_shell", "compact", "--dry-run", "bk_shell_dry"],
+    output: "before 3 after 3 freed 0 moved 0\n",
+    ..DONE
+}];
+
+/// The bytes of these logs, one behind the other.
+fn bytes_of_logs(rt: &HostRuntime) -> Result<Vec<u8>, Fail> {
+    let mut bytes = Vec::new(rt.alloc());
+    for path in DRY_LOGS.iter() {
+        bytes.extend_from_slice(&fs::read(rt, *path)?)?;
+    }
+    Ok(bytes)
+}
+
+#[test]
+fn a_dry_run_writes_nothing(rt: HostRuntime) -> Result<(), Fail> {
+    fill(&rt, "bk_shell_dry")?;
+    fs::remove_file(&rt, "bk_shell_dry/writer.lock")?;
+    let before = bytes_of_logs(&rt)?;
+    check(&rt, &rt, &DRY);
+    let after = bytes_of_logs(&rt)?;
+    assert!(rt; before.len() == 3458 && after.as_slice() == before.as_slice());
+    for path in DRY_LOGS.iter() {
+        fs::remove_file(&rt, *path)?;
+    }
+    // No other file is there, so the directory is empty now.
+    fs::remove_dir(&rt, "bk_shell_dry")?;
+    Ok(())
+}
+
 /// Compactions with files of deleted ledgers, and what each is to leave.
-const DEAD_FILES: [Row<'static>; 5] = [
+const DEAD_FILES: [Row<'static>; 7] = [
     Row {
         words: &[
             "bk_shell",
@@ -179,6 +218,31 @@ const DEAD_FILES: [Row<'static>; 5] = [
         errors: "{\"fault\":\"bad line\",\"file\":\"bk_shell_dead_cr\",\"line\":2,\"reason\":\"it ends in a carriage return, which tr -d '\\\\r' removes\"}\n",
         ..TOLD
     },
+    // Each of several files is read, the last one and the first.
+    Row {
+        words: &[
+            "bk_shell",
+            "compact",
+            "--dry-run",
+            "--dead-file=bk_shell_dead_seven",
+            "--dead-file=bk_shell_dead_list",
+            "bk_shell_dead",
+        ],
+        output: PLANNED,
+        ..DONE
+    },
+    Row {
+        words: &[
+            "bk_shell",
+            "compact",
+            "--dry-run",
+            "--dead-file=bk_shell_dead_list",
+            "--dead-file=bk_shell_dead_seven",
+            "bk_shell_dead",
+        ],
+        output: PLANNED,
+        ..DONE
+    },
     Row {
         words: &[
             "bk_shell",
@@ -193,10 +257,11 @@ const DEAD_FILES: [Row<'static>; 5] = [
 ];
 
 /// Files of deleted ledgers: their names, and what is in them.
-const FILES: [(&str, &str); 3] = [
+const FILES: [(&str, &str); 4] = [
     ("bk_shell_dead_bad", "2\n\n 7\n"),
     ("bk_shell_dead_list", "7\n\n2"),
     ("bk_shell_dead_cr", "7\n2\r\n"),
+    ("bk_shell_dead_seven", "7\n"),
 ];
 
 #[test]

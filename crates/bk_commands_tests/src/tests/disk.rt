@@ -1,5 +1,6 @@
 //! A compaction of a disk in memory.
 
+use super::holds;
 use bk_commands::compact_disk;
 use bk_disk::{LogDisk, MemDisk};
 use bk_inspect::Form;
@@ -46,6 +47,51 @@ fn what_lives_in_a_log_is_copied_and_the_log_goes(rt: HostRuntime) -> Result<(),
     Ok(())
 }
 
+/// The number of entries of a log with small entries, more than are copied between two looks at the progress.
+const SMALL: u64 = 5000;
+
+/// Their records, of 21 bytes each.
+fn small_records(alloc: Global) -> Result<Vec<u8>, Fail> {
+    let mut bytes = Vec::new(alloc);
+    for entry in 0..SMALL {
+        bytes.extend_from_slice(b"\0\0\0\x11\0\0\0\0\0\0\0\x01")?;
+        bytes.extend_from_slice(&entry.to_be_bytes())?;
+        bytes.push(b'x')?;
+    }
+    Ok(bytes)
+}
+
+/// A disk whose log 0 has these records, and one of 60,020 bytes of ledger 2.
+fn disk_of_small(alloc: Global, records: &[u8]) -> Result<MemDisk, Fail> {
+    let mut bytes = Vec::from_slice(alloc, b"BKLO\0\0\0\x01")?;
+    bytes.resize(1024, 0)?;
+    bytes.extend_from_slice(records)?;
+    bytes.extend_from_slice(b"\0\0\xea\x70\0\0\0\0\0\0\0\x02")?;
+    let end = bytes.len().saturating_add(60_008);
+    bytes.resize(end, 0)?;
+    let mut disk = MemDisk::new(alloc);
+    disk.create(alloc, 0)?;
+    disk.append(alloc, 0, &bytes)?;
+    Ok(disk)
+}
+
+#[test]
+fn all_of_many_small_entries_are_copied(rt: HostRuntime) -> Result<(), Fail> {
+    let alloc = rt.alloc();
+    let mut output = Vec::new(alloc);
+    let mut errors = Vec::new(alloc);
+    let records = small_records(alloc)?;
+    let disk = disk_of_small(alloc, &records)?;
+    let left = compact_disk(&rt, Form::Text, disk, 800, &[2], &mut output, &mut errors);
+    let Some(mut left) = left else {
+        return Err(Fail::new("the status is 1"));
+    };
+    assert!(rt; holds(&output, "before 1 after 1 freed 59980 moved 5000\n") && errors.is_empty());
+    let copied = left.read_at(alloc, 1, 1024, 105_000)?;
+    assert!(rt; copied.as_slice() == records.as_slice());
+    Ok(())
+}
+
 #[test]
 fn a_log_that_can_not_be_read_ends_a_compaction(rt: HostRuntime) -> Result<(), Fail> {
     let alloc = rt.alloc();
@@ -56,7 +102,7 @@ fn a_log_that_can_not_be_read_ends_a_compaction(rt: HostRuntime) -> Result<(), F
     let left = compact_disk(&rt, Form::Text, disk, 800, &[], &mut output, &mut errors);
     assert!(rt; left.is_none() && output.is_empty());
     let told =
-        "fault log 0: bad length 1074 7\nhelp: 'bk_shell check' tells of all such logs, 'bk_shell seal --cut-torn' cuts one there and keeps a copy\n";
+        "fault log 0: bad length 1074 7\nhelp: './bookie check' lists all such logs, './bookie seal --cut-torn' cuts one there and keeps a copy\n";
     assert!(rt; errors.as_slice() == told.as_bytes());
     Ok(())
 }

@@ -98,12 +98,12 @@ const ENDED: [Row<'static>; 5] = [
     },
     Row {
         words: &["bk_shell", "--json", "compact", "bk_shell_bad"],
-        errors: "{\"fault\":\"bad log\",\"log\":0,\"reason\":\"bad magic\",\"help\":\"where 'bk_shell scan' shows no entry in the log, a crash may have left it so, and its file can be moved away\"}\n",
+        errors: "{\"fault\":\"bad log\",\"log\":0,\"reason\":\"bad magic\",\"help\":\"if './bookie scan' shows no entry in the log, a crash may have left it so, and its file can be moved away\"}\n",
         ..TOLD
     },
     Row {
         words: &["bk_shell", "compact", "bk_shell_bad"],
-        errors: "fault log 0: bad magic\nhelp: where 'bk_shell scan' shows no entry in the log, a crash may have left it so, and its file can be moved away\n",
+        errors: "fault log 0: bad magic\nhelp: if './bookie scan' shows no entry in the log, a crash may have left it so, and its file can be moved away\n",
         ..TOLD
     },
 ];
@@ -132,7 +132,7 @@ const SEALED: [Row<'static>; 5] = [
     },
     Row {
         words: &["bk_shell", "seal", "bk_shell_seal", "2"],
-        errors: "fault sealed already\n",
+        errors: "fault log 2: sealed already\nhelp: if './bookie check' finds its map wrong, './bookie seal --cut-torn' writes the map anew\n",
         ..TOLD
     },
     Row {
@@ -162,7 +162,8 @@ fn a_log_is_sealed(rt: HostRuntime) -> Result<(), Fail> {
 const CUT: [Row<'static>; 3] = [
     Row {
         words: &["bk_shell", "seal", "bk_shell_cut", "2"],
-        errors: "fault torn 3\n",
+        errors: "fault log 2: torn 3 at 1048\n\
+help: './bookie seal --cut-torn' cuts off what is no record, and keeps a copy of the log\n",
         ..TOLD
     },
     Row {

@@ -159,6 +159,16 @@ fn a_folder_as_json(rt: HostRuntime) -> Result<(), Fail> {
             "{\"found\":true,\"log\":3,\"at\":1028,\"data\":\"00ff\"}\n",
             TOLD,
         ),
+    ];
+    let files = [SEALED_LOG, MIXED_LOG, SHORT_LOG, BAD_LOG];
+    let mut disk = disk_of(rt.alloc(), &files)?;
+    check_json(&rt, rt.alloc(), &mut disk, &rows);
+    Ok(())
+}
+
+#[test]
+fn the_entries_of_a_folder_as_json(rt: HostRuntime) -> Result<(), Fail> {
+    let rows = [
         told(
             DirCommand::Ledgers,
             "{\"ledger\":1,\"records\":4,\"bytes\":91,\"first\":0,\"last\":2,\"logs\":3}\n\
@@ -230,40 +240,42 @@ fn how_much_lives_as_json(rt: HostRuntime) -> Result<(), Fail> {
 /// A log whose header begins so, with one entry and a map of its ledger, and what `check` shows of it.
 type Bad<'a> = (&'a [u8], &'a [u8], &'a str);
 
+/// Logs with a fault each.
+static BAD_LOGS: [Bad<'static>; 7] = [
+    (b"BKLX\0\0\0\x01", HELLO, "\"bad magic\"}\n"),
+    (b"BKLO\0\0\0\x02", HELLO, "\"version\",\"version\":2}\n"),
+    (
+        b"BKLO\0\0\0\x01\xff\xff\xff\xff\xff\xff\xff\xff\0\0\0\x01",
+        HELLO,
+        "\"negative number\"}\n",
+    ),
+    (
+        b"BKLO\0\0\0\x01\0\0\0\0\0\0\x04\x04\0\0\0\x01",
+        HELLO_AND_MAP,
+        "\"not a map\",\"at\":1028}\n",
+    ),
+    (
+        b"BKLO\0\0\0\x01\0\0\0\0\0\0\x04\x19\0\0\0\x02",
+        HELLO_AND_MAP,
+        "\"count differs\",\"found\":1}\n",
+    ),
+    (
+        b"BKLO\0\0\0\x01\0\0\0\0\0\0\x04\0\0\0\0\x01",
+        b"\0\0\0\x24\xff\xff\xff\xff\xff\xff\xff\xff\xff\xff\xff\xff\xff\xff\xff\xfe\0\0\0\x02\
+\0\0\0\0\0\0\0\x01\0\0\0\0\0\0\0\x19",
+        "\"map length\",\"at\":1024}\n",
+    ),
+    (
+        b"BKLO\0\0\0\x01\0\0\0\0\0\0\x04\0\0\0\0\x01",
+        b"\0\0\0\x34\xff\xff\xff\xff\xff\xff\xff\xff\xff\xff\xff\xff\xff\xff\xff\xfe\0\0\0\x02\
+\x7f\xff\xff\xff\xff\xff\xff\xff\0\0\0\0\0\0\0\x19\x7f\xff\xff\xff\xff\xff\xff\xff\0\0\0\0\0\0\0\x19",
+        "\"repeated\",\"ledger\":9223372036854775807}\n",
+    ),
+];
+
 #[test]
 fn each_fault_of_a_log_as_json(rt: HostRuntime) -> Result<(), Fail> {
-    let table: [Bad<'_>; 7] = [
-        (b"BKLX\0\0\0\x01", HELLO, "\"bad magic\"}\n"),
-        (b"BKLO\0\0\0\x02", HELLO, "\"version\",\"version\":2}\n"),
-        (
-            b"BKLO\0\0\0\x01\xff\xff\xff\xff\xff\xff\xff\xff\0\0\0\x01",
-            HELLO,
-            "\"negative number\"}\n",
-        ),
-        (
-            b"BKLO\0\0\0\x01\0\0\0\0\0\0\x04\x04\0\0\0\x01",
-            HELLO_AND_MAP,
-            "\"not a map\",\"at\":1028}\n",
-        ),
-        (
-            b"BKLO\0\0\0\x01\0\0\0\0\0\0\x04\x19\0\0\0\x02",
-            HELLO_AND_MAP,
-            "\"count differs\",\"found\":1}\n",
-        ),
-        (
-            b"BKLO\0\0\0\x01\0\0\0\0\0\0\x04\0\0\0\0\x01",
-            b"\0\0\0\x24\xff\xff\xff\xff\xff\xff\xff\xff\xff\xff\xff\xff\xff\xff\xff\xfe\0\0\0\x02\
-\0\0\0\0\0\0\0\x01\0\0\0\0\0\0\0\x19",
-            "\"map length\",\"at\":1024}\n",
-        ),
-        (
-            b"BKLO\0\0\0\x01\0\0\0\0\0\0\x04\0\0\0\0\x01",
-            b"\0\0\0\x34\xff\xff\xff\xff\xff\xff\xff\xff\xff\xff\xff\xff\xff\xff\xff\xfe\0\0\0\x02\
-\x7f\xff\xff\xff\xff\xff\xff\xff\0\0\0\0\0\0\0\x19\x7f\xff\xff\xff\xff\xff\xff\xff\0\0\0\0\0\0\0\x19",
-            "\"repeated\",\"ledger\":9223372036854775807}\n",
-        ),
-    ];
-    for (head, behind, shown) in &table {
+    for (head, behind, shown) in &BAD_LOGS {
         let file = File {
             log: 0,
             head,

@@ -57,6 +57,14 @@ impl LogDisk for Leaving {
 
     fn bounds(&self) {}
 
+    fn is_lost(&self, log: u32) -> bool {
+        self.disk.is_lost(log)
+    }
+
+    fn is_kept(&self, log: u32) -> bool {
+        self.disk.is_kept(log)
+    }
+
     fn list(&mut self, alloc: Global) -> Result<Vec<u32>, DiskFault> {
         let Ok(ids) = self.disk.list(alloc) else {
             return Err(DiskFault::Memory);

@@ -47,25 +47,26 @@ fn a_sealed_log(rt: HostRuntime) -> Result<(), Fail> {
     Ok(())
 }
 
+/// A log that is shorter than a header.
+const SHORT_LOG: File<'static> = File {
+    log: 7,
+    head: b"",
+    behind: b"",
+    length: 1023,
+};
+
+/// A log with two records of an entry, and a torn end.
+const TWICE_LOG: File<'static> = File {
+    log: 31,
+    head: OPEN,
+    behind: b"\0\0\0\x10\0\0\0\0\0\0\0\x02\0\0\0\0\0\0\0\x05\
+\0\0\0\x12\0\0\0\0\0\0\0\x02\0\0\0\0\0\0\0\x05\x00\xff\0\0",
+    length: 1068,
+};
+
 #[test]
 fn several_logs(rt: HostRuntime) -> Result<(), Fail> {
-    let files = [
-        OPEN_LOG,
-        SEALED_LOG,
-        File {
-            log: 7,
-            head: b"",
-            behind: b"",
-            length: 1023,
-        },
-        File {
-            log: 31,
-            head: OPEN,
-            behind: b"\0\0\0\x10\0\0\0\0\0\0\0\x02\0\0\0\0\0\0\0\x05\
-\0\0\0\x12\0\0\0\0\0\0\0\x02\0\0\0\0\0\0\0\x05\x00\xff\0\0",
-            length: 1068,
-        },
-    ];
+    let files = [OPEN_LOG, SEALED_LOG, SHORT_LOG, TWICE_LOG];
     let rows = [
         done(
             DirCommand::Logs,

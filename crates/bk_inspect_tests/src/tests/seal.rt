@@ -65,7 +65,13 @@ fn a_log_is_sealed(rt: HostRuntime) -> Result<(), Fail> {
     ];
     check(&rt, alloc, &mut disk, &rows, "a sealed log");
     let again = seal(alloc, Form::Text, &mut disk, 3);
-    expect(&rt, &again, 1, "", "fault sealed already\n");
+    expect(
+        &rt,
+        &again,
+        1,
+        "",
+        "fault log 3: sealed already\nhelp: if './bookie check' finds its map wrong, './bookie seal --cut-torn' writes the map anew\n",
+    );
     Ok(())
 }
 
@@ -109,22 +115,42 @@ fn logs_of_no_entry_and_of_two_ledgers_are_sealed(rt: HostRuntime) -> Result<(),
 /// Logs that are not sealed, and why.
 const REFUSED: [(&[u8], &[u8], usize, &str); 8] = [
     (OPEN, b"", 1023, "short"),
-    (b"BKLX\0\0\0\x01", HELLO, 1049, "bad magic"),
-    (b"BKLO\0\0\0\x02", HELLO, 1049, "version 2"),
+    (
+        b"BKLX\0\0\0\x01",
+        HELLO,
+        1049,
+        "bad magic\nhelp: if './bookie scan' shows no entry in the log, a crash may have left it so, and its file can be moved away",
+    ),
+    (
+        b"BKLO\0\0\0\x02",
+        HELLO,
+        1049,
+        "version 2\nhelp: if './bookie scan' shows no entry in the log, a crash may have left it so, and its file can be moved away",
+    ),
     (b"BKLO\0\0\0\0", HELLO, 1049, "no map in version 0"),
-    (SEALED, HELLO_AND_MAP, 1089, "sealed already"),
+    (
+        SEALED,
+        HELLO_AND_MAP,
+        1089,
+        "sealed already\nhelp: if './bookie check' finds its map wrong, './bookie seal --cut-torn' writes the map anew",
+    ),
     (
         b"BKLO\0\0\0\x01\0\0\0\0\0\0\0\0\0\0\0\x01",
         HELLO,
         1049,
-        "sealed already",
+        "sealed already\nhelp: if './bookie check' finds its map wrong, './bookie seal --cut-torn' writes the map anew",
     ),
-    (OPEN, HELLO, 1048, "torn 24"),
+    (
+        OPEN,
+        HELLO,
+        1048,
+        "torn 24 at 1024\nhelp: './bookie seal --cut-torn' cuts off what is no record, and keeps a copy of the log",
+    ),
     (
         OPEN,
         b"\0\0\0\x07\0\0\0\0\0\0\0\0\0\0\0\0\0\0\0\0\0\0\0\0",
         1048,
-        "bad length 1024 7",
+        "bad length 1024 7\nhelp: './bookie seal --cut-torn' cuts off what is no record, and keeps a copy of the log",
     ),
 ];
 
@@ -140,7 +166,7 @@ fn logs_that_are_not_sealed(rt: HostRuntime) -> Result<(), Fail> {
         };
         let mut disk = disk_of(alloc, &[file])?;
         let shown = seal(alloc, Form::Text, &mut disk, 0);
-        let told = format!(in alloc; "fault {text}\n")?;
+        let told = format!(in alloc; "fault log 0: {text}\n")?;
         expect(&rt, &shown, 1, "", &told);
         let mut wanted = file_of(alloc, head, behind)?;
         wanted.truncate(*length);
@@ -148,42 +174,48 @@ fn logs_that_are_not_sealed(rt: HostRuntime) -> Result<(), Fail> {
     }
     let mut disk = disk_of(alloc, &[SEALED_LOG])?;
     let shown = seal(alloc, Form::Text, &mut disk, 9);
-    expect(&rt, &shown, 1, "", "fault no log\n");
+    expect(&rt, &shown, 1, "", "fault log 9: no log\n");
     let shown = seal(alloc, Form::Json, &mut disk, 9);
     expect(&rt, &shown, 1, "", "{\"fault\":\"no log\",\"log\":9}\n");
     Ok(())
 }
 
+/// Logs that are not sealed, and the objects that tell so.
+static REFUSED_OBJECTS: [(File<'static>, &str); 3] = [
+    (
+        File {
+            length: 1048,
+            ..OPEN_LOG
+        },
+        "{\"fault\":\"torn\",\"at\":1024,\"torn\":24,\"log\":3,\"help\":\"'./bookie seal --cut-torn' cuts off what is no record, and keeps a copy of the log\"}\n",
+    ),
+    (
+        File {
+            log: 4,
+            behind: b"\0\0\0\x07\0\0\0\0\0\0\0\0\0\0\0\0\0\0\0\0\0\0\0\0",
+            length: 1048,
+            head: OPEN,
+        },
+        "{\"fault\":\"bad length\",\"at\":1024,\"length\":7,\"log\":4,\"help\":\"'./bookie seal --cut-torn' cuts off what is no record, and keeps a copy of the log\"}\n",
+    ),
+    (
+        File {
+            log: 5,
+            head: b"BKLO\0\0\0\0",
+            ..OPEN_LOG
+        },
+        "{\"fault\":\"no map in version\",\"version\":0,\"log\":5}\n",
+    ),
+];
+
 #[test]
 fn a_refusal_as_json(rt: HostRuntime) -> Result<(), Fail> {
     let alloc = rt.alloc();
-    let cut = File {
-        length: 1048,
-        ..OPEN_LOG
-    };
-    let bad = File {
-        log: 4,
-        behind: b"\0\0\0\x07\0\0\0\0\0\0\0\0\0\0\0\0\0\0\0\0\0\0\0\0",
-        length: 1048,
-        head: OPEN,
-    };
-    let mut disk = disk_of(alloc, &[cut, bad])?;
-    let shown = seal(alloc, Form::Json, &mut disk, 3);
-    expect(
-        &rt,
-        &shown,
-        1,
-        "",
-        "{\"fault\":\"torn\",\"torn\":24,\"log\":3}\n",
-    );
-    let shown = seal(alloc, Form::Json, &mut disk, 4);
-    expect(
-        &rt,
-        &shown,
-        1,
-        "",
-        "{\"fault\":\"bad length\",\"at\":1024,\"length\":7,\"log\":4}\n",
-    );
+    for (file, object) in &REFUSED_OBJECTS {
+        let mut disk = disk_of(alloc, &[*file])?;
+        let shown = seal(alloc, Form::Json, &mut disk, u32::from(file.log));
+        expect(&rt, &shown, 1, "", object);
+    }
     Ok(())
 }
 
@@ -201,6 +233,10 @@ fn seal_failing(
     Ok((bytes, disk))
 }
 
+/// What is told of a log with seven bytes of its map.
+const TORN_7: &str = "fault log 3: torn 7 at 1049\n\
+help: './bookie seal --cut-torn' cuts off what is no record, and keeps a copy of the log\n";
+
 /// How long the log is where one call of those that sealing makes fails.
 const FAILING: [usize; 8] = [1049, 1049, 1049, 1056, 1089, 1089, 1089, 1089];
 
@@ -215,8 +251,9 @@ fn a_device_that_fails_while_a_log_is_sealed(rt: HostRuntime) -> Result<(), Fail
         assert_eq!(rt; bytes.starts_with(SEALED), sealed, "call {call}");
         let again = seal(alloc, Form::Text, &mut disk, 3);
         let told = match call {
-            4 => "fault torn 7\n",
-            8 => "fault sealed already\n",
+            4 => TORN_7,
+            8 =>
+                "fault log 3: sealed already\nhelp: if './bookie check' finds its map wrong, './bookie seal --cut-torn' writes the map anew\n",
             _ => "",
         };
         assert_eq!(rt; again.errors.as_slice(), told.as_bytes(), "call {call}");

@@ -70,6 +70,14 @@ impl LogDisk for Lengths {
 
     fn bounds(&self) {}
 
+    fn is_lost(&self, _log: u32) -> bool {
+        false
+    }
+
+    fn is_kept(&self, _log: u32) -> bool {
+        false
+    }
+
     fn list(&mut self, alloc: Global) -> Result<Vec<u32>, DiskFault> {
         let mut ids = Vec::new(alloc);
         if self.length.is_some() {

@@ -52,7 +52,7 @@ the error stream, or could not be printed; 2 if the command line is wrong. Each 
 that fails on DIR is reported once on the error stream, `FILE: OPERATION: REASON`, the first first.
 
 Example:
-  $ bk_shell load --threads 2 --adds 1
+  $ ./bookie load --threads 2 --adds 1
   adds 1 bytes 17 held 0 refused 0 milliseconds 4
   takes 0 wrong 0 ledgers deleted 0
   logs made 1 compacted 0 removed 0
@@ -130,7 +130,8 @@ pub(super) fn load_call<'a, S: AsStr>(
 
 /// Returns the part of the program's command line that concerns `load`.
 fn commands<'a>(alloc: Global) -> Result<Command<'a>, AllocError> {
-    Command::new(alloc, "bk_shell")
+    Command::new(alloc, "bookie")
+        .bin_name("bookie")?
         .about("Entry log storage of a bookie")
         .subcommand_required(true)
         .arg(json_arg(alloc))?
@@ -140,7 +141,7 @@ fn commands<'a>(alloc: Global) -> Result<Command<'a>, AllocError> {
 /// Returns the error of a value that is out of its range.
 fn bad_value(alloc: Global, bad: &BadNumber<'_>) -> Result<Error, AllocError> {
     let told = format!(in alloc; "{bad}")?;
-    let mut command = Command::new(alloc, "bk_shell").override_usage("bk_shell load [OPTIONS]");
+    let mut command = Command::new(alloc, "bookie").override_usage("bookie load [OPTIONS]");
     command.error(ErrorKind::ValueValidation, &told)
 }
 

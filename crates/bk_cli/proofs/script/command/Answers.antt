@@ -33,9 +33,9 @@ returns c =
     ∙ ap₂ with_rule (c.in_ok-arg-2.ensures.shape c.arg-3.ensures.local
     ∙ ap₂ with_rule (c.in_ok-arg.ensures.shape c.arg.ensures.local ∙ ap₂ with_rule new_is log_limit_is) cache_limit_is) recent_is) slots_is)
     leases_is) minor_is) major_is) folder_is) marks_is) ledgers_is in
-    let top_is : app_of c.subcommand_required.result ≡ on_top (λ shape. record shape { subcommand_required = true }) (new_app (codes "bk_shell")) =
+    let top_is : app_of c.subcommand_required.result ≡ on_top (λ shape. record shape { subcommand_required = true }) (new_app (codes "bookie")) =
     ap app_of_fields c.subcommand_required.ensures ∙ ap (on_top (λ shape. record shape { subcommand_required = true }))
-    (ap app_of_fields c.after_help-2.ensures ∙ (ap app_of_fields c.about-2.ensures ∙ c.new-2.ensures.app)) in
+    (ap app_of_fields c.after_help-2.ensures ∙ (ap app_of_fields c.about-2.ensures ∙ (ap app_of_fields c.in_ok-bin_name.ensures.0 ∙ c.new-2.ensures.app))) in
     let local = λ (fields : Command-F Command). fields.has_globals in
     let script_local = still_local c.in_ok-script.ensures.globals (still_local c.in_ok-arg-9.ensures.globals (still_local c.in_ok-arg-8.ensures.globals
     (still_local c.in_ok-arg-7.ensures.globals

@@ -68,7 +68,7 @@ const WRONG: [(&[&str], &str); 7] = [
     ),
     (
         &["bk_shell", "compact", "--below", "1001", "logs"],
-        "invalid value '1001' for '<N>': not a number from 0 to 1000 in plain digits\n\nUsage: bk_shell compact [OPTIONS] <DIR>\n",
+        "invalid value '1001' for '<N>': not a number from 0 to 1000 in plain digits\n\nUsage: bookie compact [OPTIONS] <DIR>\n",
     ),
     (
         &["bk_shell", "compact", "--dead", "x", "logs"],

@@ -31,16 +31,16 @@ const WRONG_FOLDERS: [(&[&str], &str); 25] = [
     (&["bk_shell", "find", "folder", "1"], "<ENTRY>"),
     (
         &["bk_shell", "logs", "folder", "1"],
-        "unexpected argument '1' found\n\nUsage: bk_shell logs [OPTIONS] <DIR>\n",
+        "unexpected argument '1' found\n\nUsage: bookie logs [OPTIONS] <DIR>\n",
     ),
     (
         &["bk_shell", "map", "folder", "2147483648"],
-        "invalid value '2147483648' for '<LOG>': not a number from 0 to 2147483647 in plain digits\n\nUsage: bk_shell map [OPTIONS] <DIR> <LOG>\n",
+        "invalid value '2147483648' for '<LOG>': not a number from 0 to 2147483647 in plain digits\n\nUsage: bookie map [OPTIONS] <DIR> <LOG>\n",
     ),
     (&["bk_shell", "header", "folder", "01"], "'01' for '<LOG>'"),
     (
         &["bk_shell", "scan", "folder", "+1"],
-        "Usage: bk_shell scan [OPTIONS] <DIR> <LOG>\n",
+        "Usage: bookie scan [OPTIONS] <DIR> <LOG>\n",
     ),
     (
         &["bk_shell", "scan", "folder", "1f"],
@@ -60,7 +60,7 @@ const WRONG_FOLDERS: [(&[&str], &str); 25] = [
     ),
     (
         &["bk_shell", "stat", "folder", "--dead", "05"],
-        "invalid value '05' for '<LEDGER>': not a number from 0 to 9223372036854775807 in plain digits\n\nUsage: bk_shell stat [OPTIONS] <DIR>\n",
+        "invalid value '05' for '<LEDGER>': not a number from 0 to 9223372036854775807 in plain digits\n\nUsage: bookie stat [OPTIONS] <DIR>\n",
     ),
     (
         &["bk_shell", "entries", "folder", "1", "x"],
@@ -73,7 +73,7 @@ const WRONG_FOLDERS: [(&[&str], &str); 25] = [
     ),
     (
         &["bk_shell", "find", "folder", "0", "x"],
-        "'x' for '<ENTRY>': not a number from 0 to 9223372036854775807 in plain digits\n\nUsage: bk_shell find [OPTIONS] <DIR> <LEDGER> <ENTRY>\n",
+        "'x' for '<ENTRY>': not a number from 0 to 9223372036854775807 in plain digits\n\nUsage: bookie find [OPTIONS] <DIR> <LEDGER> <ENTRY>\n",
     ),
     (
         &["bk_shell", "check", "--all", "folder"],
@@ -81,7 +81,7 @@ const WRONG_FOLDERS: [(&[&str], &str); 25] = [
     ),
     (
         &["bk_shell", "check", "--digest", "crc64", "folder"],
-        "invalid value 'crc64' for '--digest <KIND>': not crc32c, crc32 or auto\n\nUsage: bk_shell check [OPTIONS] <DIR>\n",
+        "invalid value 'crc64' for '--digest <KIND>': not crc32c, crc32 or auto\n\nUsage: bookie check [OPTIONS] <DIR>\n",
     ),
     (
         &["bk_shell", "check", "--digest=", "folder"],
@@ -95,7 +95,7 @@ const WRONG_FOLDERS: [(&[&str], &str); 25] = [
     (&["bk_shell", "seal", "folder"], "<LOG>"),
     (
         &["bk_shell", "seal", "folder", "1F.log"],
-        "invalid value '1F.log' for '<LOG>': not a number from 0 to 2147483647 in plain digits\n\nUsage: bk_shell seal [OPTIONS] <DIR> <LOG>\n",
+        "invalid value '1F.log' for '<LOG>': not a number from 0 to 2147483647 in plain digits\n\nUsage: bookie seal [OPTIONS] <DIR> <LOG>\n",
     ),
     (
         &["bk_shell", "--json", "logs", "folder", "--json=yes"],
@@ -217,7 +217,7 @@ fn a_call_on_a_folder(rt: HostRuntime) {
 const FOLDER_HELP: [(&str, &str); 11] = [
     (
         "logs",
-        "$ bk_shell logs /var/bookie/current\n  0 1089 sealed",
+        "$ ./bookie logs /var/bookie/current\n  0 1089 sealed",
     ),
     ("header", "version 1 map 1049 count 1"),
     ("map", "no map"),

@@ -11,7 +11,7 @@ const TOLD: [(&[&str], &str, &str); 11] = [
     ),
     (
         &["bk_shell", "script", "--slots", "0"],
-        "\n\nUsage: bk_shell script [OPTIONS] [LEDGER]...\n",
+        "\n\nUsage: bookie script [OPTIONS] [LEDGER]...\n",
         "--log-limit",
     ),
     (
@@ -26,7 +26,7 @@ const TOLD: [(&[&str], &str, &str); 11] = [
     ),
     (
         &["bk_shell", "script", "--medium", "100"],
-        "unexpected argument '--medium' found\n\nUsage: bk_shell script [OPTIONS] [LEDGER]...\n",
+        "unexpected argument '--medium' found\n\nUsage: bookie script [OPTIONS] [LEDGER]...\n",
         "--log-limit",
     ),
     (
@@ -51,7 +51,7 @@ const TOLD: [(&[&str], &str, &str); 11] = [
     ),
     (
         &["bk_shell", "script", "5", "x"],
-        "invalid value 'x' for '[LEDGER]...': not a number from 0 to 9223372036854775807 in plain digits\n\nUsage: bk_shell script [OPTIONS] [LEDGER]...\n",
+        "invalid value 'x' for '[LEDGER]...': not a number from 0 to 9223372036854775807 in plain digits\n\nUsage: bookie script [OPTIONS] [LEDGER]...\n",
         "tip",
     ),
     (

@@ -29,7 +29,7 @@ returns-in-Ok-into_map-clause-ok g c = λ honest.
     (counting_last c.new-scanner.result now next file c.loop-sizes.sizes.sizes c.loop-sizes.invariant
     (subst (λ (o : Option Found). NextMoves now (Ok o) next) c.in_default.is c.in_ok-found.ensures.moves)
     (λ h. subst (λ (o : Option Found). ScanNextTransition now (Ok o) next) c.in_default.is (c.in_ok-found.ensures.transition h))
-    (omega (arith, c.if-torn-gt0.false, c.torn.ensures))
+    (omega (arith, c.if-bytes-gt0.false, c.torn-bytes.ensures))
     (subst (λ (b : Bool). IsTrue b) (sym (ap (λ (s : Scan). s.honest) c.new-scanner.ensures)) honest)
     (ap (λ (s : Scan). s.from) c.new-scanner.ensures)
     (ap part_of c.new-scanner.ensures ∙ whole_view file c.args.end (c.requires.whole honest)))

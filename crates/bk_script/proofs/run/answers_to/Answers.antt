@@ -1,6 +1,6 @@
 use Rattle.std.proofs.Common.{IsTrue, subst}
 use Rattle.bk_disk.specs.Disk.{AreSound}
-use Rattle.bk_drive.specs.Failing.{NeverFails}
+use Rattle.bk_store.specs.Opening.{NeverFails}
 use Rattle.bk_script.specs.Script.{IsScript}
 use Rattle.bk_script.specs.Run.{AnswersSteps}
 use Rattle.bk_script.proofs.Scripts.{spelled_never_bad}

@@ -61,7 +61,7 @@ fn a_call_of_load(rt: HostRuntime) -> Result<(), Fail> {
 const WRONG: [(&[&str], &str); 8] = [
     (
         &["bk_shell", "load", "--threads", "0"],
-        "invalid value '0' for '--threads <N>': not a number from 1 to 256 in plain digits\n\nUsage: bk_shell load [OPTIONS]\n",
+        "invalid value '0' for '--threads <N>': not a number from 1 to 256 in plain digits\n\nUsage: bookie load [OPTIONS]\n",
     ),
     (
         &["bk_shell", "load", "--threads=257"],
@@ -77,7 +77,7 @@ const WRONG: [(&[&str], &str); 8] = [
     ),
     (
         &["bk_shell", "load", "5"],
-        "unexpected argument '5' found\n\nUsage: bk_shell load [OPTIONS]\n",
+        "unexpected argument '5' found\n\nUsage: bookie load [OPTIONS]\n",
     ),
     (
         &["bk_shell", "load", "--add=5"],
