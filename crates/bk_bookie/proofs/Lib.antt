@@ -3,3 +3,4 @@ pub mod Counts
 pub mod Told
 pub mod Gives
 pub mod Works
+pub mod Leases

@@ -6,13 +6,17 @@ use Rattle.bk_store.specs.State.{State}
 use Rattle.bk_cache.specs.declared.swap.Swap.{Swap}
 use Rattle.bk_cache.specs.declared.swap.Swap.TheVariants.{Running, Nothing, Swapped}
 use Rattle.bk_drive.specs.Abstract.{abstract_after_publish, abstract_after_work}
+use Rattle.bk_drive.specs.Machine.{WorkTransition}
 use Rattle.bk_drive.specs.declared.step.Answer.{Answer}
 use Rattle.bk_drive.specs.declared.step.Answer.TheVariants as answers
+use Rattle.bk_drive.specs.declared.step.Work.{Work}
+use Rattle.bk_drive.specs.declared.step.Work.TheVariants as works
 use Rattle.bk_flush.specs.declared.answer.PublishAnswer.{PublishAnswer}
 use Rattle.bk_flush.specs.declared.answer.PublishAnswer.TheVariants as publishes
 use Rattle.bk_store.specs.declared.step_fault.StepFault.{StepFault}
 use Rattle.bk_bookie.specs.Adds.{add_count}
 use Rattle.bk_bookie.specs.Guarded.{AreKeyed}
+use Rattle.bk_bookie.specs.Works.{IsAnswerOf}
 use Rattle.bk_bookie.proofs.Counts.{Leaves}
 use Rattle.bk_bookie.proofs.Gives.{MeaningLaw, plain, matches}
 use Rattle.bk_bookie.proofs.Keyed.{all_keyed_empty}
@@ -51,3 +55,20 @@ work_leaves s t a kept meaning honest ledgers agrees = record {
         flush = subst (λ f. caches.AllKeyed (caches.entries_of_flush f)) (sym after.flush) left.flush;
       };
 }
+
+-- A transition of a step has an answer of that step.
+pub work_answers : (s t : State) (work : Work) (a : Answer) → WorkTransition s work a t → IsAnswerOf work a
+work_answers s t works.Swap a turn = (turn.0, turn.1)
+work_answers s t works.WriteOne a turn = (turn.0, turn.1)
+work_answers s t works.Publish a turn = (turn.0, turn.1)
+work_answers s t works.Roll a turn = (turn.0, turn.1)
+work_answers s t (works.Retire log) a turn = (turn.0, turn.1)
+work_answers s t works.Rebuild a turn = (turn.0, turn.1)
+work_answers s t (works.Close log) a turn = (turn.0, turn.1)
+work_answers s t (works.Remove log) a turn = (turn.0, turn.1)
+work_answers s t (works.Begin kind) a turn = (turn.0, turn.1)
+work_answers s t (works.Copy n) a turn = (turn.0, turn.1)
+work_answers s t works.EndCopy a turn = (turn.0, turn.1)
+work_answers s t (works.Switch n) a turn = (turn.0, turn.1)
+work_answers s t works.Finish a turn = (turn.0, turn.1)
+work_answers s t works.GiveUp a turn = (turn.0, turn.1)

@@ -3,6 +3,8 @@ use Rattle.std.specs.Prelude.{◌≡◌, ℕ, ◌<◌, ◌≤◌, Bool, List, So
 use Rattle.bk_record.specs.Key.{EntryKey}
 use Rattle.bk_record.specs.Record.{key_of}
 use Rattle.sha2.specs.Sha256.{sha256}
+use Rattle.bk_log.specs.declared.fault.FetchFault.{FetchFault}
+use Rattle.bk_log.specs.declared.fault.FetchFault.TheVariants as fetch_faults
 use Rattle.bk_store.specs.State.{State}
 use Rattle.bk_store.specs.Abstract.{IsLeaseOn}
 use Rattle.bk_store.specs.declared.answer.Taken.{Taken}
@@ -32,6 +34,14 @@ GivesBack bytes honest receipt (Ok NotHeld) = ⊥
 GivesBack bytes honest receipt (Ok (Leased lease place)) =
     (payload : List ℕ) × IsLeaseOn bytes honest lease place receipt.key payload × (receipt.digest ≡ sha256 payload)
 GivesBack bytes honest receipt (Err fault) = Unit {0}
+
+-- A fetch by such a lease returns the payload of its entry. On an honest disk it finds it.
+abbrev pub FetchesLeased : {T : Type 0} → (T → List ℕ) → List ℕ → Result T FetchFault → Type 0
+FetchesLeased bytes payload (Ok found) = bytes found ≡ payload
+FetchesLeased bytes payload (Err fetch_faults.Disk) = Unit {0}
+FetchesLeased bytes payload (Err fetch_faults.NotThere) = ⊥
+FetchesLeased bytes payload (Err fetch_faults.Memory) = Unit {0}
+FetchesLeased bytes payload (Err fetch_faults.Odd) = ⊥
 
 -- The result of a take as a result of a read-back.
 abbrev pub read_back_result_of : {A : Type 0} → Result A TakeFault → Result A ReadBackFault

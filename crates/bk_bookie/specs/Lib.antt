@@ -3,3 +3,4 @@ pub mod Passes
 pub mod Receipts
 pub mod Guarded
 pub mod Calls
+pub mod Works

@@ -3,13 +3,16 @@
 ghost use Rattle.std.specs.Prelude.{◌≡◌, ◌↔◌, ◌+◌, ◌≤◌, IfOk, IfErr, IsTrue};
 ghost use Rattle.bk_store.specs.Limits.{IsAllowed};
 ghost use Rattle.bk_store.specs.Opening.{OpenFails};
-ghost use Rattle.bk_bookie.specs.Adds.{accepted_count};
+ghost use Rattle.bk_store.specs.declared.adding.AddKind.TheVariants.{Ordinary, Recovery};
+ghost use Rattle.bk_bookie.specs.Adds.{AnswersAdd, accepted_count};
 ghost use Rattle.bk_bookie.specs.Calls.{GivesEntry, GivesBack, ReadBackObserves};
 ghost use Rattle.bk_bookie.specs.Passes.{SeenIsMonotone};
 ghost use Rattle.bk_bookie.specs.Receipts.{GivesReceipt};
+ghost use Rattle.bk_bookie.specs.Works.{IsAnswerOf};
 
 use crate::add_request::AddRequest;
 use crate::guarded::Guarded;
+use crate::hold::hold;
 use crate::pass::{AddLedger, Pass};
 use crate::{CallFault, NoPass, ReadBackFault};
 use bk_disk::LogDisk;
@@ -83,7 +86,7 @@ impl<L: AddLedger, D: LogDisk> Bookie<L, D> {
     pub fn pass(&self, rt: &impl Wait) -> Result<Pass<L>, NoPass>
         ensures { IfOk result (λ p. p ≡ record { adds = 0; seen = 0 }) }
     {
-        self.guarded.lock(rt).pass()
+        hold(rt, &self.guarded).pass()
     }
 
     /// Adds an entry as `Store::add` does.
@@ -106,10 +109,11 @@ impl<L: AddLedger, D: LogDisk> Bookie<L, D> {
     ) -> Result<Added, CallFault<AddFault>>
         ensures seen { SeenIsMonotone pass.old result pass.new }
         ensures count { pass.new.adds ≡ pass.old.adds + accepted_count result }
+        ensures answers { AnswersAdd Ordinary payload.now result }
         ensures receipt { GivesReceipt pass.old pass.new payload.now result }
     {
         let offered = AddRequest::new(self.alloc, payload);
-        self.guarded.lock(rt).add(AddKind::Ordinary, pass, offered)
+        hold(rt, &self.guarded).add(AddKind::Ordinary, pass, offered)
     }
 
     /// Adds an entry as `Store::add_recovery` does: a fence does not refuse it.
@@ -125,10 +129,11 @@ impl<L: AddLedger, D: LogDisk> Bookie<L, D> {
     ) -> Result<Added, CallFault<AddFault>>
         ensures seen { SeenIsMonotone pass.old result pass.new }
         ensures count { pass.new.adds ≡ pass.old.adds + accepted_count result }
+        ensures answers { AnswersAdd Recovery payload.now result }
         ensures receipt { GivesReceipt pass.old pass.new payload.now result }
     {
         let offered = AddRequest::new(self.alloc, payload);
-        self.guarded.lock(rt).add(AddKind::Recovery, pass, offered)
+        hold(rt, &self.guarded).add(AddKind::Recovery, pass, offered)
     }
 
     /// Returns the entry of a key as `Store::take` does: a cached payload or a lease.
@@ -147,7 +152,7 @@ impl<L: AddLedger, D: LogDisk> Bookie<L, D> {
         ensures count { pass.new.adds ≡ pass.old.adds }
         ensures gives { IsTrue L.honest → GivesEntry D.View.bytes D.View.honest key result }
     {
-        self.guarded.lock(rt).take(pass, key)
+        hold(rt, &self.guarded).take(pass, key)
     }
 
     /// Returns the entry of a receipt, if the trail has the receipt's mark at its number.
@@ -170,7 +175,7 @@ impl<L: AddLedger, D: LogDisk> Bookie<L, D> {
         ensures count { pass.new.adds ≡ pass.old.adds }
         ensures gives { IsTrue L.honest → GivesBack D.View.bytes D.View.honest receipt.now result }
     {
-        self.guarded.lock(rt).read_back(pass, receipt)
+        hold(rt, &self.guarded).read_back(pass, receipt)
     }
 
     /// Deletes a ledger as `Store::delete` does.
@@ -188,7 +193,7 @@ impl<L: AddLedger, D: LogDisk> Bookie<L, D> {
         ensures seen { SeenIsMonotone pass.old result pass.new }
         ensures count { pass.new.adds ≡ pass.old.adds }
     {
-        self.guarded.lock(rt).delete(pass, ledger)
+        hold(rt, &self.guarded).delete(pass, ledger)
     }
 
     /// Fences a ledger as `Store::fence` does.
@@ -206,11 +211,13 @@ impl<L: AddLedger, D: LogDisk> Bookie<L, D> {
         ensures seen { SeenIsMonotone pass.old result pass.new }
         ensures count { pass.new.adds ≡ pass.old.adds }
     {
-        self.guarded.lock(rt).fence(pass, ledger)
+        hold(rt, &self.guarded).fence(pass, ledger)
     }
 
     /// Performs one step of the store alone, as `bk_drive::apply` does.
-    pub fn step(&self, rt: &impl Wait, work: Work) -> Answer {
-        self.guarded.lock(rt).step(work)
+    pub fn step(&self, rt: &impl Wait, work: Work) -> Answer
+        ensures { IsAnswerOf work result }
+    {
+        hold(rt, &self.guarded).step(work)
     }
 }

@@ -3,9 +3,10 @@
 ghost use Rattle.std.specs.Prelude.{◌≡◌, ◌+◌, ◌<◌, ◌≤◌, IsTrue, IfSome, IfNone};
 ghost use Rattle.bk_store.specs.Transitions.{AddTransition, DeleteTransition, FenceTransition, TakeTransition};
 ghost use Rattle.bk_drive.specs.Machine.{WorkTransition};
-ghost use Rattle.bk_bookie.specs.Adds.{accepted_count, payload_of};
+ghost use Rattle.bk_bookie.specs.Adds.{AnswersAdd, accepted_count, payload_of};
 ghost use Rattle.bk_bookie.specs.Calls.{GivesEntry, GivesBack, ReadBackTransition, read_back_result_of};
 ghost use Rattle.bk_bookie.specs.Passes.{PassTransition, front_of, call_result_of};
+ghost use Rattle.bk_bookie.specs.Works.{IsAnswerOf};
 
 use crate::add_request::AddRequest;
 use crate::guarded::Guarded;
@@ -73,6 +74,7 @@ impl<L: AddLedger, D: LogDisk> Guarded<L, D> {
         offered: AddRequest<'_>,
     ) -> Result<Added, CallFault<AddFault>>
         ensures transition { PassTransition (λ s answer t. AddTransition s kind (payload_of offered.entry) answer t) self.old.store pass.old result self.new.store pass.new }
+        ensures answers { AnswersAdd kind (payload_of offered.entry) result }
         ensures count { pass.new.adds ≡ pass.old.adds + accepted_count result }
         ensures internals { self.new ≡ record self.old { store = self.new.store } }
     {
@@ -187,6 +189,7 @@ impl<L: AddLedger, D: LogDisk> Guarded<L, D> {
     /// Performs one step of the store alone.
     pub fn step(&mut self, work: Work) -> Answer
         ensures transition { WorkTransition self.old.store work result self.new.store }
+        ensures answers { IsAnswerOf work result }
         ensures internals { self.new ≡ record self.old { store = self.new.store } }
     {
         // Lemma: the store invariant and the logical contents.

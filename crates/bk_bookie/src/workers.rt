@@ -1,6 +1,7 @@
 //! Workers: threads that receive steps from a channel and perform them on a bookie.
 
-ghost use Rattle.std.specs.Prelude.{◌≡◌, ◌+◌, ◌^◌, ◌-◌, min};
+ghost use Rattle.std.specs.Prelude.{◌≡◌, ◌+◌, ◌^◌, ◌-◌, min, if◌then◌else◌};
+ghost use Rattle.bk_bookie.specs.Works.{is_failed};
 ghost use Rattle.std.specs.Thread.{IsSync, IsSend};
 
 use crate::WorkersFault;
@@ -43,11 +44,10 @@ impl WorkReport {
     /// Counts one step by its answer. A count saturates at 2^64 - 1.
     fn count(&mut self, answer: &Answer)
         ensures answered { self.new.answered ≡ min (self.old.answered + 1) (2 ^ 64 - 1) }
+        ensures faults { self.new.faults ≡ min (self.old.faults + (if is_failed answer.now then 1 else 0)) (2 ^ 64 - 1) }
     {
         self.answered = self.answered.saturating_add(1);
-        if is_fault(answer) {
-            self.faults = self.faults.saturating_add(1);
-        }
+        self.faults = self.faults.saturating_add(u64::from(is_fault(answer)));
     }
 
     /// Adds the report of another worker. A count saturates at 2^64 - 1.
@@ -104,7 +104,9 @@ impl<L: AddLedger + Send + Sync, D: LogDisk> Bookie<L, D> {
 }
 
 /// Returns whether the answer of a step is an error.
-fn is_fault(answer: &Answer) -> bool {
+pub fn is_fault(answer: &Answer) -> bool
+    ensures { result ≡ is_failed answer.now }
+{
     match answer {
         Answer::Add(Err(_))
         | Answer::Take(Err(_))

@@ -247,7 +247,7 @@ there_is_none {X} es q told = none (find nat_cmp q es) (ap is_some (look es q) �
   none (Some x) it = absurd (false≢true (sym it))
 
 -- One more file in a list of files.
-listed_more : (files now : List (ℕ × Vec ℕ Global)) (id : ℕ) (file : Vec ℕ Global) → now ≡ files ++ (id, file) ∷ []
+pub listed_more : (files now : List (ℕ × Vec ℕ Global)) (id : ℕ) (file : Vec ℕ Global) → now ≡ files ++ (id, file) ∷ []
     → listed now ≡ listed files ++ (id, file.items) ∷ []
 listed_more files now id file more = ap listed more ∙ map-append (λ f. (f.0, f.1.items)) files ((id, file) ∷ [])
 

@@ -1,3 +1,4 @@
+pub mod Copies
 pub mod Damage
 pub mod Leaving
 pub mod Notes

@@ -106,6 +106,16 @@ impl<D: LogDisk> LogDisk for PowerDisk<D> {
         self.inner.bounds()
     }
 
+    fn is_lost(&self, log: u32) -> bool {
+        self.inner.is_lost(log)
+    }
+
+    /// Returns false: what was not synced may be lost with the power.
+    fn is_kept(&self, _log: u32) -> bool {
+        let _ = &self.inner;
+        false
+    }
+
     fn list(&mut self, alloc: Global) -> Result<Vec<u32>, DiskFault>
         ensures honest { D.honest self.new.inner ≡ D.honest self.old.inner }
         ensures durable { IsTrue (D.honest self.old.inner)

@@ -50,25 +50,21 @@ impl Written {
     }
 
     /// Returns a copy for the disk of the next process, which sees everything written while power
-    /// stays on.
+    /// stays on. What is not durable is not durable in the copy.
     ///
     /// # Errors
     ///
     /// - `AllocError` if an allocation fails.
-    pub fn copy(&self, alloc: Global) -> Result<Written, AllocError> {
-        let mut copy = Written::new(alloc);
-        for (log, written) in self.logs.iter() {
-            copy.put(*log, written.copy()?);
-        }
-        for (log, bytes) in self.gone.iter() {
-            if copy.gone.insert(*log, bytes.clone()?).is_err() {
-                copy.is_lost = true;
-            }
-        }
-        if self.is_lost {
-            copy.is_lost = true;
-        }
-        Ok(copy)
+    pub fn copy(&self) -> Result<Written, AllocError>
+        ensures logs { IfOk result (λ copy. logs_of copy ≡ logs_of self.now) }
+        ensures gone { IfOk result (λ copy. gone_of copy ≡ gone_of self.now) }
+        ensures lost { IfOk result (λ copy. copy.is_lost ≡ self.now.is_lost) }
+    {
+        Ok(Written {
+            logs: self.logs.clone()?,
+            gone: self.gone.clone()?,
+            is_lost: self.is_lost,
+        })
     }
 
     /// Returns the files as they are while power stays on.
@@ -76,7 +72,9 @@ impl Written {
     /// # Errors
     ///
     /// - `AllocError` if an allocation fails.
-    pub fn files(&self, alloc: Global) -> Result<Vec<File>, AllocError> {
+    pub fn files(&self, alloc: Global) -> Result<Vec<File>, AllocError>
+        ensures { IfOk result (λ files. by_id files.items ≡ files_of self.now) }
+    {
         let mut files = Vec::new(alloc);
         for (log, written) in self.logs.iter() {
             files.push((*log, written.bytes().clone()?))?;

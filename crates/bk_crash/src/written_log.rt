@@ -41,6 +41,19 @@ impl Model for WrittenLog {
     ghost view = { λ log. record { bytes = log.bytes.items; synced = log.synced; patched = log.is_patched; sure = log.mark.sure; last = log.mark.last } };
 }
 
+impl Clone for WrittenLog {
+    ghost is_clone = { λ log copy. copy ≡ log };
+
+    fn clone(&self) -> Result<WrittenLog, AllocError> {
+        Ok(WrittenLog {
+            bytes: self.bytes.clone()?,
+            synced: self.synced,
+            is_patched: self.is_patched,
+            mark: self.mark,
+        })
+    }
+}
+
 /// Returns the watermark of a log that has none: the given length.
 fn unmarked(length: usize) -> Mark
     ensures sure { result.sure ≡ length }
@@ -76,18 +89,6 @@ impl WrittenLog {
             is_patched: false,
             mark: unmarked(HEADER_LENGTH),
         }
-    }
-
-    /// Returns a copy. Fails only if out of memory.
-    pub fn copy(&self) -> Result<WrittenLog, AllocError>
-        ensures { IfOk result (λ copy. copy ≡ self.now) }
-    {
-        Ok(WrittenLog {
-            bytes: self.bytes.clone()?,
-            synced: self.synced,
-            is_patched: self.is_patched,
-            mark: self.mark,
-        })
     }
 
     /// Returns the bytes that were written.

@@ -1,3 +1,4 @@
+pub mod Before
 pub mod Known
 pub mod Missing
 pub mod Ranks

@@ -3,8 +3,8 @@ use Rattle.std.specs.Prelude.{◌≡◌, ◌<◌}
 use Rattle.bk_load.specs.declared.report.Report.{Report}
 
 -- At least one add was accepted, and each has its receipt. No add found its entry already there. No
--- entry that was taken had other bytes. No step of a worker failed. The files have every accepted
--- entry, every earlier entry, and no other.
+-- entry that was taken had other bytes. No step of a worker or of the keeper failed. The files have
+-- every accepted entry, every earlier entry, and no other.
 pub record IsGood (r : Report) : Type 0 where
   pub some : 0 < r.adds
   pub counted : r.adds ≡ r.receipts

@@ -1,7 +1,8 @@
 //! What a disk has before a load.
 
-ghost use Rattle.std.specs.Prelude.{◌≡◌, ◌<◌, ◌≤◌, ◌^◌, All};
+ghost use Rattle.std.specs.Prelude.{◌≡◌, ◌<◌, ◌≤◌, ◌^◌, All, IfOk, IsTrue};
 ghost use Rattle.std.specs.FinMap as map;
+ghost use Rattle.bk_load.specs.Before.{IsPastLedgers};
 
 use crate::LoadFault;
 use bk_disk::LogDisk;
@@ -22,7 +23,10 @@ pub(crate) struct Before {
 const LAST_FIRST: u64 = 1 << 62;
 
 /// Returns the number of logs of a disk.
-pub(crate) fn logs_on<D: LogDisk>(alloc: Global, disk: &mut D) -> Result<u64, LoadFault> {
+pub(crate) fn logs_on<D: LogDisk>(alloc: Global, disk: &mut D) -> Result<u64, LoadFault>
+    ensures honest { D.honest disk.new ≡ D.honest disk.old }
+    ensures same { IsTrue (D.honest disk.old) → D.files disk.new ≡ D.files disk.old }
+{
     match disk.list(alloc) {
         Ok(logs) => Ok(logs.len() as u64),
         Err(_) => Err(LoadFault::Disk),
@@ -58,7 +62,9 @@ fn free_ledger(index: &Index) -> u64
 }
 
 /// Returns what a disk with these logs and entries has.
-fn before_of(logs: u64, index: &Index) -> Before {
+fn before_of(logs: u64, index: &Index) -> Before
+    ensures { All (λ e. e.0.ledger < result.first) (map.entries index.now) }
+{
     Before {
         logs,
         entries: index.len() as u64,
@@ -71,9 +77,14 @@ pub(crate) fn survey<D: LogDisk>(
     alloc: Global,
     mut disk: D,
     settings: Settings,
-) -> Result<(D, Before), LoadFault> {
+) -> Result<(D, Before), LoadFault>
+    ensures { IsTrue (D.honest disk) → IfOk result (λ found. IsPastLedgers (D.files disk) found.1.first) }
+{
     let logs = logs_on(alloc, &mut disk)?;
-    let store = Store::open(alloc, disk, settings, &[]).map_err(LoadFault::Open)?;
+    let store = match Store::open(alloc, disk, settings, &[]) {
+        Ok(store) => store,
+        Err(fault) => return Err(LoadFault::Open(fault)),
+    };
     let before = before_of(logs, store.index());
     if before.first > LAST_FIRST {
         return Err(LoadFault::NoLedger);

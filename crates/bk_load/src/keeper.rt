@@ -1,7 +1,10 @@
 //! The keeper of a load: it requests flushes, compacts logs and removes those that are unused.
 
+ghost use Rattle.std.specs.Prelude.{◌≡◌, ◌+◌, ◌^◌, ◌-◌, min, if◌then◌else◌};
+ghost use Rattle.bk_bookie.specs.Works.{is_failed};
+
 use crate::caller::Shared;
-use bk_bookie::{AddLedger, Bookie};
+use bk_bookie::{AddLedger, Bookie, is_fault};
 use bk_disk::LogDisk;
 use bk_drive::{
     Answer, BeginAnswer, CopyAnswer, FinishAnswer, Kind, RemoveAnswer, RollAnswer, SwitchAnswer,
@@ -38,6 +41,8 @@ const REST: u64 = 100;
 pub(crate) struct Keeper {
     pub compacted: u64,
     pub removed: u64,
+    /// Number of its steps that failed.
+    pub faults: u64,
     lowest: u32,
     highest: u32,
 }
@@ -48,6 +53,7 @@ impl Keeper {
         Keeper {
             compacted: 0,
             removed: 0,
+            faults: 0,
             lowest: 0,
             highest: 0,
         }
@@ -70,7 +76,7 @@ impl Keeper {
             let is_over = shared.is_over.load(Ordering::SeqCst);
             let adds = shared.adds.load(Ordering::SeqCst);
             if is_over || adds != written || round % IDLE == 0 {
-                if flush(rt, bookie, works, adds.saturating_sub(written)) {
+                if self.flush(rt, bookie, works, adds.saturating_sub(written)) {
                     written = adds;
                 }
             }
@@ -107,16 +113,17 @@ impl Keeper {
         bookie: &Bookie<L, D>,
         kind: Kind,
     ) {
-        if let Some(log) = roll(rt, bookie) {
+        if let Some(log) = self.roll(rt, bookie) {
             self.highest = self.highest.max(log);
         }
-        let Answer::Begin(Ok(BeginAnswer::Chosen(log))) = bookie.step(rt, Work::Begin(kind)) else {
+        let begun = self.step(rt, bookie, Work::Begin(kind));
+        let Answer::Begin(Ok(BeginAnswer::Chosen(log))) = begun else {
             return;
         };
         self.highest = self.highest.max(log);
-        copy_all(rt, bookie);
-        switch_all(rt, bookie);
-        if is_finished(rt, bookie) {
+        self.copy_all(rt, bookie);
+        self.switch_all(rt, bookie);
+        if self.is_finished(rt, bookie) {
             self.compacted = self.compacted.saturating_add(1);
         }
     }
@@ -124,9 +131,9 @@ impl Keeper {
     /// Removes each log that no index entry references and no reader leases.
     fn remove_all<R: Wait, L: AddLedger, D: LogDisk>(&mut self, rt: &R, bookie: &Bookie<L, D>) {
         for log in self.lowest..=self.highest {
-            let _ = bookie.step(rt, Work::Retire(log));
-            let _ = bookie.step(rt, Work::Close(log));
-            let is_gone = match bookie.step(rt, Work::Remove(log)) {
+            let _ = self.step(rt, bookie, Work::Retire(log));
+            let _ = self.step(rt, bookie, Work::Close(log));
+            let is_gone = match self.step(rt, bookie, Work::Remove(log)) {
                 Answer::Remove(Ok(RemoveAnswer::Removed)) => {
                     self.removed = self.removed.saturating_add(1);
                     true
@@ -139,61 +146,119 @@ impl Keeper {
             }
         }
     }
-}
 
-/// Completes a running flush.
-pub(crate) fn end_flush<R: Wait, L: AddLedger, D: LogDisk>(rt: &R, bookie: &Bookie<L, D>) {
-    for _ in 0..u64::MAX {
-        match bookie.step(rt, Work::WriteOne) {
-            Answer::Write(Ok(WriteAnswer::Wrote(_))) => {}
-            _ => break,
+    /// Performs a step, and counts it if it fails.
+    fn step<R: Wait, L: AddLedger, D: LogDisk>(
+        &mut self,
+        rt: &R,
+        bookie: &Bookie<L, D>,
+        work: Work,
+    ) -> Answer
+        ensures { self.new.faults ≡ min (self.old.faults + (if is_failed result then 1 else 0)) (2 ^ 64 - 1) }
+    {
+        let answer = bookie.step(rt, work);
+        self.count(&answer);
+        answer
+    }
+
+    /// Counts a step if it failed. The count saturates at 2^64 - 1.
+    fn count(&mut self, answer: &Answer)
+        ensures { self.new.faults ≡ min (self.old.faults + (if is_failed answer.now then 1 else 0)) (2 ^ 64 - 1) }
+    {
+        self.faults = self.faults.saturating_add(u64::from(is_fault(answer)));
+    }
+
+    /// Completes a running flush, then flushes what is in memory.
+    pub fn flush_all<R: Wait, L: AddLedger, D: LogDisk>(&mut self, rt: &R, bookie: &Bookie<L, D>) {
+        self.end_flush(rt, bookie);
+        let _ = self.step(rt, bookie, Work::Swap);
+        self.end_flush(rt, bookie);
+    }
+
+    /// Completes a running flush.
+    fn end_flush<R: Wait, L: AddLedger, D: LogDisk>(&mut self, rt: &R, bookie: &Bookie<L, D>) {
+        for _ in 0..u64::MAX {
+            match self.step(rt, bookie, Work::WriteOne) {
+                Answer::Write(Ok(WriteAnswer::Wrote(_))) => {}
+                _ => break,
+            }
+        }
+        let _ = self.step(rt, bookie, Work::Publish);
+    }
+
+    /// Copies the referenced entries of the source log and ends the copy.
+    fn copy_all<R: Wait, L: AddLedger, D: LogDisk>(&mut self, rt: &R, bookie: &Bookie<L, D>) {
+        for _ in 0..u32::MAX {
+            match self.step(rt, bookie, Work::Copy(STRIDE)) {
+                Answer::Copy(Ok(CopyAnswer::Copied(_))) => {}
+                _ => break,
+            }
+        }
+        let _ = self.step(rt, bookie, Work::EndCopy);
+    }
+
+    /// Switches the index to the copies.
+    fn switch_all<R: Wait, L: AddLedger, D: LogDisk>(&mut self, rt: &R, bookie: &Bookie<L, D>) {
+        for _ in 0..u32::MAX {
+            match self.step(rt, bookie, Work::Switch(STRIDE)) {
+                Answer::Switch(SwitchAnswer::Moved(_, left)) if left > 0 => {}
+                _ => break,
+            }
         }
     }
-    let _ = bookie.step(rt, Work::Publish);
-}
 
-/// Copies the referenced entries of the source log and ends the copy.
-fn copy_all<R: Wait, L: AddLedger, D: LogDisk>(rt: &R, bookie: &Bookie<L, D>) {
-    for _ in 0..u32::MAX {
-        match bookie.step(rt, Work::Copy(STRIDE)) {
-            Answer::Copy(Ok(CopyAnswer::Copied(_))) => {}
-            _ => break,
+    /// Finishes a compaction or gives it up. Returns whether the source log is unreferenced.
+    fn is_finished<R: Wait, L: AddLedger, D: LogDisk>(
+        &mut self,
+        rt: &R,
+        bookie: &Bookie<L, D>,
+    ) -> bool {
+        match self.step(rt, bookie, Work::Finish) {
+            Answer::Finish(FinishAnswer::Retired(_)) => true,
+            _ => {
+                let _ = self.step(rt, bookie, Work::GiveUp);
+                false
+            }
         }
     }
-    let _ = bookie.step(rt, Work::EndCopy);
-}
 
-/// Switches the index to the copies.
-fn switch_all<R: Wait, L: AddLedger, D: LogDisk>(rt: &R, bookie: &Bookie<L, D>) {
-    for _ in 0..u32::MAX {
-        match bookie.step(rt, Work::Switch(STRIDE)) {
-            Answer::Switch(SwitchAnswer::Moved(_, left)) if left > 0 => {}
-            _ => break,
+    /// Seals the current log. Returns `None` if there is none or flushes keep running.
+    fn roll<R: Wait, L: AddLedger, D: LogDisk>(
+        &mut self,
+        rt: &R,
+        bookie: &Bookie<L, D>,
+    ) -> Option<u32> {
+        for _ in 0..PATIENCE {
+            match self.step(rt, bookie, Work::Roll) {
+                Answer::Roll(Ok(RollAnswer::Sealed(log))) => return Some(log),
+                Answer::Roll(Ok(RollAnswer::FlushRunning)) => self.end_flush(rt, bookie),
+                _ => return None,
+            }
         }
+        None
     }
-}
 
-/// Finishes a compaction or gives it up. Returns whether the source log is unreferenced.
-fn is_finished<R: Wait, L: AddLedger, D: LogDisk>(rt: &R, bookie: &Bookie<L, D>) -> bool {
-    match bookie.step(rt, Work::Finish) {
-        Answer::Finish(FinishAnswer::Retired(_)) => true,
-        _ => {
-            let _ = bookie.step(rt, Work::GiveUp);
-            false
+    /// Begins a flush, writes its first entry, and requests the writes of this many entries and
+    /// some more. If the first write fails, waits, so that a full disk is not tried over and over.
+    /// Returns whether the writes are requested.
+    fn flush<R: Wait + Clock, L: AddLedger, D: LogDisk>(
+        &mut self,
+        rt: &R,
+        bookie: &Bookie<L, D>,
+        works: &Sender<Work>,
+        entries: u64,
+    ) -> bool {
+        let _ = self.step(rt, bookie, Work::Swap);
+        if let Answer::Write(Err(_)) = self.step(rt, bookie, Work::WriteOne) {
+            thread::sleep(rt, Duration::from_millis(REST));
+            return false;
         }
-    }
-}
-
-/// Seals the current log. Returns `None` if there is none or flushes keep running.
-fn roll<R: Wait, L: AddLedger, D: LogDisk>(rt: &R, bookie: &Bookie<L, D>) -> Option<u32> {
-    for _ in 0..PATIENCE {
-        match bookie.step(rt, Work::Roll) {
-            Answer::Roll(Ok(RollAnswer::Sealed(log))) => return Some(log),
-            Answer::Roll(Ok(RollAnswer::FlushRunning)) => end_flush(rt, bookie),
-            _ => return None,
+        for _ in 0..entries.min(MOST_WRITES) + 16 {
+            ask(rt, works, Work::WriteOne);
         }
+        ask(rt, works, Work::Publish);
+        true
     }
-    None
 }
 
 /// Returns minor and major compactions alternately.
@@ -208,27 +273,6 @@ fn kind_of(turn: u64) -> Kind {
 /// Sends a step to the workers. Does nothing if the channel is closed.
 fn ask<R: Wait>(rt: &R, works: &Sender<Work>, work: Work) {
     let _ = works.send(rt, work);
-}
-
-/// Begins a flush, writes its first entry, and requests the writes of this many entries and some
-/// more. If the first write fails, waits, so that a full disk is not tried over and over. Returns
-/// whether the writes are requested.
-fn flush<R: Wait + Clock, L: AddLedger, D: LogDisk>(
-    rt: &R,
-    bookie: &Bookie<L, D>,
-    works: &Sender<Work>,
-    entries: u64,
-) -> bool {
-    let _ = bookie.step(rt, Work::Swap);
-    if let Answer::Write(Err(_)) = bookie.step(rt, Work::WriteOne) {
-        thread::sleep(rt, Duration::from_millis(REST));
-        return false;
-    }
-    for _ in 0..entries.min(MOST_WRITES) + 16 {
-        ask(rt, works, Work::WriteOne);
-    }
-    ask(rt, works, Work::Publish);
-    true
 }
 
 /// Clears the progress line.

@@ -65,6 +65,7 @@ pub struct Report {
     pub wrong: u64,
     /// Number of ledgers deleted.
     pub deletes: u64,
+    /// Steps of the workers. The faults are theirs and the keeper's.
     pub works: WorkReport,
     pub logs: Logs,
     /// How long the callers ran.

@@ -1,6 +1,6 @@
 //! Runs a load.
 
-ghost use Rattle.std.specs.Prelude.{◌≡◌, ◌+◌, ◌<◌, IfOk, vec_len};
+ghost use Rattle.std.specs.Prelude.{◌≡◌, ◌+◌, ◌-◌, ◌<◌, ◌^◌, IfOk, min, vec_len};
 
 use crate::before::{Before, disk_of, logs_on, survey};
 use crate::checking::check;
@@ -9,6 +9,7 @@ use crate::keeper::Keeper;
 use crate::latency::ranks_of;
 use crate::serving::{Served, serve};
 use crate::{Checked, Load, LoadFault, Logs, Report};
+use bk_bookie::WorkReport;
 use bk_disk::LogDisk;
 use bk_store::{Settings, Store};
 use std::alloc::Global;
@@ -36,6 +37,17 @@ fn look_at<D: LogDisk>(
     Ok((logs, checked))
 }
 
+/// Returns the steps of the workers, with the failed steps of the keeper among the faults.
+fn works_of(works: WorkReport, keeper: &Keeper) -> WorkReport
+    ensures answered { result.answered ≡ works.answered }
+    ensures faults { result.faults ≡ min (works.faults + keeper.now.faults) (2 ^ 64 - 1) }
+{
+    WorkReport {
+        answered: works.answered,
+        faults: works.faults.saturating_add(keeper.faults),
+    }
+}
+
 /// Returns what happened to the logs, from their number before and now.
 fn logs_of(before: u64, now: u64, keeper: &Keeper) -> Logs {
     Logs {
@@ -54,6 +66,7 @@ fn report_on<D: LogDisk>(
 ) -> Result<Report, LoadFault>
     ensures counted { IfOk result (λ r. (r.adds ≡ served.adds) × (r.receipts ≡ vec_len served.done.receipts)) }
     ensures checked { IfOk result (λ r. r.checked.found + r.checked.deleted + r.checked.lost ≡ r.receipts) }
+    ensures faults { IfOk result (λ r. r.works.faults ≡ min (served.works.faults + served.keeper.faults) (2 ^ 64 - 1)) }
 {
     let Served {
         store,
@@ -77,7 +90,7 @@ fn report_on<D: LogDisk>(
         takes: done.takes,
         wrong: done.wrong,
         deletes,
-        works,
+        works: works_of(works, &keeper),
         logs,
         milliseconds,
         latencies,

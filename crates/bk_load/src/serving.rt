@@ -5,7 +5,7 @@ ghost use Rattle.bk_bookie.specs.Receipts.{AllStand};
 
 use crate::caller::{Caller, Shared};
 use crate::done::Done;
-use crate::keeper::{Keeper, end_flush};
+use crate::keeper::Keeper;
 use crate::{Load, LoadFault};
 use bk_bookie::{AddLedger, Bookie, Finished, Gate, Pass, WorkReport};
 use bk_disk::LogDisk;
@@ -153,13 +153,6 @@ fn run_with_workers<
     Ok((report, ran?))
 }
 
-/// Flushes what is in memory: completes a running flush, then another one.
-fn flush<L: AddLedger, D: LogDisk, R: Wait>(rt: &R, bookie: &Bookie<L, D>) {
-    end_flush(rt, bookie);
-    let _ = bookie.step(rt, Work::Swap);
-    end_flush(rt, bookie);
-}
-
 /// The results of all callers, and their passes. There is a receipt for each add that the passes
 /// count.
 #[derive(Drop)]
@@ -259,7 +252,7 @@ pub(crate) fn serve<
     let (works, ran) = run_with_workers(rt, alloc, &bookie, &shared, progress)?;
     let milliseconds = shared.milliseconds(rt)?;
     let Ran { ended, mut keeper } = ran;
-    flush(rt, &bookie);
+    keeper.flush_all(rt, &bookie);
     keeper.settle(rt, &bookie);
     let mut sums = Sums::new(alloc);
     sums.take_in_all(ended)?;

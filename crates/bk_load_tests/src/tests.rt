@@ -1,7 +1,7 @@
-//! A small load on a disk in memory, and the text of a report.
+//! Small loads on disks in memory, and the text of a report.
 
 use bk_bookie::WorkReport;
-use bk_disk::MemDisk;
+use bk_disk::{FaultDisk, MemDisk};
 use bk_load::{Checked, Latencies, Load, Logs, Report, Until, run_load};
 use bk_store::Settings;
 use std::alloc::Global;
@@ -53,6 +53,41 @@ fn report<R: Threads + Wait + Clock + Abort + Sync>(rt: &R, alloc: Global) -> Re
 fn a_small_load_is_found_whole(rt: HostRuntime) {
     let report = report(&rt, rt.alloc());
     assert!(rt; is_whole(&report), "{report}");
+}
+
+/// A load of few adds.
+const FEW: Load = Load {
+    callers: 2,
+    until: Until::Adds(200),
+};
+
+/// Runs the load of few adds on a disk of which one call fails.
+fn failing<R: Threads + Wait + Clock + Abort + Sync>(rt: &R, alloc: Global, call: u64) -> Report {
+    let progress: Option<Vec<u8>> = None;
+    let disk = FaultDisk::new(MemDisk::new(alloc), call, 7);
+    match run_load(rt, alloc, disk, SETTINGS, FEW, progress) {
+        Ok(report) => report,
+        Err(_) => panic!(rt; "no report"),
+    }
+}
+
+/// Returns whether a report has a failed step, which is the only reason that it is not good.
+fn is_failed_alone(report: &Report) -> bool {
+    let mut whole = *report;
+    whole.works.faults = 0;
+    report.works.faults > 0 && !report.is_good() && whole.is_good()
+}
+
+/// Calls of the disk that fail, by number: the first log is created, its header is written, and its
+/// first record. The three calls before them list the logs.
+const FAILED: [u64; 3] = [4, 5, 6];
+
+#[test]
+fn a_failed_step_is_reported(rt: HostRuntime) {
+    for call in FAILED {
+        let report = failing(&rt, rt.alloc(), call);
+        assert!(rt; is_failed_alone(&report), "{call}: {report}");
+    }
 }
 
 /// A report of three adds, one of them to a ledger deleted later, with four earlier entries.

@@ -192,9 +192,9 @@ pub(super) fn fence<L: AddLedger, R: Wait>(
     rt: &R,
     bookie: &Bookie<L, MemDisk>,
     pass: &mut Pass<L>,
-    ledger: u8,
+    ledger: u64,
 ) -> Option<Fence> {
-    match bookie.fence(rt, pass, u64::from(ledger)) {
+    match bookie.fence(rt, pass, ledger) {
         Ok(answer) => Some(answer),
         Err(_) => None,
     }

@@ -28,7 +28,8 @@ fn is_fenced<L: AddLedger, R: Wait>(
         )
 }
 
-/// Checks that an ordinary add before the fence and a recovery add after it are accepted.
+/// Checks that an ordinary add before the fence and a recovery add after it are accepted, and that
+/// any number is fenced.
 fn add_two<L: AddLedger, R: Wait + Abort>(
     rt: &R,
     bookie: &Bookie<L, MemDisk>,
@@ -38,6 +39,7 @@ fn add_two<L: AddLedger, R: Wait + Abort>(
     assert!(rt; is_fenced(rt, bookie, pass));
     let second = accepted(rt, add_recovery(rt, bookie, pass, &payload(1, 1, b'b')));
     assert!(rt; matches!(fence(rt, bookie, pass, 1), Some(Fence::AlreadyFenced)));
+    assert!(rt; matches!(fence(rt, bookie, pass, u64::MAX), Some(Fence::Fenced)));
     [first, second]
 }
 
@@ -46,10 +48,15 @@ fn are_marks(trail: &[Mark], marks: &[Mark]) -> bool {
     trail == marks
 }
 
-/// Returns whether the receipts have numbers 0 and 2 and the trail has their marks, with the
-/// fence's between them.
+/// Returns whether the receipts have numbers 0 and 2 and the trail has their marks, with one
+/// fence's between them and the other's last.
 fn stand(finished: &Finished<MemDisk>, first: &Receipt, second: &Receipt) -> bool {
-    let marks = [mark_of(first), Mark::Fence { ledger: 1 }, mark_of(second)];
+    let marks = [
+        mark_of(first),
+        Mark::Fence { ledger: 1 },
+        mark_of(second),
+        Mark::Fence { ledger: u64::MAX },
+    ];
     first.number == 0
         && second.number == 2
         && finished.adds == 2

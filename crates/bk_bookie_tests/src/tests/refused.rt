@@ -1,7 +1,8 @@
 //! The life of a bookie on one thread, with each allocation refused in turn. A refused call is made
 //! again. All answers are those without a refusal.
 //!
-//! `rt try --test --fail-alloc N -- each_allocation` refuses the Nth allocation.
+//! `rt try --test --fail-alloc N -- each_allocation` refuses the Nth allocation, and the gate refuses
+//! each in turn (`.ci/refusals.txt`).
 
 ghost use Rattle.std.specs.Prelude.{◌≡◌, ◌+◌, true, IfErr};
 
@@ -174,6 +175,8 @@ impl<L: AddLedger> Trial<L> {
             held.passes.reserve(1).expect(rt, "memory");
         }
         held.passes.push_reserved(pass);
+        let other = with_other_digest(&receipts[0]);
+        let held = held.is_refused(rt, &[other], FinishFault::Differs(0));
         assert!(rt; has_ended_with(&held.end(rt, receipts), 100, 100));
         refused
     }

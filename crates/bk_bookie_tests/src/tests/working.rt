@@ -2,11 +2,12 @@
 
 ghost use Rattle.std.specs.Prelude.{◌≡◌, true};
 
-use super::calls::{accepted, add, pass};
+use super::calls::{accepted, add, pass, take_steps};
 use super::{SETTINGS, open, payload};
 use bk_bookie::{AddLedger, Bookie, Gate};
 use bk_disk::MemDisk;
 use bk_drive::{Answer, PublishAnswer, SwapAnswer, Work};
+use bk_store::Settings;
 use crossbeam_channel::{Receiver, bounded};
 use std::alloc::Global;
 use std::marker::Brand;
@@ -66,6 +67,15 @@ fn work<L: AddLedger + Send + Sync, R: Threads + Wait + Sync, G: Gate>(
         Ok(report) if report.faults == 0 => Some(report.answered),
         _ => None,
     }
+}
+
+/// Returns a closed channel with these steps.
+fn sent<R: Wait + Abort>(rt: &R, alloc: Global, steps: &[Work]) -> Receiver<Work> {
+    let (sender, works) = bounded(alloc, steps.len()).expect(rt, "memory");
+    for step in steps {
+        assert!(rt; sender.send(rt, *step).is_ok());
+    }
+    works
 }
 
 /// Opens a bookie with one entry in its active cache.
@@ -137,6 +147,66 @@ fn run<L: AddLedger + Send + Sync, R: Threads + Wait + Abort + Sync>(
     let bookie = open_with_entry::<L, R>(rt, alloc, blank);
     work_by_two(rt, alloc, &bookie);
     assert!(rt; has_flush(rt, &bookie) && writes(rt, &bookie));
+}
+
+/// A gate that is always open.
+#[derive(Drop)]
+struct Open;
+
+impl Gate for Open {
+    fn enter(&self, _worker: u32) {}
+
+    fn leave(&self, _worker: u32) {}
+}
+
+/// Settings of a store with one slot.
+const ONE_SLOT: Settings = Settings {
+    slots: 1,
+    ..SETTINGS
+};
+
+/// Opens a bookie whose only slot has a sealed log, with one entry in its active cache.
+fn open_full<L: AddLedger, R: Wait + Abort>(
+    rt: &R,
+    alloc: Global,
+    blank: Blank,
+) -> Bookie<L, MemDisk>
+    requires name { blank.name ≡ L.name }
+    requires parts { blank.parts ≡ L.parts }
+    requires each { blank.parts ≡ 2 }
+    requires honest { L.honest ≡ true }
+{
+    let bookie = open::<L, R>(rt, alloc, blank, 1, ONE_SLOT, &[]);
+    let mut pass = pass(rt, &bookie);
+    let _first = accepted(rt, add(rt, &bookie, &mut pass, &payload(1, 0, b'a')));
+    let steps = [Work::Swap, Work::WriteOne, Work::Publish, Work::Roll];
+    take_steps(rt, &bookie, &steps);
+    let _second = accepted(rt, add(rt, &bookie, &mut pass, &payload(1, 1, b'b')));
+    bookie
+}
+
+/// A worker performs a swap and two writes for which there is no slot.
+fn run_refused<L: AddLedger + Send + Sync, R: Threads + Wait + Abort + Sync>(
+    rt: &R,
+    alloc: Global,
+    blank: Blank,
+)
+    requires name { blank.name ≡ L.name }
+    requires parts { blank.parts ≡ L.parts }
+    requires each { blank.parts ≡ 2 }
+    requires honest { L.honest ≡ true }
+{
+    let bookie = open_full::<L, R>(rt, alloc, blank);
+    let works = sent(rt, alloc, &[Work::Swap, Work::WriteOne, Work::WriteOne]);
+    match bookie.workers(rt, alloc, 1, &works, &Open) {
+        Ok(report) => assert!(rt; report.answered == 3 && report.faults == 2),
+        Err(_) => panic!(rt; "no worker"),
+    }
+}
+
+#[test]
+fn refused_steps_are_counted(rt: HostRuntime) {
+    run_refused::<Brand, HostRuntime>(&rt, rt.alloc(), Blank::new(2));
 }
 
 /// A gate that looks at the bookie around a swap: no flush runs when the worker enters, and one

@@ -57,15 +57,12 @@ fn written_by<D: LogDisk, P: Powered<D>>(
         return Ok((Written::new(alloc), true));
     };
     take_all::<D, P>(alloc, &mut store, owed, steps)?;
-    Ok((copy_of::<D, P>(alloc, &store)?, is_dead::<D, P>(&store)))
+    Ok((copy_of::<D, P>(&store)?, is_dead::<D, P>(&store)))
 }
 
 /// Returns what was written to the files of a store.
-fn copy_of<D: LogDisk, P: Powered<D>>(
-    alloc: Global,
-    store: &Store<D>,
-) -> Result<Written, AllocError> {
-    P::power(store.disk()).written().copy(alloc)
+fn copy_of<D: LogDisk, P: Powered<D>>(store: &Store<D>) -> Result<Written, AllocError> {
+    P::power(store.disk()).written().copy()
 }
 
 /// Opens a store on what a process wrote. Returns the files that a loss of power leaves then.

@@ -52,7 +52,7 @@ pub(super) fn disk_of(
 /// Returns the disk of the next process, after the one before wrote this and ended with power on.
 pub(super) fn next_disk(alloc: Global, written: &Written) -> Result<PowerDisk<MemDisk>, Stop> {
     let disk = memory_of(alloc, &written.files(alloc)?)?;
-    Ok(PowerDisk::new(disk, written.copy(alloc)?, u64::MAX, 0))
+    Ok(PowerDisk::new(disk, written.copy()?, u64::MAX, 0))
 }
 
 /// How the disk of a store lies over one whose power fails. The bound of a disk is where it is
