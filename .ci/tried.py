@@ -15,6 +15,7 @@ OPEN, CLOSED = "([{", ")]}"
 WORD = re.compile(r"[\w']+")
 # The lemmas of a crate below that a proof imports, and any other mention of a file of its proofs.
 CITED = re.compile(r"\bRattle\.(\w+)\.proofs\.([\w.]+?)(?:\.\{([^}]*)\}|(?![\w.]))")
+LOGIC = re.compile(r"\blogic \S+")
 TEST = re.compile(r"^\s*#\[test\]\s*\n(?:\s*#\[.*\]\s*\n)*\s*fn (\w+)", re.M)
 # The lines that name the tests of a crate.
 TESTS = re.compile(r"^[ \t]*#\[cfg\(test\)\]\n[ \t]*mod tests;\n", re.M)
@@ -194,11 +195,19 @@ def texts_of_tests(top, crate, below):
     return [*own, *texts_below(top, own, contracts_below(top, below))]
 
 
-class Record:
-    """A file of a crate with the digest of the state in which a run of the gate has shown something of it."""
+def logic_of(kit):
+    """Returns what the toolchain's version says of its logic: the definitions and rules by which it proves, the same in
+    several releases."""
+    found = LOGIC.search(kit)
+    return found[0] if found else kit
 
-    def __init__(self, name, has, texts, shown, again):
-        self.name, self.has, self.texts = name, has, texts
+
+class Record:
+    """A file of a crate with the digest of the state in which a run of the gate has shown something of it, by a toolchain
+    of which `by` gives what counts."""
+
+    def __init__(self, name, has, texts, by, shown, again):
+        self.name, self.has, self.texts, self.by = name, has, texts, by
         self.text = f"{shown} in the state that this digest stands for.\n"
         self.text += f"`.ci/run` writes this file, and {again} again when the digest no longer fits.\n\n"
 
@@ -209,7 +218,7 @@ class Record:
         return {it: self.digest_of(top, it, below, kit) for it, below in dependences(top).items() if self.has(top, it)}
 
     def digest_of(self, top, crate, below, kit):
-        digest = hashlib.sha256(repr((kit, libraries(top)[crate])).encode())
+        digest = hashlib.sha256(repr((self.by(kit), libraries(top)[crate])).encode())
         for file, tokens in self.texts(top, crate, below):
             digest.update(repr((str(file), tokens)).encode())
         return digest.hexdigest()
@@ -227,6 +236,7 @@ TRIED = Record(
     "must-fail/tried.md",
     edits_of,
     texts_of_edits,
+    logic_of,
     "Each edit of this directory was tried and refused",
     "tries the edits",
 )
@@ -234,6 +244,7 @@ PROVED = Record(
     "proved.md",
     is_of_tests,
     texts_of_tests,
+    str,
     "This crate was proved and its tests passed",
     "proves the crate",
 )

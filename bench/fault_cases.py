@@ -4,7 +4,7 @@ import random
 import re
 
 import entry_logs
-from fault_runs import READING, Looked
+from fault_runs import READING, Looked, cut_torn
 
 LIMIT = "4096"
 LEDGERS = range(1, 7)
@@ -104,6 +104,10 @@ class Case:
         """Whether a run of status 0 tells of a fault, as a script does in its answers."""
         return False
 
+    def stuck(self, ran):
+        """Why a later step of the run did not end what a failed one began, a text each."""
+        return []
+
     def again(self, call, folder):
         """The same call once more. Returns what was published then, and why it leads nowhere, or None."""
         ran = call(self.words(folder), self.text())
@@ -175,6 +179,17 @@ class ScriptJob(Script):
             steps += ["major", "copy 100", "end", "switch 100", "finish", "retire 0", "close 0", "remove 0"]
             steps += ["retire 1", "close 1", "remove 1", "giveup"]
         return [*steps, *flush_steps({(1, 300): "x", (4, 300): "y"}, True), "rebuild"]
+
+    def stuck(self, ran):
+        failed, why = set(), []
+        for step, answer in zip(self.lines, ran.out.splitlines()):
+            if step.startswith("remove "):
+                if step in failed and answer != "removed":
+                    why.append(f"{step} after a removal that failed: {answer}")
+                failed.discard(step)
+                if answer.startswith("fault "):
+                    failed.add(step)
+        return why
 
     def story(self, ran):
         published, every, dead = super().story(ran)
@@ -265,7 +280,7 @@ class Seal(Case):
     def again(self, call, folder):
         ran = call(self.words(folder), "")
         if "help: " in ran.told and "seal --cut-torn" in ran.told:
-            ran = self.program.call(["seal", "--cut-torn", folder, self.log])
+            ran = cut_torn(call, folder, self.log)
         check = self.program.call(["check", folder])
         if f"{self.log} ok" in check.out.splitlines():
             return {}, None
@@ -299,11 +314,7 @@ class Cut(Seal):
         return [] if is_there else ["the bytes that are cut off are in no copy"]
 
     def again(self, call, folder):
-        ran = call(self.words(folder), "")
-        if "copy exists" in ran.told:
-            copy = folder / f"{self.log:x}.log.torn"
-            copy.rename(folder / f"{self.log:x}.log.torn.1")
-            ran = call(self.words(folder), "")
+        ran = cut_torn(call, folder, self.log)
         check = self.program.call(["check", folder])
         if f"{self.log} ok" not in check.out.splitlines():
             return {}, f"{ran.last()}; check: {' | '.join(check.out.split(chr(10)))[-100:]}"

@@ -32,8 +32,9 @@ WRITING = "open,write,sync,remove,rename,cut,make,mode"
 READING = ("open", "read", "stat", "list")
 # A fault that the caller need not hear of: a call that goes on, or that is tried again.
 UNSEEN = ("short", "EINTR")
-# What the program may pass over: the number in the lock file is a hint, and a file system need not lock directories.
-HINTS = re.compile(r"(write|cut) .*/writer\.lock|lock .*/logs")
+# What the program may pass over: the number in the lock file is a hint, a file system need not lock directories, and a file
+# that sets a log aside is removed by the next writer.
+HINTS = re.compile(r"(write|cut) .*/writer\.lock|lock .*/logs|remove .*\.unsynced")
 
 
 class Ran:
@@ -179,6 +180,17 @@ class Room:
         return self.image
 
 
+def cut_torn(call, folder, log):
+    """Calls `seal --cut-torn`, and does what its help says. Returns how the last call ended."""
+    for number in range(3):
+        ran = call(["seal", "--cut-torn", folder, log], "")
+        found = re.search(r"^help: move (\S+) to another name", ran.told, re.M)
+        if not found:
+            return ran
+        Path(found[1]).rename(f"{found[1]}.{number}")
+    return ran
+
+
 def way_on(program, folder, ran):
     """Does what a refused opening says. Returns None, or why that does not help."""
     found = re.search(r"log (\d+)", ran.told)
@@ -186,10 +198,10 @@ def way_on(program, folder, ran):
         return f"no way on: {ran.last()}"
     log = found[1]
     if "seal --cut-torn" in ran.told:
-        cut = program.call(["seal", "--cut-torn", folder, log])
+        cut = cut_torn(program.call, folder, log)
         return None if cut.status == 0 else f"{ran.last()}; seal --cut-torn: {cut.last()}"
     scan = program.call(["scan", folder, log])
-    if not re.search(r"^entries 0 ", scan.out, re.M):
+    if re.search(r"^\d+ \d+ \d+ \d+$", scan.out, re.M):
         return f"{ran.last()}; scan: {scan.last()}"
     name = f"{int(log):x}.log"
     (folder / name).rename(folder / f"{name}.away")

@@ -104,6 +104,14 @@ def copy_at(make):
     return fill
 
 
+def draft_at(make):
+    def fill(folder):
+        torn(folder)
+        make(folder / (NAME + ".torn.new"))
+
+    return fill
+
+
 def lock_at(make):
     def fill(folder):
         (folder / "writer.lock").unlink(missing_ok=True)
@@ -168,6 +176,12 @@ KINDS = {
     "a link to nothing as the copy": copy_at(lambda path: path.symlink_to("../outside/new")),
     "a pipe as the copy": copy_at(os.mkfifo),
     "a folder as the copy": copy_at(lambda path: path.mkdir()),
+    "another file as the copy": copy_at(lambda path: path.write_bytes(b"precious")),
+    "a link as the draft of the copy": draft_at(lambda path: path.symlink_to(OUT)),
+    "a pipe as the draft of the copy": draft_at(os.mkfifo),
+    "a folder as the draft of the copy": draft_at(lambda path: path.mkdir()),
+    "another file as the draft of the copy": draft_at(lambda path: path.write_bytes(b"precious")),
+    "a torn log with a name outside": lambda folder: (torn(folder), os.link(folder / NAME, folder / "../outside/9.log")),
     "a pipe as the copy of a short log": lambda folder: (
         (folder / NAME).write_bytes(b"BKLO"),
         os.mkfifo(folder / f"{NAME}.torn"),
