@@ -5,16 +5,12 @@ each other: each is refused if the prover refuses the function that it changes. 
 show that is tried alone; so is one that changes a definition or a contract.
 """
 
-import os
 import re
 import shutil
-import signal
-import subprocess
 import tempfile
-import threading
-from concurrent.futures import ThreadPoolExecutor
 from pathlib import Path
 
+import runs
 import tried
 
 FUNCTION = re.compile(r"^(\s*)(?:pub(?:\([^)]*\))? )?(?:const |unsafe )*fn (\w+)")
@@ -25,15 +21,6 @@ GONE = re.compile(r"has no field|is not in scope|has no `|was not admitted")
 REFUSED = re.compile(r"fn (\S+): no proof\b(.*)")
 # An error of an edited text: it could not be read, or a rule of the language other than a contract refuses it.
 UNREAD = re.compile(r"(?:\./)?(?:src|specs)/\S+:\d+:\d+: error: ")
-# Measured memory of one check, in bytes.
-ROOM = 3_000_000_000
-# The checks that are running, and whether a signal has ended the call.
-CHECKS = set()
-IS_ENDED = threading.Event()
-
-
-class Ended(Exception):
-    """A signal has ended the call."""
 
 
 class Edit:
@@ -79,7 +66,7 @@ def apply(edits, folder, room):
             own[path] = text.replace(old, new)
         else:
             texts, fitting = own, [*fitting, edit]
-    for part in ("src", "specs", "proofs"):
+    for part in runs.PARTS:
         shutil.rmtree(room / part, ignore_errors=True)
         if (folder / part).is_dir():
             shutil.copytree(folder / part, room / part)
@@ -107,50 +94,6 @@ def refusals(crate, said):
     return found
 
 
-def copy_of(top, crate, room):
-    """Makes a copy of the crate's sources and kept work, beside links to the libraries below it."""
-    below = tried.dependences(top)[crate]
-    for name in [crate, *below]:
-        for part in ("src", "specs", "proofs"):
-            if (top / "crates" / name / part).is_dir():
-                shutil.copytree(top / "crates" / name / part, room / "crates" / name / part)
-    for name in below:
-        shutil.copytree(top / "crates" / name / "out" / "rlib", room / "crates" / name / "out" / "rlib", copy_function=link)
-    kept = top / "crates" / crate / "out" / "incremental"
-    if kept.is_dir():
-        shutil.copytree(kept, room / "crates" / crate / "out" / "incremental")
-    lines = (top / "crates.txt").read_text().splitlines()
-    wanted = [it for it in lines if it.partition("#")[0].partition(":")[0].split(" ")[0] in (crate, *below)]
-    (room / "crates.txt").write_text("\n".join([*wanted, ""]))
-    shutil.copy(top / "HANDLES", room)
-
-
-def link(source, to):
-    Path(to).hardlink_to(source)
-
-
-def check(folder):
-    """Runs `rt check` in a crate's directory. Returns its status and what it said."""
-    how = {"stdin": subprocess.DEVNULL, "stdout": subprocess.PIPE, "stderr": subprocess.STDOUT, "text": True, "errors": "replace"}
-    process = subprocess.Popen(["rt", "check", "--jobs", "1"], cwd=folder, start_new_session=True, **how)
-    CHECKS.add(process)
-    said = process.communicate()[0]
-    CHECKS.discard(process)
-    if IS_ENDED.is_set():
-        raise Ended
-    return process.returncode, said
-
-
-def end():
-    """Ends the checks that are running, and with them the calls that wait for them."""
-    IS_ENDED.set()
-    for it in list(CHECKS):
-        try:
-            os.killpg(it.pid, signal.SIGKILL)
-        except ProcessLookupError:
-            pass
-
-
 def groups(edits):
     """Returns the edits that can be tried in one check: no two change one function."""
     group, taken = [], set()
@@ -164,14 +107,16 @@ class Crate:
     """The edits of a crate that are not tried yet, and the copy in which they are tried."""
 
     def __init__(self, top, name, room):
-        self.name, self.folder, self.copy = name, top / "crates" / name, Path(room) / "crates" / name
+        self.name, self.folder, self.copy = name, top / "crates" / name, runs.copy_of(top, name, Path(room))
         self.left = [Edit(self.folder, it) for it in sorted(tried.edits_of(top, name))]
-        copy_of(top, name, Path(room))
+
+    def check(self):
+        return runs.rt(self.copy, "check", "--jobs", "1")
 
     def together(self, tell):
         """Tries one group of edits. Returns whether that showed something of one of them."""
         fitting = apply(groups(self.left), self.folder, self.copy)
-        status, said = check(self.copy)
+        status, said = self.check()
         found = refusals(self.name, said) if status == 1 and not any(map(UNREAD.match, said.splitlines())) else {}
         shown = {}
         for edit in fitting:
@@ -186,7 +131,7 @@ class Crate:
     def alone(self, edit, tell):
         """Tries one edit. It is refused if the prover reads it, and does not prove a goal."""
         fits = apply([edit], self.folder, self.copy)
-        status, said = check(self.copy)
+        status, said = self.check()
         found = refusals(self.name, said) if fits and status == 1 and "logic=not-proved" in said else {}
         unread = [it for it in said.splitlines() if UNREAD.match(it)]
         if found and not unread:
@@ -201,7 +146,7 @@ class Crate:
             self.alone(it, tell)
         # What was refused says something only if the crate itself is proved over what these checks kept.
         apply([], self.folder, self.copy)
-        return check(self.copy)[0] == 0
+        return self.check()[0] == 0
 
 
 def try_edits(top, name, tell):
@@ -210,19 +155,6 @@ def try_edits(top, name, tell):
         return Crate(top, name, room).all(tell)
 
 
-def build_below(top, names):
-    """Proves and builds the libraries below these crates that are not built. Returns whether all are."""
-    below = tried.dependences(top)
-    wanted = {deeper for it in names for deeper in below[it]}
-    lacking = [it for it in sorted(wanted, key=lambda it: len(below[it])) if not (top / "crates" / it / "out" / "rlib").is_dir()]
-    return not any(subprocess.run(["rt", "lib"], cwd=top / "crates" / it, stdin=subprocess.DEVNULL).returncode for it in lacking)
-
-
 def try_all(top, names, tell):
-    """Tries the edits of these crates, side by side as processors and memory allow. Returns the crates that are not proved
-    without them."""
-    free = re.search(r"^MemAvailable:\s+(\d+)", Path("/proc/meminfo").read_text(), re.M)
-    lanes = max(1, min(len(os.sched_getaffinity(0)), 1024 * int(free[1]) // ROOM))
-    with ThreadPoolExecutor(lanes) as pool:
-        proved = list(pool.map(lambda it: try_edits(top, it, tell), names))
-    return [it for it, is_proved in zip(names, proved) if not is_proved]
+    """Tries the edits of these crates, and tells of each. Returns the crates that are not proved without them."""
+    return runs.in_lanes(names, lambda it: try_edits(top, it, tell))

@@ -1,0 +1,84 @@
+"""Runs of the toolchain side by side, each in a copy of the crates that it needs, over the libraries that are built."""
+
+import os
+import re
+import shutil
+import signal
+import subprocess
+import threading
+from concurrent.futures import ThreadPoolExecutor
+from pathlib import Path
+
+import tried
+
+PARTS = ("src", "specs", "proofs")
+# Measured memory of one run, in bytes.
+ROOM = 3_000_000_000
+# The runs that are going on, and whether a signal has ended the call.
+RUNNING = set()
+IS_ENDED = threading.Event()
+
+
+class Ended(Exception):
+    """A signal has ended the call."""
+
+
+def rt(folder, *words):
+    """Runs `rt` in a crate's directory. Returns its status and what it said."""
+    how = {"stdin": subprocess.DEVNULL, "stdout": subprocess.PIPE, "stderr": subprocess.STDOUT, "text": True, "errors": "replace"}
+    process = subprocess.Popen(["rt", *words], cwd=folder, start_new_session=True, **how)
+    RUNNING.add(process)
+    said = process.communicate()[0]
+    RUNNING.discard(process)
+    if IS_ENDED.is_set():
+        raise Ended
+    return process.returncode, said
+
+
+def end():
+    """Ends the runs that are going on, and with them the calls that wait for them."""
+    IS_ENDED.set()
+    for it in list(RUNNING):
+        try:
+            os.killpg(it.pid, signal.SIGKILL)
+        except ProcessLookupError:
+            pass
+
+
+def in_lanes(names, call):
+    """Calls for each name, side by side as processors and memory allow. Returns the names for which the call gave False."""
+    free = re.search(r"^MemAvailable:\s+(\d+)", Path("/proc/meminfo").read_text(), re.M)
+    lanes = max(1, min(len(os.sched_getaffinity(0)), 1024 * int(free[1]) // ROOM))
+    with ThreadPoolExecutor(lanes) as pool:
+        given = list(pool.map(call, names))
+    return [it for it, is_well in zip(names, given) if not is_well]
+
+
+def build_below(top, names):
+    """Proves and builds the libraries below these crates that are not built. Returns whether all are."""
+    below = tried.dependences(top)
+    wanted = {deeper for it in names for deeper in below[it]}
+    lacking = [it for it in sorted(wanted, key=lambda it: len(below[it])) if not (top / "crates" / it / "out" / "rlib").is_dir()]
+    return not any(subprocess.run(["rt", "lib"], cwd=top / "crates" / it, stdin=subprocess.DEVNULL).returncode for it in lacking)
+
+
+def link(source, to):
+    Path(to).hardlink_to(source)
+
+
+def copy_of(top, crate, room):
+    """Makes a copy of the crate with its kept work, beside links to the libraries below it. Returns its directory."""
+    below = tried.dependences(top)[crate]
+    for name in [crate, *below]:
+        for part in PARTS:
+            if (top / "crates" / name / part).is_dir():
+                shutil.copytree(top / "crates" / name / part, room / "crates" / name / part)
+    for name in below:
+        shutil.copytree(top / "crates" / name / "out" / "rlib", room / "crates" / name / "out" / "rlib", copy_function=link)
+    if (top / "crates" / crate / "out" / "incremental").is_dir():
+        shutil.copytree(top / "crates" / crate / "out" / "incremental", room / "crates" / crate / "out" / "incremental")
+    lines = (top / "crates.txt").read_text().splitlines()
+    wanted = [it for it in lines if it.partition("#")[0].partition(":")[0].split(" ")[0] in (crate, *below)]
+    (room / "crates.txt").write_text("\n".join([*wanted, ""]))
+    shutil.copy(top / "HANDLES", room)
+    return room / "crates" / crate
