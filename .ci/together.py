@@ -18,7 +18,11 @@ FUNCTION = re.compile(r"^(\s*)(?:pub(?:\([^)]*\))? )?(?:const |unsafe )*fn (\w+)
 # something that the edit took away.
 GOAL = re.compile(r"(?:\./)?proofs/(\S+)/\w+\.antt:\d+:\d+: error: (.*)")
 GONE = re.compile(r"has no field|is not in scope|has no `|was not admitted")
-REFUSED = re.compile(r"fn (\S+): no proof\b(.*)")
+REFUSED = re.compile(r"fn (\S+): no proof: (?!it calls)(.*)")
+# A function whose proofs name something that is gone, and a goal of a file that nothing proves. A function that only calls
+# one that is not proved counts as neither.
+UNPROVED = re.compile(r"fn (\S+): not proved$")
+OPEN = re.compile(r"note: src/(\S+)\.rt:\d+:\d+: it is not proved (.*)")
 # An error of an edited text: it could not be read, or a rule of the language other than a contract refuses it.
 UNREAD = re.compile(r"(?:\./)?(?:src|specs)/\S+:\d+:\d+: error: ")
 
@@ -75,22 +79,29 @@ def apply(edits, folder, room):
     return fitting
 
 
+def is_in_module(function, module):
+    """Returns whether a function, by its full name, is of this module."""
+    inner = [] if module in ("lib", "main") else module.split("::")
+    return function.split("::")[1 : 1 + len(inner)] == inner
+
+
 def names(function, module, name):
     """Returns whether a function's full name is one of this module and this last name."""
-    parts = function.split("::")[1:]
-    inner = [] if module in ("lib", "main") else module.split("::")
-    return parts[-1:] == [name] and parts[: len(inner)] == inner
+    return function.split("::")[-1] == name and is_in_module(function, module)
 
 
 def refusals(crate, said):
     """Returns the functions of which a goal of their own is not proved, each with what the prover says of it."""
-    found = {}
+    found, open_goals = {}, dict(reversed([it.groups() for line in said.splitlines() for it in [OPEN.match(line)] if it]))
     for line in said.splitlines():
-        goal, refused = GOAL.match(line), REFUSED.match(line)
+        goal, refused, unproved = GOAL.match(line), REFUSED.match(line), UNPROVED.match(line)
         if goal and not GONE.search(goal[2]):
             found.setdefault("::".join([crate, *goal[1].split("/")]), goal[2])
         elif refused:
             found.setdefault(refused[1], refused[2])
+        elif unproved:
+            goals = (goal for file, goal in open_goals.items() if is_in_module(unproved[1], file.replace("/", "::")))
+            found.update({unproved[1]: goal for goal in goals if unproved[1] not in found})
     return found
 
 
