@@ -44,7 +44,7 @@ class Edit:
             self.functions = None
 
     def function(self, folder, path, old):
-        """Returns the module and the name of the function whose body has this text, if one has it."""
+        """Returns the module, the type and the name of the function whose body has this text, if one has it."""
         text = (folder / path).read_text()
         if not path.startswith("src/") or text.count(old) != 1 or tried.CLAUSE.match(old):
             return None
@@ -53,8 +53,10 @@ class Edit:
             found = FUNCTION.match(lines[start])
             if found:
                 end = lines.index(found[1] + "}", start) if found[1] + "}" in lines[start:] else start
+                impls = (tried.IMPL.match(it) for it in reversed(lines[:start]) if found[1] and it.startswith("impl"))
+                kind = next((it[1] for it in impls if it), None)
                 module = path.removeprefix("src/").removesuffix(".rt").replace("/", "::")
-                return (module, found[2]) if start <= at <= end else None
+                return (module, kind, found[2]) if start <= at <= end else None
         return None
 
 
@@ -80,14 +82,16 @@ def apply(edits, folder, room):
 
 
 def is_in_module(function, module):
-    """Returns whether a function, by its full name, is of this module."""
+    """Returns whether a function, by its full name, is of this module, or of the one around it, as a method of a type that
+    is declared there."""
     inner = [] if module in ("lib", "main") else module.split("::")
-    return function.split("::")[1 : 1 + len(inner)] == inner
+    return any(function.split("::")[1 : 1 + len(it)] == it for it in (inner, inner[:-1]))
 
 
-def names(function, module, name):
-    """Returns whether a function's full name is one of this module and this last name."""
-    return function.split("::")[-1] == name and is_in_module(function, module)
+def names(function, module, kind, name):
+    """Returns whether a function's full name is one of this type, or of this module if it is of no type, and this name."""
+    *outer, last = function.split("::")
+    return last == name and (outer[-1].startswith(kind) if kind else is_in_module(function, module))
 
 
 def refusals(crate, said):
