@@ -58,8 +58,8 @@ impl FlushPlaces {
         Some(*key)
     }
 
-    /// Makes room for one more place, and if there is none yet, for `most` places: a flush makes room
-    /// for all its places at once. Fails only if out of memory, and changes no place.
+    /// Makes room for one more place, and if there is none yet, for `most` places: a flush makes
+    /// room for all its places at once. Fails only if out of memory, and changes no place.
     pub fn make_room(&mut self, most: usize) -> Result<(), AllocError>
         ensures same { self.new.places ≡ self.old.places }
         ensures ok { OnOk result (0 < self.new.room) }
