@@ -20,7 +20,9 @@ pub(crate) enum ReadFault {
     Odd,
 }
 
-/// Returns the `n` bytes of a view from a position.
+/// Returns the `n` bytes of a view from a position. Not inlined, since `fetch` needs it only for
+/// long records.
+#[inline(never)]
 pub(crate) fn read<V: LogView>(
     view: &V,
     alloc: Global,

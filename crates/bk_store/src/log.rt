@@ -116,6 +116,8 @@ impl<V: LogView> HeldLog<V> {
     }
 
     /// Ends writing after a failed append.
+    #[cold]
+    #[inline(never)]
     fn stop_after_failure(&mut self)
         ensures { self.new ≡ log_after_failed_append self.old }
     {

@@ -58,11 +58,15 @@ impl FlushPlaces {
         Some(*key)
     }
 
-    /// Makes room for one more place. Fails only if out of memory, and changes no place.
-    pub fn make_room(&mut self) -> Result<(), AllocError>
+    /// Makes room for one more place, and if there is none yet, for `most` places: a flush makes
+    /// room for all its places at once. Fails only if out of memory, and changes no place.
+    pub fn make_room(&mut self, most: usize) -> Result<(), AllocError>
         ensures same { self.new.places ≡ self.old.places }
         ensures ok { OnOk result (0 < self.new.room) }
     {
+        if self.pairs.is_empty() && most > 0 {
+            return self.pairs.reserve(most);
+        }
         self.pairs.reserve(1)
     }
 

@@ -33,7 +33,8 @@ impl<D: LogDisk> Fields<D> {
         {
             return Ok(Appended::NeedsLog);
         }
-        let Ok(()) = self.places.make_room() else {
+        let entries = self.caches.flush_len() as usize;
+        let Ok(()) = self.places.make_room(entries) else {
             return Err(LogFault::Memory);
         };
         let Ok(()) = self.accounts.ready(log, next.0.ledger()) else {
