@@ -6,7 +6,7 @@ abbrev pub sum_of : ℕ → ℕ → ℕ
 sum_of a b = min (a + b) (2 ^ 64 - 1)
 
 -- the results of two callers together
-pub record AreSums (one other sum : Done) : Type 0 where
+pub record JoinsResults (one other sum : Done) : Type 0 where
   pub receipts : sum.receipts.items ≡ one.receipts.items ++ other.receipts.items
   pub times : sum.times.items ≡ one.times.items ++ other.times.items
   pub dead : sum.dead.items ≡ one.dead.items ++ other.dead.items

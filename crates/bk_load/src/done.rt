@@ -1,7 +1,7 @@
 //! Results of callers.
 
 ghost use Rattle.std.specs.Prelude.{◌≡◌, ◌+◌, OnOk, OnErr, if◌then◌else◌, vec_len};
-ghost use Rattle.bk_load.specs.Sums.{AreSums, sum_of};
+ghost use Rattle.bk_load.specs.Sums.{JoinsResults, sum_of};
 
 use bk_store::Receipt;
 use std::alloc::{AllocError, Global};
@@ -55,7 +55,7 @@ impl Done {
     /// Adds the results of another caller. Fails only if out of memory.
     pub fn take_in(&mut self, other: &Done) -> Result<(), AllocError>
         ensures ok { OnOk result (vec_len self.new.receipts ≡ vec_len self.old.receipts + vec_len other.now.receipts) }
-        ensures sums { OnOk result (AreSums self.old other.now self.new) }
+        ensures sums { OnOk result (JoinsResults self.old other.now self.new) }
         ensures err { OnErr result (vec_len self.new.receipts ≡ vec_len self.old.receipts) }
     {
         self.times.extend_from_slice(&other.times)?;
