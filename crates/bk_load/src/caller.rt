@@ -1,8 +1,10 @@
 //! A caller of a load. It adds an entry in each round, takes an earlier one in every fourth, and
 //! deletes a ledger from time to time.
 
-ghost use Rattle.std.specs.Prelude.{◌≡◌, false, vec_len};
+ghost use Rattle.std.specs.Prelude.{◌≡◌, ◌↔◌, IsTrue, false, vec_len};
 ghost use Rattle.bk_store.specs.declared.answer.Taken.TheVariants.{NotHeld};
+ghost use Rattle.sha2.specs.Sha256.{sha256};
+ghost use Rattle.bk_load.specs.Answers.{AnswersReceipt};
 
 use crate::done::Done;
 use crate::entries::{LONGEST, ROUNDS, doomed_ledger, is_doomed, ledger_of, mixed, payload};
@@ -75,7 +77,9 @@ fn nanoseconds_since<R: Clock>(rt: &R, start: Instant) -> u32 {
 }
 
 /// Returns whether a payload has the digest of a receipt.
-fn is_of(payload: &[u8], receipt: &Receipt) -> bool {
+fn is_of(payload: &[u8], receipt: &Receipt) -> bool
+    ensures { IsTrue result ↔ (receipt.now.digest ≡ sha256 payload.now) }
+{
     Sha256::digest(payload) == receipt.digest
 }
 
@@ -87,7 +91,8 @@ pub(crate) fn is_right<V: LogView>(
     taken: &Taken<V>,
     receipt: &Receipt,
 ) -> bool
-    ensures { taken.now ≡ NotHeld → result ≡ false }
+    ensures right { IsTrue result → AnswersReceipt V.bytes V.honest first receipt.now taken.now }
+    ensures held { taken.now ≡ NotHeld → result ≡ false }
 {
     match taken {
         Taken::Deleted => is_doomed(first, receipt.key.ledger()),
@@ -258,10 +263,7 @@ impl<L: AddLedger> Caller<L> {
             Ok(taken) => is_right(alloc, first, &taken, &receipt),
             Err(_) => false,
         };
-        self.done.takes = self.done.takes.saturating_add(1);
-        if !is_right {
-            self.done.wrong = self.done.wrong.saturating_add(1);
-        }
+        self.done.count_take(is_right);
     }
 
     /// Deletes a ledger.

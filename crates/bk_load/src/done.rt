@@ -1,6 +1,7 @@
 //! Results of callers.
 
-ghost use Rattle.std.specs.Prelude.{◌≡◌, ◌+◌, OnOk, OnErr, vec_len};
+ghost use Rattle.std.specs.Prelude.{◌≡◌, ◌+◌, OnOk, OnErr, if◌then◌else◌, vec_len};
+ghost use Rattle.bk_load.specs.Sums.{JoinsResults, sum_of};
 
 use bk_store::Receipt;
 use std::alloc::{AllocError, Global};
@@ -41,9 +42,20 @@ impl Done {
         }
     }
 
+    /// Counts an entry that was taken.
+    pub fn count_take(&mut self, is_right: bool)
+        ensures takes { self.new.takes ≡ sum_of self.old.takes 1 }
+        ensures wrong { self.new.wrong ≡ sum_of self.old.wrong (if is_right then 0 else 1) }
+        ensures receipts { self.new.receipts ≡ self.old.receipts }
+    {
+        self.takes = self.takes.saturating_add(1);
+        self.wrong = self.wrong.saturating_add(u64::from(!is_right));
+    }
+
     /// Adds the results of another caller. Fails only if out of memory.
     pub fn take_in(&mut self, other: &Done) -> Result<(), AllocError>
         ensures ok { OnOk result (vec_len self.new.receipts ≡ vec_len self.old.receipts + vec_len other.now.receipts) }
+        ensures sums { OnOk result (JoinsResults self.old other.now self.new) }
         ensures err { OnErr result (vec_len self.new.receipts ≡ vec_len self.old.receipts) }
     {
         self.times.extend_from_slice(&other.times)?;

@@ -1,5 +1,8 @@
 //! The entries of a load: their ledgers and payloads.
 
+ghost use Rattle.std.specs.Prelude.{◌↔◌, IsTrue};
+ghost use Rattle.bk_load.specs.Answers.{IsDoomed};
+
 /// Size of the longest payload.
 pub(crate) const LONGEST: usize = 16 + 240;
 
@@ -35,7 +38,9 @@ pub(crate) fn doomed_ledger(first: u64, round: u64) -> u64 {
 }
 
 /// Returns whether the load deletes this ledger.
-pub(crate) fn is_doomed(first: u64, ledger: u64) -> bool {
+pub(crate) fn is_doomed(first: u64, ledger: u64) -> bool
+    ensures { IsTrue result ↔ IsDoomed first ledger }
+{
     ledger.saturating_sub(first) % OPEN_LEDGERS == OPEN_LEDGERS - 1
 }
 

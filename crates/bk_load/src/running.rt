@@ -1,6 +1,7 @@
 //! Runs a load.
 
 ghost use Rattle.std.specs.Prelude.{◌≡◌, ◌+◌, ◌-◌, ◌<◌, ◌^◌, IfOk, min, vec_len};
+ghost use Rattle.bk_load.specs.Reported.{ReportsCallers, ReportsLogs};
 
 use crate::before::{Before, disk_of, logs_on, survey};
 use crate::checking::check;
@@ -49,7 +50,11 @@ fn works_of(works: WorkReport, keeper: &Keeper) -> WorkReport
 }
 
 /// Returns what happened to the logs, from their number before and now.
-fn logs_of(before: u64, now: u64, keeper: &Keeper) -> Logs {
+fn logs_of(before: u64, now: u64, keeper: &Keeper) -> Logs
+    ensures made { result.made ≡ min (now + keeper.now.removed) (2 ^ 64 - 1) - before }
+    ensures compacted { result.compacted ≡ keeper.now.compacted }
+    ensures removed { result.removed ≡ keeper.now.removed }
+{
     Logs {
         made: now.saturating_add(keeper.removed).saturating_sub(before),
         compacted: keeper.compacted,
@@ -65,6 +70,9 @@ fn report_on<D: LogDisk>(
     served: Served<D>,
 ) -> Result<Report, LoadFault>
     ensures counted { IfOk result (λ r. (r.adds ≡ served.adds) × (r.receipts ≡ vec_len served.done.receipts)) }
+    ensures callers { IfOk result (ReportsCallers served.done) }
+    ensures logs { IfOk result (ReportsLogs before served.keeper) }
+    ensures works { IfOk result (λ r. (r.works.answered ≡ served.works.answered) × (r.milliseconds ≡ served.milliseconds)) }
     ensures checked { IfOk result (λ r. r.checked.found + r.checked.deleted + r.checked.lost ≡ r.receipts) }
     ensures faults { IfOk result (λ r. r.works.faults ≡ min (served.works.faults + served.keeper.faults) (2 ^ 64 - 1)) }
 {

@@ -69,6 +69,33 @@ fn entries_that_are_asked_for(rt: HostRuntime) -> Result<(), Fail> {
     Ok(())
 }
 
+/// A log with entry 9 of ledger 1, entry 4, entry 9 again, a record without a key, and a torn end.
+const FALLING_LOG: File<'static> = File {
+    log: 3,
+    head: OPEN,
+    behind: b"\0\0\0\x11\0\0\0\0\0\0\0\x01\0\0\0\0\0\0\0\x09a\
+\0\0\0\x10\0\0\0\0\0\0\0\x01\0\0\0\0\0\0\0\x04\
+\0\0\0\x12\0\0\0\0\0\0\0\x01\0\0\0\0\0\0\0\x09bc\
+\0\0\0\x10\0\0\0\0\0\0\0\x01\xff\xff\xff\xff\xff\xff\xf0\0\
+\0\0\0",
+    length: 1110,
+};
+
+#[test]
+fn entries_that_fall_and_stand_twice(rt: HostRuntime) -> Result<(), Fail> {
+    let rows = [
+        done(
+            part(None, 0, true),
+            "1028 1 9 21 61\n1049 1 4 20 -\n1069 1 9 22 6263\nentries 3 foreign 1 torn 3\n",
+        ),
+        done(range(0, 9), "4 3 1049 20\n9 3 1069 22\n"),
+        done(DirCommand::Ledgers, "1 3 63 4 9 1\n"),
+    ];
+    let mut disk = disk_of(rt.alloc(), &[FALLING_LOG])?;
+    check(&rt, rt.alloc(), &mut disk, &rows, "falling entries");
+    Ok(())
+}
+
 #[test]
 fn a_bad_length_is_told_and_what_stands_before_it_counts(rt: HostRuntime) -> Result<(), Fail> {
     const TOLD: &str = "fault log 4: bad length 1049 7\n";
@@ -119,7 +146,7 @@ logs 2 length 2176 entries 4 bytes 88 live 66 share 750\n";
 #[test]
 fn how_much_lives_of_each_log(rt: HostRuntime) -> Result<(), Fail> {
     let mut disk = disk_of(rt.alloc(), &[SEALED_LOG, MIXED_LOG])?;
-    let shown = run_stat_on(rt.alloc(), &mut disk, &[2, 7]);
+    let shown = run_stat_on(rt.alloc(), &mut disk, &[7, 2, 9]);
     assert_eq!(rt; shown.output.as_slice(), STATS);
     assert_eq!(rt; shown.errors.len(), 0);
     assert_eq!(rt; shown.status, 0);

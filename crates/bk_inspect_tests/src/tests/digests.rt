@@ -1,6 +1,6 @@
 //! `check` with a digest: entries that were written by hand, with digests that another program computed.
 
-use super::{File, HELLO, OPEN, Row, check, disk_of, done};
+use super::{File, HELLO, HELLO_AND_MAP, OPEN, Row, SEALED_LOG, check, disk_of, done};
 use bk_inspect::{Digest, DigestChoice, DirCommand};
 use std::alloc::Global;
 use std::test::Fail;
@@ -112,6 +112,34 @@ fn the_first_entry_of_a_ledger_tells_its_digest(rt: HostRuntime) -> Result<(), F
         ),
     ];
     check(&rt, rt.alloc(), &mut disk, &rows, "a first entry");
+    Ok(())
+}
+
+/// Entries of ledgers 2^32 + 1 and 3, which have no room for a digest.
+const NONE: &[u8] = b"\0\0\0\x10\0\0\0\x01\0\0\0\x01\0\0\0\0\0\0\0\0\
+\0\0\0\x10\0\0\0\0\0\0\0\x03\0\0\0\0\0\0\0\0";
+
+#[test]
+fn ledgers_without_a_digest_are_counted(rt: HostRuntime) -> Result<(), Fail> {
+    let bytes = changed(rt.alloc(), &[FOUR, NONE], usize::MAX)?;
+    let mut disk = disk_of(rt.alloc(), &[log_of(0, &bytes)])?;
+    let rows = [done(AUTO, "0 unsealed\nunknown 2\n")];
+    check(&rt, rt.alloc(), &mut disk, &rows, "two unknown digests");
+    Ok(())
+}
+
+#[test]
+fn a_wrong_map_is_told_beside_the_digests(rt: HostRuntime) -> Result<(), Fail> {
+    let mut bytes = Vec::from_slice(rt.alloc(), HELLO_AND_MAP)?;
+    bytes.truncate(64);
+    bytes.push(0x18)?;
+    let file = File {
+        behind: &bytes,
+        ..SEALED_LOG
+    };
+    let mut disk = disk_of(rt.alloc(), &[file])?;
+    let rows = [wrong(AUTO, "0 map differs\nunknown 1\n")];
+    check(&rt, rt.alloc(), &mut disk, &rows, "a wrong map");
     Ok(())
 }
 

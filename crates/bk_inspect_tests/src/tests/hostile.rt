@@ -178,6 +178,18 @@ fn told<'a>(command: DirCommand, output: &'a str, errors: &'a str) -> Row<'a> {
 }
 
 #[test]
+fn a_bad_log_before_a_whole_one(rt: HostRuntime) -> Result<(), Fail> {
+    let whole = File {
+        log: 6,
+        ..SEALED_LOG
+    };
+    let rows = [told(DirCommand::Check, "2 fault version 2\n6 ok\n", "")];
+    let mut disk = disk_of(rt.alloc(), &[BAD_HEAD, whole])?;
+    check(&rt, rt.alloc(), &mut disk, &rows, "a bad log first");
+    Ok(())
+}
+
+#[test]
 fn a_bad_log_among_others(rt: HostRuntime) -> Result<(), Fail> {
     let rows = [
         done(DirCommand::Logs, "0 1089 sealed\n2 1049 bad\n4 1073 open\n"),

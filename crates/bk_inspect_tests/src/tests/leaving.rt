@@ -209,6 +209,32 @@ fn what_a_compaction_moves_is_found_where_it_is(rt: HostRuntime) -> Result<(), F
 }
 
 #[test]
+fn the_last_record_is_that_of_the_later_log(rt: HostRuntime) -> Result<(), Fail> {
+    let rows = [
+        done(find(&rt, 1, 0), "3 1028 68656c6c6f\n"),
+        done(DirCommand::Entries(ENTRY), "0 3 1028 25\n"),
+    ];
+    for row in &rows {
+        // Log 2, to which log 0 is moved, is read after log 3.
+        let mut disk = losing(rt.alloc(), &[OTHER], 2, 1)?;
+        let told = Row {
+            command: row.command,
+            status: row.status,
+            output: row.output,
+            errors: row.errors,
+        };
+        check(
+            &rt,
+            rt.alloc(),
+            &mut disk,
+            &[told],
+            "a log below one that was read",
+        );
+    }
+    Ok(())
+}
+
+#[test]
 fn logs_that_go_each_time_they_are_listed_are_told(rt: HostRuntime) -> Result<(), Fail> {
     let rows = moved(&rt);
     for row in &rows {
