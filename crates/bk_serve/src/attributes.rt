@@ -1,0 +1,60 @@
+//! Attributes of ledgers: master keys and explicit LACs.
+
+use crate::ledgers::is_negative;
+use crate::notes::note;
+use bk_disk::LogDisk;
+use bk_manifest::{Manifest, ManifestFile, Record};
+use bk_serve_core::{Done, EncodeError, Refusal, Reply};
+use bk_store::Store;
+use std::alloc::Global;
+
+/// Stores an attribute of a ledger. It is durable before the reply.
+pub(crate) fn set_attribute<D: LogDisk, F: ManifestFile>(
+    alloc: Global,
+    store: &Store<D>,
+    notes: &mut Manifest<F>,
+    kind: u32,
+    ledger: u64,
+    value: &[u8],
+) -> Reply<'static> {
+    if is_negative(ledger) {
+        return Reply::Refused(Refusal::Negative);
+    }
+    if store.is_dead(ledger) {
+        return Reply::Refused(Refusal::Deleted);
+    }
+    let Ok(bytes) = Vec::from_slice(alloc, value) else {
+        return Reply::Refused(Refusal::Memory);
+    };
+    let one = Record::Attribute {
+        ledger,
+        kind,
+        bytes,
+    };
+    match note(alloc, notes, one) {
+        Ok(()) => Reply::Done(Done::Stored),
+        Err(refusal) => Reply::Refused(refusal),
+    }
+}
+
+/// Appends the reply with an attribute of a ledger.
+pub(crate) fn attribute<D: LogDisk, F: ManifestFile>(
+    store: &Store<D>,
+    notes: &Manifest<F>,
+    kind: u32,
+    ledger: u64,
+    id: u64,
+    out: &mut Vec<u8>,
+) -> Result<(), EncodeError> {
+    let reply = if is_negative(ledger) {
+        Reply::Refused(Refusal::Negative)
+    } else if store.is_dead(ledger) {
+        Reply::Refused(Refusal::Deleted)
+    } else {
+        match notes.state().attribute(ledger, kind) {
+            Some(value) => Reply::Done(Done::Attribute { value }),
+            None => Reply::Done(Done::NoAttribute),
+        }
+    };
+    reply.encode(id, out)
+}

@@ -1,0 +1,77 @@
+//! Fences and deletions. Each is durable before it takes effect.
+
+use crate::notes::note;
+use crate::refusals::{of_delete, of_fence};
+use bk_disk::LogDisk;
+use bk_manifest::{Manifest, ManifestFile, Record};
+use bk_serve_core::{Done, Refusal, Reply};
+use bk_store::{Fence, Store};
+use std::alloc::Global;
+
+/// Returns whether a number is no ledger id.
+pub(crate) fn is_negative(ledger: u64) -> bool {
+    ledger >> 63 != 0
+}
+
+/// Fences a ledger.
+pub(crate) fn fence<D: LogDisk, F: ManifestFile>(
+    alloc: Global,
+    store: &mut Store<D>,
+    notes: &mut Manifest<F>,
+    ledger: u64,
+) -> Reply<'static> {
+    if is_negative(ledger) {
+        return Reply::Refused(Refusal::Negative);
+    }
+    if store.is_dead(ledger) {
+        return Reply::Refused(Refusal::Deleted);
+    }
+    if !notes.state().is_fenced(ledger) {
+        if let Err(refusal) = note(alloc, notes, Record::FencedLedger(ledger)) {
+            return Reply::Refused(refusal);
+        }
+    }
+    match store.fence(ledger) {
+        Ok(Fence::Fenced) => Reply::Done(Done::FencedNow),
+        Ok(Fence::AlreadyFenced) => Reply::Done(Done::FencedBefore),
+        Err(fault) => Reply::Refused(of_fence(fault)),
+    }
+}
+
+/// Returns the reply to whether a ledger is fenced.
+pub(crate) fn is_fenced<D: LogDisk, F: ManifestFile>(
+    store: &Store<D>,
+    notes: &Manifest<F>,
+    ledger: u64,
+) -> Reply<'static> {
+    if is_negative(ledger) {
+        return Reply::Refused(Refusal::Negative);
+    }
+    if !store.is_dead(ledger) && notes.state().is_fenced(ledger) {
+        Reply::Done(Done::Yes)
+    } else {
+        Reply::Done(Done::No)
+    }
+}
+
+/// Deletes a ledger.
+pub(crate) fn delete<D: LogDisk, F: ManifestFile>(
+    alloc: Global,
+    store: &mut Store<D>,
+    notes: &mut Manifest<F>,
+    ledger: u64,
+) -> Reply<'static> {
+    if is_negative(ledger) {
+        return Reply::Refused(Refusal::Negative);
+    }
+    if store.is_dead(ledger) {
+        return Reply::Refused(Refusal::AlreadyDeleted);
+    }
+    if let Err(refusal) = note(alloc, notes, Record::DeletedLedger(ledger)) {
+        return Reply::Refused(refusal);
+    }
+    match store.delete(ledger) {
+        Ok(entries) => Reply::Done(Done::Dropped { entries }),
+        Err(fault) => Reply::Refused(of_delete(fault)),
+    }
+}
