@@ -8,6 +8,7 @@ ghost use Rattle.bk_serve.specs.Adds.{AddAnswers, told_of_add, payload_of};
 
 use crate::flushing::flush_all;
 use crate::refusals::of_add;
+use crate::tally::Tally;
 use bk_disk::LogDisk;
 use bk_serve_core::{Done, Refusal, Reply};
 use bk_store::{AddFault, AddKind, Added, Store};
@@ -73,6 +74,6 @@ pub(crate) fn add<D: LogDisk>(
     if !matches!(first, Err(AddFault::Full { .. })) {
         return reply_of(first);
     }
-    let _ = flush_all(store);
+    let _ = flush_all(store, &mut Tally::NONE);
     reply_of(add_payload(store, kind, &payload))
 }

@@ -1,14 +1,156 @@
 //! Compactions, by steps of the store alone.
 
+ghost use Rattle.bk_serve_core.specs.Replies.{told};
+ghost use Rattle.bk_serve.specs.Flushes.{CompactAnswers};
+ghost use Rattle.bk_serve.specs.Works.{Extends};
+
+use crate::refusals::{of_collect, of_step};
+use crate::tally::{Tally, step};
 use bk_disk::LogDisk;
-use bk_serve_core::{Refusal, Reply};
+use bk_drive::{
+    Answer, BeginAnswer, CopyAnswer, FinishAnswer, Kind, RetireAnswer, SwitchAnswer, Work,
+};
+use bk_serve_core::{Done, Refusal, Reply};
 use bk_store::Store;
 
-/// Compacts.
-pub(crate) fn compact<D: LogDisk>(
-    _store: &mut Store<D>,
-    _minor: u64,
-    _major: u64,
-) -> Reply<'static> {
-    Reply::Refused(Refusal::NotOffered)
+/// Number of entries of one step.
+const STRIDE: u64 = 1000;
+
+/// Greatest number of logs of one request, as many as a store may hold.
+const LOGS: u32 = 65_536;
+
+/// Closes and removes a retired log. A log with a lease stays.
+fn remove_log<D: LogDisk>(
+    store: &mut Store<D>,
+    tally: &mut Tally,
+    log: u32,
+) -> Result<(), Refusal>
+    ensures { Extends tally.old store.old tally.new store.new }
+{
+    let _ = step(store, tally, Work::Close(log));
+    match step(store, tally, Work::Remove(log)) {
+        Answer::Remove(Err(fault)) => Err(of_collect(fault)),
+        _ => Ok(()),
+    }
+}
+
+/// Removes each log without an entry to which the index points.
+fn remove_unused<D: LogDisk>(store: &mut Store<D>, tally: &mut Tally) -> Result<(), Refusal>
+    ensures { Extends tally.old store.old tally.new store.new }
+{
+    let mut from = 0u32;
+    for _ in 0..LOGS {
+        let Some(log) = store.log_from(from) else {
+            break;
+        };
+        from = log + 1;
+        if let Answer::Retire(RetireAnswer::Retired(_)) = step(store, tally, Work::Retire(log)) {
+            remove_log(store, tally, log)?;
+        }
+    }
+    Ok(())
+}
+
+/// Copies the live entries of the source log, and seals the target log.
+fn copy_all<D: LogDisk>(store: &mut Store<D>, tally: &mut Tally) -> Result<(), Refusal>
+    ensures { Extends tally.old store.old tally.new store.new }
+{
+    for _ in 0..u64::MAX {
+        match step(store, tally, Work::Copy(STRIDE)) {
+            Answer::Copy(Ok(CopyAnswer::Copied(_))) => {}
+            Answer::Copy(Err(fault)) => return Err(of_step(fault)),
+            _ => break,
+        }
+    }
+    match step(store, tally, Work::EndCopy) {
+        Answer::EndCopy(Err(fault)) => Err(of_step(fault)),
+        _ => Ok(()),
+    }
+}
+
+/// Points the index to the copies.
+fn switch_all<D: LogDisk>(store: &mut Store<D>, tally: &mut Tally)
+    ensures { Extends tally.old store.old tally.new store.new }
+{
+    for _ in 0..u64::MAX {
+        match step(store, tally, Work::Switch(STRIDE)) {
+            Answer::Switch(SwitchAnswer::Moved(_, left)) if left > 0 => {}
+            _ => break,
+        }
+    }
+}
+
+/// Compacts one log, if one qualifies. Returns whether a log was compacted. After a fault the
+/// compaction is given up.
+fn compact_log<D: LogDisk>(
+    store: &mut Store<D>,
+    tally: &mut Tally,
+    kind: Kind,
+) -> Result<bool, Refusal>
+    ensures { Extends tally.old store.old tally.new store.new }
+{
+    match step(store, tally, Work::Begin(kind)) {
+        Answer::Begin(Ok(BeginAnswer::Chosen(_))) => {}
+        Answer::Begin(Err(fault)) => return Err(of_step(fault)),
+        _ => return Ok(false),
+    }
+    if let Err(refusal) = copy_all(store, tally) {
+        let _ = step(store, tally, Work::GiveUp);
+        return Err(refusal);
+    }
+    switch_all(store, tally);
+    match step(store, tally, Work::Finish) {
+        Answer::Finish(FinishAnswer::Retired(_)) => Ok(true),
+        _ => {
+            let _ = step(store, tally, Work::GiveUp);
+            Ok(false)
+        }
+    }
+}
+
+/// Compacts all logs that qualify, and removes those that are not used any more.
+fn compact_all<D: LogDisk>(
+    store: &mut Store<D>,
+    tally: &mut Tally,
+    kind: Kind,
+) -> Result<(), Refusal>
+    ensures { Extends tally.old store.old tally.new store.new }
+{
+    remove_unused(store, tally)?;
+    for _ in 0..LOGS {
+        if !compact_log(store, tally, kind)? {
+            break;
+        }
+        remove_unused(store, tally)?;
+    }
+    Ok(())
+}
+
+/// Compacts the logs below the store's thresholds. A threshold of the request is 0, which omits
+/// its kind, or that of the store.
+pub(crate) fn compact<D: LogDisk>(store: &mut Store<D>, minor: u64, major: u64) -> Reply<'static>
+    ensures { CompactAnswers minor major store.old (told result) store.new }
+{
+    let settings = store.settings();
+    if minor != 0 && minor != u64::from(settings.minor) {
+        return Reply::Refused(Refusal::OutOfRange);
+    }
+    if major != 0 && major != u64::from(settings.major) {
+        return Reply::Refused(Refusal::OutOfRange);
+    }
+    let mut tally = Tally::NONE;
+    if minor != 0 {
+        if let Err(refusal) = compact_all(store, &mut tally, Kind::Minor) {
+            return Reply::Refused(refusal);
+        }
+    }
+    if major != 0 {
+        if let Err(refusal) = compact_all(store, &mut tally, Kind::Major) {
+            return Reply::Refused(refusal);
+        }
+    }
+    Reply::Done(Done::Compacted {
+        logs: tally.removed,
+        entries: tally.copied,
+    })
 }

@@ -15,6 +15,7 @@ mod reading;
 mod refusals;
 mod sealing;
 mod serving;
+mod tally;
 
 use command::{Command, HELP, VERSION, command_of, words_of};
 use serving::serve;

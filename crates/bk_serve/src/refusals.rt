@@ -3,6 +3,7 @@
 ghost use Rattle.std.specs.Prelude.{◌≡◌};
 ghost use Rattle.bk_serve.specs.Refusals as says;
 
+use bk_collect::CollectFault;
 use bk_log::FetchFault;
 use bk_manifest::ManifestError;
 use bk_record::RecordFault;
@@ -90,5 +91,18 @@ pub(crate) fn of_note(error: ManifestError) -> Refusal
         ManifestError::Memory => Refusal::Memory,
         ManifestError::Disk | ManifestError::TooLong => Refusal::Disk,
         ManifestError::Fault(_) => Refusal::Odd,
+    }
+}
+
+pub(crate) fn of_collect(fault: CollectFault) -> Refusal
+    ensures { result ≡ says.of_collect fault }
+{
+    match fault {
+        CollectFault::Disk => Refusal::Disk,
+        CollectFault::Memory => Refusal::Memory,
+        CollectFault::Log { id, .. } => Refusal::BadLog {
+            log: u64::from(id),
+        },
+        CollectFault::Odd => Refusal::Odd,
     }
 }

@@ -1,12 +1,13 @@
 //! Requests that flush.
 
 ghost use Rattle.bk_serve_core.specs.Replies.{told};
-ghost use Rattle.bk_serve.specs.Flushes.{FlushAnswers, SealAnswers};
+ghost use Rattle.bk_serve.specs.Flushes.{FlushAnswers};
 
 use crate::flushing::flush_all;
 use crate::refusals::of_step;
+use crate::tally::{Tally, step};
 use bk_disk::LogDisk;
-use bk_flush::{RollAnswer, roll};
+use bk_drive::{Answer, RollAnswer, Work};
 use bk_serve_core::{Done, Refusal, Reply};
 use bk_store::Store;
 
@@ -14,8 +15,11 @@ use bk_store::Store;
 pub(crate) fn flush<D: LogDisk>(store: &mut Store<D>) -> Reply<'static>
     ensures { FlushAnswers store.old (told result) store.new }
 {
-    match flush_all(store) {
-        Ok(entries) => Reply::Done(Done::Flushed { entries }),
+    let mut tally = Tally::NONE;
+    match flush_all(store, &mut tally) {
+        Ok(()) => Reply::Done(Done::Flushed {
+            entries: tally.published,
+        }),
         Err(fault) => Reply::Refused(of_step(fault)),
     }
 }
@@ -24,8 +28,8 @@ pub(crate) fn flush<D: LogDisk>(store: &mut Store<D>) -> Reply<'static>
 pub(crate) fn checkpoint<D: LogDisk>(store: &mut Store<D>) -> Reply<'static>
     ensures { FlushAnswers store.old (told result) store.new }
 {
-    match flush_all(store) {
-        Ok(_) => Reply::Done(Done::Durable {
+    match flush_all(store, &mut Tally::NONE) {
+        Ok(()) => Reply::Done(Done::Durable {
             front: store.front(),
         }),
         Err(fault) => Reply::Refused(of_step(fault)),
@@ -36,8 +40,8 @@ pub(crate) fn checkpoint<D: LogDisk>(store: &mut Store<D>) -> Reply<'static>
 pub(crate) fn close<D: LogDisk>(store: &mut Store<D>) -> Reply<'static>
     ensures { FlushAnswers store.old (told result) store.new }
 {
-    match flush_all(store) {
-        Ok(_) => Reply::Done(Done::Closed {
+    match flush_all(store, &mut Tally::NONE) {
+        Ok(()) => Reply::Done(Done::Closed {
             front: store.front(),
         }),
         Err(fault) => Reply::Refused(of_step(fault)),
@@ -46,18 +50,19 @@ pub(crate) fn close<D: LogDisk>(store: &mut Store<D>) -> Reply<'static>
 
 /// Flushes, then seals the open log.
 pub(crate) fn seal<D: LogDisk>(store: &mut Store<D>) -> Reply<'static>
-    ensures { SealAnswers store.old (told result) store.new }
+    ensures { FlushAnswers store.old (told result) store.new }
 {
-    if let Err(fault) = flush_all(store) {
+    let mut tally = Tally::NONE;
+    if let Err(fault) = flush_all(store, &mut tally) {
         return Reply::Refused(of_step(fault));
     }
-    match roll(store) {
-        Ok(RollAnswer::Sealed(log)) => Reply::Done(Done::Sealed {
+    match step(store, &mut tally, Work::Roll) {
+        Answer::Roll(Ok(RollAnswer::Sealed(log))) => Reply::Done(Done::Sealed {
             log: u64::from(log),
         }),
-        Ok(RollAnswer::NothingOpen) => Reply::Done(Done::NothingOpen),
-        // Does not occur: nothing is cached.
-        Ok(RollAnswer::FlushRunning) => Reply::Refused(Refusal::Odd),
-        Err(fault) => Reply::Refused(of_step(fault)),
+        Answer::Roll(Ok(RollAnswer::NothingOpen)) => Reply::Done(Done::NothingOpen),
+        Answer::Roll(Err(fault)) => Reply::Refused(of_step(fault)),
+        // Does not occur: no flush is running.
+        _ => Reply::Refused(Refusal::Odd),
     }
 }
