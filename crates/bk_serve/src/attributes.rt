@@ -1,5 +1,10 @@
 //! Attributes of ledgers: master keys and explicit LACs.
 
+ghost use Rattle.std.specs.Prelude.{◌≡◌, ◌++◌, OnOk};
+ghost use Rattle.bk_serve_core.specs.Fields.{frame_of};
+ghost use Rattle.bk_serve_core.specs.Replies.{Told, told, told_bytes};
+ghost use Rattle.bk_serve.specs.Ledgers.{GetAnswers, SetAnswers};
+
 use crate::ledgers::is_negative;
 use crate::notes::note;
 use bk_disk::LogDisk;
@@ -16,7 +21,9 @@ pub(crate) fn set_attribute<D: LogDisk, F: ManifestFile>(
     kind: u32,
     ledger: u64,
     value: &[u8],
-) -> Reply<'static> {
+) -> Reply<'static>
+    ensures { SetAnswers kind ledger value.now store.now notes.old (told result) notes.new }
+{
     if is_negative(ledger) {
         return Reply::Refused(Refusal::Negative);
     }
@@ -45,7 +52,9 @@ pub(crate) fn attribute<D: LogDisk, F: ManifestFile>(
     ledger: u64,
     id: u64,
     out: &mut Vec<u8>,
-) -> Result<(), EncodeError> {
+) -> Result<(), EncodeError>
+    ensures { (t : Told) × GetAnswers kind ledger store.now notes.now t × OnOk result (out.new.items ≡ out.old.items ++ frame_of id (told_bytes t)) }
+{
     let reply = if is_negative(ledger) {
         Reply::Refused(Refusal::Negative)
     } else if store.is_dead(ledger) {

@@ -1,5 +1,9 @@
 //! Fences and deletions. Each is durable before it takes effect.
 
+ghost use Rattle.std.specs.Prelude.{◌↔◌, ◌≤◌, ◌^◌, IsTrue};
+ghost use Rattle.bk_serve_core.specs.Replies.{told};
+ghost use Rattle.bk_serve.specs.Ledgers.{DeleteAnswers, FenceAnswers, IsFencedAnswers};
+
 use crate::notes::note;
 use crate::refusals::{of_delete, of_fence};
 use bk_disk::LogDisk;
@@ -9,7 +13,9 @@ use bk_store::{Fence, Store};
 use std::alloc::Global;
 
 /// Returns whether a number is no ledger id.
-pub(crate) fn is_negative(ledger: u64) -> bool {
+pub(crate) fn is_negative(ledger: u64) -> bool
+    ensures { IsTrue result ↔ (2 ^ 63 ≤ ledger) }
+{
     ledger >> 63 != 0
 }
 
@@ -19,7 +25,9 @@ pub(crate) fn fence<D: LogDisk, F: ManifestFile>(
     store: &mut Store<D>,
     notes: &mut Manifest<F>,
     ledger: u64,
-) -> Reply<'static> {
+) -> Reply<'static>
+    ensures { FenceAnswers ledger store.old notes.old (told result) store.new notes.new }
+{
     if is_negative(ledger) {
         return Reply::Refused(Refusal::Negative);
     }
@@ -43,7 +51,9 @@ pub(crate) fn is_fenced<D: LogDisk, F: ManifestFile>(
     store: &Store<D>,
     notes: &Manifest<F>,
     ledger: u64,
-) -> Reply<'static> {
+) -> Reply<'static>
+    ensures { IsFencedAnswers ledger store.now notes.now (told result) }
+{
     if is_negative(ledger) {
         return Reply::Refused(Refusal::Negative);
     }
@@ -60,7 +70,9 @@ pub(crate) fn delete<D: LogDisk, F: ManifestFile>(
     store: &mut Store<D>,
     notes: &mut Manifest<F>,
     ledger: u64,
-) -> Reply<'static> {
+) -> Reply<'static>
+    ensures { DeleteAnswers ledger store.old notes.old (told result) store.new notes.new }
+{
     if is_negative(ledger) {
         return Reply::Refused(Refusal::Negative);
     }

@@ -1,11 +1,9 @@
 //! Reads.
 
-ghost use Rattle.std.specs.Prelude.{◌≡◌, ◌++◌, ◌×◌, OnOk, List, ℕ};
-ghost use Rattle.bk_lease.specs.Values.{LeasedView};
-ghost use Rattle.bk_record.specs.Location.{Place};
+ghost use Rattle.std.specs.Prelude.{◌≡◌, ◌++◌, OnOk};
 ghost use Rattle.bk_serve_core.specs.Fields.{frame_of};
 ghost use Rattle.bk_serve_core.specs.Replies.{Told, told, told_bytes};
-ghost use Rattle.bk_serve.specs.Reads.{HoldsAnswers, ReadAnswers, ReadBackAnswers, Gives, GivesLeased, GivesPayload};
+ghost use Rattle.bk_serve.specs.Reads.{HoldsAnswers, ReadAnswers, ReadBackAnswers, GivesLeased, GivesPayload, IsRead};
 
 use crate::refusals::{of_fetch, of_take};
 use bk_disk::{LogDisk, LogView};
@@ -25,7 +23,9 @@ fn give_payload(
     payload: &[u8],
     id: u64,
     out: &mut Vec<u8>,
-) -> Result<(), EncodeError> {
+) -> Result<(), EncodeError>
+    ensures { (t : Told) × GivesPayload key payload.now t × OnOk result (out.new.items ≡ out.old.items ++ frame_of id (told_bytes t)) }
+{
     let reply = match payload.get(IDS..) {
         Some(content) => Reply::Done(Done::Entry {
             ledger: key.ledger(),
@@ -45,7 +45,9 @@ fn give_leased<V: LogView>(
     key: Key,
     id: u64,
     out: &mut Vec<u8>,
-) -> Result<(), EncodeError> {
+) -> Result<(), EncodeError>
+    ensures { (t : Told) × GivesLeased V.bytes V.honest lease.now.view location key t × OnOk result (out.new.items ≡ out.old.items ++ frame_of id (told_bytes t)) }
+{
     match fetch(lease.view(), alloc, location, key) {
         Ok(payload) => give_payload(key, &payload, id, out),
         Err(fault) => Reply::Refused(of_fetch(fault)).encode(id, out),
@@ -59,7 +61,9 @@ fn give<D: LogDisk>(
     key: Key,
     id: u64,
     out: &mut Vec<u8>,
-) -> Result<(), EncodeError> {
+) -> Result<(), EncodeError>
+    ensures { (t : Told) × IsRead D.View.bytes D.View.honest D.View.sound key store.old t store.new × OnOk result (out.new.items ≡ out.old.items ++ frame_of id (told_bytes t)) }
+{
     match store.take(key) {
         Ok(Taken::Deleted) => Reply::Refused(Refusal::Deleted).encode(id, out),
         Ok(Taken::NotHeld) => Reply::Done(Done::NotHeld).encode(id, out),
@@ -81,7 +85,9 @@ pub(crate) fn read<D: LogDisk>(
     entry: u64,
     id: u64,
     out: &mut Vec<u8>,
-) -> Result<(), EncodeError> {
+) -> Result<(), EncodeError>
+    ensures { (t : Told) × ReadAnswers D.View.bytes D.View.honest D.View.sound ledger entry store.old t store.new × OnOk result (out.new.items ≡ out.old.items ++ frame_of id (told_bytes t)) }
+{
     match Key::new(ledger, entry) {
         Some(key) => give(alloc, store, key, id, out),
         None => Reply::Refused(Refusal::Negative).encode(id, out),
@@ -98,7 +104,9 @@ pub(crate) fn read_back<D: LogDisk>(
     digest: &[u8; 32],
     id: u64,
     out: &mut Vec<u8>,
-) -> Result<(), EncodeError> {
+) -> Result<(), EncodeError>
+    ensures { (t : Told) × ReadBackAnswers D.View.bytes D.View.honest D.View.sound number ledger entry digest.now store.old t store.new × OnOk result (out.new.items ≡ out.old.items ++ frame_of id (told_bytes t)) }
+{
     let Some(key) = Key::new(ledger, entry) else {
         return Reply::Refused(Refusal::Negative).encode(id, out);
     };

@@ -1,7 +1,7 @@
 //! Requests that flush.
 
 ghost use Rattle.bk_serve_core.specs.Replies.{told};
-ghost use Rattle.bk_serve.specs.Flushes.{FlushAnswers};
+ghost use Rattle.bk_serve.specs.Flushes.{FlushAnswers, CheckpointAnswers, CloseAnswers, SealAnswers};
 
 use crate::flushing::flush_all;
 use crate::refusals::of_step;
@@ -26,7 +26,7 @@ pub(crate) fn flush<D: LogDisk>(store: &mut Store<D>) -> Reply<'static>
 
 /// Flushes. The reply has the length of the trail, all of which is durable.
 pub(crate) fn checkpoint<D: LogDisk>(store: &mut Store<D>) -> Reply<'static>
-    ensures { FlushAnswers store.old (told result) store.new }
+    ensures { CheckpointAnswers store.old (told result) store.new }
 {
     match flush_all(store, &mut Tally::NONE) {
         Ok(()) => Reply::Done(Done::Durable {
@@ -38,7 +38,7 @@ pub(crate) fn checkpoint<D: LogDisk>(store: &mut Store<D>) -> Reply<'static>
 
 /// Flushes, as the last request of a session.
 pub(crate) fn close<D: LogDisk>(store: &mut Store<D>) -> Reply<'static>
-    ensures { FlushAnswers store.old (told result) store.new }
+    ensures { CloseAnswers store.old (told result) store.new }
 {
     match flush_all(store, &mut Tally::NONE) {
         Ok(()) => Reply::Done(Done::Closed {
@@ -50,7 +50,7 @@ pub(crate) fn close<D: LogDisk>(store: &mut Store<D>) -> Reply<'static>
 
 /// Flushes, then seals the open log.
 pub(crate) fn seal<D: LogDisk>(store: &mut Store<D>) -> Reply<'static>
-    ensures { FlushAnswers store.old (told result) store.new }
+    ensures { SealAnswers store.old (told result) store.new }
 {
     let mut tally = Tally::NONE;
     if let Err(fault) = flush_all(store, &mut tally) {
