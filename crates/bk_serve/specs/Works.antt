@@ -41,7 +41,7 @@ no_tally = record { published = 0; copied = 0; removed = 0 }
 -- Steps of the store alone lead from one state to another, and did this.
 pub data Works (start : State) : Tally → State → Type 0 where
   none : Works start no_tally start
-  more : {n : Tally} {middle after : State} {work : Work} {answer : Answer} → Works start n middle → WorkTransition middle work answer after
+  more : {n : Tally} {middle after : State} (work : Work) (answer : Answer) → Works start n middle → WorkTransition middle work answer after
       → Works start (tally_after n answer) after
 
 -- Steps that led to the first state lead, with further ones, to the second.

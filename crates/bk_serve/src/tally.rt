@@ -2,6 +2,7 @@
 
 ghost use Rattle.std.specs.Prelude.{◌≡◌};
 ghost use Rattle.bk_drive.specs.Machine.{WorkTransition};
+ghost use Rattle.bk_serve.specs.Works as says;
 ghost use Rattle.bk_serve.specs.Works.{Extends, tally_after};
 
 use bk_disk::LogDisk;
@@ -27,18 +28,55 @@ impl Tally {
     fn count(&mut self, answer: &Answer)
         ensures { self.new ≡ tally_after self.old answer.now }
     {
-        match answer {
-            Answer::Publish(Ok(PublishAnswer::Published(n))) => {
-                self.published = self.published.saturating_add(*n);
-            }
-            Answer::Copy(Ok(CopyAnswer::Copied(n))) => {
-                self.copied = self.copied.saturating_add(*n);
-            }
-            Answer::Remove(Ok(RemoveAnswer::Removed)) => {
-                self.removed = self.removed.saturating_add(1);
-            }
-            _ => {}
-        }
+        self.published = self.published.saturating_add(published_by(answer));
+        self.copied = self.copied.saturating_add(copied_by(answer));
+        self.removed = self.removed.saturating_add(removed_by(answer));
+    }
+}
+
+/// Returns how many entries a step published.
+fn published_by(answer: &Answer) -> u64
+    ensures { result ≡ says.published_by answer.now }
+{
+    match answer {
+        Answer::Publish(result) => match result {
+            Ok(PublishAnswer::Published(n)) => *n,
+            Ok(PublishAnswer::NoFlush) => 0,
+            Ok(PublishAnswer::NotAllWritten) => 0,
+            Err(_) => 0,
+        },
+        _ => 0,
+    }
+}
+
+/// Returns how many entries a step copied.
+fn copied_by(answer: &Answer) -> u64
+    ensures { result ≡ says.copied_by answer.now }
+{
+    match answer {
+        Answer::Copy(result) => match result {
+            Ok(CopyAnswer::Copied(n)) => *n,
+            Ok(CopyAnswer::NoJob) => 0,
+            Ok(CopyAnswer::NotNow) => 0,
+            Ok(CopyAnswer::AtEnd) => 0,
+            Err(_) => 0,
+        },
+        _ => 0,
+    }
+}
+
+/// Returns how many logs a step removed.
+fn removed_by(answer: &Answer) -> u64
+    ensures { result ≡ says.removed_by answer.now }
+{
+    match answer {
+        Answer::Remove(result) => match result {
+            Ok(RemoveAnswer::Removed) => 1,
+            Ok(RemoveAnswer::NoLog) => 0,
+            Ok(RemoveAnswer::NotClosed) => 0,
+            Err(_) => 0,
+        },
+        _ => 0,
     }
 }
 
