@@ -15,7 +15,7 @@ use Rattle.bk_serve.specs.declared.tally.Tally.{Tally}
 
 -- an entry as the store keeps it
 abbrev pub payload_of : ℕ → ℕ → List ℕ → List ℕ
-payload_of ledger entry content = to_be_bytes w64 ledger ++ (to_be_bytes w64 entry ++ content)
+payload_of ledger entry content = (to_be_bytes w64 ledger ++ to_be_bytes w64 entry) ++ content
 
 abbrev pub told_of_add : Result Added AddFault → Told
 told_of_add (Ok (Accepted receipt)) = done (accepted receipt.number receipt.digest)

@@ -33,10 +33,13 @@ fn reply_of(answer: Result<Added, AddFault>) -> Reply<'static>
     ensures { told result ≡ told_of_add answer }
 {
     match answer {
-        Ok(Added::Accepted(receipt)) => Reply::Done(Done::Accepted {
-            number: receipt.number,
-            digest: receipt.digest,
-        }),
+        Ok(Added::Accepted(receipt)) => {
+            let digest = receipt.digest;
+            Reply::Done(Done::Accepted {
+                number: receipt.number,
+                digest,
+            })
+        }
         Ok(Added::Held) => Reply::Done(Done::Held),
         Err(fault) => Reply::Refused(of_add(fault)),
     }

@@ -20,11 +20,8 @@ const STRIDE: u64 = 1000;
 const LOGS: u32 = 65_536;
 
 /// Closes and removes a retired log. A log with a lease stays.
-fn remove_log<D: LogDisk>(
-    store: &mut Store<D>,
-    tally: &mut Tally,
-    log: u32,
-) -> Result<(), Refusal>
+#[tactic(auto, using(crate::proofs::Steps::then, crate::proofs::Steps::stays))]
+fn remove_log<D: LogDisk>(store: &mut Store<D>, tally: &mut Tally, log: u32) -> Result<(), Refusal>
     ensures { Extends tally.old store.old tally.new store.new }
 {
     let _ = step(store, tally, Work::Close(log));
@@ -35,6 +32,7 @@ fn remove_log<D: LogDisk>(
 }
 
 /// Removes each log without an entry to which the index points.
+#[tactic(auto, using(crate::proofs::Steps::then, crate::proofs::Steps::stays))]
 fn remove_unused<D: LogDisk>(store: &mut Store<D>, tally: &mut Tally) -> Result<(), Refusal>
     ensures { Extends tally.old store.old tally.new store.new }
 {
@@ -52,6 +50,7 @@ fn remove_unused<D: LogDisk>(store: &mut Store<D>, tally: &mut Tally) -> Result<
 }
 
 /// Copies the live entries of the source log, and seals the target log.
+#[tactic(auto, using(crate::proofs::Steps::then, crate::proofs::Steps::stays))]
 fn copy_all<D: LogDisk>(store: &mut Store<D>, tally: &mut Tally) -> Result<(), Refusal>
     ensures { Extends tally.old store.old tally.new store.new }
 {
@@ -69,6 +68,7 @@ fn copy_all<D: LogDisk>(store: &mut Store<D>, tally: &mut Tally) -> Result<(), R
 }
 
 /// Points the index to the copies.
+#[tactic(auto, using(crate::proofs::Steps::then, crate::proofs::Steps::stays))]
 fn switch_all<D: LogDisk>(store: &mut Store<D>, tally: &mut Tally)
     ensures { Extends tally.old store.old tally.new store.new }
 {
@@ -82,6 +82,7 @@ fn switch_all<D: LogDisk>(store: &mut Store<D>, tally: &mut Tally)
 
 /// Compacts one log, if one qualifies. Returns whether a log was compacted. After a fault the
 /// compaction is given up.
+#[tactic(auto, using(crate::proofs::Steps::then, crate::proofs::Steps::stays))]
 fn compact_log<D: LogDisk>(
     store: &mut Store<D>,
     tally: &mut Tally,
@@ -109,6 +110,7 @@ fn compact_log<D: LogDisk>(
 }
 
 /// Compacts all logs that qualify, and removes those that are not used any more.
+#[tactic(auto, using(crate::proofs::Steps::then, crate::proofs::Steps::stays))]
 fn compact_all<D: LogDisk>(
     store: &mut Store<D>,
     tally: &mut Tally,

@@ -13,6 +13,7 @@ use bk_store::Store;
 const PASSES: u32 = 3;
 
 /// Writes all entries of the running flush.
+#[tactic(auto, using(crate::proofs::Steps::then, crate::proofs::Steps::stays))]
 fn write_all<D: LogDisk>(store: &mut Store<D>, tally: &mut Tally) -> Result<(), StepFault>
     ensures { Extends tally.old store.old tally.new store.new }
 {
@@ -27,6 +28,7 @@ fn write_all<D: LogDisk>(store: &mut Store<D>, tally: &mut Tally) -> Result<(), 
 }
 
 /// Writes and publishes the running flush.
+#[tactic(auto, using(crate::proofs::Steps::then, crate::proofs::Steps::stays))]
 fn end_flush<D: LogDisk>(store: &mut Store<D>, tally: &mut Tally) -> Result<(), StepFault>
     ensures { Extends tally.old store.old tally.new store.new }
 {
@@ -42,6 +44,7 @@ fn end_flush<D: LogDisk>(store: &mut Store<D>, tally: &mut Tally) -> Result<(), 
 /// # Errors
 ///
 /// The fault of a step. `Odd` if something is only cached after all passes, which does not occur.
+#[tactic(auto, using(crate::proofs::Steps::then, crate::proofs::Steps::stays))]
 pub(crate) fn flush_all<D: LogDisk>(
     store: &mut Store<D>,
     tally: &mut Tally,

@@ -88,21 +88,14 @@ fn of_store(fault: bk_store::OpenFault) -> Refusal {
         bk_store::OpenFault::Disk => Refusal::Disk,
         bk_store::OpenFault::Memory => Refusal::Memory,
         bk_store::OpenFault::LogsFull => Refusal::LogsFull,
-        bk_store::OpenFault::Log { id, .. } => Refusal::BadLog {
-            log: u64::from(id),
-        },
-        bk_store::OpenFault::TooLong(id) => Refusal::LogTooLong {
-            log: u64::from(id),
-        },
+        bk_store::OpenFault::Log { id, .. } => Refusal::BadLog { log: u64::from(id) },
+        bk_store::OpenFault::TooLong(id) => Refusal::LogTooLong { log: u64::from(id) },
         bk_store::OpenFault::Odd => Refusal::Odd,
     }
 }
 
 /// Opens the manifest of a file. Makes an empty one if there is none.
-fn open_notes(
-    alloc: Global,
-    disk: &mut DirDisk,
-) -> Result<Manifest<KeptFile>, OpenFault> {
+fn open_notes(alloc: Global, disk: &mut DirDisk) -> Result<Manifest<KeptFile>, OpenFault> {
     let file = KeptFile::new(disk.file(alloc, MANIFEST)?);
     if let Some(opened) = Manifest::open(alloc, file)? {
         return Ok(opened.manifest);

@@ -18,12 +18,7 @@ use std::alloc::Global;
 const IDS: usize = 16;
 
 /// Appends the reply with an entry.
-fn give_payload(
-    key: Key,
-    payload: &[u8],
-    id: u64,
-    out: &mut Vec<u8>,
-) -> Result<(), EncodeError>
+fn give_payload(key: Key, payload: &[u8], id: u64, out: &mut Vec<u8>) -> Result<(), EncodeError>
     ensures { (t : Told) × GivesPayload key payload.now t × OnOk result (out.new.items ≡ out.old.items ++ frame_of id (told_bytes t)) }
 {
     let reply = match payload.get(IDS..) {
@@ -111,10 +106,12 @@ pub(crate) fn read_back<D: LogDisk>(
         return Reply::Refused(Refusal::Negative).encode(id, out);
     };
     match store.trail().get(number as usize) {
-        Some(Mark::Add {
-            key: of,
-            digest: with,
-        }) if *of == key && *with == *digest => give(alloc, store, key, id, out),
+        Some(
+            Mark::Add {
+                key: of,
+                digest: with,
+            },
+        ) if *of == key && *with == *digest => give(alloc, store, key, id, out),
         Some(_) => Reply::Refused(Refusal::Differs).encode(id, out),
         None => Reply::Refused(Refusal::Missing {
             front: store.front(),

@@ -100,9 +100,7 @@ pub(crate) fn of_collect(fault: CollectFault) -> Refusal
     match fault {
         CollectFault::Disk => Refusal::Disk,
         CollectFault::Memory => Refusal::Memory,
-        CollectFault::Log { id, .. } => Refusal::BadLog {
-            log: u64::from(id),
-        },
+        CollectFault::Log { id, .. } => Refusal::BadLog { log: u64::from(id) },
         CollectFault::Odd => Refusal::Odd,
     }
 }

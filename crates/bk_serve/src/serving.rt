@@ -53,7 +53,11 @@ fn serve_session<S: Service, R: Read, W: Write>(
             return 1;
         }
     };
-    if finish(service, writer, end, buffers) { 0 } else { 1 }
+    if finish(service, writer, end, buffers) {
+        0
+    } else {
+        1
+    }
 }
 
 /// Answers the hello of a session by why the directory did not open.
