@@ -92,7 +92,7 @@ pub data FenceAnswers (ledger : ℕ) (s : State) (m : Kept) (reply : Told) (t : 
   gone : IsGone s ledger f.Deleted reply → Same s m t m' → FenceAnswers ledger s m reply t m'
   unnoted : {refusal : Refusal} → reply ≡ refused refusal → NoteTransition (fenced_ledger ledger) m (Err refusal) m' → t ≡ s
       → FenceAnswers ledger s m reply t m'
-  fences : (result : Result Fence FenceFault) → IsNotedFence ledger m m' → FenceTransition s ledger result t
+  fencing : (result : Result Fence FenceFault) → IsNotedFence ledger m m' → FenceTransition s ledger result t
       → reply ≡ told_of_fence result → FenceAnswers ledger s m reply t m'
 
 abbrev pub told_of_bool : Bool → Told

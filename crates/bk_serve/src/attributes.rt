@@ -55,15 +55,14 @@ pub(crate) fn attribute<D: LogDisk, F: ManifestFile>(
 ) -> Result<(), EncodeError>
     ensures { (t : Told) × GetAnswers kind ledger store.now notes.now t × OnOk result (out.new.items ≡ out.old.items ++ frame_of id (told_bytes t)) }
 {
-    let reply = if is_negative(ledger) {
-        Reply::Refused(Refusal::Negative)
-    } else if store.is_dead(ledger) {
-        Reply::Refused(Refusal::Deleted)
-    } else {
-        match notes.state().attribute(ledger, kind) {
-            Some(value) => Reply::Done(Done::Attribute { value }),
-            None => Reply::Done(Done::NoAttribute),
-        }
-    };
-    reply.encode(id, out)
+    if is_negative(ledger) {
+        return Reply::Refused(Refusal::Negative).encode(id, out);
+    }
+    if store.is_dead(ledger) {
+        return Reply::Refused(Refusal::Deleted).encode(id, out);
+    }
+    match notes.state().attribute(ledger, kind) {
+        Some(value) => Reply::Done(Done::Attribute { value }).encode(id, out),
+        None => Reply::Done(Done::NoAttribute).encode(id, out),
+    }
 }

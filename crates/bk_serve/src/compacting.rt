@@ -1,7 +1,8 @@
 //! Compactions, by steps of the store alone.
 
 ghost use Rattle.bk_serve_core.specs.Replies.{told};
-ghost use Rattle.bk_serve.specs.Flushes.{CompactAnswers};
+ghost use Rattle.std.specs.Prelude.{◌↔◌, IsTrue};
+ghost use Rattle.bk_serve.specs.Flushes.{CompactAnswers, IsThreshold};
 ghost use Rattle.bk_serve.specs.Works.{Extends};
 
 use crate::refusals::{of_collect, of_step};
@@ -128,28 +129,47 @@ fn compact_all<D: LogDisk>(
     Ok(())
 }
 
+/// Compacts the logs of a kind, unless the threshold of the request is 0.
+#[tactic(auto, using(crate::proofs::Steps::then, crate::proofs::Steps::stays))]
+fn compact_kind<D: LogDisk>(
+    store: &mut Store<D>,
+    tally: &mut Tally,
+    threshold: u64,
+    kind: Kind,
+) -> Result<(), Refusal>
+    ensures { Extends tally.old store.old tally.new store.new }
+{
+    if threshold == 0 {
+        return Ok(());
+    }
+    compact_all(store, tally, kind)
+}
+
+/// Returns whether a threshold of a request is 0 or that of the store.
+fn is_threshold(asked: u64, own: u32) -> bool
+    ensures { IsTrue result ↔ IsThreshold asked own }
+{
+    asked == 0 || asked == u64::from(own)
+}
+
 /// Compacts the logs below the store's thresholds. A threshold of the request is 0, which omits
 /// its kind, or that of the store.
 pub(crate) fn compact<D: LogDisk>(store: &mut Store<D>, minor: u64, major: u64) -> Reply<'static>
     ensures { CompactAnswers minor major store.old (told result) store.new }
 {
     let settings = store.settings();
-    if minor != 0 && minor != u64::from(settings.minor) {
+    if !is_threshold(minor, settings.minor) {
         return Reply::Refused(Refusal::OutOfRange);
     }
-    if major != 0 && major != u64::from(settings.major) {
+    if !is_threshold(major, settings.major) {
         return Reply::Refused(Refusal::OutOfRange);
     }
     let mut tally = Tally::NONE;
-    if minor != 0 {
-        if let Err(refusal) = compact_all(store, &mut tally, Kind::Minor) {
-            return Reply::Refused(refusal);
-        }
+    if let Err(refusal) = compact_kind(store, &mut tally, minor, Kind::Minor) {
+        return Reply::Refused(refusal);
     }
-    if major != 0 {
-        if let Err(refusal) = compact_all(store, &mut tally, Kind::Major) {
-            return Reply::Refused(refusal);
-        }
+    if let Err(refusal) = compact_kind(store, &mut tally, major, Kind::Major) {
+        return Reply::Refused(refusal);
     }
     Reply::Done(Done::Compacted {
         logs: tally.removed,

@@ -1,6 +1,7 @@
 //! Reads.
 
-ghost use Rattle.std.specs.Prelude.{◌≡◌, ◌++◌, OnOk};
+ghost use Rattle.std.specs.Prelude.{◌≡◌, ◌++◌, ◌↔◌, IsTrue, OnOk};
+ghost use Rattle.bk_store.specs.declared.mark.Mark.TheVariants.{Add};
 ghost use Rattle.bk_serve_core.specs.Fields.{frame_of};
 ghost use Rattle.bk_serve_core.specs.Replies.{Told, told, told_bytes};
 ghost use Rattle.bk_serve.specs.Reads.{HoldsAnswers, ReadAnswers, ReadBackAnswers, GivesLeased, GivesPayload, IsRead};
@@ -21,15 +22,15 @@ const IDS: usize = 16;
 fn give_payload(key: Key, payload: &[u8], id: u64, out: &mut Vec<u8>) -> Result<(), EncodeError>
     ensures { (t : Told) × GivesPayload key payload.now t × OnOk result (out.new.items ≡ out.old.items ++ frame_of id (told_bytes t)) }
 {
-    let reply = match payload.get(IDS..) {
+    match payload.get(IDS..) {
         Some(content) => Reply::Done(Done::Entry {
             ledger: key.ledger(),
             entry: key.entry(),
             content,
-        }),
-        None => Reply::Refused(Refusal::Odd),
-    };
-    reply.encode(id, out)
+        })
+        .encode(id, out),
+        None => Reply::Refused(Refusal::Odd).encode(id, out),
+    }
 }
 
 /// Reads an entry by a lease, and appends the reply.
@@ -89,6 +90,19 @@ pub(crate) fn read<D: LogDisk>(
     }
 }
 
+/// Returns whether a mark is that of an accepted entry with this key and digest.
+fn is_mark_of(mark: &Mark, key: Key, digest: &[u8; 32]) -> bool
+    ensures { IsTrue result ↔ (mark.now ≡ Add key digest.now) }
+{
+    match mark {
+        Mark::Add {
+            key: of,
+            digest: with,
+        } => *of == key && *with == *digest,
+        Mark::Delete { .. } | Mark::Fence { .. } => false,
+    }
+}
+
 /// Reads the entry of a receipt if the trail has its mark, and appends the reply.
 pub(crate) fn read_back<D: LogDisk>(
     alloc: Global,
@@ -105,19 +119,16 @@ pub(crate) fn read_back<D: LogDisk>(
     let Some(key) = Key::new(ledger, entry) else {
         return Reply::Refused(Refusal::Negative).encode(id, out);
     };
-    match store.trail().get(number as usize) {
-        Some(
-            Mark::Add {
-                key: of,
-                digest: with,
-            },
-        ) if *of == key && *with == *digest => give(alloc, store, key, id, out),
-        Some(_) => Reply::Refused(Refusal::Differs).encode(id, out),
-        None => Reply::Refused(Refusal::Missing {
+    let Some(mark) = store.trail().get(number as usize) else {
+        return Reply::Refused(Refusal::Missing {
             front: store.front(),
         })
-        .encode(id, out),
+        .encode(id, out);
+    };
+    if !is_mark_of(mark, key, digest) {
+        return Reply::Refused(Refusal::Differs).encode(id, out);
     }
+    give(alloc, store, key, id, out)
 }
 
 /// Returns the reply to whether the store has an entry. Reads no log.
