@@ -10,8 +10,6 @@ use Rattle.bk_store.specs.declared.answer.AddFault.{AddFault}
 use Rattle.bk_serve_core.specs.Replies.{Told, done, refused, accepted, held}
 use Rattle.bk_serve_core.specs.declared.refusal.Refusal.TheVariants as f
 use Rattle.bk_serve.specs.Refusals.{of_add}
-use Rattle.bk_serve.specs.Works.{Works}
-use Rattle.bk_serve.specs.declared.tally.Tally.{Tally}
 
 -- an entry as the store keeps it
 abbrev pub payload_of : ℕ → ℕ → List ℕ → List ℕ
@@ -22,13 +20,10 @@ told_of_add (Ok (Accepted receipt)) = done (accepted receipt.number receipt.dige
 told_of_add (Ok Held) = done held
 told_of_add (Err fault) = refused (of_add fault)
 
--- The store answers an add, after steps of its own: a flush, if the cache was full.
+-- The store answers an add.
 pub record IsAdded (kind : AddKind) (payload : List ℕ) (s : State) (reply : Told) (t : State) : Type 0 where
-  pub middle : State
-  pub tally : Tally
-  pub works : Works s tally middle
   pub result : Result Added AddFault
-  pub adds : AddTransition middle kind payload result t
+  pub adds : AddTransition s kind payload result t
   pub says : reply ≡ told_of_add result
 
 -- Or there is no memory for the entry.

@@ -1,13 +1,12 @@
 -- Answers to requests that make the store take steps of its own.
-use Rattle.std.specs.Prelude.{◌≡◌, ◌⊎◌, ℕ, length, Ok}
+use Rattle.std.specs.Prelude.{◌≡◌, ◌⊎◌, ℕ, length, Result, Ok}
 use Rattle.bk_store.specs.State.{State}
-use Rattle.bk_drive.specs.Machine.{WorkTransition}
-use Rattle.bk_drive.specs.declared.step.Work.TheVariants as steps
-use Rattle.bk_drive.specs.declared.step.Answer.TheVariants as answers
+use Rattle.bk_store.specs.declared.step_fault.StepFault.{StepFault}
+use Rattle.bk_flush.specs.Flushing.{RollTransition}
 use Rattle.bk_flush.specs.declared.answer.RollAnswer.{RollAnswer}
-use Rattle.bk_flush.specs.declared.answer.RollAnswer.TheVariants as answered
+use Rattle.bk_flush.specs.declared.answer.RollAnswer.TheVariants as rolls
 use Rattle.bk_serve_core.specs.Replies.{Told, done, refused, flushed, durable, closed, sealed, nothing_open, compacted}
-use Rattle.bk_serve_core.specs.declared.refusal.Refusal.TheVariants as f
+use Rattle.bk_serve_core.specs.declared.refusal.Refusal.{Refusal}
 use Rattle.bk_serve.specs.Works.{Works, IsEmptied}
 use Rattle.bk_serve.specs.declared.tally.Tally.{Tally}
 
@@ -33,27 +32,30 @@ CloseAnswers s (done (closed front)) t = MayWork s t × (front ≡ length t.ledg
 CloseAnswers s (refused fault) t = MayWork s t
 CloseAnswers s _ t = ⊥
 
--- a flush, and then a roll with this answer
-pub record Rolls (answer : RollAnswer) (s t : State) : Type 0 where
+-- The open log is sealed, or none is open. A refusal has the fault of the roll.
+abbrev pub RollAnswers : State → Told → State → Type 0
+RollAnswers s (done (sealed log)) t = RollTransition s (Ok (rolls.Sealed log)) t
+RollAnswers s (done nothing_open) t = RollTransition s (Ok rolls.NothingOpen) t
+RollAnswers s (refused fault) t = (answer : Result RollAnswer StepFault) × RollTransition s answer t
+RollAnswers s _ t = ⊥
+
+-- A flush, after which nothing is only cached, and then a roll.
+pub record IsSealed (s : State) (reply : Told) (t : State) : Type 0 where
   pub middle : State
   pub works : MayWork s middle
   pub empty : IsEmptied middle
-  pub rolls : WorkTransition middle steps.Roll (answers.Roll (Ok answer)) t
+  pub rolls : RollAnswers middle reply t
 
--- After a flush the open log is sealed, or none is open.
+-- The same, or the flush failed.
 abbrev pub SealAnswers : State → Told → State → Type 0
-SealAnswers s (done (sealed log)) t = Rolls (answered.Sealed log) s t
-SealAnswers s (done nothing_open) t = Rolls answered.NothingOpen s t
-SealAnswers s (refused fault) t = MayWork s t
-SealAnswers s _ t = ⊥
+SealAnswers s reply t = IsSealed s reply t ⊎ ((fault : Refusal) × (reply ≡ refused fault) × MayWork s t)
 
 -- a threshold that omits its kind, or that of the store
 abbrev pub IsThreshold : ℕ → ℕ → Type 0
 IsThreshold asked own = (asked ≡ 0) ⊎ (asked ≡ own)
 
--- A compaction is steps of the store. Each threshold is 0, which omits its kind, or the store's.
-abbrev pub CompactAnswers : ℕ → ℕ → State → Told → State → Type 0
-CompactAnswers minor major s (done (compacted logs entries)) t = (n : Tally) × Works s n t × (logs ≡ n.removed) × (entries ≡ n.copied)
-    × IsThreshold minor s.settings.minor × IsThreshold major s.settings.major
-CompactAnswers minor major s (refused fault) t = MayWork s t
-CompactAnswers minor major s _ t = ⊥
+-- A compaction is steps of the store.
+abbrev pub CompactAnswers : State → Told → State → Type 0
+CompactAnswers s (done (compacted logs entries)) t = (n : Tally) × Works s n t × (logs ≡ n.removed) × (entries ≡ n.copied)
+CompactAnswers s (refused fault) t = MayWork s t
+CompactAnswers s _ t = ⊥

@@ -16,6 +16,8 @@ use Rattle.bk_store.specs.declared.mark.Mark.TheVariants.{Add}
 use Rattle.bk_serve_core.specs.Replies.{Told, done, refused, entry, not_held, says_yes, says_no}
 use Rattle.bk_serve_core.specs.declared.refusal.Refusal.TheVariants as f
 use Rattle.bk_serve.specs.Refusals.{of_take, of_fetch}
+use Rattle.bk_serve.specs.declared.reading.Found.{Found}
+use Rattle.bk_serve.specs.declared.reading.Found.TheVariants as found
 
 abbrev pub key_of : ℕ → ℕ → EntryKey
 key_of ledger entry_id = record { ledger = ledger; entry = entry_id }
@@ -62,6 +64,12 @@ pub record IsRefused (ledger entry_id : ℕ) (s : State) (reply : Told) (t : Sta
 abbrev pub ReadAnswers : {V : Type 0} → (V → List ℕ) → (V → Bool) → (V → Bool) → ℕ → ℕ → State → Told → State → Type 0
 ReadAnswers bytes honest sound ledger entry_id s reply t =
     IsRefused ledger entry_id s reply t ⊎ IsRead bytes honest sound (key_of ledger entry_id) s reply t
+
+-- The trail has the mark of an accepted entry at a number, or ends before it, or has another mark.
+abbrev pub LooksUp : List Mark → ℕ → EntryKey → List ℕ → Found → Type 0
+LooksUp trail number key digest found.Stands = slice_get trail number ≡ Some (Add key digest)
+LooksUp trail number key digest found.Missing = length trail ≤ number
+LooksUp trail number key digest (found.Differs mark) = (slice_get trail number ≡ Some mark) × ¬ (mark ≡ Add key digest)
 
 -- A read-back reads only if the trail has the mark of the receipt at its number.
 pub data ReadBackAnswers {V : Type 0} (bytes : V → List ℕ) (honest sound : V → Bool) (number ledger entry_id : ℕ) (digest : List ℕ)

@@ -1,14 +1,12 @@
-//! Adds. If the write cache is full, the server flushes and adds again.
+//! Adds.
 
 ghost use Rattle.std.specs.Prelude.{◌≡◌, ◌++◌, IfOk};
 ghost use Rattle.std.specs.Int.{w64, to_be_bytes};
 ghost use Rattle.bk_store.specs.Transitions.{AddTransition};
 ghost use Rattle.bk_serve_core.specs.Replies.{told};
-ghost use Rattle.bk_serve.specs.Adds.{AddAnswers, told_of_add, payload_of};
+ghost use Rattle.bk_serve.specs.Adds.{AddAnswers, IsAdded, told_of_add, payload_of};
 
-use crate::flushing::flush_all;
 use crate::refusals::of_add;
-use crate::tally::Tally;
 use bk_disk::LogDisk;
 use bk_serve_core::{Done, Refusal, Reply};
 use bk_store::{AddFault, AddKind, Added, Store};
@@ -59,7 +57,14 @@ fn add_payload<D: LogDisk>(
     }
 }
 
-/// Adds an entry and returns the reply. If the write cache is full, flushes and adds again, once.
+/// Adds an entry as the store keeps it, and returns the reply.
+fn add_entry<D: LogDisk>(store: &mut Store<D>, kind: AddKind, payload: &[u8]) -> Reply<'static>
+    ensures { IsAdded kind payload.now store.old (told result) store.new }
+{
+    reply_of(add_payload(store, kind, payload))
+}
+
+/// Adds an entry and returns the reply.
 pub(crate) fn add<D: LogDisk>(
     alloc: Global,
     store: &mut Store<D>,
@@ -70,13 +75,8 @@ pub(crate) fn add<D: LogDisk>(
 ) -> Reply<'static>
     ensures { AddAnswers kind (payload_of ledger entry content.now) store.old (told result) store.new }
 {
-    let Ok(payload) = entry_of(alloc, ledger, entry, content) else {
-        return Reply::Refused(Refusal::Memory);
-    };
-    let first = add_payload(store, kind, &payload);
-    if !matches!(first, Err(AddFault::Full { .. })) {
-        return reply_of(first);
+    match entry_of(alloc, ledger, entry, content) {
+        Ok(payload) => add_entry(store, kind, &payload),
+        Err(_) => Reply::Refused(Refusal::Memory),
     }
-    let _ = flush_all(store, &mut Tally::NONE);
-    reply_of(add_payload(store, kind, &payload))
 }

@@ -145,6 +145,20 @@ fn compact_kind<D: LogDisk>(
     compact_all(store, tally, kind)
 }
 
+/// Compacts the logs of both kinds, except a kind whose threshold is 0.
+#[tactic(auto, using(crate::proofs::Steps::then, crate::proofs::Steps::stays))]
+fn compact_both<D: LogDisk>(
+    store: &mut Store<D>,
+    tally: &mut Tally,
+    minor: u64,
+    major: u64,
+) -> Result<(), Refusal>
+    ensures { Extends tally.old store.old tally.new store.new }
+{
+    compact_kind(store, tally, minor, Kind::Minor)?;
+    compact_kind(store, tally, major, Kind::Major)
+}
+
 /// Returns whether a threshold of a request is 0 or that of the store.
 fn is_threshold(asked: u64, own: u32) -> bool
     ensures { IsTrue result ↔ IsThreshold asked own }
@@ -155,7 +169,7 @@ fn is_threshold(asked: u64, own: u32) -> bool
 /// Compacts the logs below the store's thresholds. A threshold of the request is 0, which omits
 /// its kind, or that of the store.
 pub(crate) fn compact<D: LogDisk>(store: &mut Store<D>, minor: u64, major: u64) -> Reply<'static>
-    ensures { CompactAnswers minor major store.old (told result) store.new }
+    ensures { CompactAnswers store.old (told result) store.new }
 {
     let settings = store.settings();
     if !is_threshold(minor, settings.minor) {
@@ -165,14 +179,11 @@ pub(crate) fn compact<D: LogDisk>(store: &mut Store<D>, minor: u64, major: u64) 
         return Reply::Refused(Refusal::OutOfRange);
     }
     let mut tally = Tally::NONE;
-    if let Err(refusal) = compact_kind(store, &mut tally, minor, Kind::Minor) {
-        return Reply::Refused(refusal);
+    match compact_both(store, &mut tally, minor, major) {
+        Ok(()) => Reply::Done(Done::Compacted {
+            logs: tally.removed,
+            entries: tally.copied,
+        }),
+        Err(refusal) => Reply::Refused(refusal),
     }
-    if let Err(refusal) = compact_kind(store, &mut tally, major, Kind::Major) {
-        return Reply::Refused(refusal);
-    }
-    Reply::Done(Done::Compacted {
-        logs: tally.removed,
-        entries: tally.copied,
-    })
 }

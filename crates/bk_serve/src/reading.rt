@@ -4,7 +4,7 @@ ghost use Rattle.std.specs.Prelude.{◌≡◌, ◌++◌, ◌↔◌, IsTrue, OnOk
 ghost use Rattle.bk_store.specs.declared.mark.Mark.TheVariants.{Add};
 ghost use Rattle.bk_serve_core.specs.Fields.{frame_of};
 ghost use Rattle.bk_serve_core.specs.Replies.{Told, told, told_bytes};
-ghost use Rattle.bk_serve.specs.Reads.{HoldsAnswers, ReadAnswers, ReadBackAnswers, GivesLeased, GivesPayload, IsRead};
+ghost use Rattle.bk_serve.specs.Reads.{HoldsAnswers, ReadAnswers, ReadBackAnswers, GivesLeased, GivesPayload, IsRead, LooksUp};
 
 use crate::refusals::{of_fetch, of_take};
 use bk_disk::{LogDisk, LogView};
@@ -90,6 +90,16 @@ pub(crate) fn read<D: LogDisk>(
     }
 }
 
+/// What a trail has at a number.
+pub(crate) enum Found {
+    /// The mark of the accepted entry.
+    Stands,
+    /// Nothing: the trail ends before it.
+    Missing,
+    /// This mark, which is another.
+    Differs(Mark),
+}
+
 /// Returns whether a mark is that of an accepted entry with this key and digest.
 fn is_mark_of(mark: &Mark, key: Key, digest: &[u8; 32]) -> bool
     ensures { IsTrue result ↔ (mark.now ≡ Add key digest.now) }
@@ -100,6 +110,42 @@ fn is_mark_of(mark: &Mark, key: Key, digest: &[u8; 32]) -> bool
             digest: with,
         } => *of == key && *with == *digest,
         Mark::Delete { .. } | Mark::Fence { .. } => false,
+    }
+}
+
+/// Looks up the mark of an accepted entry in a trail.
+fn look_up(trail: &[Mark], number: u64, key: Key, digest: &[u8; 32]) -> Found
+    ensures { LooksUp trail.now number key digest.now result }
+{
+    let Some(mark) = trail.get(number as usize) else {
+        return Found::Missing;
+    };
+    if is_mark_of(mark, key, digest) {
+        Found::Stands
+    } else {
+        Found::Differs(*mark)
+    }
+}
+
+/// Reads the entry of a receipt if the trail has its mark, and appends the reply.
+fn read_receipt<D: LogDisk>(
+    alloc: Global,
+    store: &mut Store<D>,
+    number: u64,
+    key: Key,
+    digest: &[u8; 32],
+    id: u64,
+    out: &mut Vec<u8>,
+) -> Result<(), EncodeError>
+    ensures { (t : Told) × ReadBackAnswers D.View.bytes D.View.honest D.View.sound number key.ledger key.entry digest.now store.old t store.new × OnOk result (out.new.items ≡ out.old.items ++ frame_of id (told_bytes t)) }
+{
+    match look_up(store.trail(), number, key, digest) {
+        Found::Stands => give(alloc, store, key, id, out),
+        Found::Missing => {
+            let front = store.front();
+            Reply::Refused(Refusal::Missing { front }).encode(id, out)
+        }
+        Found::Differs(_) => Reply::Refused(Refusal::Differs).encode(id, out),
     }
 }
 
@@ -116,19 +162,10 @@ pub(crate) fn read_back<D: LogDisk>(
 ) -> Result<(), EncodeError>
     ensures { (t : Told) × ReadBackAnswers D.View.bytes D.View.honest D.View.sound number ledger entry digest.now store.old t store.new × OnOk result (out.new.items ≡ out.old.items ++ frame_of id (told_bytes t)) }
 {
-    let Some(key) = Key::new(ledger, entry) else {
-        return Reply::Refused(Refusal::Negative).encode(id, out);
-    };
-    let Some(mark) = store.trail().get(number as usize) else {
-        return Reply::Refused(Refusal::Missing {
-            front: store.front(),
-        })
-        .encode(id, out);
-    };
-    if !is_mark_of(mark, key, digest) {
-        return Reply::Refused(Refusal::Differs).encode(id, out);
+    match Key::new(ledger, entry) {
+        Some(key) => read_receipt(alloc, store, number, key, digest, id, out),
+        None => Reply::Refused(Refusal::Negative).encode(id, out),
     }
-    give(alloc, store, key, id, out)
 }
 
 /// Returns the reply to whether the store has an entry. Reads no log.

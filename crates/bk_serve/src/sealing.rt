@@ -1,13 +1,13 @@
 //! Requests that flush.
 
 ghost use Rattle.bk_serve_core.specs.Replies.{told};
-ghost use Rattle.bk_serve.specs.Flushes.{FlushAnswers, CheckpointAnswers, CloseAnswers, SealAnswers};
+ghost use Rattle.bk_serve.specs.Flushes.{FlushAnswers, CheckpointAnswers, CloseAnswers, RollAnswers, SealAnswers};
 
 use crate::flushing::flush_all;
 use crate::refusals::of_step;
-use crate::tally::{Tally, step};
+use crate::tally::Tally;
 use bk_disk::LogDisk;
-use bk_drive::{Answer, RollAnswer, Work};
+use bk_flush::{RollAnswer, roll};
 use bk_serve_core::{Done, Refusal, Reply};
 use bk_store::Store;
 
@@ -52,17 +52,23 @@ pub(crate) fn close<D: LogDisk>(store: &mut Store<D>) -> Reply<'static>
 pub(crate) fn seal<D: LogDisk>(store: &mut Store<D>) -> Reply<'static>
     ensures { SealAnswers store.old (told result) store.new }
 {
-    let mut tally = Tally::NONE;
-    if let Err(fault) = flush_all(store, &mut tally) {
-        return Reply::Refused(of_step(fault));
+    match flush_all(store, &mut Tally::NONE) {
+        Ok(()) => seal_open(store),
+        Err(fault) => Reply::Refused(of_step(fault)),
     }
-    match step(store, &mut tally, Work::Roll) {
-        Answer::Roll(Ok(RollAnswer::Sealed(log))) => Reply::Done(Done::Sealed {
+}
+
+/// Seals the open log.
+fn seal_open<D: LogDisk>(store: &mut Store<D>) -> Reply<'static>
+    ensures { RollAnswers store.old (told result) store.new }
+{
+    match roll(store) {
+        Ok(RollAnswer::Sealed(log)) => Reply::Done(Done::Sealed {
             log: u64::from(log),
         }),
-        Answer::Roll(Ok(RollAnswer::NothingOpen)) => Reply::Done(Done::NothingOpen),
-        Answer::Roll(Err(fault)) => Reply::Refused(of_step(fault)),
-        // Does not occur: no flush is running.
-        _ => Reply::Refused(Refusal::Odd),
+        Ok(RollAnswer::NothingOpen) => Reply::Done(Done::NothingOpen),
+        // Does not occur after a flush.
+        Ok(RollAnswer::FlushRunning) => Reply::Refused(Refusal::Odd),
+        Err(fault) => Reply::Refused(of_step(fault)),
     }
 }
