@@ -9,7 +9,7 @@ use Rattle.bk_serve.specs.Reads.{IsNegative, IsRefused}
 pub negative : (ledger entry_id : ℕ) → ¬ ((ledger < 2 ^ 63) × (entry_id < 2 ^ 63)) → IsNegative ledger entry_id
 negative ledger entry_id outside =
     elim (cases_lt ledger (2 ^ 63)) [
-      | inl below ↦ elim (cases_lt entry_id (2 ^ 63)) [ | inl under ↦ absurd (outside (below, under)) | inr above ↦ inr above ]
+      | inl below ↦ elim (cases_lt entry_id (2 ^ 63)) [ inl under ↦ absurd (outside (below, under)) | inr above ↦ inr above ]
       | inr above ↦ inl above
     ]
 
