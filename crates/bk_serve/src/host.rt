@@ -1,0 +1,124 @@
+//! What a session serves: a store, and a manifest of what is durable of its ledgers.
+
+ghost use Rattle.std.specs.Prelude.{◌≡◌, ◌++◌, OnOk};
+ghost use Rattle.bk_serve_core.specs.Fields.{frame_of};
+ghost use Rattle.bk_serve_core.specs.Requests.{ask};
+ghost use Rattle.bk_serve_core.specs.Replies.{Told, refused, told_bytes};
+ghost use Rattle.bk_serve_core.specs.declared.refusal.Refusal.TheVariants as f;
+ghost use Rattle.bk_serve.specs.Answers.{Answers};
+
+use crate::adding::add;
+use crate::attributes::{attribute, set_attribute};
+use crate::compacting::compact;
+use crate::ledgers::{delete, fence, is_fenced};
+use crate::reading::{holds, read, read_back};
+use crate::sealing::{checkpoint, close, flush, seal};
+use bk_disk::{DirDisk, LogDisk};
+use bk_manifest::{Manifest, ManifestFile};
+use bk_manifest_disk::KeptFile;
+use bk_serve_core::{EncodeError, Refusal, Reply, Request};
+use bk_serve_dispatch::Service;
+use bk_store::{AddKind, Store};
+use std::alloc::Global;
+
+/// Kind of the attribute that is a ledger's master key.
+const MASTER_KEY: u32 = 0;
+
+/// Kind of the attribute that is a ledger's explicit LAC.
+const EXPLICIT_LAC: u32 = 1;
+
+/// A store, and the manifest of its ledgers.
+#[derive(Drop)]
+pub(crate) struct Host<D: LogDisk, F: ManifestFile> {
+    pub(crate) alloc: Global,
+    pub(crate) store: Store<D>,
+    pub(crate) notes: Manifest<F>,
+}
+
+impl Service for Host<DirDisk, KeptFile> {
+    ghost use Rattle.std.specs.Prelude.{[], false};
+    ghost use Rattle.bk_disk.specs.declared.dir_view.DirView.{DirView};
+
+    ghost answers = { λ s request reply t. Answers {V = DirView} (λ _. []) (λ _. false) (λ _. false) s.store s.notes request reply t.store t.notes };
+
+    /// Carries out a request and appends its reply.
+    fn call(
+        &mut self,
+        id: u64,
+        request: &Request<'_>,
+        out: &mut Vec<u8>,
+    ) -> Result<(), EncodeError> {
+        answer(self, id, request, out)
+    }
+}
+
+/// Carries out a request and appends its reply.
+///
+/// # Errors
+///
+/// The request was carried out, and its reply was not encoded.
+pub(crate) fn answer<D: LogDisk, F: ManifestFile>(
+    host: &mut Host<D, F>,
+    id: u64,
+    request: &Request<'_>,
+    out: &mut Vec<u8>,
+) -> Result<(), EncodeError>
+    ensures { (t : Told) × Answers D.View.bytes D.View.honest D.View.sound host.old.store host.old.notes (ask request.now) t host.new.store host.new.notes
+        × OnOk result (out.new.items ≡ out.old.items ++ frame_of id (told_bytes t)) }
+{
+    let Host {
+        alloc,
+        store,
+        notes,
+    } = host;
+    let alloc = *alloc;
+    match *request {
+        Request::Add {
+            ledger,
+            entry,
+            content,
+        } => add(alloc, store, AddKind::Ordinary, ledger, entry, content).encode(id, out),
+        Request::AddRecovery {
+            ledger,
+            entry,
+            content,
+        } => add(alloc, store, AddKind::Recovery, ledger, entry, content).encode(id, out),
+        Request::Read { ledger, entry } => read(alloc, store, ledger, entry, id, out),
+        Request::ReadBack {
+            number,
+            ledger,
+            entry,
+            digest,
+        } => read_back(alloc, store, number, ledger, entry, &digest, id, out),
+        Request::Holds { ledger, entry } => holds(store, ledger, entry).encode(id, out),
+        Request::Fence { ledger } => fence(alloc, store, notes, ledger).encode(id, out),
+        Request::IsFenced { ledger } => is_fenced(store, notes, ledger).encode(id, out),
+        Request::Delete { ledger } => delete(alloc, store, notes, ledger).encode(id, out),
+        Request::SetMasterKey { ledger, key } => {
+            set_attribute(alloc, store, notes, MASTER_KEY, ledger, key).encode(id, out)
+        }
+        Request::MasterKey { ledger } => attribute(store, notes, MASTER_KEY, ledger, id, out),
+        Request::SetExplicitLac { ledger, lac } => {
+            set_attribute(alloc, store, notes, EXPLICIT_LAC, ledger, lac).encode(id, out)
+        }
+        Request::ExplicitLac { ledger } => attribute(store, notes, EXPLICIT_LAC, ledger, id, out),
+        Request::Flush => flush(store).encode(id, out),
+        Request::Checkpoint => checkpoint(store).encode(id, out),
+        Request::Compact { minor, major } => compact(store, minor, major).encode(id, out),
+        Request::Seal => seal(store).encode(id, out),
+        Request::Close => close(store).encode(id, out),
+        Request::Hello { .. } => not_offered(id, out),
+        Request::ReadLast { .. } => not_offered(id, out),
+        Request::LastEntry { .. } => not_offered(id, out),
+        Request::Entries { .. } => not_offered(id, out),
+        Request::Ledgers { .. } => not_offered(id, out),
+        Request::Stats => not_offered(id, out),
+    }
+}
+
+/// Appends the reply to a call that the server does not have.
+fn not_offered(id: u64, out: &mut Vec<u8>) -> Result<(), EncodeError>
+    ensures { OnOk result (out.new.items ≡ out.old.items ++ frame_of id (told_bytes (refused f.NotOffered))) }
+{
+    Reply::Refused(Refusal::NotOffered).encode(id, out)
+}

@@ -1,0 +1,187 @@
+//! Reads.
+
+ghost use Rattle.std.specs.Prelude.{◌≡◌, ◌++◌, ◌↔◌, IsTrue, OnOk};
+ghost use Rattle.bk_store.specs.declared.mark.Mark.TheVariants.{Add};
+ghost use Rattle.bk_serve_core.specs.Fields.{frame_of};
+ghost use Rattle.bk_serve_core.specs.Replies.{Told, told, told_bytes};
+ghost use Rattle.bk_serve.specs.Reads.{HoldsAnswers, ReadAnswers, ReadBackAnswers, GivesLeased, GivesPayload, IsRead, LooksUp};
+
+use crate::refusals::{of_fetch, of_take};
+use bk_disk::{LogDisk, LogView};
+use bk_lease::Lease;
+use bk_log::fetch;
+use bk_record::{Key, Location};
+use bk_serve_core::{Done, EncodeError, Refusal, Reply};
+use bk_store::{Mark, Store, Taken};
+use std::alloc::Global;
+
+/// Number of bytes of the ids of an entry.
+const IDS: usize = 16;
+
+/// Appends the reply with an entry.
+fn give_payload(key: Key, payload: &[u8], id: u64, out: &mut Vec<u8>) -> Result<(), EncodeError>
+    ensures { (t : Told) × GivesPayload key payload.now t × OnOk result (out.new.items ≡ out.old.items ++ frame_of id (told_bytes t)) }
+{
+    match payload.get(IDS..) {
+        Some(content) => Reply::Done(Done::Entry {
+            ledger: key.ledger(),
+            entry: key.entry(),
+            content,
+        })
+        .encode(id, out),
+        None => Reply::Refused(Refusal::Odd).encode(id, out),
+    }
+}
+
+/// Reads an entry by a lease, and appends the reply.
+fn give_leased<V: LogView>(
+    alloc: Global,
+    lease: &Lease<V>,
+    location: Location,
+    key: Key,
+    id: u64,
+    out: &mut Vec<u8>,
+) -> Result<(), EncodeError>
+    ensures { (t : Told) × GivesLeased V.bytes V.honest lease.now.view location key t × OnOk result (out.new.items ≡ out.old.items ++ frame_of id (told_bytes t)) }
+{
+    match fetch(lease.view(), alloc, location, key) {
+        Ok(payload) => give_payload(key, &payload, id, out),
+        Err(fault) => Reply::Refused(of_fetch(fault)).encode(id, out),
+    }
+}
+
+/// Takes an entry from the store, and appends the reply. The lease of the take ends here.
+fn give<D: LogDisk>(
+    alloc: Global,
+    store: &mut Store<D>,
+    key: Key,
+    id: u64,
+    out: &mut Vec<u8>,
+) -> Result<(), EncodeError>
+    ensures { (t : Told) × IsRead D.View.bytes D.View.honest D.View.sound key store.old t store.new × OnOk result (out.new.items ≡ out.old.items ++ frame_of id (told_bytes t)) }
+{
+    match store.take(key) {
+        Ok(Taken::Deleted) => Reply::Refused(Refusal::Deleted).encode(id, out),
+        Ok(Taken::NotHeld) => Reply::Done(Done::NotHeld).encode(id, out),
+        Ok(Taken::Cached(payload)) => give_payload(key, &payload, id, out),
+        Ok(Taken::Leased(lease, location)) => {
+            let given = give_leased(alloc, &lease, location, key, id, out);
+            lease.release().end();
+            given
+        }
+        Err(fault) => Reply::Refused(of_take(fault)).encode(id, out),
+    }
+}
+
+/// Reads an entry, and appends the reply.
+pub(crate) fn read<D: LogDisk>(
+    alloc: Global,
+    store: &mut Store<D>,
+    ledger: u64,
+    entry: u64,
+    id: u64,
+    out: &mut Vec<u8>,
+) -> Result<(), EncodeError>
+    ensures { (t : Told) × ReadAnswers D.View.bytes D.View.honest D.View.sound ledger entry store.old t store.new × OnOk result (out.new.items ≡ out.old.items ++ frame_of id (told_bytes t)) }
+{
+    match Key::new(ledger, entry) {
+        Some(key) => give(alloc, store, key, id, out),
+        None => Reply::Refused(Refusal::Negative).encode(id, out),
+    }
+}
+
+/// What a trail has at a number.
+pub(crate) enum Found {
+    /// The mark of the accepted entry.
+    Stands,
+    /// Nothing: the trail ends before it.
+    Missing,
+    /// This mark, which is another.
+    Differs(Mark),
+}
+
+/// Returns whether a mark is that of an accepted entry with this key and digest.
+fn is_mark_of(mark: &Mark, key: Key, digest: &[u8; 32]) -> bool
+    ensures { IsTrue result ↔ (mark.now ≡ Add key digest.now) }
+{
+    match mark {
+        Mark::Add {
+            key: of,
+            digest: with,
+        } => *of == key && *with == *digest,
+        Mark::Delete { .. } | Mark::Fence { .. } => false,
+    }
+}
+
+/// Looks up the mark of an accepted entry in a trail.
+fn look_up(trail: &[Mark], number: u64, key: Key, digest: &[u8; 32]) -> Found
+    ensures { LooksUp trail.now number key digest.now result }
+{
+    let Some(mark) = trail.get(number as usize) else {
+        return Found::Missing;
+    };
+    if is_mark_of(mark, key, digest) {
+        Found::Stands
+    } else {
+        Found::Differs(*mark)
+    }
+}
+
+/// Reads the entry of a receipt if the trail has its mark, and appends the reply.
+fn read_receipt<D: LogDisk>(
+    alloc: Global,
+    store: &mut Store<D>,
+    number: u64,
+    key: Key,
+    digest: &[u8; 32],
+    id: u64,
+    out: &mut Vec<u8>,
+) -> Result<(), EncodeError>
+    ensures { (t : Told) × ReadBackAnswers D.View.bytes D.View.honest D.View.sound number key.ledger key.entry digest.now store.old t store.new × OnOk result (out.new.items ≡ out.old.items ++ frame_of id (told_bytes t)) }
+{
+    match look_up(store.trail(), number, key, digest) {
+        Found::Stands => give(alloc, store, key, id, out),
+        Found::Missing => {
+            let front = store.front();
+            Reply::Refused(Refusal::Missing { front }).encode(id, out)
+        }
+        Found::Differs(_) => Reply::Refused(Refusal::Differs).encode(id, out),
+    }
+}
+
+/// Reads the entry of a receipt if the trail has its mark, and appends the reply.
+pub(crate) fn read_back<D: LogDisk>(
+    alloc: Global,
+    store: &mut Store<D>,
+    number: u64,
+    ledger: u64,
+    entry: u64,
+    digest: &[u8; 32],
+    id: u64,
+    out: &mut Vec<u8>,
+) -> Result<(), EncodeError>
+    ensures { (t : Told) × ReadBackAnswers D.View.bytes D.View.honest D.View.sound number ledger entry digest.now store.old t store.new × OnOk result (out.new.items ≡ out.old.items ++ frame_of id (told_bytes t)) }
+{
+    match Key::new(ledger, entry) {
+        Some(key) => read_receipt(alloc, store, number, key, digest, id, out),
+        None => Reply::Refused(Refusal::Negative).encode(id, out),
+    }
+}
+
+/// Returns the reply to whether the store has an entry. Reads no log.
+pub(crate) fn holds<D: LogDisk>(store: &mut Store<D>, ledger: u64, entry: u64) -> Reply<'static>
+    ensures { HoldsAnswers D.View.bytes D.View.honest D.View.sound ledger entry store.old (told result) store.new }
+{
+    let Some(key) = Key::new(ledger, entry) else {
+        return Reply::Refused(Refusal::Negative);
+    };
+    match store.take(key) {
+        Ok(Taken::Deleted | Taken::NotHeld) => Reply::Done(Done::No),
+        Ok(Taken::Cached(_)) => Reply::Done(Done::Yes),
+        Ok(Taken::Leased(lease, _)) => {
+            lease.release().end();
+            Reply::Done(Done::Yes)
+        }
+        Err(fault) => Reply::Refused(of_take(fault)),
+    }
+}

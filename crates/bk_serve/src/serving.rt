@@ -1,0 +1,74 @@
+//! A session over standard input and output.
+
+use crate::opening::{OpenFault, open};
+use bk_serve_core::{Done, LONGEST_FRAME, Reply, VERSION};
+use bk_serve_dispatch::{Buffers, End, Service, finish, greet, serve_requests, tell_end};
+use std::io::{BufReader, Read, Stderr, Write};
+
+/// Number of requests that a client may send ahead.
+const IN_FLIGHT: u64 = 256;
+
+/// Greatest number of ids of a page. No call of this server replies with a page.
+const PAGE: u64 = 1000;
+
+const WELCOME: Reply<'static> = Reply::Done(Done::Welcome {
+    version: VERSION,
+    largest: LONGEST_FRAME as u64,
+    in_flight: IN_FLIGHT,
+    page: PAGE,
+});
+
+/// Opens the directory at a path and serves it. Returns the exit status: 0 if the session ended in
+/// order and everything was flushed, else 1. Writes why the directory did not open to the error
+/// stream too.
+pub(crate) fn serve(rt: &HostRuntime, path: &str, errors: &mut Stderr) -> u8 {
+    let alloc = rt.alloc();
+    let Ok(mut reader) = BufReader::with_capacity(alloc, 65_536, rt.stdin()) else {
+        let _ = writeln!(errors, "fault memory");
+        return 1;
+    };
+    let mut writer = rt.stdout();
+    let mut buffers = Buffers::new(alloc);
+    match open(rt, path) {
+        Ok(mut host) => serve_session(&mut host, &mut reader, &mut writer, &mut buffers),
+        Err(fault) => {
+            let _ = writeln!(errors, "fault {fault}");
+            refuse(&fault, &mut reader, &mut writer, &mut buffers);
+            1
+        }
+    }
+}
+
+/// Serves a session of an open directory. Returns the exit status.
+fn serve_session<S: Service, R: Read, W: Write>(
+    service: &mut S,
+    reader: &mut R,
+    writer: &mut W,
+    buffers: &mut Buffers,
+) -> u8 {
+    let end = match greet(reader, writer, &WELCOME, buffers) {
+        Ok(first) => serve_requests(service, reader, writer, first, buffers),
+        Err(end) => {
+            tell_end(writer, end, buffers);
+            return 1;
+        }
+    };
+    if finish(service, writer, end, buffers) {
+        0
+    } else {
+        1
+    }
+}
+
+/// Answers the hello of a session by why the directory did not open.
+fn refuse<R: Read, W: Write>(
+    fault: &OpenFault,
+    reader: &mut R,
+    writer: &mut W,
+    buffers: &mut Buffers,
+) {
+    let reply = Reply::Refused(fault.refusal());
+    if let Err(end @ End::Fault { .. }) = greet(reader, writer, &reply, buffers) {
+        tell_end(writer, end, buffers);
+    }
+}
