@@ -1,2 +1,3 @@
+pub mod Compacted
 pub mod Failures
 pub mod Folder

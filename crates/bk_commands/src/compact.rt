@@ -2,6 +2,7 @@
 
 ghost use Rattle.std.specs.Prelude.{◌≡◌, ◌≤◌, IfOk, IfSome, IsTrue};
 ghost use Rattle.bk_store.specs.Transitions.{valid_ledgers};
+ghost use Rattle.bk_commands.specs.Compacted.{EndsCompacted};
 ghost use Rattle.bk_offline_gc.specs.Sweeping.{SameFileContents};
 ghost use Rattle.bk_inspect.specs.Reading.{OnlyReads};
 
@@ -92,6 +93,8 @@ pub fn compact_disk<D: LogDisk, W: Write, E: Write>(
     ensures honest { IfSome result (λ left. D.honest left ≡ D.honest disk) }
     ensures same { IsTrue (D.honest disk)
         → IfSome result (λ left. SameFileContents (valid_ledgers dead.now) (D.files disk) (D.files left)) }
+    ensures done { IsTrue (D.honest disk)
+        → IfSome result (λ left. EndsCompacted below (valid_ledgers dead.now) (D.files left)) }
 {
     match compact_and_show(rt, form, disk, below, dead, writer) {
         Ok(left) => Some(left),
@@ -241,7 +244,9 @@ fn still(size: Size) -> Summary {
 }
 
 /// Returns the settings of a store that compacts logs below this share, in thousandths.
-fn settings_below(below: u32) -> Settings {
+fn settings_below(below: u32) -> Settings
+    ensures { result.major ≡ below }
+{
     Settings {
         slots: 65_536,
         minor: below,
@@ -300,6 +305,8 @@ fn compact_and_show<D: LogDisk, W: Write>(
     ensures honest { IfOk result (λ left. D.honest left ≡ D.honest disk) }
     ensures same { IsTrue (D.honest disk)
         → IfOk result (λ left. SameFileContents (valid_ledgers dead.now) (D.files disk) (D.files left)) }
+    ensures done { IsTrue (D.honest disk)
+        → IfOk result (λ left. EndsCompacted below (valid_ledgers dead.now) (D.files left)) }
 {
     let alloc = rt.alloc();
     let mut disk = disk;
@@ -326,17 +333,14 @@ fn sweep_on<D: LogDisk>(
     ensures honest { IfOk result (λ left. D.honest left.0 ≡ D.honest disk) }
     ensures same { IsTrue (D.honest disk)
         → IfOk result (λ left. SameFileContents (valid_ledgers dead.now) (D.files disk) (D.files left.0)) }
+    ensures done { IsTrue (D.honest disk)
+        → IfOk result (λ left. EndsCompacted below (valid_ledgers dead.now) (D.files left.0)) }
 {
     let settings = settings_below(below);
     let mut progress = Progress::new(rt);
-    let Done { store, swept } = sweep_disk(
-        rt.alloc(),
-        disk,
-        settings,
-        dead,
-        Kind::Major,
-        &mut progress,
-    )?;
+    let done = sweep_disk(rt.alloc(), disk, settings, dead, Kind::Major, &mut progress)?;
+    let Done { store, swept } = done;
+    store.reveal_invariant();
     match store.into_disk() {
         Ok(disk) => Ok((disk, swept.moved)),
         // No lease was given.

@@ -1,5 +1,7 @@
 //! Small loads on disks in memory, and the text of a report.
 
+mod spoiled;
+
 use bk_bookie::WorkReport;
 use bk_disk::{FaultDisk, MemDisk};
 use bk_load::{Checked, Latencies, Load, Logs, Report, Until, run_load};

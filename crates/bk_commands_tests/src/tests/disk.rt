@@ -1,6 +1,6 @@
 //! A compaction of a disk in memory.
 
-use super::holds;
+use super::{Full, holds};
 use bk_commands::compact_disk;
 use bk_disk::{LogDisk, MemDisk};
 use bk_inspect::Form;
@@ -44,6 +44,15 @@ fn what_lives_in_a_log_is_copied_and_the_log_goes(rt: HostRuntime) -> Result<(),
     let (ids, record) = found_on(alloc, &mut left)?;
     assert!(rt; ids.as_slice() == [1].as_slice());
     assert!(rt; record.as_slice() == &RECORDS[..25]);
+    Ok(())
+}
+
+#[test]
+fn a_compaction_whose_summary_is_not_flushed_fails(rt: HostRuntime) -> Result<(), Fail> {
+    let mut errors = Vec::new(rt.alloc());
+    let disk = disk_of(rt.alloc())?;
+    let left = compact_disk(&rt, Form::Text, disk, 800, &[2], &mut Full, &mut errors);
+    assert!(rt; left.is_none() && errors.as_slice() == b"fault output\n".as_slice());
     Ok(())
 }
 

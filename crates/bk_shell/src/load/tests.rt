@@ -1,11 +1,12 @@
 //! Small loads, in memory and on a folder, and what is told of words that are no load.
 
 use super::load_as_asked;
-use std::fs;
+use std::io::Write;
 use std::rt::Clock;
 use std::sync::Wait;
 use std::test::Fail;
 use std::thread::Threads;
+use std::{fs, io};
 
 /// Whether a call of `load` ends in this status, with these parts in its output, and with this text on the error stream.
 fn is_shown<T: Threads + Wait + Clock + Sync>(
@@ -100,16 +101,16 @@ fn a_load_where_no_folder_can_be_is_refused(rt: HostRuntime) -> Result<(), Fail>
     Ok(())
 }
 
-/// What a call of `load` leaves: its status, and the text on the error stream.
+/// What a call of `load` leaves: its status, and the texts on both streams.
 fn told_of<T: Threads + Wait + Clock + Sync>(
     rt: &HostRuntime,
     threads: &T,
     words: &[&str],
-) -> (u8, Vec<u8>) {
+) -> (u8, Vec<u8>, Vec<u8>) {
     let mut output = Vec::new(rt.alloc());
     let mut errors = Vec::new(rt.alloc());
     let status = load_as_asked(rt, threads, words, &mut output, &mut errors);
-    (status, errors)
+    (status, output, errors)
 }
 
 /// A load over a directory that has the name of the first log for a directory.
@@ -126,12 +127,35 @@ fn a_load_names_the_file_that_fails(rt: HostRuntime) -> Result<(), Fail> {
     let _ = fs::remove_dir_all(&rt, "bk_shell_load_name");
     fs::create_dir(&rt, "bk_shell_load_name")?;
     fs::create_dir(&rt, "bk_shell_load_name/0.log")?;
-    let (status, errors) = told_of(&rt, &rt, &TAKEN);
+    let (status, output, errors) = told_of(&rt, &rt, &TAKEN);
     fs::remove_dir_all(&rt, "bk_shell_load_name")?;
     let is_named = match str::from_utf8(&errors) {
         Ok(text) => text.contains("bk_shell_load_name/0.log: "),
         Err(_) => false,
     };
     assert!(rt; status == 1 && is_named);
+    assert!(rt; output.ends_with(b"\nbad\n"));
     Ok(())
+}
+
+/// Takes all that is written and fails at the flush.
+#[derive(Drop)]
+struct Full;
+
+impl Write for Full {
+    fn write(&mut self, buf: &[u8]) -> io::Result<usize> {
+        Ok(buf.len())
+    }
+
+    fn flush(&mut self) -> io::Result<()> {
+        Err(io::Error::from(io::ErrorKind::Other))
+    }
+}
+
+#[test]
+fn a_load_whose_report_is_not_flushed_fails(rt: HostRuntime) {
+    let mut errors = Vec::new(rt.alloc());
+    let words = ["bk_shell", "load", "--threads=1", "--adds=3"];
+    let status = load_as_asked(&rt, &rt, &words, &mut Full, &mut errors);
+    assert!(rt; status == 1 && errors.as_slice() == b"fault output\n".as_slice());
 }
