@@ -1,5 +1,6 @@
 -- What a manifest keeps, over its calls.
-use Rattle.std.proofs.Common.{◌≡◌, ℕ, ◌+◌, ◌^◌, ◌<◌, ◌≤◌, Bool, List, [], ◌∷◌, ◌++◌, length, take, fold, refl, sym, ap, subst, ◌∙◌, inl, inr}
+use Rattle.std.proofs.Common.{◌≡◌, ℕ, ◌+◌, ◌^◌, ◌<◌, ◌≤◌, Bool, List, [], ◌∷◌, ◌++◌, length, take, fold, refl, sym, ap, subst, ◌∙◌, arith, inl, inr}
+use Rattle.std.proofs.lemmas.List.{length-append, length-take}
 use Rattle.std.specs.Prelude.{Option, None, Result, Ok, Err, OnErr, IsTrue}
 use Rattle.bk_manifest.specs.declared.fault.Fault.{Fault}
 use Rattle.bk_manifest.specs.declared.state.State.{State}
@@ -8,7 +9,7 @@ use Rattle.bk_manifest.specs.Fact.{Fact, fact, facts, AreFacts, body_of}
 use Rattle.bk_manifest.specs.Batch.{batch_of}
 use Rattle.bk_manifest.specs.File.{written, Content, content_of}
 use Rattle.bk_manifest.specs.State.{last_after, last_about, IsStateOf, IsAfter, IsSameState, SameMeaning, HasMemory, HaveMemory, subject_of}
-use Rattle.bk_manifest.specs.Keeping.{IsOldOrNew, KeepsFront, facts_found, durable_up_to, IsBelieved, IsKept, MeansAt, StillMeans, IsOneOf}
+use Rattle.bk_manifest.specs.Keeping.{IsOldOrNew, KeepsFront, facts_found, durable_up_to, IsBelieved, IsKept, HasBatchAt, MeansAt, StillMeans, IsOneOf}
 use Rattle.bk_manifest.proofs.Believing.{rewritten_believed, still_believed, same_front, committed}
 
 -- ---- states
@@ -107,6 +108,20 @@ commit_kept bytes bytes' batch synced synced' generation stop stop' facts noted 
       means = subst (λ (fs : List Fact). IsStateOf fs new) (sym records) (state_after (durable_up_to stop bytes) noted old new is now);
       records = records;
     }
+
+-- one batch more, as the file has it
+pub batch_kept : (bytes bytes' : List ℕ) (synced synced' generation stop stop' : ℕ) (facts noted taken : List Fact) (old new : State)
+    → IsBelieved bytes synced generation stop → IsStateOf (durable_up_to stop bytes) old → HasBatchAt generation stop stop' facts bytes bytes' synced'
+    → facts ≡ noted → taken ≡ noted → IsAfter old taken new → IsCommittedTo bytes stop noted bytes' synced' generation stop' new
+batch_kept bytes bytes' synced synced' generation stop stop' facts noted taken old new b is h same took after =
+    let batch : List ℕ = batch_of generation stop (body_of facts) in
+    let ends : stop' ≡ stop + length (batch_of generation stop (body_of facts)) =
+    omega (arith, h.ends, ap length h.bytes_are, length-append (take stop bytes) (batch_of generation stop (body_of facts)), length-take stop bytes, b.inside) in
+    commit_kept bytes bytes' batch synced synced' generation stop stop' facts noted taken old new b is h.legal refl h.bytes_are h.covered ends same took after
+
+-- no record more
+pub none_after : (state : State) → IsAfter state [] state
+none_after state = λ s. refl
 
 pub none_noted : (state : State) (xs : List Record) → xs ≡ [] → HaveMemory state (facts xs)
 none_noted state xs is = subst (λ (rs : List Record). HaveMemory state (facts rs)) (sym is) tt

@@ -1,5 +1,5 @@
 -- A manifest that is kept in a file: which of its records are durable.
-use Rattle.std.specs.Prelude.{◌≡◌, ◌⊎◌, ℕ, ◌+◌, ◌<◌, ◌≤◌, Bool, List, [], length, take, Result, Ok, Err, IsTrue}
+use Rattle.std.specs.Prelude.{◌≡◌, ◌⊎◌, ℕ, ◌+◌, ◌<◌, ◌≤◌, Bool, List, [], ◌++◌, length, take, Result, Ok, Err, IsTrue}
 use Rattle.std.proofs.Common.{refl}
 use Rattle.std.specs.Coded.{Coded, code_by, coded×, coded_ℕ, coded_bool, coded_list}
 use Rattle.bk_manifest.specs.declared.fault.Fault.{Fault}
@@ -12,9 +12,10 @@ use Rattle.bk_manifest.specs.declared.fault.ReadError.TheVariants as read
 use Rattle.bk_manifest.specs.declared.fault.ManifestError.{ManifestError}
 use Rattle.bk_manifest.specs.declared.fault.ManifestError.TheVariants as error
 use Rattle.bk_manifest.specs.declared.state.State.{State}
-use Rattle.bk_manifest.specs.Fact.{Fact}
+use Rattle.bk_manifest.specs.Fact.{Fact, AreFacts, body_of}
 use Rattle.bk_manifest.specs.FactCode.{fact_code}
 use Rattle.bk_manifest.specs.State.{IsStateOf, SameMeaning, HaveMemory}
+use Rattle.bk_manifest.specs.Batch.{batch_of}
 use Rattle.bk_manifest.specs.File.{Content, content_of, all_facts, IsManifest}
 
 -- a file has the same bytes, and no fewer of them are durable
@@ -64,6 +65,14 @@ kept_code =
       pending = p.1.1.1.1.1.1;
     }) (λ _. refl)
 
+-- The file is its front up to a place, and a batch of these records up to its end. All of it is
+-- durable.
+pub record HasBatchAt (generation place stop : ℕ) (records : List Fact) (bytes bytes' : List ℕ) (synced' : ℕ) : Type 0 where
+  pub legal : AreFacts records
+  pub bytes_are : bytes' ≡ take place bytes ++ batch_of generation place (body_of records)
+  pub covered : length bytes' ≤ synced'
+  pub ends : stop ≡ length bytes'
+
 -- what a manifest reports where its file does
 abbrev pub of_file : FileFault → ManifestError
 of_file file.Memory = error.Memory
@@ -86,6 +95,10 @@ facts_found (Err fault) = []
 -- durable records: those of the front of the file, up to where its whole batches end
 abbrev pub durable : Kept → List Fact
 durable m = facts_found (content_of (take m.stop m.bytes))
+
+-- An opening finds the durable records, and no others.
+abbrev pub FindsDurable : Kept → Type 0
+FindsDurable m = facts_found (content_of m.bytes) ≡ durable m
 
 -- What is believed is durable: the bytes up to this position are, and they are a manifest of this
 -- generation, whole.

@@ -2,6 +2,7 @@
 //! is durable, removed, deleted and fenced.
 #![tactic(auto)]
 
+mod appending;
 mod checksum;
 mod fault;
 mod fields;

@@ -5,13 +5,12 @@ ghost use Rattle.bk_manifest.specs.Fact.{Fact, fact, facts, AreFacts};
 ghost use Rattle.bk_manifest.specs.State.{IsStateOf, SameMeaning, without_deletions};
 ghost use Rattle.bk_manifest.specs.declared.fault.Fault.{Fault};
 ghost use Rattle.bk_manifest.specs.File.{content_of};
-ghost use Rattle.bk_manifest.specs.Keeping.{FailsExactlyIf, IsSameFile, IsOldOrNew, KeepsFront, durable, HasOpened, OnlyNoted, IsOneOf};
+ghost use Rattle.bk_manifest.specs.Keeping.{FailsExactlyIf, IsSameFile, IsOldOrNew, KeepsFront, durable, FindsDurable, HasOpened, OnlyNoted, IsOneOf};
 
+use crate::appending::appended;
 use crate::reading::HEADER;
 use crate::rewriting::replaced;
-use crate::{
-    FileFault, ManifestError, NotRewritten, Record, State, new_header, read_manifest, write_batch,
-};
+use crate::{FileFault, ManifestError, NotRewritten, Record, State, new_header, read_manifest};
 use std::alloc::{AllocError, Global};
 use std::marker::Model;
 use std::mem;
@@ -208,9 +207,9 @@ impl<F: ManifestFile> Manifest<F> {
     /// Writes all noted records as one batch and syncs the file once. Then they are durable, and the
     /// state has them.
     ///
-    /// An error changes neither the durable records nor the noted ones: call `commit` again, which
-    /// writes the batch anew at the same position before it syncs, or `forget_noted`. A crash after the
-    /// error may leave the batch whole, so its records may be found.
+    /// An error changes neither the durable records nor the noted ones. The file may have the batch, so
+    /// a later opening may find its records: call `commit` again, which writes the batch anew at the
+    /// same position before it syncs, or `withdraw`.
     ///
     /// # Errors
     ///
@@ -222,20 +221,51 @@ impl<F: ManifestFile> Manifest<F> {
         ensures honest { self.new.honest ≡ self.old.honest }
         ensures cause { FailsExactlyIf self.old.failures self.new.failures (IsErrOf result ManifestError.Disk) }
         ensures ok { IsTrue self.old.honest → OnOk result (durable self.new ≡ durable self.old ++ self.old.pending) }
+        ensures found { IsTrue self.old.honest → OnOk result (FindsDurable self.new) }
         ensures none { OnOk result (self.new.pending ≡ []) }
         ensures err { IsTrue self.old.honest → OnErr result (durable self.new ≡ durable self.old) }
         ensures kept { OnErr result (self.new.pending ≡ self.old.pending) }
+        ensures stop { self.old.stop ≤ self.new.stop }
+        ensures no_fault { (fault : Fault) → IsErrOf result (ManifestError.Fault fault) → ⊥ }
         ensures too_long { IsErrOf result ManifestError.TooLong → AreFacts self.old.pending → 2 ^ 63 ≤ self.old.stop }
     {
-        let batch = write_batch(alloc, self.generation, self.end as u64, &self.noted)?;
-        let Some(end) = self.end.checked_add(batch.len()) else {
-            return Err(ManifestError::TooLong);
-        };
-        self.file.write_at(self.end, &batch)?;
-        self.file.sync()?;
+        let end = appended(
+            alloc,
+            &mut self.file,
+            self.generation,
+            self.end,
+            &self.noted,
+        )?;
         let none = Vec::new(alloc);
         let noted = mem::replace(&mut self.noted, none);
         self.state.settle(noted);
+        self.end = end;
+        Ok(())
+    }
+
+    /// Takes the noted records back, which a `commit` that failed may have left in the file: writes an
+    /// empty batch in their place and syncs the file. Then an opening finds the durable records only.
+    ///
+    /// An error leaves them noted, and maybe in the file.
+    ///
+    /// # Errors
+    ///
+    /// - `TooLong` if the file would be too long.
+    /// - `Memory` if an allocation is refused.
+    /// - `Disk` if the device fails.
+    pub fn withdraw(&mut self, alloc: Global) -> Result<(), ManifestError>
+        ensures honest { self.new.honest ≡ self.old.honest }
+        ensures cause { FailsExactlyIf self.old.failures self.new.failures (IsErrOf result ManifestError.Disk) }
+        ensures same { IsTrue self.old.honest → durable self.new ≡ durable self.old }
+        ensures found { IsTrue self.old.honest → OnOk result (FindsDurable self.new) }
+        ensures none { OnOk result (self.new.pending ≡ []) }
+        ensures kept { OnErr result (self.new.pending ≡ self.old.pending) }
+        ensures stop { self.old.stop ≤ self.new.stop }
+        ensures no_fault { (fault : Fault) → IsErrOf result (ManifestError.Fault fault) → ⊥ }
+        ensures too_long { IsErrOf result ManifestError.TooLong → 2 ^ 63 ≤ self.old.stop }
+    {
+        let end = appended(alloc, &mut self.file, self.generation, self.end, &[])?;
+        self.noted.clear();
         self.end = end;
         Ok(())
     }
