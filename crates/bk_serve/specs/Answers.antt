@@ -18,8 +18,8 @@ NotOffered s m reply t m' = (reply ≡ refused f.NotOffered) × Same s m t m'
 
 abbrev pub Answers : {V : Type 0} → (V → List ℕ) → (V → Bool) → (V → Bool) → State → Kept → Ask → Told → State → Kept → Type 0
 Answers bytes honest sound s m (q.hello magic lowest highest) reply t m' = NotOffered s m reply t m'
-Answers bytes honest sound s m (q.add ledger entry content) reply t m' = AddAnswers Ordinary (payload_of ledger entry content) s reply t × (m' ≡ m)
-Answers bytes honest sound s m (q.add_recovery ledger entry content) reply t m' = AddAnswers Recovery (payload_of ledger entry content) s reply t × (m' ≡ m)
+Answers bytes honest sound s m (q.add ledger entry content) reply t m' = AddAnswers Ordinary ledger (payload_of ledger entry content) s m reply t m'
+Answers bytes honest sound s m (q.add_recovery ledger entry content) reply t m' = AddAnswers Recovery ledger (payload_of ledger entry content) s m reply t m'
 Answers bytes honest sound s m (q.read ledger entry) reply t m' = ReadAnswers bytes honest sound ledger entry s reply t × (m' ≡ m)
 Answers bytes honest sound s m (q.read_last ledger) reply t m' = NotOffered s m reply t m'
 Answers bytes honest sound s m (q.read_back number ledger entry digest) reply t m' =

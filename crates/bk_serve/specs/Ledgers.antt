@@ -14,31 +14,9 @@ use Rattle.bk_serve_core.specs.Replies as r
 use Rattle.bk_serve_core.specs.Replies.{Told, done, refused}
 use Rattle.bk_serve_core.specs.declared.refusal.Refusal.{Refusal}
 use Rattle.bk_serve_core.specs.declared.refusal.Refusal.TheVariants as f
+use Rattle.bk_serve.specs.CatchingUp.{is_noted_fence}
+use Rattle.bk_serve.specs.Notes.{Notes, NoteTransition}
 use Rattle.bk_serve.specs.Refusals.{of_delete, of_fence}
-
--- ---- notes
-
--- One more fact is durable.
-pub record Notes (one : Fact) (m m' : Kept) : Type 0 where
-  pub honest : m'.honest ≡ m.honest
-  pub noted : IsTrue m.honest → durable m' ≡ durable m ++ one ∷ []
-
--- No further fact is durable.
-pub record NotesNone (m m' : Kept) : Type 0 where
-  pub honest : m'.honest ≡ m.honest
-  pub same : IsTrue m.honest → durable m' ≡ durable m
-
--- why a fact is not durable
-abbrev pub IsNoteRefusal : Refusal → Type 0
-IsNoteRefusal f.Memory = Unit {0}
-IsNoteRefusal f.Disk = Unit {0}
-IsNoteRefusal f.Odd = Unit {0}
-IsNoteRefusal _ = ⊥
-
--- A fact is durable, or it is not for this reason.
-abbrev pub NoteTransition : Fact → Kept → Result (Unit {0}) Refusal → Kept → Type 0
-NoteTransition one m (Ok done_) m' = Notes one m m'
-NoteTransition one m (Err refusal) m' = IsNoteRefusal refusal × NotesNone m m'
 
 -- ---- requests that are refused before they do anything
 
@@ -72,10 +50,6 @@ pub data DeleteAnswers (ledger : ℕ) (s : State) (m : Kept) (reply : Told) (t :
       → reply ≡ told_of_delete result → DeleteAnswers ledger s m reply t m'
 
 -- ---- fences
-
--- a fence of the ledger is durable
-abbrev pub is_noted_fence : Kept → ℕ → Bool
-is_noted_fence m ledger = is_some (last_about (the_fence ledger) (durable m))
 
 -- A fence becomes durable, or it is.
 abbrev pub IsNotedFence : ℕ → Kept → Kept → Type 0

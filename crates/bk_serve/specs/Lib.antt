@@ -1,7 +1,9 @@
 pub mod Adds
 pub mod Answers
+pub mod CatchingUp
 pub mod Flushes
 pub mod Ledgers
+pub mod Notes
 pub mod Reads
 pub mod Refusals
 pub mod Works

@@ -77,12 +77,30 @@ pub(crate) fn answer<D: LogDisk, F: ManifestFile>(
             ledger,
             entry,
             content,
-        } => add(alloc, store, AddKind::Ordinary, ledger, entry, content).encode(id, out),
+        } => add(
+            alloc,
+            store,
+            notes,
+            AddKind::Ordinary,
+            ledger,
+            entry,
+            content,
+        )
+        .encode(id, out),
         Request::AddRecovery {
             ledger,
             entry,
             content,
-        } => add(alloc, store, AddKind::Recovery, ledger, entry, content).encode(id, out),
+        } => add(
+            alloc,
+            store,
+            notes,
+            AddKind::Recovery,
+            ledger,
+            entry,
+            content,
+        )
+        .encode(id, out),
         Request::Read { ledger, entry } => read(alloc, store, ledger, entry, id, out),
         Request::ReadBack {
             number,

@@ -3,7 +3,8 @@
 ghost use Rattle.std.specs.Prelude.{◌≡◌, ◌↔◌, ◌≤◌, ◌^◌, Err, IfErr, IsTrue, OnOk};
 ghost use Rattle.bk_manifest.specs.Fact.{fenced_ledger};
 ghost use Rattle.bk_serve_core.specs.Replies.{told};
-ghost use Rattle.bk_serve.specs.Ledgers.{DeleteAnswers, FenceAnswers, IsFencedAnswers, IsNotedFence, NoteTransition, told_of_delete, told_of_fence};
+ghost use Rattle.bk_serve.specs.Notes.{NoteTransition};
+ghost use Rattle.bk_serve.specs.Ledgers.{DeleteAnswers, FenceAnswers, IsFencedAnswers, IsNotedFence, told_of_delete, told_of_fence};
 
 use crate::notes::note;
 use crate::refusals::{of_delete, of_fence};

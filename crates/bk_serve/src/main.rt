@@ -3,6 +3,7 @@
 
 mod adding;
 mod attributes;
+mod catching_up;
 mod command;
 mod compacting;
 mod flushing;

@@ -34,7 +34,7 @@ pub enum Done<'a> {
     Yes,
     /// It is not so.
     No,
-    /// Rising ids, eight bytes each. `number_of_page` returns one.
+    /// Rising ids, eight bytes each, big-endian.
     Page {
         ids: &'a [u8],
     },

@@ -1,12 +1,9 @@
-use Rattle.std.proofs.Common.{◌≡◌, ◌∙◌, ℕ, List, inl, inr, refl, subst}
-use Rattle.bk_serve_core.specs.Replies.{told}
-use Rattle.bk_serve.specs.Adds.{IsAdded}
+use Rattle.std.proofs.Common.{refl}
+use Rattle.bk_serve.specs.Adds.AddAnswers.{behind, agreeing}
 use Rattle.bk_serve.proofs.adding.add.Goals as goal
 
 pub returns-in-Ok : goal.returns-in-Ok
-returns-in-Ok g c =
-    inr (subst (λ (payload : List ℕ). IsAdded c.args.kind payload c.args.store.now (told c.add_entry.result) c.add_entry.new.store)
-    (c.deref.ensures.value ∙ c.in-Ok.ensures) c.add_entry.ensures)
+returns-in-Ok g c = agreeing c.catch_up.new.store c.in-Ok.ensures c.add_content.ensures
 
 pub returns-in-Err : goal.returns-in-Err
-returns-in-Err g c = inl (refl, refl)
+returns-in-Err g c = behind refl c.in-Err.ensures

@@ -4,10 +4,10 @@ use Rattle.bk_serve_core.specs.declared.refusal.Refusal.TheVariants as f
 use Rattle.bk_serve.proofs.host.answer.Goals as goal
 
 pub returns-in-Add : goal.returns-in-Add
-returns-in-Add g c = rw c.in-Add.is (told c.add.result, (c.add.ensures, refl), c.encode.ensures.ok)
+returns-in-Add g c = rw c.in-Add.is (told c.add.result, c.add.ensures, c.encode.ensures.ok)
 
 pub returns-in-AddRecovery : goal.returns-in-AddRecovery
-returns-in-AddRecovery g c = rw c.in-AddRecovery.is (told c.add-in-AddRecovery.result, (c.add-in-AddRecovery.ensures, refl), c.encode-in-AddRecovery.ensures.ok)
+returns-in-AddRecovery g c = rw c.in-AddRecovery.is (told c.add-in-AddRecovery.result, c.add-in-AddRecovery.ensures, c.encode-in-AddRecovery.ensures.ok)
 
 pub returns-in-Holds : goal.returns-in-Holds
 returns-in-Holds g c = rw c.in-Holds.is (told c.holds.result, (c.holds.ensures, refl), c.encode-in-Holds.ensures.ok)
