@@ -10,4 +10,4 @@ returns-in_default g c = unnoted refl (tt, record { honest = refl; same = λ _. 
 
 pub returns-in-Err : goal.returns-in-Err
 returns-in-Err g c =
-    unnoted refl (subst (λ (v : List ℕ). NoteTransition (attribute c.args.ledger c.args.kind v) c.args.notes.now (Err c.in-Err.refusal) c.note.new.notes) c.in-Ok.ensures c.in-Err.ensures)
+    unnoted refl (subst (λ (v : List ℕ). NoteTransition (attribute c.args.ledger c.args.kind v) c.args.notes.now (Err c.in-Err.refusal) c.note.new.notes) c.in-Ok.ensures.items c.in-Err.ensures)
