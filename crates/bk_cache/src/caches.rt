@@ -21,6 +21,8 @@ use std::marker::Model;
 use std::mem;
 use std::sync::Arc;
 
+mod in_order;
+
 /// Entries in memory: those of the active cache, of the flushing cache, and the recent ones.
 /// Payloads are shared, and copied only when they are added.
 #[derive(Drop)]
