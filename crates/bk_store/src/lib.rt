@@ -14,6 +14,7 @@ mod job;
 mod known_ledgers;
 mod laws;
 mod leasing;
+mod ledger_reads;
 mod ledger_set;
 mod log;
 mod logs;
