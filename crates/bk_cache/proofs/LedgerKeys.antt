@@ -1,6 +1,6 @@
 -- The keys of one ledger in a write cache are adjacent, from the least key of the ledger on.
-use Rattle.std.proofs.Common.{◌≡◌, ℕ, ◌<◌, ◌≤◌, ◌^◌, Bool, true, false, cond, eqb, eqb-true, eq-eqb, ◌&&◌, ◌⊎◌, inl, inr, nat_lt, if◌then◌else◌, List, [], ◌∷◌}
-use Rattle.std.proofs.Common.{length, drop, Option, Some, None, IsSome, is_some, option_map, slice_get, IsTrue, Ok, Err, Result, refl, sym, ap, subst, ◌∙◌}
+use Rattle.std.proofs.Common.{◌≡◌, ℕ, ◌<◌, ◌≤◌, ◌^◌, Bool, true, false, cond, eqb, eqb-true, eq-eqb, ◌&&◌, ◌⊎◌, inl, inr, List, [], ◌∷◌}
+use Rattle.std.proofs.Common.{drop, Option, Some, None, IsSome, is_some, option_map, slice_get, IsTrue, refl, sym, ap, ◌∙◌}
 use Rattle.std.proofs.Common.{arith}
 use mathlib.Core.Bool.{false≢true}
 use Rattle.std.specs.declared.cmp.Ordering.TheVariants.{Less, Equal, Greater}
@@ -9,17 +9,11 @@ use Rattle.std.specs.Ordering.{nat_cmp, ordering_then, eq_by_cmp, is_lt, is_le}
 use Rattle.std.specs.BTreeMap.Range.{range_contains}
 use Rattle.std.specs.List.{filter}
 use Rattle.std.specs.Cmp.{Equal-is}
-use Rattle.std.specs.Option.{ok_or}
 use Rattle.std.specs.FinMap.{get, remove, get-remove, find, is_sorted, from_sorted, same_map}
 use Rattle.std.specs.FinMap.Entries.{find-where_key}
 use Rattle.std.proofs.lemmas.Option.{slice_get-map}
-use Rattle.std.proofs.lemmas.Bool.{ltb-true}
 use Rattle.std.proofs.lemmas.Cmp.{ranked}
 use Rattle.bk_record.specs.Key.{EntryKey, key_cmp}
-use Rattle.bk_record.specs.Limits.{max_added}
-use Rattle.bk_record.specs.Record.{key_of, read_key, read_added, unless_too_long, ledger_field, entry_field}
-use Rattle.bk_record.specs.declared.fault.RecordFault.{RecordFault}
-use Rattle.bk_record.specs.declared.fault.RecordFault.TheVariants.{Short, Negative, TooLong}
 use Rattle.bk_record.specs.Scan.{Payloads}
 use Rattle.bk_record.specs.Keyed.{without_ledger}
 use Rattle.bk_record.proofs.Keys.{key_cmp_total, key_cmp_antisymmetric}

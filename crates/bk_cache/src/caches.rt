@@ -241,6 +241,18 @@ impl Caches {
         }
     }
 
+    /// Returns the number of payload bytes of the running flush, 0 if none runs.
+    pub fn flush_used(&self) -> u64
+        ensures value { result ≡ used_of (flush_of self.now) }
+        ensures within { result ≤ self.now.limit }
+        ensures sound { IsSound self.now }
+    {
+        match &self.flush {
+            Some(flush) => flush.used(),
+            None => 0,
+        }
+    }
+
     /// Returns an iterator over the entries of the running flush, by ledger, then entry; empty if
     /// none runs.
     pub fn flushing(&self) -> Flushing<'_>

@@ -1,4 +1,4 @@
-use Rattle.std.proofs.Common.{Some, None, option_map, slice_get, sym, ap, ◌∙◌, rules}
+use Rattle.std.proofs.Common.{Some, option_map, slice_get, sym, ap, ◌∙◌, rules}
 use Rattle.std.specs.Ordering.{is_lt}
 use Rattle.std.proofs.lemmas.List.Sorted.{IsPartitionPoint-from_clause}
 use Rattle.std.proofs.lemmas.Option.{slice_get_past, slice_get-get_or}

@@ -1,5 +1,4 @@
 use Rattle.std.proofs.Common.{List, leb, take, length, ◌-◌, option_map, slice_get, sym, ap, ◌∙◌, rules}
-use Rattle.std.proofs.lemmas.List.{take_rest}
 use Rattle.std.proofs.lemmas.List.Sorted.{IsPartitionPoint-from_clause}
 use Rattle.bk_record.specs.Key.{EntryKey}
 use Rattle.bk_record.specs.Location.{Place}

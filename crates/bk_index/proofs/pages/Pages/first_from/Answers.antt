@@ -1,4 +1,4 @@
-use Rattle.std.proofs.Common.{◌≡◌, ◌-◌, ◌≤◌, length, take, ap, sym, ◌∙◌, arith, rules, slice_get}
+use Rattle.std.proofs.Common.{◌≤◌, length, ap, sym, ◌∙◌, arith, rules, slice_get}
 use Rattle.std.specs.Ordering.{is_lt}
 use Rattle.std.proofs.lemmas.List.Sorted.{IsPartitionPoint-from_clause}
 use Rattle.bk_record.specs.Key.{EntryKey, key_cmp}

@@ -1,4 +1,4 @@
-use Rattle.std.proofs.Common.{◌≡◌, ◌-◌, ◌≤◌, List, leb, length, ap, sym, ◌∙◌, arith, rules, slice_get, option_map}
+use Rattle.std.proofs.Common.{◌-◌, ◌≤◌, List, leb, length, ap, sym, ◌∙◌, arith, rules, slice_get, option_map}
 use Rattle.std.proofs.lemmas.List.Sorted.{IsPartitionPoint-from_clause}
 use Rattle.bk_record.specs.Key.{EntryKey}
 use Rattle.bk_record.specs.Location.{Place}
