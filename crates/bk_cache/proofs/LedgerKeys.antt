@@ -1,6 +1,6 @@
 -- The keys of one ledger in a write cache are adjacent, from the least key of the ledger on.
-use Rattle.std.proofs.Common.{◌≡◌, ℕ, ◌<◌, ◌≤◌, ◌^◌, Bool, true, false, cond, eqb, eqb-true, eq-eqb, ◌&&◌, ◌⊎◌, inl, inr, nat_lt, if◌then◌else◌, List, [], ◌∷◌}
-use Rattle.std.proofs.Common.{length, drop, Option, Some, None, IsSome, is_some, option_map, slice_get, IsTrue, Ok, Err, Result, refl, sym, ap, subst, ◌∙◌}
+use Rattle.std.proofs.Common.{◌≡◌, ℕ, ◌<◌, ◌≤◌, ◌^◌, Bool, true, false, cond, eqb, eqb-true, eq-eqb, ◌&&◌, ◌⊎◌, inl, inr, List, [], ◌∷◌}
+use Rattle.std.proofs.Common.{drop, Option, Some, None, IsSome, is_some, option_map, slice_get, IsTrue, refl, sym, ap, ◌∙◌}
 use Rattle.std.proofs.Common.{arith}
 use mathlib.Core.Bool.{false≢true}
 use Rattle.std.specs.declared.cmp.Ordering.TheVariants.{Less, Equal, Greater}
@@ -9,17 +9,11 @@ use Rattle.std.specs.Ordering.{nat_cmp, ordering_then, eq_by_cmp, is_lt, is_le}
 use Rattle.std.specs.BTreeMap.Range.{range_contains}
 use Rattle.std.specs.List.{filter}
 use Rattle.std.specs.Cmp.{Equal-is}
-use Rattle.std.specs.Option.{ok_or}
 use Rattle.std.specs.FinMap.{get, remove, get-remove, find, is_sorted, from_sorted, same_map}
 use Rattle.std.specs.FinMap.Entries.{find-where_key}
 use Rattle.std.proofs.lemmas.Option.{slice_get-map}
-use Rattle.std.proofs.lemmas.Bool.{ltb-true}
 use Rattle.std.proofs.lemmas.Cmp.{ranked}
 use Rattle.bk_record.specs.Key.{EntryKey, key_cmp}
-use Rattle.bk_record.specs.Limits.{max_added}
-use Rattle.bk_record.specs.Record.{key_of, read_key, read_added, unless_too_long, ledger_field, entry_field}
-use Rattle.bk_record.specs.declared.fault.RecordFault.{RecordFault}
-use Rattle.bk_record.specs.declared.fault.RecordFault.TheVariants.{Short, Negative, TooLong}
 use Rattle.bk_record.specs.Scan.{Payloads}
 use Rattle.bk_record.specs.Keyed.{without_ledger}
 use Rattle.bk_record.proofs.Keys.{key_cmp_total, key_cmp_antisymmetric}
@@ -27,6 +21,7 @@ use Rattle.bk_record.proofs.KeyedLaws.{get-without_ledger}
 use Rattle.bk_record.proofs.SortedPairs.{Some-same, find_at, filter-behind}
 use Rattle.bk_record.proofs.SortedMaps.{is_sorted-filter, get-sorted}
 use Rattle.bk_cache.specs.Invariant.{KeepsPairs}
+use Rattle.bk_cache.proofs.KeyBounds.{added_ids}
 use Rattle.bk_cache.proofs.Seen.{seen, filter-seen}
 
 -- a map without a key of the ledger is unchanged
@@ -56,42 +51,6 @@ without_ledger-remove m key ledger own = same_map key_cmp_total key_cmp_antisymm
       ] refl
     ] refl
     ∙ sym (get-without_ledger m ledger q))
-
--- the ledger of a payload's key is below 2 ^ 63
-bounded : (payload : List ℕ) (q : EntryKey) → key_of payload ≡ Some q → q.ledger < 2 ^ 63
-unfolding key_of
-bounded payload q is =
-    elim (nat_lt (ledger_field payload) (2 ^ 63)) as (λ b. nat_lt (ledger_field payload) (2 ^ 63) ≡ b
-    → (if b && nat_lt (entry_field payload) (2 ^ 63) then Some (record { ledger = ledger_field payload; entry = entry_field payload }) else None)
-    ≡ Some q → q.ledger < 2 ^ 63) [
-      | true ↦ λ below. elim (nat_lt (entry_field payload) (2 ^ 63))
-          as (λ b. (if b then Some (record { ledger = ledger_field payload; entry = entry_field payload }) else None) ≡ Some q → q.ledger < 2 ^ 63) [
-            | true ↦ λ found. subst (λ (k : EntryKey). k.ledger < 2 ^ 63) (Some-same found) (ltb-true (ledger_field payload) (2 ^ 63) below)
-            | false ↦ λ found. cc
-          ]
-      | false ↦ λ _ found. cc
-    ] refl is
-
-read_is : (n : ℕ) (answer : Result EntryKey RecordFault) (q : EntryKey) → unless_too_long n answer ≡ Ok q → answer ≡ Ok q
-read_is n (Err fault) q is = is
-read_is n (Ok key) q is =
-    elim (nat_lt max_added n) as (λ b. ◌≡◌ {A = Result EntryKey RecordFault} (if b then Err (TooLong n) else Ok key) (Ok q)
-    → ◌≡◌ {A = Result EntryKey RecordFault} (Ok key) (Ok q)) [
-      | true ↦ λ none. cc
-      | false ↦ λ same. same
-    ] is
-
-keyed_is : (o : Option EntryKey) (q : EntryKey) (fault : RecordFault) → ok_or o fault ≡ Ok q → o ≡ Some q
-keyed_is None q fault is = cc
-keyed_is (Some key) q fault is = cc
-
-pub added_ledger-lt : (payload : List ℕ) (q : EntryKey) → read_added payload ≡ Ok q → q.ledger < 2 ^ 63
-unfolding read_added read_key
-added_ledger-lt payload q is =
-    elim (nat_lt (length payload) 16) as (λ b. (if b then Err (Short (length payload)) else ok_or (key_of payload) Negative) ≡ Ok q → q.ledger < 2 ^ 63) [
-      | true ↦ λ none. cc
-      | false ↦ λ found. bounded payload q (keyed_is (key_of payload) q Negative found)
-    ] (read_is _ (read_key payload) q is)
 
 -- whether a key is at or after the least key of the ledger
 abbrev pub is_from : ℕ → EntryKey → Bool
@@ -206,7 +165,7 @@ module _ {X : Type 0} (f : X → List ℕ) (es : List (EntryKey × X)) (used : �
   -- no key has a ledger above 2 ^ 63 - 1
   pub left-past : ((ledger < 2 ^ 63) × (0 < 2 ^ 63) → ⊥) → without_ledger m ledger ≡ m
   left-past past = without_ledger-none m ledger (λ q payload is own.
-      let below : q.ledger < 2 ^ 63 = added_ledger-lt payload q (kept.keyed q payload (sym (has q) ∙ is)) in
+      let below : q.ledger < 2 ^ 63 = (added_ids payload q (kept.keyed q payload (sym (has q) ∙ is))).0 in
       past (omega arith, omega arith))
 
   -- no pair is at or after the ledger's least key

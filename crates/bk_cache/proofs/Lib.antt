@@ -2,7 +2,10 @@ pub mod Options
 pub mod Seen
 pub mod KeptPairs
 pub mod KeyedPayloads
+pub mod CacheOrder
+pub mod KeyBounds
 pub mod LedgerKeys
+pub mod OneCache
 pub mod RemovedPairs
 pub mod CachePairs
 pub mod FirstAfter

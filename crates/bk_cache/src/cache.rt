@@ -16,6 +16,8 @@ use std::marker::Model;
 use std::ops::Bound;
 use std::sync::Arc;
 
+mod in_order;
+
 /// Payloads by key. Each is stored under its own key.
 #[derive(Drop)]
 pub(crate) struct Cache {

@@ -21,6 +21,8 @@ use std::marker::Model;
 use std::mem;
 use std::sync::Arc;
 
+mod in_order;
+
 /// Entries in memory: those of the active cache, of the flushing cache, and the recent ones.
 /// Payloads are shared, and copied only when they are added.
 #[derive(Drop)]
@@ -235,6 +237,18 @@ impl Caches {
     {
         match &self.flush {
             Some(flush) => flush.len(),
+            None => 0,
+        }
+    }
+
+    /// Returns the number of payload bytes of the running flush, 0 if none runs.
+    pub fn flush_used(&self) -> u64
+        ensures value { result ≡ used_of (flush_of self.now) }
+        ensures within { result ≤ self.now.limit }
+        ensures sound { IsSound self.now }
+    {
+        match &self.flush {
+            Some(flush) => flush.used(),
             None => 0,
         }
     }

@@ -11,3 +11,6 @@ pub mod CountedPages
 pub mod KeyPlaces
 pub mod PlaceEq
 pub mod Nearby
+pub mod OrderedPages
+pub mod OrderedKeys
+pub mod CutPages

@@ -11,6 +11,8 @@ use bk_record::{Key, Location};
 use std::alloc::{AllocError, Global};
 use std::marker::Model;
 
+mod in_order;
+
 /// Finite map from keys to locations.
 #[derive(Debug, Drop)]
 pub struct Index {

@@ -12,6 +12,10 @@ use std::alloc::{AllocError, Global};
 use std::cmp::Ordering;
 use std::marker::Model;
 
+mod in_order;
+
+pub(crate) use in_order::is_before;
+
 /// Pairs of a key and a location, sorted by key.
 #[derive(Debug, Drop)]
 pub(crate) struct Page {

@@ -15,6 +15,7 @@ use bk_record::{Key, Location};
 use std::alloc::{AllocError, Global};
 use std::marker::Model;
 
+mod in_order;
 mod ledger;
 
 /// The pages of an index. Each has from 1 to 256 entries.

@@ -75,6 +75,7 @@ pub mod AppendedEntry
 pub mod HeldWriters
 pub mod InvariantReplaceIndex
 pub mod HeldIds
+pub mod ReadPages
 pub mod InvariantCopy
 pub mod InvariantRelocate
 pub mod CopyContents

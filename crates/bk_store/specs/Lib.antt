@@ -15,6 +15,7 @@ pub mod Leasing
 pub mod JobInvariant
 pub mod Invariant
 pub mod Transitions
+pub mod LedgerReads
 pub mod Preparing
 pub mod Primitives
 pub mod CompactionPrimitives

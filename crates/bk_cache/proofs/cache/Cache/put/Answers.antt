@@ -1,6 +1,5 @@
-use Rattle.std.proofs.Common.{rules, ◌≡◌, length, sym, ap, ◌∙◌, arith}
+use Rattle.std.proofs.Common.{rules, ◌≡◌, length, ap, arith}
 use Rattle.std.proofs.lemmas.Result.{err_from_is_err_and}
-use Rattle.std.specs.FinMap as map
 use Rattle.bk_cache.proofs.CachePairs.{used_seen, kept_inserted, view_inserted, absent_view, held_view, view_same}
 use Rattle.bk_cache.proofs.cache.Cache.put.Goals as goal
 

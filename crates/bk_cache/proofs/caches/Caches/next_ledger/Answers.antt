@@ -1,0 +1,7 @@
+use Rattle.bk_cache.proofs.OneCache.{active_only}
+use Rattle.bk_cache.proofs.caches.Caches.next_ledger.Goals as goal
+
+pub returns-in-None-clause-least : goal.returns-in-None-clause-least
+returns-in-None-clause-least c key above there =
+    let seen = rw (← c.self.view_is) at there in
+    c.next_ledger-active.ensures.least key above (active_only _ c.self.inside.flush _ c.in-None.is seen)

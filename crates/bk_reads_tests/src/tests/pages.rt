@@ -1,0 +1,146 @@
+//! Pages over both write caches, several logs and the pages of the index; deleted and fenced
+//! ledgers.
+
+use super::store;
+use bk_disk::MemDisk;
+use bk_record::Key;
+use bk_store::{Fence, Stats, Store};
+use std::alloc::AllocError;
+use std::process::Abort;
+use std::test::Fail;
+
+/// Returns whether a page of entries is this one.
+fn has_page(
+    store: &Store<MemDisk>,
+    ledger: u64,
+    from: u64,
+    most: usize,
+    page: &[u64],
+) -> Result<bool, AllocError> {
+    Ok(store.entries(ledger, from, most)?.as_slice() == page)
+}
+
+/// Returns whether a page of ledgers is this one.
+fn has_ledgers(
+    store: &Store<MemDisk>,
+    from: u64,
+    most: usize,
+    page: &[u64],
+) -> Result<bool, AllocError> {
+    Ok(store.ledgers(from, most)?.as_slice() == page)
+}
+
+/// Reads ledger 1 in pages of this length. Returns the number of entries up to the first that is
+/// not one more than the entry before it.
+fn walked(store: &Store<MemDisk>, most: usize) -> Result<u64, AllocError> {
+    let mut next = 0;
+    for _ in 0..1000 {
+        let page = store.entries(1, next, most)?;
+        for entry in &page {
+            if *entry != next || next >= 10_000 {
+                return Ok(next);
+            }
+            next += 1;
+        }
+        if page.len() < most {
+            return Ok(next);
+        }
+    }
+    Ok(next)
+}
+
+#[test]
+fn pages_have_every_entry_once(rt: HostRuntime) -> Result<(), Fail> {
+    let Some(store) = store(rt.alloc()) else {
+        panic!(rt; "no store");
+    };
+    for most in [1, 7, 128, 256, 713, 1000] {
+        assert_eq!(rt; walked(&store, most)?, 713);
+    }
+    Ok(())
+}
+
+#[test]
+fn pages_go_over_caches_logs_and_index_pages(rt: HostRuntime) -> Result<(), Fail> {
+    let Some(store) = store(rt.alloc()) else {
+        panic!(rt; "no store");
+    };
+    assert!(rt; has_page(&store, 1, 127, 3, &[127, 128, 129])?);
+    assert!(rt; has_page(&store, 1, 255, 3, &[255, 256, 257])?);
+    assert!(rt; has_page(&store, 1, 599, 2, &[599, 600])?);
+    assert!(rt; has_page(&store, 1, 699, 2, &[699, 700])?);
+    assert!(rt; has_page(&store, 1, 706, 9, &[706, 707, 708, 709, 710, 711, 712])?);
+    assert!(rt; has_page(&store, 1, 713, 9, &[])?);
+    assert!(rt; has_page(&store, 1, u64::MAX, 9, &[])?);
+    assert!(rt; has_page(&store, 1, 0, 0, &[])?);
+    assert!(rt; has_page(&store, 2, 0, 9, &[5, 9])?);
+    Ok(())
+}
+
+#[test]
+fn last_entries_are_of_caches_and_index_together(rt: HostRuntime) -> Result<(), Fail> {
+    let Some(store) = store(rt.alloc()) else {
+        panic!(rt; "no store");
+    };
+    let last = [1, 2, 3, 4, 5, 7, u64::MAX].map(|ledger| store.last_entry(ledger));
+    assert_eq!(rt;
+        last,
+        [Some(712), Some(9), Some(0), None, None, Some(3), None]
+    );
+    Ok(())
+}
+
+#[test]
+fn ledgers_are_the_live_ones_with_an_entry(rt: HostRuntime) -> Result<(), Fail> {
+    let Some(mut store) = store(rt.alloc()) else {
+        panic!(rt; "no store");
+    };
+    assert!(rt; has_ledgers(&store, 0, 9, &[1, 2, 3, 7])?);
+    assert!(rt; has_ledgers(&store, 2, 2, &[2, 3])?);
+    assert!(rt; has_ledgers(&store, 4, 9, &[7])?);
+    assert!(rt; has_ledgers(&store, 8, 9, &[])?);
+    assert!(rt; has_ledgers(&store, u64::MAX, 9, &[])?);
+    assert_eq!(rt; store.delete(1), Ok(713));
+    assert!(rt; has_ledgers(&store, 0, 9, &[2, 3, 7])?);
+    assert_eq!(rt; store.last_entry(1), None);
+    assert!(rt; has_page(&store, 1, 0, 9, &[])?);
+    Ok(())
+}
+
+/// Returns whether the store holds these two keys.
+fn holds_both(store: &Store<MemDisk>, first: (u64, u64), second: (u64, u64)) -> Option<[bool; 2]> {
+    let first = Key::new(first.0, first.1)?;
+    let second = Key::new(second.0, second.1)?;
+    Some([store.holds(&first), store.holds(&second)])
+}
+
+#[test]
+fn a_fence_hides_no_entry(rt: HostRuntime) -> Result<(), Fail> {
+    let Some(mut store) = store(rt.alloc()) else {
+        panic!(rt; "no store");
+    };
+    assert_eq!(rt; store.fence(2), Ok(Fence::Fenced));
+    assert_eq!(rt; [store.is_fenced(1), store.is_fenced(2)], [false, true]);
+    assert!(rt; has_page(&store, 2, 0, 9, &[5, 9])?);
+    assert!(rt; has_ledgers(&store, 2, 1, &[2])?);
+    assert_eq!(rt; holds_both(&store, (2, 5), (2, 9)), Some([true, true]));
+    assert_eq!(rt; holds_both(&store, (2, 6), (4, 0)), Some([false, false]));
+    Ok(())
+}
+
+#[test]
+fn counts_are_those_of_the_store(rt: HostRuntime) -> Result<(), Fail> {
+    let Some(store) = store(rt.alloc()) else {
+        panic!(rt; "no store");
+    };
+    let counts = Stats {
+        logs: 2,
+        next: 4,
+        indexed: 702,
+        cached: 119,
+        flushing: 136,
+        front: 15,
+    };
+    assert_eq!(rt; store.stats(), counts);
+    Ok(())
+}

@@ -1,0 +1,10 @@
+use Rattle.std.proofs.Common.{◌≡◌, length}
+use Rattle.bk_store.specs.LedgerReads.{HasLiveLedger}
+use Rattle.bk_store.proofs.ReadPages.{IsPageUpTo}
+use Rattle.bk_store.proofs.fields.Fields.live_ledgers.Given as goal
+
+abbrev pub invariant-loop : goal.invariant-loop
+invariant-loop g l = record {
+  counted : length l.page.items ≡ l.counter;
+  upto : IsPageUpTo (HasLiveLedger l.self.state) l.from l.at l.page.items;
+}
