@@ -10,6 +10,7 @@ use Rattle.bk_serve_core.specs.declared.refusal.Refusal.TheVariants as f
 use Rattle.bk_serve.specs.Adds.{AddAnswers, payload_of}
 use Rattle.bk_serve.specs.Flushes.{FlushAnswers, CheckpointAnswers, SealAnswers, CloseAnswers, CompactAnswers}
 use Rattle.bk_serve.specs.Ledgers.{DeleteAnswers, FenceAnswers, IsFencedAnswers, SetAnswers, GetAnswers, Same}
+use Rattle.bk_serve.specs.Listings.{EntriesAnswers, LastEntryAnswers, LedgersAnswers, ReadLastAnswers}
 use Rattle.bk_serve.specs.Reads.{ReadAnswers, ReadBackAnswers, HoldsAnswers}
 
 -- The server does not have the call. Nothing changes.
@@ -21,13 +22,13 @@ Answers bytes honest sound s m (q.hello magic lowest highest) reply t m' = NotOf
 Answers bytes honest sound s m (q.add ledger entry content) reply t m' = AddAnswers Ordinary ledger (payload_of ledger entry content) s m reply t m'
 Answers bytes honest sound s m (q.add_recovery ledger entry content) reply t m' = AddAnswers Recovery ledger (payload_of ledger entry content) s m reply t m'
 Answers bytes honest sound s m (q.read ledger entry) reply t m' = ReadAnswers bytes honest sound ledger entry s reply t × (m' ≡ m)
-Answers bytes honest sound s m (q.read_last ledger) reply t m' = NotOffered s m reply t m'
+Answers bytes honest sound s m (q.read_last ledger) reply t m' = ReadLastAnswers bytes honest sound ledger s reply t × (m' ≡ m)
 Answers bytes honest sound s m (q.read_back number ledger entry digest) reply t m' =
     ReadBackAnswers bytes honest sound number ledger entry digest s reply t × (m' ≡ m)
-Answers bytes honest sound s m (q.last_entry ledger) reply t m' = NotOffered s m reply t m'
-Answers bytes honest sound s m (q.holds ledger entry) reply t m' = HoldsAnswers bytes honest sound ledger entry s reply t × (m' ≡ m)
-Answers bytes honest sound s m (q.entries ledger from most) reply t m' = NotOffered s m reply t m'
-Answers bytes honest sound s m (q.ledgers from most) reply t m' = NotOffered s m reply t m'
+Answers bytes honest sound s m (q.last_entry ledger) reply t m' = LastEntryAnswers ledger s reply × Same s m t m'
+Answers bytes honest sound s m (q.holds ledger entry) reply t m' = HoldsAnswers ledger entry s reply × Same s m t m'
+Answers bytes honest sound s m (q.entries ledger from most) reply t m' = EntriesAnswers ledger from most s reply × Same s m t m'
+Answers bytes honest sound s m (q.ledgers from most) reply t m' = LedgersAnswers from most s reply × Same s m t m'
 Answers bytes honest sound s m (q.fence ledger) reply t m' = FenceAnswers ledger s m reply t m'
 Answers bytes honest sound s m (q.is_fenced ledger) reply t m' = IsFencedAnswers ledger s m reply × Same s m t m'
 Answers bytes honest sound s m (q.delete ledger) reply t m' = DeleteAnswers ledger s m reply t m'

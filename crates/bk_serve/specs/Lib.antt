@@ -3,6 +3,7 @@ pub mod Answers
 pub mod CatchingUp
 pub mod Flushes
 pub mod Ledgers
+pub mod Listings
 pub mod Notes
 pub mod Reads
 pub mod Refusals

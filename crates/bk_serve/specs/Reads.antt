@@ -6,6 +6,7 @@ use Rattle.bk_record.specs.Location.{Place}
 use Rattle.bk_log.specs.Places.{Fetches}
 use Rattle.bk_log.specs.declared.fault.FetchFault.{FetchFault}
 use Rattle.bk_lease.specs.Values.{LeasedView}
+use Rattle.bk_store.specs.LedgerReads.{HasLiveEntry}
 use Rattle.bk_store.specs.State.{State}
 use Rattle.bk_store.specs.Transitions.{TakeTransition}
 use Rattle.bk_store.specs.declared.answer.Taken.{Taken}
@@ -82,20 +83,8 @@ pub data ReadBackAnswers {V : Type 0} (bytes : V → List ℕ) (honest sound : V
   reads : slice_get s.ledgers.trail number ≡ Some (Add (key_of ledger entry_id) digest) → IsRead bytes honest sound (key_of ledger entry_id) s reply t
       → ReadBackAnswers bytes honest sound number ledger entry_id digest s reply t
 
--- what a take says of whether the store has an entry
-abbrev pub told_of_holds : {V : Type 0} → Result (Taken V) TakeFault → Told
-told_of_holds (Ok Deleted) = done says_no
-told_of_holds (Ok (Cached payload)) = done says_yes
-told_of_holds (Ok NotHeld) = done says_no
-told_of_holds (Ok (Leased lease place)) = done says_yes
-told_of_holds (Err fault) = refused (of_take fault)
-
--- A take tells whether the store has the entry.
-pub record IsTold {V : Type 0} (bytes : V → List ℕ) (honest sound : V → Bool) (key : EntryKey) (s : State) (reply : Told) (t : State) : Type 0 where
-  pub result : Result (Taken V) TakeFault
-  pub takes : TakeTransition bytes honest sound s key result t
-  pub says : reply ≡ told_of_holds result
-
-abbrev pub HoldsAnswers : {V : Type 0} → (V → List ℕ) → (V → Bool) → (V → Bool) → ℕ → ℕ → State → Told → State → Type 0
-HoldsAnswers bytes honest sound ledger entry_id s reply t =
-    IsRefused ledger entry_id s reply t ⊎ IsTold bytes honest sound (key_of ledger entry_id) s reply t
+-- The reply says whether the ledger is live and the store holds the entry.
+pub data HoldsAnswers (ledger entry_id : ℕ) (s : State) (reply : Told) : Type 0 where
+  refuses : reply ≡ refused f.Negative → IsNegative ledger entry_id → HoldsAnswers ledger entry_id s reply
+  yes : HasLiveEntry s ledger entry_id → reply ≡ done says_yes → HoldsAnswers ledger entry_id s reply
+  no : ¬ (HasLiveEntry s ledger entry_id) → reply ≡ done says_no → HoldsAnswers ledger entry_id s reply

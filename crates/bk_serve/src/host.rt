@@ -11,6 +11,7 @@ use crate::adding::add;
 use crate::attributes::{attribute, set_attribute};
 use crate::compacting::compact;
 use crate::ledgers::{delete, fence, is_fenced};
+use crate::listing::{entries, last_entry, ledgers, read_last};
 use crate::reading::{holds, read, read_back};
 use crate::sealing::{checkpoint, close, flush, seal};
 use bk_disk::{DirDisk, LogDisk};
@@ -102,12 +103,18 @@ pub(crate) fn answer<D: LogDisk, F: ManifestFile>(
         )
         .encode(id, out),
         Request::Read { ledger, entry } => read(alloc, store, ledger, entry, id, out),
+        Request::ReadLast { ledger } => read_last(alloc, store, ledger, id, out),
         Request::ReadBack {
             number,
             ledger,
             entry,
             digest,
         } => read_back(alloc, store, number, ledger, entry, &digest, id, out),
+        Request::LastEntry { ledger } => last_entry(store, ledger).encode(id, out),
+        Request::Entries { ledger, from, most } => {
+            entries(alloc, store, ledger, from, most, id, out)
+        }
+        Request::Ledgers { from, most } => ledgers(alloc, store, from, most, id, out),
         Request::Holds { ledger, entry } => holds(store, ledger, entry).encode(id, out),
         Request::Fence { ledger } => fence(alloc, store, notes, ledger).encode(id, out),
         Request::IsFenced { ledger } => is_fenced(store, notes, ledger).encode(id, out),
@@ -126,10 +133,6 @@ pub(crate) fn answer<D: LogDisk, F: ManifestFile>(
         Request::Seal => seal(store).encode(id, out),
         Request::Close => close(store).encode(id, out),
         Request::Hello { .. } => not_offered(id, out),
-        Request::ReadLast { .. } => not_offered(id, out),
-        Request::LastEntry { .. } => not_offered(id, out),
-        Request::Entries { .. } => not_offered(id, out),
-        Request::Ledgers { .. } => not_offered(id, out),
         Request::Stats => not_offered(id, out),
     }
 }

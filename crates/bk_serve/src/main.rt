@@ -10,6 +10,7 @@ mod flushing;
 mod folder;
 mod host;
 mod ledgers;
+mod listing;
 mod notes;
 mod opening;
 mod reading;

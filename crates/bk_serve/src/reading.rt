@@ -169,19 +169,15 @@ pub(crate) fn read_back<D: LogDisk>(
 }
 
 /// Returns the reply to whether the store has an entry. Reads no log.
-pub(crate) fn holds<D: LogDisk>(store: &mut Store<D>, ledger: u64, entry: u64) -> Reply<'static>
-    ensures { HoldsAnswers D.View.bytes D.View.honest D.View.sound ledger entry store.old (told result) store.new }
+pub(crate) fn holds<D: LogDisk>(store: &Store<D>, ledger: u64, entry: u64) -> Reply<'static>
+    ensures { HoldsAnswers ledger entry store.now (told result) }
 {
     let Some(key) = Key::new(ledger, entry) else {
         return Reply::Refused(Refusal::Negative);
     };
-    match store.take(key) {
-        Ok(Taken::Deleted | Taken::NotHeld) => Reply::Done(Done::No),
-        Ok(Taken::Cached(_)) => Reply::Done(Done::Yes),
-        Ok(Taken::Leased(lease, _)) => {
-            lease.release().end();
-            Reply::Done(Done::Yes)
-        }
-        Err(fault) => Reply::Refused(of_take(fault)),
+    if store.holds(&key) {
+        Reply::Done(Done::Yes)
+    } else {
+        Reply::Done(Done::No)
     }
 }

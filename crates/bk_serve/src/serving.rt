@@ -1,5 +1,6 @@
 //! A session over standard input and output.
 
+use crate::listing::PAGE;
 use crate::opening::{OpenFault, open};
 use bk_serve_core::{Done, LONGEST_FRAME, Reply, VERSION};
 use bk_serve_dispatch::{Buffers, End, Service, finish, greet, serve_requests, tell_end};
@@ -7,9 +8,6 @@ use std::io::{BufReader, Read, Stderr, Write};
 
 /// Number of requests that a client may send ahead.
 const IN_FLIGHT: u64 = 256;
-
-/// Greatest number of ids of a page. No call of this server replies with a page.
-const PAGE: u64 = 1000;
 
 const WELCOME: Reply<'static> = Reply::Done(Done::Welcome {
     version: VERSION,

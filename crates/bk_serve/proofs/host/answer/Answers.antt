@@ -10,7 +10,7 @@ pub returns-in-AddRecovery : goal.returns-in-AddRecovery
 returns-in-AddRecovery g c = rw c.in-AddRecovery.is (told c.add-in-AddRecovery.result, c.add-in-AddRecovery.ensures, c.encode-in-AddRecovery.ensures.ok)
 
 pub returns-in-Holds : goal.returns-in-Holds
-returns-in-Holds g c = rw c.in-Holds.is (told c.holds.result, (c.holds.ensures, refl), c.encode-in-Holds.ensures.ok)
+returns-in-Holds g c = rw c.in-Holds.is (told c.holds.result, (c.holds.ensures, (refl, refl)), c.encode-in-Holds.ensures.ok)
 
 pub returns-in-Fence : goal.returns-in-Fence
 returns-in-Fence g c = rw c.in-Fence.is (told c.fence.result, c.fence.ensures, c.encode-in-Fence.ensures.ok)
@@ -58,16 +58,16 @@ pub returns-in-Hello : goal.returns-in-Hello
 returns-in-Hello g c = rw c.in-Hello.is (refused f.NotOffered, (refl, (refl, refl)), c.not_offered.ensures)
 
 pub returns-in-ReadLast : goal.returns-in-ReadLast
-returns-in-ReadLast g c = rw c.in-ReadLast.is (refused f.NotOffered, (refl, (refl, refl)), c.not_offered-in-ReadLast.ensures)
+returns-in-ReadLast g c = rw c.in-ReadLast.is (c.read_last.ensures.0, (c.read_last.ensures.1, refl), c.read_last.ensures.2)
 
 pub returns-in-LastEntry : goal.returns-in-LastEntry
-returns-in-LastEntry g c = rw c.in-LastEntry.is (refused f.NotOffered, (refl, (refl, refl)), c.not_offered-in-LastEntry.ensures)
+returns-in-LastEntry g c = rw c.in-LastEntry.is (told c.last_entry.result, (c.last_entry.ensures, (refl, refl)), c.encode-in-LastEntry.ensures.ok)
 
 pub returns-in-Entries : goal.returns-in-Entries
-returns-in-Entries g c = rw c.in-Entries.is (refused f.NotOffered, (refl, (refl, refl)), c.not_offered-in-Entries.ensures)
+returns-in-Entries g c = rw c.in-Entries.is (c.entries.ensures.0, (c.entries.ensures.1, (refl, refl)), c.entries.ensures.2)
 
 pub returns-in-Ledgers : goal.returns-in-Ledgers
-returns-in-Ledgers g c = rw c.in-Ledgers.is (refused f.NotOffered, (refl, (refl, refl)), c.not_offered-in-Ledgers.ensures)
+returns-in-Ledgers g c = rw c.in-Ledgers.is (c.ledgers.ensures.0, (c.ledgers.ensures.1, (refl, refl)), c.ledgers.ensures.2)
 
 pub returns-in-Stats : goal.returns-in-Stats
 returns-in-Stats g c = rw c.in-Stats.is (refused f.NotOffered, (refl, (refl, refl)), c.not_offered-in-Stats.ensures)
