@@ -27,13 +27,13 @@ pub data EntriesAnswers (ledger from most : ℕ) (s : State) (reply : Told) : Ty
   bad : IsBadLedger ledger reply → EntriesAnswers ledger from most s reply
   gone : IsGone s ledger f.Deleted reply → EntriesAnswers ledger from most s reply
   without_memory : reply ≡ refused f.Memory → EntriesAnswers ledger from most s reply
-  pages : {ids : List ℕ} → is_dead s ledger ≡ false → IsPage (HasLiveEntry s ledger) from (most_of_page most) ids → GivesPage ids reply
+  pages : (ids : List ℕ) → is_dead s ledger ≡ false → IsPage (HasLiveEntry s ledger) from (most_of_page most) ids → GivesPage ids reply
       → EntriesAnswers ledger from most s reply
 
 -- A page has the first live ledgers with an entry from an id on.
 pub data LedgersAnswers (from most : ℕ) (s : State) (reply : Told) : Type 0 where
   without_memory : reply ≡ refused f.Memory → LedgersAnswers from most s reply
-  pages : {ids : List ℕ} → IsPage (HasLiveLedger s) from (most_of_page most) ids → GivesPage ids reply → LedgersAnswers from most s reply
+  pages : (ids : List ℕ) → IsPage (HasLiveLedger s) from (most_of_page most) ids → GivesPage ids reply → LedgersAnswers from most s reply
 
 abbrev pub told_of_last : Option ℕ → Told
 told_of_last (Some entry) = done (last entry)
@@ -43,7 +43,7 @@ told_of_last None = done not_held
 pub data LastEntryAnswers (ledger : ℕ) (s : State) (reply : Told) : Type 0 where
   bad : IsBadLedger ledger reply → LastEntryAnswers ledger s reply
   gone : IsGone s ledger f.Deleted reply → LastEntryAnswers ledger s reply
-  tells : {greatest : Option ℕ} → is_dead s ledger ≡ false → IsGreatest (HasLiveEntry s ledger) greatest → reply ≡ told_of_last greatest
+  tells : (greatest : Option ℕ) → is_dead s ledger ≡ false → IsGreatest (HasLiveEntry s ledger) greatest → reply ≡ told_of_last greatest
       → LastEntryAnswers ledger s reply
 
 -- The greatest entry of a live ledger is read.
@@ -52,5 +52,5 @@ pub data ReadLastAnswers {V : Type 0} (bytes : V → List ℕ) (honest sound : V
   gone : IsGone s ledger f.Deleted reply → t ≡ s → ReadLastAnswers bytes honest sound ledger s reply t
   none : is_dead s ledger ≡ false → IsGreatest (HasLiveEntry s ledger) None → reply ≡ done not_held → t ≡ s
       → ReadLastAnswers bytes honest sound ledger s reply t
-  reads : {entry_id : ℕ} → is_dead s ledger ≡ false → IsGreatest (HasLiveEntry s ledger) (Some entry_id)
+  reads : (entry_id : ℕ) → is_dead s ledger ≡ false → IsGreatest (HasLiveEntry s ledger) (Some entry_id)
       → ReadAnswers bytes honest sound ledger entry_id s reply t → ReadLastAnswers bytes honest sound ledger s reply t
