@@ -1,5 +1,5 @@
 -- Ids that are out of range.
-use Rattle.std.proofs.Common.{◌≡◌, ℕ, ◌<◌, ◌≤◌, ◌^◌, ◌⊎◌, inl, inr, refl}
+use Rattle.std.proofs.Common.{ℕ, ◌<◌, ◌^◌, inl, inr, refl}
 use Rattle.std.proofs.lemmas.Bool.{cases_lt}
 use Rattle.bk_store.specs.State.{State}
 use Rattle.bk_serve_core.specs.Replies.{refused}

@@ -1,9 +1,9 @@
 -- Answers about ledgers: fences, deletions and attributes, which a manifest keeps. Read
 -- `DeleteAnswers` first.
-use Rattle.std.specs.Prelude.{◌≡◌, ◌⊎◌, ℕ, ◌≤◌, ◌^◌, Bool, true, false, ◌&&◌, not, if◌then◌else◌, List, [], ◌∷◌, ◌++◌, Option, Some, None, is_some, Result, Ok, Err, IsTrue}
-use Rattle.bk_manifest.specs.Fact.{Fact, deleted_ledger, fenced_ledger, attribute}
+use Rattle.std.specs.Prelude.{◌≡◌, ◌⊎◌, ℕ, ◌≤◌, ◌^◌, Bool, true, false, ◌&&◌, not, List, Option, Some, None, Result, Ok, Err, IsTrue}
+use Rattle.bk_manifest.specs.Fact.{deleted_ledger, fenced_ledger, attribute}
 use Rattle.bk_manifest.specs.Keeping.{Kept, durable}
-use Rattle.bk_manifest.specs.State.{last_about, the_fence, the_attribute, attribute_bytes}
+use Rattle.bk_manifest.specs.State.{last_about, the_attribute, attribute_bytes}
 use Rattle.bk_store.specs.State.{State}
 use Rattle.bk_store.specs.Transitions.{DeleteTransition, FenceTransition, is_dead}
 use Rattle.bk_store.specs.declared.answer.DeleteFault.{DeleteFault}

@@ -1,5 +1,5 @@
 -- Records that become durable, or are refused. Read `NoteTransition` first.
-use Rattle.std.specs.Prelude.{◌≡◌, ◌⊎◌, ℕ, ◌<◌, ◌≤◌, ◌^◌, [], ◌∷◌, ◌++◌, Result, Ok, Err, IsTrue}
+use Rattle.std.specs.Prelude.{◌≡◌, ◌⊎◌, ◌<◌, ◌≤◌, ◌^◌, [], ◌∷◌, ◌++◌, Result, Ok, Err, IsTrue}
 use Rattle.bk_manifest.specs.Fact.{Fact, AreFacts}
 use Rattle.bk_manifest.specs.Keeping.{Kept, durable, FindsDurable}
 use Rattle.bk_serve_core.specs.declared.refusal.Refusal.{Refusal}

@@ -1,11 +1,10 @@
 -- Answers to reads. Read `ReadAnswers` first.
-use Rattle.std.specs.Prelude.{◌≡◌, ◌⊎◌, ℕ, ◌<◌, ◌≤◌, ◌^◌, Bool, List, length, drop, Option, Some, None, slice_get, Result, Ok, Err, IsTrue, Vec}
+use Rattle.std.specs.Prelude.{◌≡◌, ◌⊎◌, ℕ, ◌<◌, ◌≤◌, ◌^◌, Bool, List, length, drop, Some, slice_get, Result, Ok, Err, IsTrue, Vec}
 use Rattle.std.specs.declared.alloc.Global.{Global}
 use Rattle.bk_record.specs.Key.{EntryKey}
 use Rattle.bk_record.specs.Location.{Place}
 use Rattle.bk_log.specs.Places.{Fetches}
 use Rattle.bk_log.specs.declared.fault.FetchFault.{FetchFault}
-use Rattle.bk_lease.specs.Values.{LeasedView}
 use Rattle.bk_store.specs.LedgerReads.{HasLiveEntry}
 use Rattle.bk_store.specs.State.{State}
 use Rattle.bk_store.specs.Transitions.{TakeTransition}

@@ -1,5 +1,5 @@
 -- Steps of the store alone. Read `Works` first.
-use Rattle.std.specs.Prelude.{◌≡◌, ℕ, ◌+◌, ◌-◌, ◌^◌, min, Result, Ok, Err, None}
+use Rattle.std.specs.Prelude.{◌≡◌, ℕ, ◌+◌, ◌-◌, ◌^◌, min, Ok, None}
 use Rattle.std.specs.FinMap as finite
 use Rattle.bk_store.specs.State.{State}
 use Rattle.bk_drive.specs.Machine.{WorkTransition}

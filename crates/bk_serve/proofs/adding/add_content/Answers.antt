@@ -1,4 +1,4 @@
-use Rattle.std.proofs.Common.{◌≡◌, ◌∙◌, ℕ, List, inl, inr, refl, subst}
+use Rattle.std.proofs.Common.{◌∙◌, ℕ, List, inl, inr, refl, subst}
 use Rattle.bk_serve_core.specs.Replies.{told}
 use Rattle.bk_serve.specs.Adds.{AddsEntry}
 use Rattle.bk_serve.proofs.adding.add_content.Goals as goal

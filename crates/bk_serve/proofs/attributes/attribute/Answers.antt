@@ -1,4 +1,4 @@
-use Rattle.std.proofs.Common.{◌≡◌, ◌∙◌, ap, sym, refl, rules}
+use Rattle.std.proofs.Common.{◌∙◌, ap, refl, rules}
 use Rattle.bk_manifest.specs.State.{attribute_bytes, the_attribute}
 use Rattle.bk_serve_core.specs.Replies as r
 use Rattle.bk_serve_core.specs.Replies.{done, refused}

@@ -1,4 +1,4 @@
-use Rattle.std.proofs.Common.{◌≡◌, ◌∙◌, inl, inr, refl, arith}
+use Rattle.std.proofs.Common.{◌∙◌, inl, inr, refl, arith}
 use Rattle.std.proofs.lemmas.List.{take_rest}
 use Rattle.bk_serve_core.specs.Replies.{done, refused, entry}
 use Rattle.bk_serve_core.specs.declared.refusal.Refusal.TheVariants as f
