@@ -130,7 +130,7 @@ static void add_all(bookie *b, bookie_receipt *one) {
 
 /* ---- reads */
 
-/* Whether the server has every call; else it has none that lists, and no attributes. */
+/* Whether the server has every call but stats; else it has none that lists, and no attributes. */
 static int offers_all(bookie *b) {
     uint64_t found[PAGE];
     size_t n;
@@ -244,10 +244,16 @@ static void attributes(bookie *b) {
     bookie_master_key(b, 2, &reply[2]);
     printf("attributes %s %s %s\n", hex(&reply[0], text[0]), hex(&reply[1], text[1]), hex(&reply[2], text[2]));
     for (int i = 0; i < 3; i++) bookie_reply_free(&reply[i]);
-    bookie_reply figures;
     const char *is_fenced = bookie_status_text(bookie_is_fenced(b, 1));
-    must("stats", bookie_stats(b, &figures), BOOKIE_FIGURES);
-    printf("is fenced %s %s failures %llu\n", is_fenced, bookie_status_text(bookie_is_fenced(b, 3)), (unsigned long long)figures.numbers[5]);
+    printf("is fenced %s %s\n", is_fenced, bookie_status_text(bookie_is_fenced(b, 3)));
+}
+
+static void failures(bookie *b) {
+    bookie_reply figures;
+    int status = bookie_stats(b, &figures);
+    if (status == BOOKIE_NOT_OFFERED) return;
+    must("stats", status, BOOKIE_FIGURES);
+    printf("failures %llu\n", (unsigned long long)figures.numbers[5]);
 }
 
 static uint64_t send_large(bookie *b, uint64_t entry) {
@@ -353,7 +359,10 @@ int main(int count, char **words) {
     must("open", bookie_open(command, &b), BOOKIE_WELCOME);
     entries_and_reads(b);
     fences(b);
-    if (offers_all(b)) attributes(b);
+    if (offers_all(b)) {
+        attributes(b);
+        failures(b);
+    }
     deletions_and_upkeep(b);
     bookie_close(b);
     must("open", bookie_open(command, &b), BOOKIE_WELCOME);

@@ -68,7 +68,7 @@ def add_all(bookie):
 
 
 def offers_all(bookie):
-    """Returns whether the server has every call; else it has none that lists, and no attributes."""
+    """Returns whether the server has every call but `stats`; else it has none that lists, and no attributes."""
     return refusal(lambda: list(bookie.ledgers())) != "not_offered"
 
 
@@ -133,7 +133,12 @@ def attributes(bookie):
     bookie.set_master_key(1, bytes(range(20)))
     bookie.set_explicit_lac(1, (4999).to_bytes(8, "big"))
     print("attributes", bookie.master_key(1).hex(), bookie.explicit_lac(1).hex(), or_none(bookie.master_key(2)))
-    print("is fenced", yes(bookie.is_fenced(1)), yes(bookie.is_fenced(3)), "failures", bookie.stats().failures)
+    print("is fenced", yes(bookie.is_fenced(1)), yes(bookie.is_fenced(3)))
+
+
+def failures(bookie):
+    if refusal(bookie.stats) != "not_offered":
+        print("failures", bookie.stats().failures)
 
 
 def first_session(bookie):
@@ -152,6 +157,7 @@ def first_session(bookie):
     print("negative", refusal(bookie.add, 2**63, 0, b"x"))
     if offers_all(bookie):
         attributes(bookie)
+        failures(bookie)
     print("deleted", bookie.delete(2), refusal(bookie.delete, 2), refusal(bookie.read, 2, 0), refusal(bookie.add, 2, 0, b"x"))
     print("holds", yes(bookie.holds(2, 0)))
     bookie.seal()

@@ -92,7 +92,7 @@ fn add_all(bookie: &Bookie) -> Result<Receipt, Error> {
     Ok(two[77])
 }
 
-/// Returns whether the server has every call; else it has none that lists, and no attributes.
+/// Returns whether the server has every call but `stats`; else it has none that lists, and no attributes.
 fn offers_all(bookie: &Bookie) -> Result<bool, Error> {
     Ok(refusal(bookie.ledgers())? != "not_offered")
 }
@@ -144,7 +144,14 @@ fn attributes(bookie: &Bookie) -> Result<(), Error> {
     let found = [bookie.master_key(1)?, bookie.explicit_lac(1)?, bookie.master_key(2)?].map(text);
     println!("attributes {}", found.join(" "));
     let fenced = [bookie.is_fenced(1)?, bookie.is_fenced(3)?].map(yes);
-    println!("is fenced {} failures {}", fenced.join(" "), bookie.stats()?.numbers[5]);
+    println!("is fenced {}", fenced.join(" "));
+    Ok(())
+}
+
+fn failures(bookie: &Bookie) -> Result<(), Error> {
+    if refusal(bookie.stats())? != "not_offered" {
+        println!("failures {}", bookie.stats()?.numbers[5]);
+    }
     Ok(())
 }
 
@@ -173,6 +180,7 @@ fn ledgers(bookie: &Bookie) -> Result<(), Error> {
     println!("negative {}", refusal(bookie.add(1 << 63, 0, b"x"))?);
     if offers_all(bookie)? {
         attributes(bookie)?;
+        failures(bookie)?;
     }
     print!("deleted {} {} ", bookie.delete(2)?, refusal(bookie.delete(2))?);
     println!("{} {}", refusal(bookie.read(2, 0))?, refusal(bookie.add(2, 0, b"x"))?);
