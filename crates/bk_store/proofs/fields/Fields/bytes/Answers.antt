@@ -1,4 +1,4 @@
-use Rattle.std.proofs.Common.{◌<◌, Some, None, sym, subst, ◌∙◌, arith}
+use Rattle.std.proofs.Common.{Some, None, sym, subst, ◌∙◌, arith}
 use Rattle.bk_accounts.specs.Book.{total_at, remaining_at}
 use Rattle.bk_store.specs.Logs.{IsNextHeld}
 use Rattle.bk_store.specs.State.{StoreParts}
