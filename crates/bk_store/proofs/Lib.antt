@@ -76,6 +76,7 @@ pub mod HeldWriters
 pub mod InvariantReplaceIndex
 pub mod HeldIds
 pub mod ReadPages
+pub mod LogSums
 pub mod InvariantCopy
 pub mod InvariantRelocate
 pub mod CopyContents

@@ -1,13 +1,12 @@
 -- A page of the numbers with a property grows by the least one behind it.
-use Rattle.std.proofs.Common.{◌≡◌, ◌⊎◌, inl, inr, ℕ, ◌+◌, ◌<◌, ◌≤◌, true, false, List, [], ◌∷◌, ◌++◌, length, get_or, Option, Some, None, sym, subst, ◌∙◌, arith, length-append}
-use Rattle.std.proofs.Math.Decide.{dec_le}
+use Rattle.std.proofs.Common.{◌≡◌, ◌⊎◌, inl, inr, ℕ, ◌+◌, ◌<◌, ◌≤◌, true, List, [], ◌∷◌, ◌++◌, length, subst, arith}
 use Rattle.std.specs.List.{All, Contains}
 use Rattle.std.specs.List.Sorted.{IsStrictlyIncreasing}
 use Rattle.std.proofs.lemmas.Grind.{common_steps}
 use Rattle.std.proofs.lemmas.List.Elements.{All-push, All-weaker, Contains-push, Contains-append_left}
 use Rattle.bk_store.specs.State.{State}
 use Rattle.bk_store.specs.Transitions.{is_dead}
-use Rattle.bk_store.specs.LedgerReads.{HoldsEntry, HoldsLedger, HasLiveEntry, HasLiveLedger, IsLeastFrom, IsPage}
+use Rattle.bk_store.specs.LedgerReads.{HasLiveEntry, IsPage}
 
 -- the page has the numbers with the property from `from` up to, not including, `at`
 pub record IsPageUpTo (P : ℕ → Type 0) (from at : ℕ) (page : List ℕ) : Type 0 where

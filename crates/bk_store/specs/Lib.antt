@@ -16,6 +16,7 @@ pub mod JobInvariant
 pub mod Invariant
 pub mod Transitions
 pub mod LedgerReads
+pub mod LogSums
 pub mod Preparing
 pub mod Primitives
 pub mod CompactionPrimitives

@@ -17,6 +17,7 @@ mod leasing;
 mod ledger_reads;
 mod ledger_set;
 mod log;
+mod log_sums;
 mod logs;
 mod making;
 mod mark;
@@ -54,6 +55,7 @@ pub use laws::{
 };
 pub use leasing::StillLeased;
 pub use log::LogState;
+pub use log_sums::LogBytes;
 pub use mark::{Mark, Receipt};
 pub use prepared::Prepared;
 pub use settings::Settings;

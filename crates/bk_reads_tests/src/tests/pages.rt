@@ -4,7 +4,7 @@
 use super::store;
 use bk_disk::MemDisk;
 use bk_record::Key;
-use bk_store::{Fence, Stats, Store};
+use bk_store::{Fence, LogBytes, Stats, Store};
 use std::alloc::AllocError;
 use std::process::Abort;
 use std::test::Fail;
@@ -130,7 +130,7 @@ fn a_fence_hides_no_entry(rt: HostRuntime) -> Result<(), Fail> {
 
 #[test]
 fn counts_are_those_of_the_store(rt: HostRuntime) -> Result<(), Fail> {
-    let Some(store) = store(rt.alloc()) else {
+    let Some(mut store) = store(rt.alloc()) else {
         panic!(rt; "no store");
     };
     let counts = Stats {
@@ -142,5 +142,12 @@ fn counts_are_those_of_the_store(rt: HostRuntime) -> Result<(), Fail> {
         front: 15,
     };
     assert_eq!(rt; store.stats(), counts);
+    let bytes = LogBytes {
+        total: 14_763,
+        live: 14_742,
+    };
+    assert_eq!(rt; store.bytes(), bytes);
+    assert_eq!(rt; store.delete(7), Ok(1));
+    assert_eq!(rt; (store.bytes().total, store.bytes().live), (14_763, 14_721));
     Ok(())
 }
