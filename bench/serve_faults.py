@@ -39,6 +39,8 @@ class Known:
         # Entries that are published, and those that may be there or not; each with its content.
         self.must, self.may = dict(base), {}
         self.dead, self.fenced, self.keys, self.accepted = set(), set(), {}, {}
+        # Ledgers of which a deletion was refused or not answered.
+        self.doubtful = set()
 
     def added(self, key, content, answer):
         if answer == NO_REPLY:
@@ -56,8 +58,7 @@ class Known:
         for entries in (self.must, self.accepted):
             for key in [it for it in entries if it[0] == ledger]:
                 self.may[key] = entries.pop(key)
-        if not isinstance(answer, str):
-            self.dead.add(ledger)
+        (self.doubtful if isinstance(answer, str) else self.dead).add(ledger)
 
     def differences(self, session):
         """Yields how a later session differs from what is known."""
@@ -71,11 +72,11 @@ class Known:
                 yield f"entry {entry} of ledger {ledger} is {found!r:.40}"
             elif found not in (None, content):
                 yield f"entry {entry} of ledger {ledger} is {found!r:.40}"
-        for ledger in sorted(self.fenced - self.dead):
+        for ledger in sorted(self.fenced - self.dead - self.doubtful):
             if not session.is_fenced(ledger):
                 yield f"ledger {ledger} is no longer fenced"
         for ledger, keys in sorted(self.keys.items()):
-            if ledger not in self.dead and session.master_key(ledger) not in keys:
+            if ledger not in self.dead | self.doubtful and session.master_key(ledger) not in keys:
                 yield f"the master key of ledger {ledger} is {session.master_key(ledger)!r:.40}"
 
 

@@ -50,7 +50,7 @@ def unknown(chance, id, last):
 
 
 def wrong_fields(chance, id, last):
-    kind, wanted = chance.choice(((4, 16), (7, 8), (8, 16), (9, 24), (10, 16), (11, 8), (13, 8), (18, 0), (20, 8), (23, 0)))
+    kind, wanted = chance.choice(((4, 16), (7, 8), (8, 16), (9, 24), (10, 16), (11, 8), (13, 8), (18, 0), (20, 16), (23, 0)))
     size = chance.choice([it for it in range(60) if it != wanted])
     return raw(id, kind, bytes(size)), (id, "bad_fields", kind, size)
 
