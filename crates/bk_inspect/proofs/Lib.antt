@@ -13,3 +13,4 @@ pub mod Seals
 pub mod Cuts
 pub mod Copies
 pub mod Keeps
+pub mod Picked

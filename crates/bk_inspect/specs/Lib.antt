@@ -9,3 +9,4 @@ pub mod Shown
 pub mod Sealing
 pub mod Copying
 pub mod Cutting
+pub mod Unsealed

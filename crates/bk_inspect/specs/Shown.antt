@@ -5,7 +5,7 @@ use Rattle.std.specs.FinMap as map
 use Rattle.bk_record.specs.Files.{Files, header_length, records_of, rest_of}
 use Rattle.bk_record.specs.Body.{Body}
 use Rattle.bk_inspect.specs.declared.command.DirCommand.{DirCommand}
-use Rattle.bk_inspect.specs.declared.command.DirCommand.TheVariants.{Logs, Header, Map, Scan, ScanPart, Find, Check, CheckDigests, Ledgers, Entries}
+use Rattle.bk_inspect.specs.declared.command.DirCommand.TheVariants.{Logs, Header, Map, Scan, ScanPart, Find, Check, CheckDigests, CheckLong, Ledgers, Entries}
 use Rattle.bk_inspect.specs.declared.command.ScanChoice.{ScanChoice}
 use Rattle.bk_inspect.specs.declared.header.Head.{Head}
 use Rattle.bk_inspect.specs.declared.header.Head.TheVariants as heads
@@ -62,5 +62,6 @@ Prints (Map log) files before now = WritesText (λ text. OfFile files log (λ fi
 Prints (Find key) files before now = Unit {0}
 Prints Check files before now = Unit {0}
 Prints (CheckDigests choice) files before now = Unit {0}
+Prints (CheckLong choice) files before now = Unit {0}
 Prints Ledgers files before now = Unit {0}
 Prints (Entries range) files before now = Unit {0}

@@ -7,14 +7,16 @@ use crate::calls::view_of;
 use crate::fault::FaultMembers;
 use crate::form::write_row;
 use crate::header::{Head, read_head};
-use crate::ledgers::counted_ledgers;
+use crate::ledgers::{Counted, counted_ledgers};
 use crate::turns::Turns;
+use crate::walk::TakesEntries;
 use crate::written::written_ledgers;
 use crate::{BytesFault, DirFault, Form};
 use bk_disk::{LogDisk, LogView};
 use bk_head::Header;
+use bk_log::Found;
 use serde::Serialize;
-use std::alloc::Global;
+use std::alloc::{AllocError, Global};
 use std::fmt;
 use std::fmt::{Display, Formatter};
 use std::io::Write;
@@ -26,8 +28,8 @@ pub(crate) enum Health {
     Short,
     /// Its header, a record or its map is invalid.
     Faulty(BytesFault),
-    /// Its header names no ledgers map.
-    Unsealed,
+    /// Its header names no ledgers map, and its last bytes, so many, are no whole record.
+    Unsealed { torn: u64 },
     /// Its ledgers map is not that of its entries.
     MapDiffers,
     /// Its ledgers map is that of its entries.
@@ -40,12 +42,20 @@ impl Health {
         matches!(self, Health::Faulty(_) | Health::MapDiffers)
     }
 
+    /// Returns the number of bytes at the end of an unsealed log that are no whole record.
+    fn torn(self) -> Option<u64> {
+        match self {
+            Health::Unsealed { torn } => Some(torn),
+            _ => None,
+        }
+    }
+
     /// Returns the word of a row.
-    fn word(self) -> &'static str {
+    pub(crate) fn word(self) -> &'static str {
         match self {
             Health::Short => "short",
             Health::Faulty(_) => "fault",
-            Health::Unsealed => "unsealed",
+            Health::Unsealed { .. } => "unsealed",
             Health::MapDiffers => "map differs",
             Health::Sound => "ok",
         }
@@ -61,12 +71,22 @@ impl Display for Health {
     }
 }
 
-/// Writes a row per log, by rising id, `ID WORD`, as soon as it is known. A log that is removed
-/// meanwhile is left out; then the logs that are new since follow, each once. Returns the status: 1
-/// if something is wrong with a log.
+/// How much the row of a log tells as text. As an object it tells all.
+#[derive(Clone, Copy, Debug, PartialEq, Eq)]
+pub(crate) enum Detail {
+    /// The word for its health.
+    Word,
+    /// Also the torn bytes of an unsealed log.
+    Long,
+}
+
+/// Writes a row per log, by rising id, `ID WORD`, as soon as it is known; in detail that of an
+/// unsealed log ends with ` torn N`. A log that is removed meanwhile is left out; then the logs that
+/// are new since follow, each once. Returns the status: 1 if something is wrong with a log.
 pub(crate) fn show_check<D: LogDisk, W: Write>(
     alloc: Global,
     disk: &mut D,
+    detail: Detail,
     form: Form,
     writer: &mut W,
 ) -> Result<u8, DirFault>
@@ -78,7 +98,7 @@ pub(crate) fn show_check<D: LogDisk, W: Write>(
     while let Some(log) = turns.next(alloc, disk)? {
         match health_of(alloc, disk, log)? {
             Some(health) => {
-                write_health(alloc, log, health, form, writer)?;
+                write_health(alloc, log, health, detail, form, writer)?;
                 if health.is_bad() {
                     status = 1;
                 }
@@ -96,13 +116,17 @@ struct HealthRow {
     health: &'static str,
     #[serde(flatten)]
     fault: FaultMembers,
+    #[serde(skip_serializing_if = "Option::is_none")]
+    torn: Option<u64>,
     #[serde(skip)]
     text: Health,
+    #[serde(skip)]
+    detail: Detail,
 }
 
 impl HealthRow {
     /// Returns the row of a log.
-    fn of(log: u32, health: Health) -> HealthRow {
+    fn of(log: u32, health: Health, detail: Detail) -> HealthRow {
         let fault = match health {
             Health::Faulty(fault) => fault.members(),
             _ => FaultMembers::NONE,
@@ -111,14 +135,20 @@ impl HealthRow {
             log,
             health: health.word(),
             fault,
+            torn: health.torn(),
             text: health,
+            detail,
         }
     }
 }
 
 impl Display for HealthRow {
     fn fmt<W: fmt::Write>(&self, f: &mut Formatter<W>) -> fmt::Result {
-        write!(f, "{} {}", self.log, self.text)
+        write!(f, "{} {}", self.log, self.text)?;
+        match (self.detail, self.torn) {
+            (Detail::Long, Some(torn)) => write!(f, " torn {torn}"),
+            _ => Ok(()),
+        }
     }
 }
 
@@ -127,10 +157,11 @@ pub(crate) fn write_health<W: Write>(
     alloc: Global,
     log: u32,
     health: Health,
+    detail: Detail,
     form: Form,
     writer: &mut W,
 ) -> Result<(), DirFault> {
-    write_row(alloc, form, &HealthRow::of(log, health), writer)?;
+    write_row(alloc, form, &HealthRow::of(log, health, detail), writer)?;
     writer.flush()?;
     Ok(())
 }
@@ -161,15 +192,30 @@ fn examine<D: LogDisk>(alloc: Global, disk: &mut D, log: u32) -> Result<Health, 
         Head::Whole(header) => header,
     };
     let view = view_of(alloc, disk, log)?;
-    examine_view(alloc, &view, &header)
+    let counted = counted_ledgers(alloc, log, &view, &mut Unheeded)?;
+    compare_map(alloc, &view, &header, &counted)
 }
 
-/// Reads the entries of a log, whose header was read, and its map.
-fn examine_view<V: LogView>(alloc: Global, view: &V, header: &Header) -> Result<Health, DirFault> {
-    let counted = counted_ledgers(alloc, view)?;
+/// Takes in entries and does nothing with them.
+#[derive(Drop)]
+struct Unheeded;
+
+impl TakesEntries for Unheeded {
+    fn take_in(&mut self, _log: u32, _found: Found) -> Result<(), AllocError> {
+        Ok(())
+    }
+}
+
+/// Compares the map of a log, whose header was read, with what was counted of its entries.
+pub(crate) fn compare_map<V: LogView>(
+    alloc: Global,
+    view: &V,
+    header: &Header,
+    counted: &Counted,
+) -> Result<Health, DirFault> {
     match written_ledgers(alloc, view, header)? {
-        None => Ok(Health::Unsealed),
-        Some(written) if written == counted => Ok(Health::Sound),
+        None => Ok(Health::Unsealed { torn: counted.torn }),
+        Some(written) if written == counted.ledgers => Ok(Health::Sound),
         Some(_) => Ok(Health::MapDiffers),
     }
 }

@@ -22,6 +22,8 @@ pub enum DirCommand {
     Check,
     /// The same, and whether each entry fits the digest in its payload.
     CheckDigests(DigestChoice),
+    /// One of these checks, with the torn bytes of unsealed logs.
+    CheckLong(Option<DigestChoice>),
     /// The records, their bytes, the first and the last entry of each ledger.
     Ledgers,
     /// The location of the last record of each of these entries of a ledger.
@@ -40,6 +42,7 @@ impl DirCommand {
             | DirCommand::Find(_)
             | DirCommand::Check
             | DirCommand::CheckDigests(_)
+            | DirCommand::CheckLong(_)
             | DirCommand::Ledgers
             | DirCommand::Entries(_) => None,
         }

@@ -4,7 +4,7 @@ ghost use Rattle.std.specs.Prelude.{◌≤◌, IfOk};
 ghost use Rattle.bk_inspect.specs.Reading.{OnlyReads};
 
 use crate::calls::view_of;
-use crate::check::{health_of, write_health};
+use crate::check::{Detail, health_of, write_health};
 use crate::digest::{Digest, DigestChoice};
 use crate::fitting::fits;
 use crate::form::write_row;
@@ -91,6 +91,7 @@ pub(crate) fn show_digests<D: LogDisk, W: Write>(
     alloc: Global,
     disk: &mut D,
     choice: DigestChoice,
+    detail: Detail,
     form: Form,
     writer: &mut W,
 ) -> Result<u8, DirFault>
@@ -110,7 +111,7 @@ pub(crate) fn show_digests<D: LogDisk, W: Write>(
         }
         match health_of(alloc, disk, log)? {
             Some(health) => {
-                write_health(alloc, log, health, form, writer)?;
+                write_health(alloc, log, health, detail, form, writer)?;
                 if health.is_bad() {
                     status = 1;
                 }

@@ -15,37 +15,39 @@ use std::fmt;
 use std::fmt::{Display, Formatter};
 use std::io::Write;
 
-/// The location of a record, and its size with the length field.
+/// A record, and its log.
 #[derive(Clone, Copy)]
-struct Standing {
-    log: u32,
-    at: u64,
-    size: u32,
+pub(crate) struct Standing {
+    pub(crate) log: u32,
+    pub(crate) found: Found,
 }
 
 /// The last record of each entry that is asked for, by its number.
 #[derive(Drop)]
-struct LastRecords {
+pub(crate) struct LastRecords {
     range: EntryRange,
-    records: BTreeMap<u64, Standing>,
+    pub(crate) records: BTreeMap<u64, Standing>,
 }
 
 impl TakesEntries for LastRecords {
     fn take_in(&mut self, log: u32, found: Found) -> Result<(), AllocError> {
         let entry = found.key.entry();
         if found.key.ledger() == self.range.ledger && self.range.has(entry) {
-            let standing = Standing {
-                log,
-                at: found.at,
-                size: found.size,
-            };
-            self.note(entry, standing)?;
+            self.note(entry, Standing { log, found })?;
         }
         Ok(())
     }
 }
 
 impl LastRecords {
+    /// Returns those of no log.
+    pub(crate) fn new(alloc: Global, range: EntryRange) -> LastRecords {
+        LastRecords {
+            range,
+            records: BTreeMap::new(alloc),
+        }
+    }
+
     /// Notes a record of an entry, unless one of a later log is known.
     fn note(&mut self, entry: u64, standing: Standing) -> Result<(), AllocError> {
         match self.records.get(&entry) {
@@ -72,10 +74,7 @@ pub(crate) fn show_range<D: LogDisk, W: Write, E: Write>(
     ensures status { IfOk result (λ status. status ≤ 1) }
     ensures reads { OnlyReads (D.honest disk.old) (D.files disk.old) (D.honest disk.new) (D.files disk.new) }
 {
-    let mut last = LastRecords {
-        range,
-        records: BTreeMap::new(alloc),
-    };
+    let mut last = LastRecords::new(alloc, range);
     let status = take_in_logs(alloc, disk, &mut last, form, errors)?;
     for (entry, standing) in &last.records {
         let row = StandingRow::of(*entry, *standing);
@@ -99,8 +98,8 @@ impl StandingRow {
         StandingRow {
             entry,
             log: standing.log,
-            at: standing.at,
-            size: standing.size,
+            at: standing.found.at,
+            size: standing.found.size,
         }
     }
 }

@@ -3,23 +3,24 @@
 //! A disk returns one fault for a directory in which one file cannot be opened. Here each file is
 //! tried when the directory is listed. Those that cannot be opened are left out and reported.
 
-ghost use Rattle.std.specs.Prelude.{◌≤◌, false};
-ghost use Rattle.std.specs.FinMap as map;
+ghost use Rattle.std.specs.Prelude.{◌≤◌};
 
 use crate::cut_folder::log_path;
+use crate::export::run_export_watched;
 use crate::fault::tell_fault;
-use crate::form::{write_object, write_row};
+use crate::folder_disk::Folder;
+use crate::form::write_object;
 use crate::run::run_dir_watched;
 use crate::stat::run_stat_watched;
-use crate::survey::{Unread, look_over};
-use crate::{DirCommand, DirFault, Form};
-use bk_disk::{DirDisk, DiskFault, FaultWatch, FolderFault, LogDisk};
+use crate::unsealed::find_watched;
+use crate::visit::{TakesLogs, visit_watched};
+use crate::{DataForm, DirCommand, DirFault, EntryRange, Form};
+use bk_disk::{DirDisk, FaultWatch, FolderFault};
 use serde::Serialize;
 use std::alloc::Global;
-use std::fmt::{Display, Formatter};
+use std::fs;
 use std::io::{self, ErrorKind, Write};
 use std::os::unix::fs::MetadataExt;
-use std::{fmt, fs};
 
 /// Why a log is not sealed whose file has another name.
 const TWO_NAMES: &str =
@@ -32,6 +33,8 @@ pub enum FolderCommand<'a> {
     Dir(DirCommand),
     /// The entries, bytes and live bytes of each log, if these ledgers are deleted.
     Stat(&'a [u64]),
+    /// The last record of each of these entries of a ledger with its data, in this form.
+    Export(EntryRange, DataForm),
 }
 
 /// Runs a command on the directory at a path, as `run_dir` and `run_stat` do on a disk. Returns the
@@ -88,10 +91,15 @@ fn open_listed(
     path: &str,
     command: &FolderCommand<'_>,
 ) -> Result<DirDisk, FolderFault> {
-    let disk = DirDisk::open_to_read(rt, path)?;
     if is_of_one_log(command) {
-        return Ok(disk);
+        return DirDisk::open_to_read(rt, path);
     }
+    open_whole(rt, path)
+}
+
+/// Opens the directory at a path; fails if its names cannot be listed.
+fn open_whole(rt: &HostRuntime, path: &str) -> Result<DirDisk, FolderFault> {
+    let disk = DirDisk::open_to_read(rt, path)?;
     match unlisted(rt, path) {
         Some(fault) => Err(fault),
         None => Ok(disk),
@@ -102,7 +110,7 @@ fn open_listed(
 fn is_of_one_log(command: &FolderCommand<'_>) -> bool {
     match command {
         FolderCommand::Dir(command) => command.log().is_some(),
-        FolderCommand::Stat(_) => false,
+        FolderCommand::Stat(_) | FolderCommand::Export(..) => false,
     }
 }
 
@@ -145,14 +153,7 @@ fn run_on<W: Write, E: Write>(
     let alloc = rt.alloc();
     let watch = watch_of(alloc, &disk);
     let watch = watch.as_ref();
-    let mut folder = Folder {
-        rt: *rt,
-        path,
-        disk,
-        unread: Vec::new(alloc),
-        is_empty: false,
-        is_steady: true,
-    };
+    let mut folder = Folder::new(rt, path, disk);
     let status = match command {
         FolderCommand::Dir(command) => {
             run_dir_watched(alloc, form, watch, &mut folder, *command, writer, errors)
@@ -160,8 +161,76 @@ fn run_on<W: Write, E: Write>(
         FolderCommand::Stat(dead) => {
             run_stat_watched(alloc, form, watch, &mut folder, dead, writer, errors)
         }
+        FolderCommand::Export(range, data) => {
+            let asked = (*range, *data);
+            run_export_watched(alloc, form, watch, &mut folder, asked, writer, errors)
+        }
     };
     if folder.tell(form, errors) { 1 } else { status }
+}
+
+/// Takes in the logs of the directory at a path, as `visit_disk` those of a disk, then those that
+/// cannot be opened, which are reported too; the status is then 1. Returns `None` also if the
+/// directory cannot be opened or listed.
+pub fn visit_folder<T: TakesLogs, E: Write>(
+    rt: &HostRuntime,
+    form: Form,
+    path: &str,
+    taking: &mut T,
+    errors: &mut E,
+) -> Option<u8> {
+    let disk = open_or_tell(rt, form, path, errors)?;
+    let watch = watch_of(rt.alloc(), &disk);
+    let mut folder = Folder::new(rt, path, disk);
+    let status = visit_watched(
+        rt.alloc(),
+        form,
+        watch.as_ref(),
+        &mut folder,
+        taking,
+        errors,
+    )?;
+    let is_partial = folder.tell(form, errors);
+    for unread in folder.unread.as_slice() {
+        if taking.miss(unread.log, &unread.reason).is_err() {
+            tell_fault(rt.alloc(), form, None, DirFault::Memory, errors);
+            return None;
+        }
+    }
+    Some(if is_partial { 1 } else { status })
+}
+
+/// Returns the logs of the directory at a path that `find_unsealed` finds, and whether no log was
+/// left out, since each can be opened; one that cannot is reported. Returns `None` also if the
+/// directory cannot be opened or listed.
+pub fn unsealed_in<E: Write>(
+    rt: &HostRuntime,
+    form: Form,
+    path: &str,
+    errors: &mut E,
+) -> Option<(Vec<u32>, bool)> {
+    let disk = open_or_tell(rt, form, path, errors)?;
+    let watch = watch_of(rt.alloc(), &disk);
+    let mut folder = Folder::new(rt, path, disk);
+    let logs = find_watched(rt.alloc(), form, watch.as_ref(), &mut folder, errors)?;
+    let is_partial = folder.tell(form, errors);
+    Some((logs, !is_partial))
+}
+
+/// Opens the directory at a path; `None` if it cannot be opened or listed, which is reported.
+fn open_or_tell<E: Write>(
+    rt: &HostRuntime,
+    form: Form,
+    path: &str,
+    errors: &mut E,
+) -> Option<DirDisk> {
+    match open_whole(rt, path) {
+        Ok(disk) => Some(disk),
+        Err(fault) => {
+            let _ = tell_folder(rt.alloc(), form, &fault, errors);
+            None
+        }
+    }
 }
 
 /// Opens the directory at a path as its one writer, to seal a log. Fails with `Refused`, which has
@@ -184,71 +253,6 @@ pub(crate) fn open_to_seal(rt: &HostRuntime, path: &str, log: u32) -> Result<Dir
 /// Returns a watch that reports failed calls of a disk; `None` if memory is refused.
 pub(crate) fn watch_of(alloc: Global, disk: &DirDisk) -> Option<FaultWatch> {
     disk.fault_watch(alloc).ok()
-}
-
-/// The disk of a directory whose list leaves out the logs that cannot be opened, and remembers
-/// them.
-#[derive(Drop)]
-struct Folder<'a, D: LogDisk> {
-    rt: HostRuntime,
-    path: &'a str,
-    disk: D,
-    unread: Vec<Unread>,
-    is_empty: bool,
-    /// Whether each listing ended with an unchanged directory.
-    is_steady: bool,
-}
-
-impl<'a, D: LogDisk> Folder<'a, D> {
-    /// Reports each log that cannot be opened, that the directory changed at each listing, or that
-    /// there is no log. Returns whether a log may be left out.
-    fn tell<E: Write>(&self, form: Form, errors: &mut E) -> bool {
-        let alloc = self.rt.alloc();
-        for unread in self.unread.as_slice() {
-            let _ = tell_unread(alloc, form, unread, errors);
-        }
-        if !self.is_steady {
-            tell_fault(alloc, form, None, DirFault::Unsteady, errors);
-        }
-        if self.is_empty {
-            let row = EmptyRow {
-                note: "no log found",
-                folder: self.path,
-            };
-            let _ = write_row(alloc, form, &row, errors);
-        }
-        !self.unread.is_empty() || !self.is_steady
-    }
-}
-
-/// The object of a log that cannot be opened.
-#[derive(Drop, Serialize)]
-struct UnreadRow {
-    fault: &'static str,
-    log: u32,
-    reason: String,
-}
-
-/// Reports a log that cannot be opened, with the reason.
-fn tell_unread<E: Write>(
-    alloc: Global,
-    form: Form,
-    unread: &Unread,
-    errors: &mut E,
-) -> Result<(), DirFault> {
-    let Unread { log, reason } = unread;
-    match form {
-        Form::Text => writeln!(errors, "fault log {log}: disk: {reason}")?,
-        Form::Json => {
-            let row = UnreadRow {
-                fault: "disk",
-                log: *log,
-                reason: reason.to_string(alloc).map_err(|_| DirFault::Memory)?,
-            };
-            write_object(alloc, &row, errors)?;
-        }
-    }
-    Ok(())
 }
 
 /// The object of a directory that cannot be opened, or not be written.
@@ -297,90 +301,4 @@ fn folder_row(alloc: Global, fault: &FolderFault) -> Result<FolderRow<'_>, DirFa
         folder,
         reason,
     })
-}
-
-/// The row of a directory without logs.
-#[derive(Clone, Copy, Serialize)]
-struct EmptyRow<'a> {
-    note: &'static str,
-    folder: &'a str,
-}
-
-impl Display for EmptyRow<'_> {
-    fn fmt<W: fmt::Write>(&self, f: &mut Formatter<W>) -> fmt::Result {
-        write!(
-            f,
-            "{} in {}: a log is a file named by its id in hexadecimal, such as 1f.log",
-            self.note, self.folder
-        )
-    }
-}
-
-impl<'a, D: LogDisk> LogDisk for Folder<'a, D> {
-    type View = D::View;
-
-    ghost files = { λ _. map.empty };
-
-    ghost synced = { λ _. map.empty };
-
-    ghost gone = { λ _. map.empty };
-
-    ghost honest = { λ _. false };
-
-    ghost failures = { λ folder. D.failures folder.disk };
-
-    fn bounds(&self) {}
-
-    fn is_lost(&self, log: u32) -> bool {
-        self.disk.is_lost(log)
-    }
-
-    fn is_kept(&self, log: u32) -> bool {
-        self.disk.is_kept(log)
-    }
-
-    fn list(&mut self, alloc: Global) -> Result<Vec<u32>, DiskFault> {
-        match look_over(&self.rt, alloc, self.path) {
-            Ok(Some(found)) => {
-                self.is_empty = found.ids.is_empty() && found.unread.is_empty();
-                self.is_steady = self.is_steady && found.is_steady;
-                self.unread = found.unread;
-                Ok(found.ids)
-            }
-            Ok(None) => self.disk.list(alloc),
-            Err(_) => Err(DiskFault::Memory),
-        }
-    }
-
-    fn length(&mut self, alloc: Global, log: u32) -> Result<u64, DiskFault> {
-        self.disk.length(alloc, log)
-    }
-
-    fn create(&mut self, alloc: Global, log: u32) -> Result<(), DiskFault> {
-        self.disk.create(alloc, log)
-    }
-
-    fn append(&mut self, alloc: Global, log: u32, bytes: &[u8]) -> Result<(), DiskFault> {
-        self.disk.append(alloc, log, bytes)
-    }
-
-    fn patch(&mut self, alloc: Global, log: u32, bytes: &[u8; 12]) -> Result<(), DiskFault> {
-        self.disk.patch(alloc, log, bytes)
-    }
-
-    fn sync(&mut self, alloc: Global, log: u32) -> Result<(), DiskFault> {
-        self.disk.sync(alloc, log)
-    }
-
-    fn read_at(&mut self, alloc: Global, log: u32, at: u64, n: u64) -> Result<Vec<u8>, DiskFault> {
-        self.disk.read_at(alloc, log, at, n)
-    }
-
-    fn view(&mut self, alloc: Global, log: u32) -> Result<D::View, DiskFault> {
-        self.disk.view(alloc, log)
-    }
-
-    fn remove(&mut self, alloc: Global, log: u32) -> Result<(), DiskFault> {
-        self.disk.remove(alloc, log)
-    }
 }

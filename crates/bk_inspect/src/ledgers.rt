@@ -12,6 +12,7 @@ ghost use Rattle.bk_inspect.specs.declared.header.Head.TheVariants as heads;
 use crate::calls::view_of;
 use crate::form::write_row;
 use crate::header::{HEADER, Head, read_head, write_word};
+use crate::walk::TakesEntries;
 use crate::written::written_ledgers;
 use crate::{BytesFault, DirFault, Form};
 use bk_disk::{LogDisk, LogView};
@@ -24,21 +25,40 @@ use std::fmt;
 use std::fmt::{Display, Formatter};
 use std::io::Write;
 
-/// Returns the bytes of the log's entries by ledger.
-pub(crate) fn counted_ledgers<V: LogView>(
+/// What the records of a log have.
+#[derive(Drop)]
+pub(crate) struct Counted {
+    /// The bytes of the entries by ledger, with their length fields.
+    pub(crate) ledgers: BTreeMap<u64, u64>,
+    /// The number of bytes at the end that are no whole record.
+    pub(crate) torn: u64,
+}
+
+/// Counts the entries of a log, which are taken in too, up to a bad length, which is then the fault.
+pub(crate) fn counted_ledgers<V: LogView, T: TakesEntries>(
     alloc: Global,
+    log: u32,
     view: &V,
-) -> Result<BTreeMap<u64, u64>, DirFault> {
+    taking: &mut T,
+) -> Result<Counted, DirFault> {
     let end = view.end().max(HEADER);
     let mut scanner = Scanner::new(view, alloc, HEADER, end);
     let mut sizes = LedgerSizes::new(alloc);
     while let Some(found) = scanner.next()? {
+        let entry = found;
         match sizes.count(found) {
             Ok(()) => {}
             Err(_) => return Err(DirFault::Memory),
         }
+        if taking.take_in(log, entry).is_err() {
+            return Err(DirFault::Memory);
+        }
     }
-    sizes.into_map().map_err(|_| DirFault::Memory)
+    let torn = scanner.torn();
+    match sizes.into_map() {
+        Ok(ledgers) => Ok(Counted { ledgers, torn }),
+        Err(_) => Err(DirFault::Memory),
+    }
 }
 
 /// Writes the ledgers map in a log, by rising ledger, `LEDGER SIZE`; `no map` if there is none,

@@ -5,7 +5,7 @@ ghost use Rattle.bk_inspect.specs.Forms.{followed};
 ghost use Rattle.bk_inspect.specs.Reading.{OnlyReads};
 ghost use Rattle.bk_inspect.specs.Shown.{Prints};
 
-use crate::check::show_check;
+use crate::check::{Detail, show_check};
 use crate::digests::show_digests;
 use crate::entries::show_range;
 use crate::fault::tell_end;
@@ -16,7 +16,7 @@ use crate::listing::show_logs;
 use crate::part::show_part;
 use crate::scan::show_scan;
 use crate::totals::show_totals;
-use crate::{DirCommand, DirFault, Form};
+use crate::{DigestChoice, DirCommand, DirFault, Form};
 use bk_disk::{FaultWatch, LogDisk};
 use std::alloc::Global;
 use std::io::Write;
@@ -135,10 +135,30 @@ fn show<D: LogDisk, W: Write, E: Write>(
         DirCommand::Scan(log) => show_scan(alloc, disk, log, form, writer)?,
         DirCommand::ScanPart(log, choice) => show_part(alloc, disk, log, choice, form, writer)?,
         DirCommand::Find(key) => return show_last(alloc, disk, key, form, writer, errors),
-        DirCommand::Check => return show_check(alloc, disk, form, writer),
-        DirCommand::CheckDigests(choice) => return show_digests(alloc, disk, choice, form, writer),
+        DirCommand::Check => return show_check(alloc, disk, Detail::Word, form, writer),
+        DirCommand::CheckDigests(choice) => {
+            return show_digests(alloc, disk, choice, Detail::Word, form, writer);
+        }
+        DirCommand::CheckLong(choice) => return show_long(alloc, disk, choice, form, writer),
         DirCommand::Ledgers => return show_totals(alloc, disk, form, writer, errors),
         DirCommand::Entries(range) => return show_range(alloc, disk, range, form, writer, errors),
     }
     Ok(0)
+}
+
+/// Writes the rows of a check in detail, with digests if they are asked for. Returns the status.
+fn show_long<D: LogDisk, W: Write>(
+    alloc: Global,
+    disk: &mut D,
+    choice: Option<DigestChoice>,
+    form: Form,
+    writer: &mut W,
+) -> Result<u8, DirFault>
+    ensures status { IfOk result (λ status. status ≤ 1) }
+    ensures reads { OnlyReads (D.honest disk.old) (D.files disk.old) (D.honest disk.new) (D.files disk.new) }
+{
+    match choice {
+        Some(choice) => show_digests(alloc, disk, choice, Detail::Long, form, writer),
+        None => show_check(alloc, disk, Detail::Long, form, writer),
+    }
 }

@@ -15,6 +15,7 @@ use bk_disk::{FaultWatch, LogDisk};
 use bk_log::Found;
 use serde::Serialize;
 use std::alloc::{AllocError, Global};
+use std::collections::BTreeSet;
 use std::fmt;
 use std::fmt::{Display, Formatter};
 use std::io::Write;
@@ -92,11 +93,14 @@ fn show_stat<D: LogDisk, W: Write, E: Write>(
     ensures status { IfOk result (λ status. status ≤ 1) }
     ensures reads { OnlyReads (D.honest disk.old) (D.files disk.old) (D.honest disk.new) (D.files disk.new) }
 {
+    let Ok(dead) = set_of(alloc, dead) else {
+        return Err(DirFault::Memory);
+    };
     let mut turns = Turns::new(alloc, disk)?;
-    let mut sums = Sums::new(dead);
+    let mut sums = Sums::new(&dead);
     let mut status = 0;
     while let Some(log) = turns.next(alloc, disk)? {
-        match stat_of(alloc, disk, log, dead, form, errors)? {
+        match stat_of(alloc, disk, log, &dead, form, errors)? {
             Some(stat) => {
                 write_stat(alloc, log, &stat, form, writer)?;
                 sums.add(&stat);
@@ -112,11 +116,20 @@ fn show_stat<D: LogDisk, W: Write, E: Write>(
     Ok(status)
 }
 
+/// Returns these ledgers as a set.
+fn set_of(alloc: Global, ledgers: &[u64]) -> Result<BTreeSet<u64>, AllocError> {
+    let mut set = BTreeSet::new(alloc);
+    for ledger in ledgers {
+        let _ = set.insert(*ledger)?;
+    }
+    Ok(set)
+}
+
 /// The amounts of a log, or of several.
 #[derive(Clone, Copy)]
 struct Amount<'a> {
     /// The deleted ledgers.
-    dead: &'a [u64],
+    dead: &'a BTreeSet<u64>,
     /// The number of entries.
     entries: u64,
     /// The size of their records, with the length fields.
@@ -127,7 +140,7 @@ struct Amount<'a> {
 
 impl<'a> Amount<'a> {
     /// Nothing yet.
-    fn new(dead: &'a [u64]) -> Amount<'a> {
+    fn new(dead: &'a BTreeSet<u64>) -> Amount<'a> {
         Amount {
             dead,
             entries: 0,
@@ -175,7 +188,7 @@ struct Sums<'a> {
 
 impl<'a> Sums<'a> {
     /// Those of no log.
-    fn new(dead: &'a [u64]) -> Sums<'a> {
+    fn new(dead: &'a BTreeSet<u64>) -> Sums<'a> {
         Sums {
             logs: 0,
             length: 0,
@@ -199,7 +212,7 @@ fn stat_of<'a, D: LogDisk, E: Write>(
     alloc: Global,
     disk: &mut D,
     log: u32,
-    dead: &'a [u64],
+    dead: &'a BTreeSet<u64>,
     form: Form,
     errors: &mut E,
 ) -> Result<Option<LogStat<'a>>, DirFault>

@@ -13,8 +13,8 @@ use bk_log::{Found, Scanner};
 use std::alloc::{AllocError, Global};
 use std::io::Write;
 
-/// Takes entries in, one after another.
-pub(crate) trait TakesEntries {
+/// Takes in entries, one after another.
+pub trait TakesEntries {
     /// Takes in an entry of a log.
     fn take_in(&mut self, log: u32, found: Found) -> Result<(), AllocError>;
 }

@@ -8,6 +8,7 @@ mod cut_again;
 mod cut_failing;
 mod cut_folder;
 mod cut_mem;
+mod detail;
 mod digests;
 mod every_byte;
 mod failing;

@@ -149,7 +149,7 @@ fn a_folder_as_json(rt: HostRuntime) -> Result<(), Fail> {
         told(
             DirCommand::Check,
             "{\"log\":0,\"health\":\"ok\"}\n\
-{\"log\":3,\"health\":\"unsealed\"}\n\
+{\"log\":3,\"health\":\"unsealed\",\"torn\":0}\n\
 {\"log\":7,\"health\":\"short\"}\n\
 {\"log\":31,\"health\":\"fault\",\"fault\":\"bad length\",\"at\":1049,\"length\":7}\n",
             "",

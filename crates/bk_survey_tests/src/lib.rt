@@ -1,0 +1,5 @@
+//! Tests of `bk_survey`.
+#![tactic(auto)]
+
+#[cfg(test)]
+mod tests;
