@@ -101,6 +101,30 @@ pub fn import<D: LogDisk, R: Read>(
     reader: &mut R,
 ) -> Result<Done<D>, ImportFault> {
     let mut store = Store::open(alloc, disk, settings, dead)?;
+    let imported = import_into(alloc, &mut store, reader)?;
+    Ok(Done { store, imported })
+}
+
+/// Adds the entries of a reader to a store, publishes them, and seals their logs.
+fn import_into<D: LogDisk, R: Read>(
+    alloc: Global,
+    store: &mut Store<D>,
+    reader: &mut R,
+) -> Result<Imported, ImportFault> {
+    let imported = add_all(alloc, store, reader)?;
+    flush(store)?;
+    match roll(store)? {
+        RollAnswer::Sealed(_) | RollAnswer::NothingOpen => Ok(imported),
+        RollAnswer::FlushRunning => Err(ImportFault::Flush),
+    }
+}
+
+/// Adds the entries of a reader to a store.
+fn add_all<D: LogDisk, R: Read>(
+    alloc: Global,
+    store: &mut Store<D>,
+    reader: &mut R,
+) -> Result<Imported, ImportFault> {
     let mut at = 0u64;
     let mut imported = Imported { added: 0, held: 0 };
     for _ in 0..u64::MAX {
@@ -111,16 +135,12 @@ pub fn import<D: LogDisk, R: Read>(
         };
         let size = (payload.len() as u64).saturating_add(LENGTH_FIELD as u64);
         at = at.saturating_add(size);
-        match add(&mut store, &payload)? {
+        match add(store, &payload)? {
             Added::Accepted(_) => imported.added = imported.added.saturating_add(1),
             Added::Held => imported.held = imported.held.saturating_add(1),
         }
     }
-    flush(&mut store)?;
-    match roll(&mut store)? {
-        RollAnswer::Sealed(_) | RollAnswer::NothingOpen => Ok(Done { store, imported }),
-        RollAnswer::FlushRunning => Err(ImportFault::Flush),
-    }
+    Ok(imported)
 }
 
 /// Adds an entry; flushes the cache before if it has no room.
