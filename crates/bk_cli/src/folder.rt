@@ -114,7 +114,7 @@ impl Display for BadWord<'_> {
                     Among { words: among }
                 )
             }
-            Value::Log | Value::Flag | Value::Paths { .. } => {
+            Value::Log | Value::Flag | Value::Path | Value::Paths { .. } => {
                 write!(
                     f,
                     "invalid value '{text}' for '<{}>': not a number from 0 to {LAST_LOG} in plain digits",
@@ -189,12 +189,54 @@ pub fn folder_call<'a, S: AsStr>(alloc: Global, words: &'a [S]) -> Result<Folder
     if let Some(bad) = bad_word_in(row, &found) {
         return Err(bad_word(alloc, row, &bad)?);
     }
+    if let Some(missing) = missing_in(row, &found) {
+        return Err(missing_word(alloc, row, &missing)?);
+    }
     Ok(FolderCall {
         form: form_of(&found),
         path: found.get_str("DIR").unwrap_or(""),
         row,
         found,
     })
+}
+
+/// An operand that is not given, and the flag that could be given in its place.
+#[derive(Clone, Copy, Debug)]
+struct MissingWord {
+    operand: &'static str,
+    flag: &'static str,
+}
+
+impl Display for MissingWord {
+    fn fmt<W: fmt::Write>(&self, f: &mut Formatter<W>) -> fmt::Result {
+        write!(f, "give <{}> or --{}", self.operand, self.flag)
+    }
+}
+
+/// Returns the first operand that is not given, nor the flag in its place.
+fn missing_in(row: &CommandRow, found: &ArgMatches<'_>) -> Option<MissingWord> {
+    for word in row.operands {
+        if let Some(flag) = word.unless
+            && found.get_str(word.name).is_none()
+            && !found.get_flag(flag)
+        {
+            return Some(MissingWord {
+                operand: word.name,
+                flag,
+            });
+        }
+    }
+    None
+}
+
+/// Returns the error of an operand that is not given, with the command's usage.
+fn missing_word(
+    alloc: Global,
+    row: &'static CommandRow,
+    missing: &MissingWord,
+) -> Result<Error, AllocError> {
+    let reason = format!(in alloc; "{missing}")?;
+    error_of(alloc, row, ErrorKind::MissingRequiredArgument, &reason)
 }
 
 /// Returns the first value that is not in its range: of the operands, then of the options.
@@ -210,7 +252,7 @@ fn bad_word_in<'a>(row: &CommandRow, found: &ArgMatches<'a>) -> Option<BadWord<'
 /// Returns the first value of an operand or option that is not in its range.
 fn bad_text<'a>(word: &Word, found: &ArgMatches<'a>) -> Option<&'a str> {
     let texts = match word.value {
-        Value::Flag | Value::Paths { .. } => return None,
+        Value::Flag | Value::Path | Value::Paths { .. } => return None,
         _ => found.get_strs(word.name)?,
     };
     for text in texts {
@@ -220,7 +262,7 @@ fn bad_text<'a>(word: &Word, found: &ArgMatches<'a>) -> Option<&'a str> {
                 number(text, most).is_some()
             }
             Value::Choice { name: _, among } => among.contains(text),
-            Value::Flag | Value::Paths { .. } => true,
+            Value::Flag | Value::Path | Value::Paths { .. } => true,
         };
         if !is_good {
             return Some(*text);
@@ -244,9 +286,19 @@ fn bad_word(
     bad: &BadWord<'_>,
 ) -> Result<Error, AllocError> {
     let reason = reason_of(alloc, bad)?;
+    error_of(alloc, row, ErrorKind::ValueValidation, &reason)
+}
+
+/// Returns an error of this kind for this reason, with the command's usage.
+fn error_of(
+    alloc: Global,
+    row: &'static CommandRow,
+    kind: ErrorKind,
+    reason: &str,
+) -> Result<Error, AllocError> {
     let usage = format!(in alloc; "{}", Usage { row })?;
     let mut command = Command::new(alloc, PROGRAM).override_usage(usage.as_str());
-    command.error(ErrorKind::ValueValidation, &reason)
+    command.error(kind, reason)
 }
 
 /// Returns the reason. If the text is the name of a log file without its extension, the reason also

@@ -29,6 +29,8 @@ pub struct Word {
     pub value: Value,
     /// Whether an operand must be given.
     pub is_required: bool,
+    /// The flag without which an operand must be given, though it is not required.
+    pub unless: Option<&'static str>,
     /// The options that cannot be given together with this one.
     pub conflicts: &'static [&'static str],
     /// One line of help.
@@ -52,6 +54,8 @@ pub enum Value {
         name: &'static str,
         most: u64,
     },
+    /// A path.
+    Path,
     /// Paths; the option can be repeated.
     Paths {
         name: &'static str,
@@ -78,6 +82,7 @@ impl Word {
         let mut option = match self.value {
             Value::Flag => plain.action(ArgAction::SetTrue),
             Value::Log => plain.value_name("LOG"),
+            Value::Path => plain.value_name("FILE"),
             Value::Number { name, .. } | Value::Choice { name, .. } => plain.value_name(name),
             Value::Numbers { name, .. } | Value::Paths { name } => {
                 plain.action(ArgAction::Append).value_name(name)

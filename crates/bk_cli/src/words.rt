@@ -8,6 +8,7 @@ const OPERAND: Word = Word {
     name: "",
     value: Value::Log,
     is_required: true,
+    unless: None,
     conflicts: &[],
     help: "",
 };
@@ -17,6 +18,7 @@ const OPTION: Word = Word {
     name: "",
     value: Value::Flag,
     is_required: false,
+    unless: None,
     conflicts: &[],
     help: "",
 };
@@ -121,6 +123,54 @@ pub const FROM: Word = Word {
 pub const DATA: Word = Word {
     name: "data",
     help: "Show the data of each entry too, in hexadecimal",
+    ..OPTION
+};
+
+/// Whether the torn bytes of unsealed logs are shown.
+pub const LONG: Word = Word {
+    name: "long",
+    help: "Show the torn bytes of each unsealed log too",
+    ..OPTION
+};
+
+/// Whether the records of the entries are written as they are.
+pub const RAW: Word = Word {
+    name: "raw",
+    conflicts: &["hex", "json"],
+    help: "Write each entry as its record, for import",
+    ..OPTION
+};
+
+/// Whether the data is written in hexadecimal.
+pub const HEX: Word = Word {
+    name: "hex",
+    conflicts: &["json"],
+    help: "Write each entry as a line in hexadecimal (the default)",
+    ..OPTION
+};
+
+/// The file that is imported.
+pub const FILE: Word = Word {
+    name: "FILE",
+    value: Value::Path,
+    help: "A file of records, as export --raw writes it",
+    ..OPERAND
+};
+
+/// The log to be sealed; none with `--all-unsealed`.
+pub const SEALED_LOG: Word = Word {
+    name: "LOG",
+    value: Value::Log,
+    unless: Some("all-unsealed"),
+    help: "The log's id, 0 to 2147483647, or its file's name, such as 1f.log",
+    ..OPTION
+};
+
+/// Whether all unsealed logs are sealed.
+pub const ALL_UNSEALED: Word = Word {
+    name: "all-unsealed",
+    conflicts: &["LOG"],
+    help: "Seal each log whose header names no map",
     ..OPTION
 };
 

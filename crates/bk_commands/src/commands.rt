@@ -2,15 +2,20 @@
 
 ghost use Rattle.std.specs.Prelude.{◌≤◌};
 
-use crate::compact::{CompactAsk, run_compact};
+use crate::compact::{CompactAsk, run_compact, tell_dead};
+use crate::dead::dead_in;
+use crate::import::run_import;
 use crate::program::StartFault;
-use bk_cli::FolderCall;
-use bk_cli::words::{CUT_TORN, DATA, DEAD, DIGEST, ENTRY, FIRST, FROM, LAST, LEDGER, OF_LEDGER};
+use bk_cli::words::{
+    CUT_TORN, DATA, DIGEST, ENTRY, FILE, FIRST, FROM, LAST, LEDGER, LONG, OF_LEDGER, RAW,
+};
+use bk_cli::{DEFAULTS, FolderCall};
 use bk_inspect::{
-    Digest, DigestChoice, DirCommand, EntryRange, FolderCommand, ScanChoice,
-    run_cut_and_seal_folder, run_folder_as, run_seal_folder,
+    DataForm, Digest, DigestChoice, DirCommand, EntryRange, FolderCommand, ScanChoice,
+    run_cut_and_seal_folder, run_folder_as, run_seal_folder, unsealed_in,
 };
 use bk_record::{Key, LAST_ID};
+use bk_survey::{Thresholds, report_folder};
 use std::io::Write;
 
 /// Runs a command on a directory. Returns the program's status.
@@ -28,6 +33,9 @@ pub(crate) fn run_call<W: Write, E: Write>(
     }
     match call.name() {
         "stat" => run_stat(rt, call, writer, errors),
+        "export" => run_export(rt, call, writer, errors),
+        "import" => run_import_of(rt, call, writer, errors),
+        "report" => run_report(rt, call, writer, errors),
         "seal" => run_seal(rt, call, writer, errors),
         "compact" => run_compaction(rt, call, writer, errors),
         _ => without_function(call, errors),
@@ -71,13 +79,33 @@ fn key_of(call: &FolderCall<'_>) -> Option<Key> {
     Key::new(call.number(&LEDGER)?, call.number(&ENTRY)?)
 }
 
-/// Returns the check: with a digest if the option names one.
+/// Returns the check: with a digest if the option names one, and in detail if it is asked for.
 fn check_of(call: &FolderCall<'_>) -> DirCommand {
-    match call.text(&DIGEST) {
+    let choice = digest_of(call);
+    if call.has(&LONG) {
+        return DirCommand::CheckLong(choice);
+    }
+    match choice {
         None => DirCommand::Check,
-        Some("crc32c") => DirCommand::CheckDigests(DigestChoice::One(Digest::Crc32c)),
-        Some("crc32") => DirCommand::CheckDigests(DigestChoice::One(Digest::Crc32)),
-        Some(_) => DirCommand::CheckDigests(DigestChoice::Auto),
+        Some(choice) => DirCommand::CheckDigests(choice),
+    }
+}
+
+/// Returns the digest that the option names.
+fn digest_of(call: &FolderCall<'_>) -> Option<DigestChoice> {
+    Some(match call.text(&DIGEST)? {
+        "crc32c" => DigestChoice::One(Digest::Crc32c),
+        "crc32" => DigestChoice::One(Digest::Crc32),
+        _ => DigestChoice::Auto,
+    })
+}
+
+/// Returns how an export writes entries.
+fn data_form_of(call: &FolderCall<'_>) -> DataForm {
+    if call.has(&RAW) {
+        DataForm::Raw
+    } else {
+        DataForm::Hex
     }
 }
 
@@ -99,11 +127,56 @@ fn run_stat<W: Write, E: Write>(
 ) -> u8
     ensures { result ≤ 1 }
 {
-    let Ok(dead) = call.numbers(rt.alloc(), &DEAD) else {
-        return without_memory(errors);
+    match dead_in(rt, call) {
+        Ok(dead) => {
+            let command = FolderCommand::Stat(&dead);
+            run_folder_as(rt, call.form, call.path, &command, writer, errors)
+        }
+        Err(fault) => {
+            tell_dead(rt.alloc(), call.form, fault, errors);
+            1
+        }
+    }
+}
+
+/// Runs `export`.
+fn run_export<W: Write, E: Write>(
+    rt: &HostRuntime,
+    call: &FolderCall<'_>,
+    writer: &mut W,
+    errors: &mut E,
+) -> u8
+    ensures { result ≤ 1 }
+{
+    match range_of(call) {
+        Some(range) => {
+            let command = FolderCommand::Export(range, data_form_of(call));
+            run_folder_as(rt, call.form, call.path, &command, writer, errors)
+        }
+        None => without_function(call, errors),
+    }
+}
+
+/// Runs `report`.
+fn run_report<W: Write, E: Write>(
+    rt: &HostRuntime,
+    call: &FolderCall<'_>,
+    writer: &mut W,
+    errors: &mut E,
+) -> u8
+    ensures { result ≤ 1 }
+{
+    const THRESHOLDS: Thresholds = Thresholds {
+        minor: DEFAULTS.minor,
+        major: DEFAULTS.major,
     };
-    let command = FolderCommand::Stat(&dead);
-    run_folder_as(rt, call.form, call.path, &command, writer, errors)
+    match dead_in(rt, call) {
+        Ok(dead) => report_folder(rt, call.form, call.path, &dead, THRESHOLDS, writer, errors),
+        Err(fault) => {
+            tell_dead(rt.alloc(), call.form, fault, errors);
+            1
+        }
+    }
 }
 
 /// Runs `seal`.
@@ -115,13 +188,68 @@ fn run_seal<W: Write, E: Write>(
 ) -> u8
     ensures { result ≤ 1 }
 {
-    let Some(log) = call.log() else {
-        return without_function(call, errors);
-    };
+    match call.log() {
+        Some(log) => seal_one(rt, call, log, writer, errors),
+        None => seal_all(rt, call, writer, errors),
+    }
+}
+
+/// Seals a log, cut before if the option says so.
+fn seal_one<W: Write, E: Write>(
+    rt: &HostRuntime,
+    call: &FolderCall<'_>,
+    log: u32,
+    writer: &mut W,
+    errors: &mut E,
+) -> u8
+    ensures { result ≤ 1 }
+{
     if call.has(&CUT_TORN) {
         return run_cut_and_seal_folder(rt, call.form, call.path, log, writer, errors);
     }
     run_seal_folder(rt, call.form, call.path, log, writer, errors)
+}
+
+/// Seals each unsealed log, also after one that is left.
+fn seal_all<W: Write, E: Write>(
+    rt: &HostRuntime,
+    call: &FolderCall<'_>,
+    writer: &mut W,
+    errors: &mut E,
+) -> u8
+    ensures { result ≤ 1 }
+{
+    let Some((logs, is_whole)) = unsealed_in(rt, call.form, call.path, errors) else {
+        return 1;
+    };
+    let mut are_sealed = is_whole;
+    for log in &logs {
+        if seal_one(rt, call, *log, writer, errors) != 0 {
+            are_sealed = false;
+        }
+    }
+    if are_sealed { 0 } else { 1 }
+}
+
+/// Runs `import`.
+fn run_import_of<W: Write, E: Write>(
+    rt: &HostRuntime,
+    call: &FolderCall<'_>,
+    writer: &mut W,
+    errors: &mut E,
+) -> u8
+    ensures { result ≤ 1 }
+{
+    let Some(file) = call.text(&FILE) else {
+        return without_function(call, errors);
+    };
+    match dead_in(rt, call) {
+        Ok(dead) => run_import(rt, call.form, call.path, file, &dead, writer, errors),
+        Err(fault) => {
+            tell_dead(rt.alloc(), call.form, fault, errors);
+            1
+        }
+    }
 }
 
 /// Runs `compact`.

@@ -10,10 +10,11 @@ mod ask;
 mod fault;
 mod index;
 mod kept;
+mod named;
 mod planned;
 mod rows;
 
-use crate::dead::dead_ledgers;
+use crate::dead::{DeadFault, dead_ledgers};
 use crate::failed_calls::FailedCalls;
 use crate::folder_disk::FolderDisk;
 use crate::opening::OpeningDisk;
@@ -24,11 +25,14 @@ use bk_disk::{DirDisk, DiskFault, FaultWatch, FileFault, LogDisk};
 use bk_drive::Settings;
 use bk_inspect::{Form, unlisted};
 use bk_offline_gc::{Done, Kind, SweepFault, sweep_disk};
-use fault::{CompactFault, reason_of, tell};
+pub(crate) use fault::CompactFault;
+use fault::{reason_of, tell};
 use index::index_in;
 use kept::{kept_logs, tell_kept};
+use named::show_named;
 use planned::{Look, show_plan};
-use rows::{EmptyRow, Size, Summary, write_row, write_summary};
+pub(crate) use rows::{write_object, write_row};
+use rows::{EmptyRow, Size, Summary, write_summary};
 use std::alloc::Global;
 use std::collections::BTreeMap;
 use std::io;
@@ -107,7 +111,7 @@ pub fn compact_disk<D: LogDisk, W: Write, E: Write>(
 
 /// Reports why a compaction ends early, with the call of the system that is the reason; nothing if
 /// nobody reads the output any more.
-fn end_early<E: Write>(
+pub(crate) fn end_early<E: Write>(
     alloc: Global,
     form: Form,
     fault: &CompactFault,
@@ -115,9 +119,15 @@ fn end_early<E: Write>(
     errors: &mut E,
 ) {
     match fault {
+        CompactFault::Reported => {}
         CompactFault::Output(error) if error.kind() == io::ErrorKind::BrokenPipe => {}
         _ => tell(alloc, form, fault, call, errors),
     }
+}
+
+/// Reports why a file does not name deleted ledgers.
+pub(crate) fn tell_dead<E: Write>(alloc: Global, form: Form, fault: DeadFault, errors: &mut E) {
+    tell(alloc, form, &CompactFault::Dead(fault), &None, errors);
 }
 
 /// A directory to be compacted, and the deleted ledgers.
@@ -138,7 +148,8 @@ fn find_work<W: Write, E: Write>(
     writer: &mut W,
     errors: &mut E,
 ) -> Result<Option<Work>, CompactFault> {
-    let dead = dead_ledgers(rt, ask)?;
+    let named = Vec::from_slice(rt.alloc(), &ask.dead)?;
+    let dead = dead_ledgers(rt, named, &ask.dead_files)?;
     let (disk, logs) = find_logs(rt, path, watch)?;
     if logs.is_empty() {
         show_empty(rt.alloc(), form, path, writer, errors)?;
@@ -199,6 +210,7 @@ fn show_dry<W: Write, E: Write>(
         dead,
     };
     let summary = show_plan(alloc, form, disk, &look, writer)?;
+    show_named(rt, form, path, dead, writer, errors)?;
     write_summary(alloc, form, &summary, writer)
 }
 

@@ -1,6 +1,7 @@
-//! The deleted ledgers of a call of `compact`.
+//! The deleted ledgers of a call.
 
-use crate::compact::CompactAsk;
+use bk_cli::FolderCall;
+use bk_cli::words::{DEAD, DEAD_FILE};
 use bk_decimal::number;
 use bk_record::LAST_ID;
 use std::alloc::AllocError;
@@ -83,10 +84,22 @@ impl From<AllocError> for DeadFault {
     }
 }
 
-/// Returns the ledgers that the call names, and those of the files that it names.
-pub(crate) fn dead_ledgers(rt: &HostRuntime, ask: &CompactAsk<'_>) -> Result<Vec<u64>, DeadFault> {
-    let mut dead = Vec::from_slice(rt.alloc(), &ask.dead)?;
-    for path in ask.dead_files.iter() {
+/// Returns the ledgers that a call names with `--dead`, and those of the files that it names with
+/// `--dead-file`.
+pub(crate) fn dead_in(rt: &HostRuntime, call: &FolderCall<'_>) -> Result<Vec<u64>, DeadFault> {
+    let named = call.numbers(rt.alloc(), &DEAD)?;
+    let files = call.texts(rt.alloc(), &DEAD_FILE)?;
+    dead_ledgers(rt, named, &files)
+}
+
+/// Returns these ledgers and those of the files at these paths.
+pub(crate) fn dead_ledgers(
+    rt: &HostRuntime,
+    named: Vec<u64>,
+    files: &[&str],
+) -> Result<Vec<u64>, DeadFault> {
+    let mut dead = named;
+    for path in files {
         read_file(rt, path, &mut dead)?;
     }
     Ok(dead)

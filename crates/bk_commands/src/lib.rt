@@ -6,6 +6,7 @@ mod compact;
 mod dead;
 mod failed_calls;
 mod folder_disk;
+mod import;
 mod line;
 mod opening;
 mod opening_view;

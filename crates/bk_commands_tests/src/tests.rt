@@ -7,6 +7,7 @@ mod folder;
 mod json;
 mod opening;
 mod over;
+mod rescue;
 mod script_folder;
 mod seal_ways;
 

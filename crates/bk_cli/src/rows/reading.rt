@@ -1,14 +1,16 @@
 //! The commands that read a directory.
 
 use crate::row::CommandRow;
-use crate::words::{DATA, DEAD, DIGEST, ENTRY, FIRST, FROM, LAST, LEDGER, LOG, OF_LEDGER};
+use crate::words::{
+    DATA, DEAD, DEAD_FILE, DIGEST, ENTRY, FIRST, FROM, HEX, LAST, LEDGER, LOG, LONG, OF_LEDGER, RAW,
+};
 
 /// In the order of the help.
 pub static READING: &[CommandRow] = &[
     CommandRow {
         name: "check",
         operands: &[],
-        options: &[DIGEST],
+        options: &[DIGEST, LONG],
         summary: "Check that each log is whole",
         help: "\
 Prints one line per log, by rising id, as soon as the log is read: `ID WORD`. WORD is the first of
@@ -21,6 +23,8 @@ these that applies:
                `repeated LEDGER`, `count differs FOUND`
   map differs  the map is not that of the log's entries
   ok           the map is that of the log's entries
+With --long the line of an unsealed log is `ID unsealed torn N`: N bytes at its end are no whole record.
+With --json it has the member `torn`.
 
 A log has no checksum of its entries, so a changed byte in an entry's data is not detected without
 --digest. BookKeeper clients put a digest into each payload, after the first 32 bytes. With --digest
@@ -69,12 +73,12 @@ Example:
     CommandRow {
         name: "stat",
         operands: &[],
-        options: &[DEAD],
+        options: &[DEAD, DEAD_FILE],
         summary: "Show the entries and live bytes of each log",
         help: "\
 Prints one line per log, by rising id: `ID LENGTH ENTRIES BYTES LIVE SHARE STATE`. ENTRIES is the
 number of entries, BYTES the size of their records, LIVE the part of BYTES that belongs to ledgers
-not named by --dead. SHARE is LIVE in thousandths of BYTES, rounded down, or `-` if there are no
+that neither --dead nor --dead-file names. SHARE is LIVE in thousandths of BYTES, rounded down, or `-` if there are no
 bytes. STATE is that of `logs`. The last line has the sums: `logs N length N entries N bytes N live N
 share SHARE`. A log is compacted if its share is below a threshold; a bookie's are 200 and 800 by
 default.
@@ -89,6 +93,33 @@ Example:
   0 1089 1 25 25 1000 sealed
   3 1087 3 63 41 650 open
   logs 2 length 2176 entries 4 bytes 88 live 66 share 750
+",
+    },
+    CommandRow {
+        name: "report",
+        operands: &[],
+        options: &[DEAD, DEAD_FILE],
+        summary: "Write a page on the logs, for a browser",
+        help: "\
+Writes one HTML page to the standard output, which loads nothing and runs no script. It shows
+  faults     each log that is at fault by `check`, and each that cannot be opened
+  logs       for each log the bytes of live and of dead entries, of foreign records, the torn bytes at
+             its end, and the bytes from a bad length on. Dead are the entries of ledgers that --dead or
+             --dead-file names
+  freed      how many bytes a compaction would free, by its threshold
+  ledgers    the 20 largest ledgers
+  sizes      how many entries have which size
+The numbers of a log are those of `stat`, those of a ledger the ones of `ledgers`. An entry with two
+records counts twice.
+
+Each fault also goes to the error stream, `fault log ID: TEXT`. The page is written when all logs are
+read; a log that cannot be read to its end is counted up to there.
+
+Exit status: 0; 1 if a log is at fault, or on a fault, `fault TEXT` on the error stream; 2 if the command
+line is wrong.
+
+Example:
+  $ ./bookie report --dead-file dead /var/bookie/current > report.html
 ",
     },
     CommandRow {
@@ -133,6 +164,31 @@ Examples:
   2 3 1071 20
   $ ./bookie entries /var/bookie/current 1 2
   2 3 1071 20
+",
+    },
+    CommandRow {
+        name: "export",
+        operands: &[LEDGER, FIRST, LAST],
+        options: &[HEX, RAW],
+        summary: "Write the entries of a ledger with their data",
+        help: "\
+Writes the entries of the ledger, rising: of each the last record, by log id, then position. By default
+an entry is a line, `ENTRY DATA`: its number and its data in hexadecimal, or `-` if there is none. With
+--raw it is its record, as a log has it: a length of four bytes, then so many bytes: ledger, entry (eight
+bytes each) and data. All numbers are big-endian. `import` reads that. With --json the members are
+`ledger`, `entry` and `data`.
+
+If a log cannot be read to its end, `fault log ID: TEXT` goes to the error stream, and the log is
+searched up to there. What can be read is written. A deleted ledger is exported like any other, as long
+as its records are there.
+
+Exit status: 0 if each entry was written, once; 1 on a fault; 2 if the command line is wrong.
+
+Examples:
+  $ ./bookie export /var/bookie/current 1
+  0 78
+  2 -
+  $ ./bookie export --raw /var/bookie/current 1 > ledger1
 ",
     },
     CommandRow {

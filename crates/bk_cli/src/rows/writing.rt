@@ -2,7 +2,8 @@
 
 use crate::row::CommandRow;
 use crate::words::{
-    BELOW, CUT_TORN, DEAD, DEAD_FILE, DRY_RUN, INDEX_IS_REBUILT, LOG, MAJOR, MINOR,
+    ALL_UNSEALED, BELOW, CUT_TORN, DEAD, DEAD_FILE, DRY_RUN, FILE, INDEX_IS_REBUILT, MAJOR, MINOR,
+    SEALED_LOG,
 };
 
 /// In the order of the help.
@@ -42,10 +43,11 @@ A file with a log's name that is shorter than a header (1024 bytes) and not empt
 on the error stream, unless its copy FILE.torn has the same bytes: it may be what a crash left of a log.
 
 With --dry-run the directory is only read. One line per log to be taken is printed, by rising id:
-`ID LENGTH remove` or `ID LENGTH compact ENTRIES`. The last line is the one that the compaction would
+`ID LENGTH remove` or `ID LENGTH compact ENTRIES`. Then one per ledger that is named, rising: `ledger
+LEDGER entries N bytes N`, the records that it has in all logs; 0 if no log has one. The last line is the one that the compaction would
 print. If there are not enough free ids or slots for all copies, the logs to be removed are printed, and
-then the fault. With --json a log has `log`, `length`, `fate` and `entries`, and the last line `before`,
-`after`, `freed` and `moved`.
+then the fault. With --json a log has `log`, `length`, `fate` and `entries`, a ledger
+`ledger`, `entries` and `bytes`, and the last line `before`, `after`, `freed` and `moved`.
 
 One program at a time writes to a directory. If another one does, the command is refused and names
 its process. A bookie that runs on the directory does not take the lock: stop it first. The command
@@ -59,15 +61,42 @@ Examples:
   $ ./bookie compact --dead 2 --dry-run /var/bookie/current
   0 1325 compact 1
   1 1085 remove
+  ledger 2 entries 2 bytes 241
   before 3 after 2 freed 1321 moved 1
   $ ./bookie compact --dead 2 /var/bookie/current
   before 3 after 2 freed 1321 moved 1
 ",
     },
     CommandRow {
+        name: "import",
+        operands: &[FILE],
+        options: &[DEAD, DEAD_FILE],
+        summary: "Add the entries of a file of records",
+        help: "\
+Opens a store on the logs of DIR, which is created if it does not exist, and adds the entries of FILE, as
+`export --raw` writes them. They are in new logs, synced and sealed, when the command ends. Prints `added
+N held N`: the number of entries added, and of those whose key an entry in DIR has; that entry is
+unchanged, and its data is not compared. FILE is read once, in pieces.
+
+A ledger that --dead or --dead-file names is deleted in DIR: its entries are refused. A record that is
+none ends the command: `bad record at N` has its first byte.
+
+One program at a time writes to a directory. If another one does, the command is refused and names
+its process. A bookie that runs on the directory does not take the lock: stop it first. A stock bookie's own
+index does not have the new entries: rebuild it.
+
+Exit status: 0 if each entry was added or held; 1 on a fault, `fault TEXT` on the error stream, and the
+entries before it may be in DIR; 2 if the command line is wrong.
+
+Example:
+  $ ./bookie import rescued ledger1
+  added 2 held 0
+",
+    },
+    CommandRow {
         name: "seal",
-        operands: &[LOG],
-        options: &[CUT_TORN],
+        operands: &[SEALED_LOG],
+        options: &[ALL_UNSEALED, CUT_TORN],
         summary: "Write the ledgers map of a log that has none",
         help: "\
 Appends the ledgers map of the log's entries, syncs it, then writes its position into the header and
@@ -98,10 +127,13 @@ away and call it again. Lines before the last:
 A log of version 0, and one whose map is there after the cut, is cut only. A log with nothing to cut
 or to clear is sealed only, and not copied.
 
+With --all-unsealed each log is taken whose header is of version 1 and names no map, by rising id. One that
+is left has its fault, and the next one is taken.
+
 One program at a time writes to a directory. If another one does, the command is refused and names
 its process. A bookie that runs on the directory does not take the lock: stop it first.
 
-Exit status: 0 if the log was sealed or cut; 1 on a fault, `fault TEXT` on the error stream; 2 if the command
+Exit status: 0 if the log, or each log, was sealed or cut; 1 on a fault, `fault TEXT` on the error stream; 2 if the command
 line is wrong.
 
 Examples:

@@ -17,7 +17,7 @@ use thiserror::Error;
 
 /// Why a compaction ends early. Its text is what the program reports.
 #[derive(Debug, Error, Drop)]
-pub(super) enum CompactFault {
+pub(crate) enum CompactFault {
     /// The directory is not opened.
     #[error("{0}")]
     Folder(FolderFault),
@@ -36,6 +36,9 @@ pub(super) enum CompactFault {
     /// The store is not opened, or a step of the compaction was refused.
     #[error("{0}")]
     Sweep(SweepFault),
+    /// The logs cannot be read; the reason was reported.
+    #[error("disk")]
+    Reported,
     /// Out of memory.
     #[error("memory")]
     Memory,
@@ -124,6 +127,7 @@ fn way_on(fault: &CompactFault) -> Option<WayOn> {
         | CompactFault::Dead(_)
         | CompactFault::Name { .. }
         | CompactFault::Sweep(_)
+        | CompactFault::Reported
         | CompactFault::Memory
         | CompactFault::Output(_) => None,
     }
@@ -257,6 +261,7 @@ fn row_of<'f>(
         }),
         CompactFault::Disk(_)
         | CompactFault::Sweep(_)
+        | CompactFault::Reported
         | CompactFault::Memory
         | CompactFault::Output(_) => Ok(named(text)),
     }

@@ -35,6 +35,14 @@ pub(super) struct PlannedRow {
     pub entries: Option<u64>,
 }
 
+/// The records of a ledger that is named as deleted.
+#[derive(Clone, Copy, Serialize)]
+pub(super) struct LedgerRow {
+    pub ledger: u64,
+    pub entries: u64,
+    pub bytes: u64,
+}
+
 /// The sums.
 #[derive(Clone, Copy, Serialize)]
 struct SummaryRow {
@@ -68,6 +76,16 @@ impl Display for PlannedRow {
             Some(entries) => write!(f, " {entries}"),
             None => Ok(()),
         }
+    }
+}
+
+impl Display for LedgerRow {
+    fn fmt<W: fmt::Write>(&self, f: &mut Formatter<W>) -> fmt::Result {
+        write!(
+            f,
+            "ledger {} entries {} bytes {}",
+            self.ledger, self.entries, self.bytes
+        )
     }
 }
 
@@ -130,7 +148,7 @@ pub(super) fn write_summary<W: Write>(
 }
 
 /// Writes a row as a line.
-pub(super) fn write_row<R: Display + Serialize, W: Write>(
+pub(crate) fn write_row<R: Display + Serialize, W: Write>(
     alloc: Global,
     form: Form,
     row: &R,
@@ -146,7 +164,7 @@ pub(super) fn write_row<R: Display + Serialize, W: Write>(
 }
 
 /// Writes a row as a JSON object, and the end of the line. Writes nothing if memory is refused.
-pub(super) fn write_object<R: Serialize, W: Write>(
+pub(crate) fn write_object<R: Serialize, W: Write>(
     alloc: Global,
     row: &R,
     writer: &mut W,

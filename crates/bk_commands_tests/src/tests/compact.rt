@@ -22,7 +22,12 @@ pub(super) fn fill(rt: &HostRuntime, folder: &str) -> Result<(), Fail> {
 }
 
 /// What is planned for them, and done, where ledger 2 is dead. The copy has a header, a record of 25 bytes and a map of 40.
-const PLANNED: &str = "0 1325 compact 1\n1 1085 remove\nbefore 3 after 2 freed 1321 moved 1\n";
+const PLANNED: &str =
+    "0 1325 compact 1\n1 1085 remove\nledger 2 entries 2 bytes 241\nbefore 3 after 2 freed 1321 moved 1\n";
+
+/// The same where ledger 7 is named too, of which no log has an entry.
+const PLANNED_WITH_SEVEN: &str =
+    "0 1325 compact 1\n1 1085 remove\nledger 2 entries 2 bytes 241\nledger 7 entries 0 bytes 0\nbefore 3 after 2 freed 1321 moved 1\n";
 
 /// Compactions of these logs, and what each is to leave.
 const PLANS: [Row<'static>; 12] = [
@@ -78,7 +83,7 @@ const PLANS: [Row<'static>; 12] = [
             "--below=102",
             "bk_shell_compact",
         ],
-        output: "1 1085 remove\nbefore 3 after 2 freed 1085 moved 0\n",
+        output: "1 1085 remove\nledger 2 entries 2 bytes 241\nbefore 3 after 2 freed 1085 moved 0\n",
         ..DONE
     },
     Row {
@@ -228,7 +233,7 @@ const DEAD_FILES: [Row<'static>; 7] = [
             "--dead-file=bk_shell_dead_list",
             "bk_shell_dead",
         ],
-        output: PLANNED,
+        output: PLANNED_WITH_SEVEN,
         ..DONE
     },
     Row {
@@ -240,7 +245,7 @@ const DEAD_FILES: [Row<'static>; 7] = [
             "--dead-file=bk_shell_dead_seven",
             "bk_shell_dead",
         ],
-        output: PLANNED,
+        output: PLANNED_WITH_SEVEN,
         ..DONE
     },
     Row {

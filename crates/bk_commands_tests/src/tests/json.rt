@@ -49,7 +49,7 @@ const COMPACTED: [Row<'static>; 2] = [
             "--dead=2",
             "bk_shell_rows",
         ],
-        output: "{\"log\":0,\"length\":1325,\"fate\":\"compact\",\"entries\":1}\n{\"log\":1,\"length\":1085,\"fate\":\"remove\"}\n{\"before\":3,\"after\":2,\"freed\":1321,\"moved\":1}\n",
+        output: "{\"log\":0,\"length\":1325,\"fate\":\"compact\",\"entries\":1}\n{\"log\":1,\"length\":1085,\"fate\":\"remove\"}\n{\"ledger\":2,\"entries\":2,\"bytes\":241}\n{\"before\":3,\"after\":2,\"freed\":1321,\"moved\":1}\n",
         ..DONE
     },
     Row {

@@ -24,7 +24,24 @@ pub(super) fn told_of_folder(rt: &impl Abort, alloc: Global, words: &[&str]) -> 
 }
 
 /// Wrong calls of the commands that read a folder, and a part of what is told of each.
-const WRONG_FOLDERS: [(&[&str], &str); 25] = [
+const WRONG_FOLDERS: [(&[&str], &str); 29] = [
+    (
+        &["bk_shell", "seal", "folder"],
+        "give <LOG> or --all-unsealed\n\nUsage: bookie seal [OPTIONS] <DIR> [LOG]\n",
+    ),
+    (
+        &["bk_shell", "seal", "folder", "1", "--all-unsealed"],
+        "cannot be used with",
+    ),
+    (
+        &["bk_shell", "export", "folder", "1", "--raw", "--hex"],
+        "cannot be used with",
+    ),
+    (
+        &["bk_shell", "export", "folder", "1", "--raw", "--json"],
+        "cannot be used with",
+    ),
+    (&["bk_shell", "import", "folder"], "<FILE>"),
     (&["bk_shell", "logs"], "<DIR>"),
     (&["bk_shell", "check"], "<DIR>"),
     (&["bk_shell", "header", "folder"], "<LOG>"),
@@ -92,10 +109,9 @@ const WRONG_FOLDERS: [(&[&str], &str); 25] = [
         &["bk_shell", "logs", "--digest", "auto", "folder"],
         "unexpected argument '--digest' found",
     ),
-    (&["bk_shell", "seal", "folder"], "<LOG>"),
     (
         &["bk_shell", "seal", "folder", "1F.log"],
-        "invalid value '1F.log' for '<LOG>': not a number from 0 to 2147483647 in plain digits\n\nUsage: bookie seal [OPTIONS] <DIR> <LOG>\n",
+        "invalid value '1F.log' for '<LOG>': not a number from 0 to 2147483647 in plain digits\n\nUsage: bookie seal [OPTIONS] <DIR> [LOG]\n",
     ),
     (
         &["bk_shell", "--json", "logs", "folder", "--json=yes"],
@@ -112,7 +128,7 @@ fn a_wrong_call_on_a_folder_is_told(rt: HostRuntime) {
 }
 
 /// Calls on the directory `folder`, and the command that each is.
-const COMMANDS: [(&[&str], DirCommand); 15] = [
+const COMMANDS: [(&[&str], DirCommand); 17] = [
     (&["bk_shell", "logs", "folder"], DirCommand::Logs),
     (
         &["bk_shell", "header", "folder", "0"],
@@ -194,6 +210,14 @@ const COMMANDS: [(&[&str], DirCommand); 15] = [
     (
         &["bk_shell", "check", "--digest=auto", "folder"],
         DirCommand::CheckDigests(DigestChoice::Auto),
+    ),
+    (
+        &["bk_shell", "check", "--long", "folder"],
+        DirCommand::CheckLong(None),
+    ),
+    (
+        &["bk_shell", "check", "folder", "--long", "--digest=auto"],
+        DirCommand::CheckLong(Some(DigestChoice::Auto)),
     ),
 ];
 

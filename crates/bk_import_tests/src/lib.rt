@@ -1,0 +1,5 @@
+//! Tests of `bk_import`.
+#![tactic(auto)]
+
+#[cfg(test)]
+mod tests;
