@@ -77,16 +77,40 @@ fn add(store: &mut Store<MemDisk>, ledger: u64, from: u64, to: u64) -> Result<bo
     Ok(true)
 }
 
+/// A ledger, and its entries from one id up to, not including, another.
+type Part = (u64, u64, u64);
+
+/// What is in the flushing cache.
+const FLUSHING: [Part; 2] = [(1, 700, 707), (3, 0, 1)];
+
+/// What is in the active cache.
+const ACTIVE: [Part; 2] = [(1, 707, 713), (2, 9, 10)];
+
+/// Adds the entries of these parts. Returns whether each was accepted.
+fn add_all(store: &mut Store<MemDisk>, parts: &[Part]) -> Result<bool, AllocError> {
+    for (ledger, from, to) in parts {
+        if !add(store, *ledger, *from, *to)? {
+            return Ok(false);
+        }
+    }
+    Ok(true)
+}
+
+/// Fills the caches of a store. Returns whether each call did what it should.
+fn fill(store: &mut Store<MemDisk>) -> Result<bool, AllocError> {
+    if !add_all(store, &FLUSHING)? || store.swap() != SwapAnswer::Swapped(8) {
+        return Ok(false);
+    }
+    add_all(store, &ACTIVE)
+}
+
 /// Returns the store of these tests: ledger 4 is deleted, entries 700 to 706 of ledger 1 and 0 of
 /// ledger 3 are in the flushing cache, entries 707 to 712 of ledger 1 and 9 of ledger 2 in the active
 /// one. Returns `None` if a call failed.
 fn store(alloc: Global) -> Option<Store<MemDisk>> {
     let disk = disk(alloc).ok()?;
     let mut store = Store::open(alloc, disk, SETTINGS, &[4]).ok()?;
-    let flushing = add(&mut store, 1, 700, 707).ok()? && add(&mut store, 3, 0, 1).ok()?;
-    let swapped = store.swap();
-    let active = add(&mut store, 1, 707, 713).ok()? && add(&mut store, 2, 9, 10).ok()?;
-    if flushing && active && swapped == SwapAnswer::Swapped(8) {
+    if fill(&mut store) == Ok(true) {
         Some(store)
     } else {
         None
