@@ -20,7 +20,8 @@ const SETTINGS: Settings = Settings {
 };
 
 /// Creates a log that has a header without a map, and nothing else.
-fn make(alloc: Global, disk: &mut MemDisk, log: u32) -> Result<(), DiskFault> {
+fn make(alloc: Global, disk: &mut MemDisk, log: u8) -> Result<(), DiskFault> {
+    let log = u32::from(log);
     disk.create(alloc, log)?;
     disk.append(alloc, log, b"BKLO\0\0\0\x01")?;
     disk.append(alloc, log, &[0; 1016])

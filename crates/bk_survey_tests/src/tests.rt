@@ -93,7 +93,8 @@ fn mixed(alloc: Global) -> Result<MemDisk, Fail> {
 }
 
 /// Puts a log on a disk.
-fn add(alloc: Global, disk: &mut MemDisk, log: u32, bytes: Vec<u8>) -> Result<(), Fail> {
+fn add(alloc: Global, disk: &mut MemDisk, log: u8, bytes: Vec<u8>) -> Result<(), Fail> {
+    let log = u32::from(log);
     disk.create(alloc, log)?;
     disk.append(alloc, log, &bytes)?;
     Ok(())
