@@ -32,9 +32,9 @@ fn whole(ledger: u64) -> EntryRange {
     }
 }
 
-/// The record of an entry with this data.
+/// Appends the record of an entry with this data, at most 239 bytes.
 fn put(bytes: &mut Vec<u8>, ledger: u8, entry: u8, data: &[u8]) -> Result<(), AllocError> {
-    let length = data.len().saturating_add(16) as u32;
+    let length = data.len().saturating_add(16).min(255) as u32;
     bytes.extend_from_slice(&length.to_be_bytes())?;
     bytes.extend_from_slice(&[0, 0, 0, 0, 0, 0, 0, ledger])?;
     bytes.extend_from_slice(&[0, 0, 0, 0, 0, 0, 0, entry])?;

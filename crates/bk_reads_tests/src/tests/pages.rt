@@ -87,17 +87,25 @@ fn pages_go_over_caches_logs_and_index_pages(rt: HostRuntime) -> Result<(), Fail
     Ok(())
 }
 
+/// Ledgers, and the last entry of each.
+const LAST: [(u64, Option<u64>); 7] = [
+    (1, Some(712)),
+    (2, Some(9)),
+    (3, Some(0)),
+    (4, None),
+    (5, None),
+    (7, Some(3)),
+    (u64::MAX, None),
+];
+
 #[test]
-fn last_entries_are_of_caches_and_index_together(rt: HostRuntime) -> Result<(), Fail> {
+fn last_entries_are_of_caches_and_index_together(rt: HostRuntime) {
     let Some(store) = store(rt.alloc()) else {
         panic!(rt; "no store");
     };
-    let last = [1, 2, 3, 4, 5, 7, u64::MAX].map(|ledger| store.last_entry(ledger));
-    assert_eq!(rt;
-        last,
-        [Some(712), Some(9), Some(0), None, None, Some(3), None]
-    );
-    Ok(())
+    for (ledger, last) in &LAST {
+        assert!(rt; store.last_entry(*ledger) == *last, "ledger {ledger}");
+    }
 }
 
 /// Pages of ledgers: the first id, the most ids, and the page.
@@ -123,15 +131,20 @@ fn ledgers_are_the_live_ones_with_an_entry(rt: HostRuntime) -> Result<(), Fail> 
     Ok(())
 }
 
+/// Deletes ledger 1. Returns whether no page has it or an entry of it then.
+fn hides_deleted(store: &mut Store<MemDisk>) -> Result<bool, AllocError> {
+    if store.delete(1) != Ok(713) || store.last_entry(1).is_some() {
+        return Ok(false);
+    }
+    Ok(has_ledgers(store, 0, 9, &[2, 3, 7])? && has_page(store, 1, 0, 9, &[])?)
+}
+
 #[test]
 fn a_deleted_ledger_is_in_no_page(rt: HostRuntime) -> Result<(), Fail> {
     let Some(mut store) = store(rt.alloc()) else {
         panic!(rt; "no store");
     };
-    assert_eq!(rt; store.delete(1), Ok(713));
-    assert!(rt; has_ledgers(&store, 0, 9, &[2, 3, 7])?);
-    assert_eq!(rt; store.last_entry(1), None);
-    assert!(rt; has_page(&store, 1, 0, 9, &[])?);
+    assert!(rt; hides_deleted(&mut store)?);
     Ok(())
 }
 
@@ -149,32 +162,50 @@ fn holds_all(store: &Store<MemDisk>, keys: &[(u64, u64, bool)]) -> bool {
     true
 }
 
+/// Fences ledger 2. Returns whether the store holds what it held before.
+fn shows_fenced(store: &mut Store<MemDisk>) -> Result<bool, AllocError> {
+    if store.fence(2) != Ok(Fence::Fenced) || !store.is_fenced(2) || store.is_fenced(1) {
+        return Ok(false);
+    }
+    Ok(holds_all(store, &HELD) && has_page(store, 2, 0, 9, &[5, 9])?)
+}
+
 #[test]
 fn a_fence_hides_no_entry(rt: HostRuntime) -> Result<(), Fail> {
     let Some(mut store) = store(rt.alloc()) else {
         panic!(rt; "no store");
     };
-    assert_eq!(rt; store.fence(2), Ok(Fence::Fenced));
-    assert!(rt; store.is_fenced(2) && !store.is_fenced(1));
-    assert!(rt; holds_all(&store, &HELD));
-    assert!(rt; has_page(&store, 2, 0, 9, &[5, 9])?);
+    assert!(rt; shows_fenced(&mut store)?);
     Ok(())
 }
+
+/// What the store counts.
+const COUNTS: Stats = Stats {
+    logs: 2,
+    next: 4,
+    indexed: 702,
+    cached: 119,
+    flushing: 136,
+    front: 15,
+};
 
 #[test]
 fn counts_are_those_of_the_store(rt: HostRuntime) {
     let Some(store) = store(rt.alloc()) else {
         panic!(rt; "no store");
     };
-    let counts = Stats {
-        logs: 2,
-        next: 4,
-        indexed: 702,
-        cached: 119,
-        flushing: 136,
-        front: 15,
-    };
-    assert_eq!(rt; store.stats(), counts);
+    assert!(rt; store.stats() == COUNTS);
+}
+
+/// The bytes of the logs.
+const BYTES: LogBytes = LogBytes {
+    total: 14_763,
+    live: 14_742,
+};
+
+/// Deletes ledger 7. Returns whether the bytes of the logs are right before and after.
+fn counts_bytes(store: &mut Store<MemDisk>) -> bool {
+    store.bytes() == BYTES && store.delete(7) == Ok(1) && store.bytes().live == 14_721
 }
 
 #[test]
@@ -182,11 +213,5 @@ fn bytes_are_those_of_the_logs(rt: HostRuntime) {
     let Some(mut store) = store(rt.alloc()) else {
         panic!(rt; "no store");
     };
-    let bytes = LogBytes {
-        total: 14_763,
-        live: 14_742,
-    };
-    assert_eq!(rt; store.bytes(), bytes);
-    assert_eq!(rt; store.delete(7), Ok(1));
-    assert_eq!(rt; store.bytes().live, 14_721);
+    assert!(rt; counts_bytes(&mut store));
 }
