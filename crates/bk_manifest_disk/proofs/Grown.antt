@@ -1,8 +1,7 @@
 -- Files of which none is shorter than before, and none is new or gone.
-use Rattle.std.proofs.Common.{◌≡◌, ◌≢◌, ◌⊎◌, inl, inr, ℕ, ◌≤◌, List, ◌++◌, length, take, drop, Option, Some, None, IsNone, Result, Ok, Err, Bool, true, false, leb, if◌then◌else◌}
+use Rattle.std.proofs.Common.{◌≡◌, inl, inr, ℕ, ◌≤◌, List, ◌++◌, length, take, drop, Option, Some, None, Result, Ok, Err, Bool, true, false, leb, if◌then◌else◌}
 use Rattle.std.proofs.Common.{refl, sym, ap, ◌∙◌, subst, arith, length-append, length-drop}
 use Rattle.std.specs.Option.{option_map_or}
-use Rattle.std.specs.Ordering.{nat_cmp}
 use Rattle.std.specs.Cmp.{nat_cmp_total}
 use Rattle.std.specs.FinMap as map
 use Rattle.std.specs.FinMap.{nat_cmp-IsAntisymmetric}
@@ -11,7 +10,7 @@ use Rattle.std.proofs.lemmas.List.{length-take-le}
 use Rattle.bk_record.specs.Files.{Files}
 use Rattle.bk_record.proofs.Maps.{key_cases, get-insert_else}
 use Rattle.bk_record.proofs.NumberMaps.{get-insert_same}
-use Rattle.bk_disk.specs.Disk.{files_after_append, files_after_patch, patched_file, Appends, Patches}
+use Rattle.bk_disk.specs.Disk.{files_after_append, files_after_patch, patched_file, Lists, Measures, Appends, Patches, Syncs, Reads, Views}
 use Rattle.bk_disk.specs.declared.fault.DiskFault.{DiskFault}
 use Rattle.bk_disk.specs.declared.fault.DiskFault.TheVariants.{Disk, Exists, NoLog, PastEnd, TooLong, Memory}
 
@@ -85,3 +84,50 @@ patches_alike old new log bytes (Err PastEnd) twelve turn = alike_equal old new 
 patches_alike old new log bytes (Err Memory) twelve turn = alike_equal old new turn.3
 patches_alike old new log bytes (Err Exists) twelve turn = absurd turn
 patches_alike old new log bytes (Err TooLong) twelve turn = absurd turn
+
+-- ---- calls that change no file
+
+pub lists_equal : {T : Type 0} (ids : T → List ℕ) (old new : Files) (result : Result T DiskFault) → Lists ids old result new → new ≡ old
+lists_equal ids old new (Ok found) turn = turn.1
+lists_equal ids old new (Err Disk) turn = turn
+lists_equal ids old new (Err Memory) turn = turn
+lists_equal ids old new (Err Exists) turn = absurd turn
+lists_equal ids old new (Err NoLog) turn = absurd turn
+lists_equal ids old new (Err PastEnd) turn = absurd turn
+lists_equal ids old new (Err TooLong) turn = absurd turn
+
+pub measures_equal : (old new : Files) (log : ℕ) (result : Result ℕ DiskFault) → Measures old log result new → new ≡ old
+measures_equal old new log (Ok n) turn = turn.3
+measures_equal old new log (Err Disk) turn = turn
+measures_equal old new log (Err NoLog) turn = turn.1
+measures_equal old new log (Err Memory) turn = turn.1
+measures_equal old new log (Err Exists) turn = absurd turn
+measures_equal old new log (Err PastEnd) turn = absurd turn
+measures_equal old new log (Err TooLong) turn = absurd turn
+
+pub reads_equal : {T : Type 0} (bytes : T → List ℕ) (old new : Files) (log at n : ℕ) (result : Result T DiskFault) → Reads bytes old log at n result new → new ≡ old
+reads_equal bytes old new log at n (Ok found) turn = turn.4
+reads_equal bytes old new log at n (Err Disk) turn = turn
+reads_equal bytes old new log at n (Err NoLog) turn = turn.1
+reads_equal bytes old new log at n (Err PastEnd) turn = turn.3
+reads_equal bytes old new log at n (Err Memory) turn = turn.3
+reads_equal bytes old new log at n (Err Exists) turn = absurd turn
+reads_equal bytes old new log at n (Err TooLong) turn = absurd turn
+
+pub views_equal : {V : Type 0} (bytes : V → List ℕ) (honest : V → Bool) (old new : Files) (log : ℕ) (result : Result V DiskFault) → Views bytes honest old log result new → new ≡ old
+views_equal bytes honest old new log (Ok view) turn = turn.2
+views_equal bytes honest old new log (Err Disk) turn = turn
+views_equal bytes honest old new log (Err NoLog) turn = turn.1
+views_equal bytes honest old new log (Err Memory) turn = turn.1
+views_equal bytes honest old new log (Err Exists) turn = absurd turn
+views_equal bytes honest old new log (Err PastEnd) turn = absurd turn
+views_equal bytes honest old new log (Err TooLong) turn = absurd turn
+
+pub syncs_equal : {T : Type 0} (old new : Files) (log : ℕ) (result : Result T DiskFault) → Syncs old log result new → new ≡ old
+syncs_equal old new log (Ok x) turn = turn.1
+syncs_equal old new log (Err Disk) turn = turn
+syncs_equal old new log (Err NoLog) turn = turn.1
+syncs_equal old new log (Err Memory) turn = turn.1
+syncs_equal old new log (Err Exists) turn = absurd turn
+syncs_equal old new log (Err PastEnd) turn = absurd turn
+syncs_equal old new log (Err TooLong) turn = absurd turn

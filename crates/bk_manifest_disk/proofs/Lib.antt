@@ -4,3 +4,8 @@ pub mod Fronts
 pub mod Grown
 pub mod Shown
 pub mod Showing
+pub mod Recorded
+pub mod DurableFronts
+pub mod Kept
+pub mod Found
+pub mod OpenedLogs

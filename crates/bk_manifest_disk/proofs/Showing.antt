@@ -1,19 +1,16 @@
 -- The calls of a disk, on the files that limits show.
-use Rattle.std.proofs.Common.{◌≡◌, ◌≢◌, ◌⊎◌, inl, inr, ℕ, ◌+◌, ◌-◌, ◌*◌, ◌≤◌, ◌<◌, ◌^◌, Bool, true, false, leb, nat_le, if◌then◌else◌, List, [], ◌++◌, length, take, drop, min, Option, Some, None, IsNone, IsSome, IsTrue, option_map, unwrap_or, Result, Ok, Err}
+use Rattle.std.proofs.Common.{◌≡◌, ◌≢◌, ◌⊎◌, inl, inr, ℕ, ◌+◌, ◌-◌, ◌≤◌, ◌<◌, ◌^◌, Bool, true, false, List, [], ◌++◌, length, take, drop, Option, Some, None, IsNone, option_map, unwrap_or, Result, Ok, Err}
 use Rattle.std.proofs.Common.{refl, sym, ap, ◌∙◌, subst, arith, length-take}
 use Rattle.std.proofs.lemmas.Bool.{leb-true, leb-false}
-use Rattle.std.proofs.lemmas.List.{take-take, drop-take, take_all, append-nil, length-take-le}
+use Rattle.std.proofs.lemmas.List.{take-take, drop-take, append-nil, length-take-le}
 use Rattle.std.proofs.lemmas.Option.{same_Some, none-some}
-use Rattle.std.specs.List.{All}
-use Rattle.std.proofs.lemmas.List.Elements.{All-take}
-use Rattle.std.specs.Ordering.{nat_cmp}
 use Rattle.std.specs.Option.{option_map_or}
 use Rattle.std.specs.Cmp.{nat_cmp_total}
 use Rattle.std.specs.FinMap as map
 use Rattle.std.specs.FinMap.{nat_cmp-IsAntisymmetric}
 use Rattle.bk_record.specs.Files.{Files, file_of}
 use Rattle.bk_record.specs.Longer.{IsLonger}
-use Rattle.bk_record.proofs.Longer.{longer_same, longer_empty, longer_trans}
+use Rattle.bk_record.proofs.Longer.{longer_empty, longer_trans}
 use Rattle.bk_record.proofs.Maps.{key_cases, get-insert_else, get-remove_else, get-remove_here}
 use Rattle.bk_record.proofs.NumberMaps.{get-insert_same, insert_same}
 use Rattle.bk_disk.specs.declared.fault.DiskFault.{DiskFault}
@@ -26,7 +23,7 @@ use Rattle.bk_disk.proofs.DurableGrows.{keeps_trans}
 use Rattle.bk_manifest_disk.specs.Limiting.{LogLimits, shown, shown_files, AreWithin, reaches, capped}
 use Rattle.bk_manifest_disk.proofs.Fronts.{longer_fronts, longer_shown, length-shown, patched_front}
 use Rattle.bk_manifest_disk.proofs.Grown.{Grown, Alike}
-use Rattle.bk_manifest_disk.proofs.Shown.{get-shown, keys-shown, IsShown, shown_there, shown_is, none_shown, some_shown, none_is, shown_insert, shown_remove, shown_cut, shown_freed}
+use Rattle.bk_manifest_disk.proofs.Shown.{get-shown, keys-shown, shown_there, shown_is, none_shown, some_shown, none_is, shown_insert, shown_remove, shown_cut, shown_freed}
 
 -- ---- bounds and lists
 
@@ -255,15 +252,6 @@ syncs_shown limits old new log (Err Memory) turn = (some_shown limits old log tu
 syncs_shown limits old new log (Err Exists) turn = absurd turn
 syncs_shown limits old new log (Err PastEnd) turn = absurd turn
 syncs_shown limits old new log (Err TooLong) turn = absurd turn
-
-pub syncs_equal : {T : Type 0} (old new : Files) (log : ℕ) (result : Result T DiskFault) → Syncs old log result new → new ≡ old
-syncs_equal old new log (Ok x) turn = turn.1
-syncs_equal old new log (Err Disk) turn = turn
-syncs_equal old new log (Err NoLog) turn = turn.1
-syncs_equal old new log (Err Memory) turn = turn.1
-syncs_equal old new log (Err Exists) turn = absurd turn
-syncs_equal old new log (Err PastEnd) turn = absurd turn
-syncs_equal old new log (Err TooLong) turn = absurd turn
 
 -- ---- append
 

@@ -47,7 +47,7 @@ impl<D: CutDisk> LimitedDisk<D> {
     /// Returns the disk, which shows of each of these logs as many bytes as its limit. Each of them
     /// has a file of at least that length.
     pub fn new(inner: D, limits: BTreeMap<u32, u64>) -> LimitedDisk<D>
-        requires { IsTrue (D.honest inner) → AreWithin (map.from_entries limits.entries) (D.files inner) }
+        requires within { IsTrue (D.honest inner) → AreWithin (map.from_entries limits.entries) (D.files inner) }
         ensures { result ≡ record {
           files = D.files inner;
           kept = D.synced inner;

@@ -1,4 +1,4 @@
-use Rattle.std.proofs.Common.{◌∙◌, ap, sym, subst, Some, Err}
+use Rattle.std.proofs.Common.{◌∙◌, ap, sym, subst, Err}
 use Rattle.std.proofs.lemmas.Result.{err_from_is_err_and}
 use Rattle.bk_disk.specs.Disk.{Views}
 use Rattle.bk_manifest_disk.specs.Limiting.{Limiting, ShownView, shown, shown_files}
