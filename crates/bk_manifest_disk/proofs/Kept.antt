@@ -20,7 +20,7 @@ use Rattle.bk_manifest_disk.specs.Table.{recorded}
 use Rattle.bk_manifest_disk.specs.Recording.{promised, if_there, promise, durable_fronts, Fits, Rises, AreRecorded}
 use Rattle.bk_manifest_disk.proofs.Grown.{Alike}
 use Rattle.bk_manifest_disk.proofs.Shown.{none_is}
-use Rattle.bk_manifest_disk.proofs.Showing.{removal_after, removal_of_grows}
+use Rattle.bk_manifest_disk.proofs.Changing.{removal_after, removal_of_grows}
 use Rattle.bk_manifest_disk.proofs.Recorded.{push_here, rises_equal, Holds, noted_more, committed, commit_rises, fits_now, alike_rises, recorded_changed}
 use Rattle.bk_manifest_disk.proofs.DurableFronts.{fronts_grow, fronts_removal, front_covers}
 

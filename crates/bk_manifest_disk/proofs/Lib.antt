@@ -4,6 +4,7 @@ pub mod Fronts
 pub mod Grown
 pub mod Shown
 pub mod Showing
+pub mod Changing
 pub mod Recorded
 pub mod DurableFronts
 pub mod Kept

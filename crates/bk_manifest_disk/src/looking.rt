@@ -51,7 +51,7 @@ fn adopted_length(finding: Finding) -> Option<u64>
 {
     match finding {
         Finding::Unknown { length } => Some(length),
-        Finding::Back { durable, length } => Some(durable.min(length)),
+        Finding::Back { .. } => hidden_from(finding),
         _ => None,
     }
 }

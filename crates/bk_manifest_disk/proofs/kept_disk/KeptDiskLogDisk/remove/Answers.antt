@@ -9,7 +9,7 @@ use Rattle.bk_manifest.specs.Keeping.{durable}
 use Rattle.bk_manifest.specs.State.{the_log, log_state}
 use Rattle.bk_manifest_disk.specs.Recording.{Recording, durable_fronts, promised}
 use Rattle.bk_manifest_disk.proofs.Grown.{alike_equal, measures_equal}
-use Rattle.bk_manifest_disk.proofs.Showing.{removal_of_grows}
+use Rattle.bk_manifest_disk.proofs.Changing.{removal_of_grows}
 use Rattle.bk_manifest_disk.proofs.Recorded.{recorded_grown, removal_holds}
 use Rattle.bk_manifest_disk.proofs.Kept.{fronts_alike, fronts_refused, after_refusal, after_commit, commit_up, last_record, removed_recorded, removal_durable}
 use Rattle.bk_manifest_disk.proofs.kept_disk.KeptDiskLogDisk.remove.Goals as goal

@@ -3,7 +3,8 @@ use Rattle.bk_disk.specs.Disk.{Appends}
 use Rattle.bk_manifest_disk.specs.Limiting.{Limiting, shown_files}
 use Rattle.bk_disk.proofs.DurableGrows.{keeps_trans}
 use Rattle.bk_manifest_disk.proofs.Grown.{appends_alike}
-use Rattle.bk_manifest_disk.proofs.Showing.{durable_shown, within_alike, within_cut, cuts_either, cut_durable, freed_durable, freed_within, appends_shown, appends_freed, appends_uncut, append_too_long}
+use Rattle.bk_manifest_disk.proofs.Showing.{durable_shown, within_alike, within_cut, cut_durable, freed_durable}
+use Rattle.bk_manifest_disk.proofs.Changing.{cuts_either, freed_within, appends_shown, appends_freed, appends_uncut, append_too_long}
 use Rattle.bk_manifest_disk.proofs.limited_disk.LimitedDiskLogDisk.append.Goals as goal
 
 pub invariant_of-self : goal.invariant_of-self

@@ -1,6 +1,7 @@
 use Rattle.std.proofs.Common.{◌∙◌, ap, sym}
 use Rattle.bk_manifest_disk.proofs.Grown.{patches_alike}
-use Rattle.bk_manifest_disk.proofs.Showing.{durable_shown, within_alike, not_reached, patches_shown}
+use Rattle.bk_manifest_disk.proofs.Showing.{durable_shown, within_alike}
+use Rattle.bk_manifest_disk.proofs.Changing.{not_reached, patches_shown}
 use Rattle.bk_manifest_disk.proofs.limited_disk.LimitedDiskLogDisk.patch.Goals as goal
 
 pub returns-then-not-reaches-clause-transition : goal.returns-then-not-reaches-clause-transition

@@ -1,5 +1,6 @@
 use Rattle.std.proofs.Common.{◌∙◌, ap, sym}
-use Rattle.bk_manifest_disk.proofs.Showing.{durable_shown, not_reached, reads_shown}
+use Rattle.bk_manifest_disk.proofs.Showing.{durable_shown}
+use Rattle.bk_manifest_disk.proofs.Changing.{not_reached, reads_shown}
 use Rattle.bk_manifest_disk.proofs.limited_disk.LimitedDiskLogDisk.read_at.Goals as goal
 
 pub returns-then-not-reaches-clause-transition : goal.returns-then-not-reaches-clause-transition

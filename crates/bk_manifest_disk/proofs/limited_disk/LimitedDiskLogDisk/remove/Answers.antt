@@ -1,7 +1,8 @@
 use Rattle.std.proofs.Common.{◌∙◌, ap, sym, subst, Err}
 use Rattle.bk_disk.specs.Disk.{Removes}
 use Rattle.bk_manifest_disk.specs.Limiting.{Limiting, shown_files}
-use Rattle.bk_manifest_disk.proofs.Showing.{within_cut, cuts_either, cut_durable, freed_within, removes_shown, removes_uncut, removes_freed, removed_within, removal_shown, removal_of_grows, removal_freed, free_now}
+use Rattle.bk_manifest_disk.proofs.Showing.{within_cut, cut_durable}
+use Rattle.bk_manifest_disk.proofs.Changing.{cuts_either, freed_within, removes_shown, removes_uncut, removes_freed, removed_within, removal_shown, removal_of_grows, removal_freed, free_now}
 use Rattle.bk_manifest_disk.proofs.limited_disk.LimitedDiskLogDisk.remove.Goals as goal
 
 pub invariant_of-self : goal.invariant_of-self

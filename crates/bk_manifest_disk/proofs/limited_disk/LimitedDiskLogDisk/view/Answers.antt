@@ -3,7 +3,8 @@ use Rattle.std.proofs.lemmas.Result.{err_from_is_err_and}
 use Rattle.bk_disk.specs.Disk.{Views}
 use Rattle.bk_manifest_disk.specs.Limiting.{Limiting, ShownView, shown, shown_files}
 use Rattle.bk_manifest_disk.proofs.Shown.{shown_is}
-use Rattle.bk_manifest_disk.proofs.Showing.{durable_shown, unviewed_shown}
+use Rattle.bk_manifest_disk.proofs.Showing.{durable_shown}
+use Rattle.bk_manifest_disk.proofs.Changing.{unviewed_shown}
 use Rattle.bk_manifest_disk.proofs.limited_disk.LimitedDiskLogDisk.view.Goals as goal
 
 pub returns-in_err-inner-clause-durable : goal.returns-in_err-inner-clause-durable
