@@ -2,3 +2,4 @@ pub mod Copies
 pub mod Damage
 pub mod Leaving
 pub mod Notes
+pub mod Remaining

@@ -1,0 +1,13 @@
+use Rattle.std.proofs.Common.{◌∙◌, ap, sym}
+use Rattle.bk_manifest_disk.proofs.Showing.{durable_shown, lists_shown}
+use Rattle.bk_manifest_disk.proofs.limited_disk.LimitedDiskLogDisk.list.Goals as goal
+
+pub returns-clause-durable : goal.returns-clause-durable
+returns-clause-durable g c = λ h.
+    let was = ap (λ d. d.honest) c.self.view_is ∙ h in
+    rw (sym c.self.view_is) (durable_shown _ _ _ _ _ (c.list.ensures.durable was))
+
+pub returns-clause-transition : goal.returns-clause-transition
+returns-clause-transition g c = λ h.
+    let was = ap (λ d. d.honest) c.self.view_is ∙ h in
+    rw (sym c.self.view_is) (lists_shown (λ v. v.items) _ _ _ _ (c.list.ensures.transition was))

@@ -1,0 +1,63 @@
+//! One record more in a manifest.
+
+ghost use Rattle.std.specs.Prelude.{unwrap_or, ◌≡◌, ◌↔◌, Some, ◌⊎◌, ◌++◌, ◌∷◌, [], IsTrue, IsErrOf, OnOk, OnErr};
+ghost use Rattle.bk_disk.specs.Disk.{FailsExactlyOnDiskFault};
+ghost use Rattle.bk_manifest.specs.Fact.{fact};
+ghost use Rattle.bk_manifest.specs.Keeping.{durable};
+ghost use Rattle.bk_manifest.specs.State.{said, the_log, log_state, length_of};
+ghost use Rattle.bk_manifest_disk.specs.Recording.{promised};
+
+use bk_disk::DiskFault;
+use bk_manifest::{LogState, Manifest, ManifestError, ManifestFile, Record, State};
+use std::alloc::Global;
+
+/// Makes a record durable, with those that are noted.
+///
+/// # Errors
+///
+/// The durable records are unchanged, and the record may be noted.
+///
+/// - `Disk` if the device of the manifest failed.
+/// - `Memory` if an allocation is refused, or the manifest would be too long.
+pub(crate) fn record<F: ManifestFile>(
+    alloc: Global,
+    manifest: &mut Manifest<F>,
+    one: Record,
+) -> Result<(), DiskFault>
+    ensures honest { manifest.new.honest ≡ manifest.old.honest }
+    ensures cause { FailsExactlyOnDiskFault manifest.old.failures manifest.new.failures result }
+    ensures ok { IsTrue manifest.old.honest → OnOk result (durable manifest.new ≡ durable manifest.old ++ (manifest.old.pending ++ fact one ∷ [])) }
+    ensures none { OnOk result (manifest.new.pending ≡ []) }
+    ensures err { IsTrue manifest.old.honest → OnErr result (durable manifest.new ≡ durable manifest.old) }
+    ensures noted { OnErr result ((manifest.new.pending ≡ manifest.old.pending) ⊎ (manifest.new.pending ≡ manifest.old.pending ++ fact one ∷ [])) }
+    ensures only { OnErr result (IsErrOf result DiskFault.Disk ⊎ IsErrOf result DiskFault.Memory) }
+{
+    if manifest.note(one).is_err() {
+        return Err(DiskFault::Memory);
+    }
+    match manifest.commit(alloc) {
+        Ok(()) => Ok(()),
+        Err(ManifestError::Disk) => Err(DiskFault::Disk),
+        Err(_) => Err(DiskFault::Memory),
+    }
+}
+
+/// Returns how many bytes of a log are durable, or were when its removal was recorded.
+pub(crate) fn durable_length(state: &State, log: u32) -> u64
+    ensures { result ≡ unwrap_or (promised (log_state (said state.now (the_log log)))) 0 }
+{
+    match state.log(log) {
+        Some(LogState::Durable { length } | LogState::Removed { length }) => length,
+        Some(LogState::Made) | None => 0,
+    }
+}
+
+/// Returns whether the last record about a log is that of this durable length.
+pub(crate) fn has_length(state: &State, log: u32, length: u64) -> bool
+    ensures { IsTrue result ↔ (length_of (log_state (said state.now (the_log log))) ≡ Some length) }
+{
+    match state.durable(log) {
+        Some(durable) => durable == length,
+        None => false,
+    }
+}
