@@ -59,3 +59,4 @@ is_failed (answers.EndCopy result) = is_err result
 is_failed (answers.Switch answer) = false
 is_failed (answers.Finish answer) = false
 is_failed (answers.GiveUp answer) = false
+is_failed answers.Unrecorded = true

@@ -120,7 +120,8 @@ pub fn is_fault(answer: &Answer) -> bool
         | Answer::Remove(Err(_))
         | Answer::Begin(Err(_))
         | Answer::Copy(Err(_))
-        | Answer::EndCopy(Err(_)) => true,
+        | Answer::EndCopy(Err(_))
+        | Answer::Unrecorded => true,
         _ => false,
     }
 }

@@ -8,4 +8,5 @@ pub mod StoreRefinement
 pub mod Closing
 pub mod Simulation
 pub mod Driving
+pub mod Recording
 pub mod Seats

@@ -3,5 +3,6 @@ pub mod Machine
 pub mod Held
 pub mod ReaderLeases
 pub mod Headline
+pub mod Recorded
 pub mod Failing
 pub mod Frame

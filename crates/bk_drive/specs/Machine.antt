@@ -42,7 +42,6 @@ use Rattle.bk_collect.specs.declared.answer.RemoveAnswer.TheVariants as removes
 use Rattle.bk_collect.specs.declared.answer.RetireAnswer.{RetireAnswer}
 use Rattle.bk_collect.specs.declared.answer.CollectFault.{CollectFault}
 use Rattle.bk_compact.specs.Compacting.{BeginTransition, CopyTransition, EndCopyTransition, SwitchTransition, FinishTransition, GiveUpTransition}
-use Rattle.bk_compact.specs.declared.answer.Kind.{Kind}
 use Rattle.bk_compact.specs.declared.answer.BeginAnswer.{BeginAnswer}
 use Rattle.bk_compact.specs.declared.answer.CopyAnswer.{CopyAnswer}
 use Rattle.bk_compact.specs.declared.answer.EndAnswer.{EndAnswer}

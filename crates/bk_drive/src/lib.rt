@@ -2,6 +2,8 @@
 #![tactic(auto)]
 
 mod readers;
+mod recorded;
+mod recorder;
 mod run;
 mod step;
 mod taking;
@@ -18,5 +20,7 @@ pub use bk_store::{
     Settings, StepFault, Store, SwapAnswer, TakeFault,
 };
 pub use readers::{Readers, Reading};
+pub use recorded::drive_recorded;
+pub use recorder::Recorder;
 pub use run::{Ran, apply, drive};
 pub use step::{Answer, FetchAnswer, ReleaseAnswer, Step, TakeAnswer, Work};

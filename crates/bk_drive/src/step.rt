@@ -130,4 +130,7 @@ pub enum Answer {
     Switch(SwitchAnswer),
     Finish(FinishAnswer),
     GiveUp(GiveUpAnswer),
+    /// The step was not performed, since what must be durable before it could not be recorded. Only
+    /// `drive_recorded` gives this answer.
+    Unrecorded,
 }

@@ -272,6 +272,7 @@ text_of (answers.EndCopy answer) = end_text answer
 text_of (answers.Switch answer) = switch_text answer
 text_of (answers.Finish answer) = finish_text answer
 text_of (answers.GiveUp answer) = give_up_text answer
+text_of answers.Unrecorded = codes "fault disk"
 
 -- One line for each answer.
 abbrev pub lines_of : List Answer → List ℕ

@@ -47,6 +47,7 @@ impl Display for Text<'_, Answer> {
             Answer::Switch(answer) => Text(answer).fmt(f),
             Answer::Finish(answer) => Text(answer).fmt(f),
             Answer::GiveUp(answer) => Text(answer).fmt(f),
+            Answer::Unrecorded => write!(f, "fault disk"),
         }
     }
 }
