@@ -1,4 +1,5 @@
 pub mod Abstract
+pub mod LedgerReads
 pub mod Machine
 pub mod Held
 pub mod ReaderLeases
