@@ -10,6 +10,7 @@ mod fault;
 mod fetching;
 mod guarded;
 mod hold;
+mod ledger_reads;
 mod pass;
 mod receipts;
 mod workers;

@@ -103,6 +103,16 @@ and their answers:
                             delete a ledger for good, with its N entries
   fence LEDGER              fenced | already fenced
                             refuse later adds to a ledger, but for radd
+  holds LEDGER ENTRY        yes | no
+                            tell whether there is an entry
+  fenced LEDGER             yes | no
+                            tell whether a ledger is fenced
+  last LEDGER               last ENTRY | no entry
+                            tell the greatest entry id of a ledger
+  entries LEDGER FROM N     entries ENTRY .. | no entry
+                            list the first N entry ids of a ledger from FROM on
+  ledgers FROM N            ledgers LEDGER .. | no ledger
+                            list the first N ledgers with an entry from FROM on
   swap                      swapped N | nothing | running
                             begin a flush of the N cached entries
   write                     wrote LOCATION | all written | no flush
@@ -137,9 +147,9 @@ and their answers:
                             end the compaction, and leave both logs
 A refused step answers `fault TEXT`.
 
-LEDGER and ENTRY are 0 to 9223372036854775807, READER is 0 to 3, LOG is 0 to 2147483647. N of `copy`
-and `switch` is 0 to 4294967295. DATA is in hexadecimal, or `-` if there is none. LOCATION is the
-log's id times 2^32, plus the position in the log.
+LEDGER, ENTRY and FROM are 0 to 9223372036854775807, READER is 0 to 3, LOG is 0 to 2147483647. N of
+`copy`, `switch`, `entries` and `ledgers` is 0 to 4294967295. DATA is in hexadecimal, or `-` if there
+is none. LOCATION is the log's id times 2^32, plus the position in the log.
 
 A LEDGER operand was deleted before the first step. An add to a deleted ledger answers `fault
 deleted`, a second deletion `fault already deleted`. An add that would take the cache past
