@@ -10,3 +10,6 @@ pub mod Sealing
 pub mod Copying
 pub mod Cutting
 pub mod Unsealed
+pub mod Walking
+pub mod LastRecords
+pub mod Exporting

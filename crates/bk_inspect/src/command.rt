@@ -1,5 +1,7 @@
 //! The commands that read a directory of entry logs.
 
+ghost use Rattle.std.specs.Prelude.{◌≤◌, ◌↔◌, IsTrue};
+
 use crate::DigestChoice;
 use bk_record::Key;
 
@@ -70,7 +72,9 @@ pub struct EntryRange {
 
 impl EntryRange {
     /// Returns whether this is a number of the range.
-    pub(crate) fn has(&self, entry: u64) -> bool {
+    pub(crate) fn has(&self, entry: u64) -> bool
+        ensures { IsTrue result ↔ (self.now.first ≤ entry) × (entry ≤ self.now.last) }
+    {
         self.first <= entry && entry <= self.last
     }
 }

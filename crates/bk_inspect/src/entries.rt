@@ -1,6 +1,7 @@
 //! `entries`: the last records of a ledger's entries, in order.
 
-ghost use Rattle.std.specs.Prelude.{◌≤◌, IfOk};
+ghost use Rattle.std.specs.Prelude.{◌≡◌, ◌≤◌, IfOk, OnOk, []};
+ghost use Rattle.bk_inspect.specs.LastRecords.{HasLast, Notes};
 ghost use Rattle.bk_inspect.specs.Reading.{OnlyReads};
 
 use crate::form::write_row;
@@ -30,6 +31,8 @@ pub(crate) struct LastRecords {
 }
 
 impl TakesEntries for LastRecords {
+    ghost has = { λ first now taken. (now.range ≡ first.range) × HasLast now.range now.records taken };
+
     fn take_in(&mut self, log: u32, found: Found) -> Result<(), AllocError> {
         let entry = found.key.entry();
         if found.key.ledger() == self.range.ledger && self.range.has(entry) {
@@ -41,7 +44,9 @@ impl TakesEntries for LastRecords {
 
 impl LastRecords {
     /// Returns those of no log.
-    pub(crate) fn new(alloc: Global, range: EntryRange) -> LastRecords {
+    pub(crate) fn new(alloc: Global, range: EntryRange) -> LastRecords
+        ensures { (result.range ≡ range) × HasLast range result.records [] }
+    {
         LastRecords {
             range,
             records: BTreeMap::new(alloc),
@@ -49,7 +54,9 @@ impl LastRecords {
     }
 
     /// Notes a record of an entry, unless one of a later log is known.
-    fn note(&mut self, entry: u64, standing: Standing) -> Result<(), AllocError> {
+    fn note(&mut self, entry: u64, standing: Standing) -> Result<(), AllocError>
+        ensures { OnOk result ((self.new.range ≡ self.old.range) × Notes self.old.records entry standing self.new.records) }
+    {
         match self.records.get(&entry) {
             Some(known) if known.log > standing.log => {}
             _ => {

@@ -12,6 +12,9 @@ pub(crate) struct Unread {
     pub(crate) reason: io::Error,
 }
 
+/// Why something that has a log's name is no log.
+const NO_FILE: &str = "no regular file";
+
 /// How often a directory is read again until it is found unchanged.
 const LOOKS: u8 = 32;
 
@@ -94,8 +97,7 @@ fn entry_of(rt: &HostRuntime, entry: &DirEntry) -> Entry {
         return Entry::Other;
     };
     match open_file(rt, entry) {
-        Ok(true) => Entry::Log(log),
-        Ok(false) => Entry::Other,
+        Ok(()) => Entry::Log(log),
         Err(reason) => match fs::symlink_metadata(rt, entry.path()) {
             Err(again) if again.kind() == ErrorKind::NotFound => Entry::Gone,
             _ => Entry::Unread(Unread { log, reason }),
@@ -103,11 +105,12 @@ fn entry_of(rt: &HostRuntime, entry: &DirEntry) -> Entry {
     }
 }
 
-/// Opens a file and closes it. Returns whether it is a file.
-fn open_file(rt: &HostRuntime, entry: &DirEntry) -> io::Result<bool> {
+/// Opens a file and closes it. Fails with `InvalidInput` if it is no regular file, such as a
+/// directory or a pipe.
+fn open_file(rt: &HostRuntime, entry: &DirEntry) -> io::Result<()> {
     if !fs::metadata(rt, entry.path())?.is_file() {
-        return Ok(false);
+        return Err(io::Error::new(ErrorKind::InvalidInput, NO_FILE));
     }
     let _opened = File::open(rt, entry.path())?;
-    Ok(true)
+    Ok(())
 }

@@ -132,8 +132,8 @@ Prints one line per ledger, rising: `LEDGER RECORDS BYTES FIRST LAST LOGS`. RECO
 its records in all logs, BYTES their size, FIRST and LAST its first and last entry, LOGS the number
 of logs with a record. An entry with two records counts twice.
 
-If a log cannot be read to its end, `fault log ID: TEXT` goes to the error stream, and the log is
-counted up to there.
+If a log's header is invalid, or a log cannot be read to its end, `fault log ID: TEXT` goes to the
+error stream, and the log is counted as far as it can be read.
 
 Exit status: 0, 1 on a fault, 2 if the command line is wrong.
 
@@ -153,8 +153,8 @@ Prints one line per entry of the ledger, rising: `ENTRY LOG AT SIZE`. LOG is the
 record, AT the position of the payload there, SIZE the size of the record. If an entry has several
 records, the last one counts, by log id, then position.
 
-If a log cannot be read to its end, `fault log ID: TEXT` goes to the error stream, and the log is
-searched up to there.
+If a log's header is invalid, or a log cannot be read to its end, `fault log ID: TEXT` goes to the
+error stream, and the log is searched as far as it can be read.
 
 Exit status: 0, 1 on a fault, 2 if the command line is wrong.
 
@@ -178,9 +178,9 @@ an entry is a line, `ENTRY DATA`: its number and its data in hexadecimal, or `-`
 bytes each) and data. All numbers are big-endian. `import` reads that. With --json the members are
 `ledger`, `entry` and `data`.
 
-If a log cannot be read to its end, `fault log ID: TEXT` goes to the error stream, and the log is
-searched up to there. What can be read is written. A deleted ledger is exported like any other, as long
-as its records are there.
+If a log's header is invalid, or a log cannot be read to its end, `fault log ID: TEXT` goes to the
+error stream, and the log is searched as far as it can be read. What can be read is written. A
+deleted ledger is exported like any other, as long as its records are there.
 
 Exit status: 0 if each entry was written, once; 1 on a fault; 2 if the command line is wrong.
 
@@ -199,10 +199,10 @@ Examples:
         help: "\
 Prints `LOG AT DATA`, or `not found`. LOG is the log of the entry's last record, AT the position of
 the payload there, DATA the data in hexadecimal, or `-` if there is none. If an entry has several
-records, the last one counts, by log id, then position. All logs are scanned; headers are not read.
+records, the last one counts, by log id, then position. All logs are scanned.
 
-If a log cannot be read to its end, `fault log ID: TEXT` goes to the error stream, and the log is
-searched up to there.
+If a log's header is invalid, or a log cannot be read to its end, `fault log ID: TEXT` goes to the
+error stream, and the log is searched as far as it can be read.
 
 Exit status: 0, also if the entry is not found; 1 on a fault; 2 if the command line is wrong.
 
@@ -223,8 +223,9 @@ the number of records with a negative id, such as those of a ledgers map, and th
 the end that are no whole record. The header is not read. A length field below 16 ends the scan:
 `fault bad length AT N`.
 
-With --ledger or --from fewer entries are shown, and `entries` counts those shown; the whole log is
-scanned. With --data each line ends with the data in hexadecimal, or `-` if there is none.
+With --ledger or --from (0 to 4294967295) fewer entries are shown, and `entries` counts those shown;
+the whole log is scanned. With --data each line ends with the data in hexadecimal, or `-` if there
+is none.
 
 Exit status: 0, 1 on a fault, 2 if the command line is wrong.
 
