@@ -23,6 +23,6 @@ pub use bk_store::{
 pub use ledger_reads::{LedgerRead, LedgerReadAnswer};
 pub use readers::{Readers, Reading};
 pub use recorded::drive_recorded;
-pub use recorder::Recorder;
+pub use recorder::{Recorder, RecordsNothing};
 pub use run::{Ran, apply, drive};
 pub use step::{Answer, FetchAnswer, ReleaseAnswer, Step, TakeAnswer, Work};

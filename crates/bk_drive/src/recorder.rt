@@ -19,7 +19,7 @@ pub trait Recorder {
 
 /// The recorder of a run that records nothing: each step may be performed.
 #[derive(Drop)]
-pub(crate) struct RecordsNothing;
+pub struct RecordsNothing;
 
 impl Recorder for RecordsNothing {
     ghost use Rattle.std.specs.Prelude.{◌≡◌, true};
