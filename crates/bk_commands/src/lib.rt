@@ -1,13 +1,17 @@
 //! The commands of the program that need no threads, on any streams.
 #![tactic(auto)]
 
+mod book;
 mod commands;
 mod compact;
 mod dead;
+mod deleted;
 mod failed_calls;
 mod folder_disk;
 mod import;
 mod line;
+mod manifest;
+mod noted;
 mod opening;
 mod opening_view;
 mod program;
@@ -16,14 +20,16 @@ mod script;
 mod way_on;
 
 pub use bk_cli::{
-    CommandRow, Commands, DEFAULTS, FolderCall, READING, ScriptCall, Value, WRITING, Word,
-    command_of, folder_call, form_of, is_folder_call, json_arg, row_of, script_call, text_of,
-    words,
+    CommandRow, Commands, DEFAULTS, FolderCall, ScriptCall, Value, Word, command_of, counting_rows,
+    folder_call, form_of, is_folder_call, json_arg, reading_rows, row_of, script_call, text_of,
+    words, writing_rows,
 };
+pub use book::{Book, BookFault};
 pub use commands::dir_command;
 pub use compact::{CompactAsk, compact_disk};
+pub use deleted::DeletedAsk;
 pub use failed_calls::FailedCalls;
 pub use opening::{Opened, OpeningDisk};
 pub use opening_view::OpeningView;
 pub use program::{StartFault, run_words, tell, tell_fault, tell_reading, words_of};
-pub use script::{OpeningFault, open_or_make};
+pub use script::{Opening, OpeningFault, open_or_make};

@@ -43,8 +43,8 @@ Output:
                                                    met a fault, and all earlier entries are there
 
 With --folder the directory is created if it does not exist. The ledgers are those after the last one
-with an entry, and the entries stay. A directory does not record which ledgers are deleted: the next
-call takes them as live, unless they were compacted away. One program at a time writes to a directory.
+with an entry, deleted or fenced, and the entries stay. Each deletion is recorded in `ledgers.manifest`
+of DIR before it takes effect. One program at a time writes to a directory.
 With --json the numbers are one object.
 
 Exit status: 0 if and only if the load was good; 1 if it was bad, ended early, with `fault TEXT` on
