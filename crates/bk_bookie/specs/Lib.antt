@@ -4,4 +4,3 @@ pub mod Receipts
 pub mod Guarded
 pub mod Calls
 pub mod Works
-pub mod LedgerReads

@@ -1,5 +1,5 @@
 -- Answers of a step of the store alone: which are its own, and which are errors.
-use Rattle.std.specs.Prelude.{◌≡◌, ℕ, Bool, true, false, is_err, Result}
+use Rattle.std.specs.Prelude.{◌≡◌, ℕ, Bool, false, is_err, Result}
 use Rattle.bk_cache.specs.declared.swap.Swap.{Swap}
 use Rattle.bk_collect.specs.declared.answer.CloseAnswer.{CloseAnswer}
 use Rattle.bk_collect.specs.declared.answer.CollectFault.{CollectFault}
@@ -11,8 +11,6 @@ use Rattle.bk_compact.specs.declared.answer.EndAnswer.{EndAnswer}
 use Rattle.bk_compact.specs.declared.answer.FinishAnswer.{FinishAnswer}
 use Rattle.bk_compact.specs.declared.answer.GiveUpAnswer.{GiveUpAnswer}
 use Rattle.bk_compact.specs.declared.answer.SwitchAnswer.{SwitchAnswer}
-use Rattle.bk_drive.specs.declared.ledger_reads.LedgerReadAnswer.{LedgerReadAnswer}
-use Rattle.bk_drive.specs.declared.ledger_reads.LedgerReadAnswer.TheVariants as reads
 use Rattle.bk_drive.specs.declared.step.Answer.{Answer}
 use Rattle.bk_drive.specs.declared.step.Answer.TheVariants as answers
 use Rattle.bk_drive.specs.declared.step.Work.{Work}
@@ -39,14 +37,6 @@ IsAnswerOf (works.Switch n) answer = (a : SwitchAnswer) × (answer ≡ answers.S
 IsAnswerOf works.Finish answer = (a : FinishAnswer) × (answer ≡ answers.Finish a)
 IsAnswerOf works.GiveUp answer = (a : GiveUpAnswer) × (answer ≡ answers.GiveUp a)
 
--- the answer of a read by ledger is an error
-abbrev pub has_failed : LedgerReadAnswer → Bool
-has_failed (reads.Holds answer) = false
-has_failed (reads.IsFenced answer) = false
-has_failed (reads.LastEntry answer) = false
-has_failed (reads.Entries result) = is_err result
-has_failed (reads.Ledgers result) = is_err result
-
 -- the answer of the step is an error
 abbrev pub is_failed : Answer → Bool
 is_failed (answers.Add result) = is_err result
@@ -69,5 +59,3 @@ is_failed (answers.EndCopy result) = is_err result
 is_failed (answers.Switch answer) = false
 is_failed (answers.Finish answer) = false
 is_failed (answers.GiveUp answer) = false
-is_failed (answers.Read answer) = has_failed answer
-is_failed answers.Unrecorded = true

@@ -22,7 +22,7 @@ use bk_store::{
 };
 
 /// Converts a result of the store to one of a pass.
-pub(crate) fn told<T, F>(answer: Result<T, F>) -> Result<T, CallFault<F>>
+fn told<T, F>(answer: Result<T, F>) -> Result<T, CallFault<F>>
     ensures { result ≡ call_result_of answer }
 {
     match answer {
@@ -58,7 +58,7 @@ fn add_as<D: LogDisk>(
 
 impl<L: AddLedger, D: LogDisk> Guarded<L, D> {
     /// Returns the length of the trail if it is shorter than the pass has observed.
-    pub(crate) fn behind(&self, pass: &Pass<L>) -> Option<u64>
+    fn behind(&self, pass: &Pass<L>) -> Option<u64>
         ensures some { IfSome result (λ front. (front ≡ front_of self.now.store) × (front < pass.now.seen)) }
         ensures none { IfNone result (pass.now.seen ≤ front_of self.now.store) }
     {

@@ -10,7 +10,6 @@ mod fault;
 mod fetching;
 mod guarded;
 mod hold;
-mod ledger_reads;
 mod pass;
 mod receipts;
 mod workers;

@@ -8,7 +8,7 @@ use crate::WorkersFault;
 use crate::bookie::Bookie;
 use crate::pass::AddLedger;
 use bk_disk::LogDisk;
-use bk_drive::{Answer, LedgerReadAnswer, Work};
+use bk_drive::{Answer, Work};
 use crossbeam_channel::Receiver;
 use std::alloc::Global;
 use std::sync::Wait;
@@ -120,9 +120,7 @@ pub fn is_fault(answer: &Answer) -> bool
         | Answer::Remove(Err(_))
         | Answer::Begin(Err(_))
         | Answer::Copy(Err(_))
-        | Answer::EndCopy(Err(_))
-        | Answer::Read(LedgerReadAnswer::Entries(Err(_)) | LedgerReadAnswer::Ledgers(Err(_)))
-        | Answer::Unrecorded => true,
+        | Answer::EndCopy(Err(_)) => true,
         _ => false,
     }
 }

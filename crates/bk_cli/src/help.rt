@@ -103,16 +103,6 @@ and their answers:
                             delete a ledger for good, with its N entries
   fence LEDGER              fenced | already fenced
                             refuse later adds to a ledger, but for radd
-  holds LEDGER ENTRY        yes | no
-                            tell whether there is an entry
-  fenced LEDGER             yes | no
-                            tell whether a ledger is fenced
-  last LEDGER               last ENTRY | no entry
-                            tell the greatest entry id of a ledger
-  entries LEDGER FROM N     entries ENTRY .. | no entry
-                            list the first N entry ids of a ledger from FROM on
-  ledgers FROM N            ledgers LEDGER .. | no ledger
-                            list the first N ledgers with an entry from FROM on
   swap                      swapped N | nothing | running
                             begin a flush of the N cached entries
   write                     wrote LOCATION | all written | no flush
@@ -147,9 +137,9 @@ and their answers:
                             end the compaction, and leave both logs
 A refused step answers `fault TEXT`.
 
-LEDGER, ENTRY and FROM are 0 to 9223372036854775807, READER is 0 to 3, LOG is 0 to 2147483647. N of
-`copy`, `switch`, `entries` and `ledgers` is 0 to 4294967295. DATA is in hexadecimal, or `-` if there
-is none. LOCATION is the log's id times 2^32, plus the position in the log.
+LEDGER and ENTRY are 0 to 9223372036854775807, READER is 0 to 3, LOG is 0 to 2147483647. N of `copy`
+and `switch` is 0 to 4294967295. DATA is in hexadecimal, or `-` if there is none. LOCATION is the
+log's id times 2^32, plus the position in the log.
 
 A LEDGER operand was deleted before the first step. An add to a deleted ledger answers `fault
 deleted`, a second deletion `fault already deleted`. An add that would take the cache past
@@ -165,16 +155,19 @@ below --minor or --major. Until the compaction ends, the log and its copy are in
 removed by `close` and `remove`.
 
 With --folder the store is opened on the logs of DIR, and entries published there are found by the
-next call. DIR is created if it does not exist and its parent does. A directory does not record which
-ledgers are deleted: name them again as operands. One program at a time writes to a directory; a
+next call. DIR is created if it does not exist and its parent does. The file `ledgers.manifest` of DIR
+records each deletion and each fence before it takes effect, so that the next call finds them. A
+LEDGER that was deleted elsewhere is recorded too. If a record cannot be written, the step and those
+after it answer `fault disk` and do nothing. One program at a time writes to a directory; a
 second one is refused, and names the first one's process. The answers are those of a store in memory,
 unless a step meets a fault. Each call of the system that fails is reported once on the error stream,
 `FILE: OPERATION: REASON`. If the error stream is a terminal and the opening takes longer than a
 second, a line there shows the progress.
 
-With --marks each log of DIR gets a durability watermark in its header, and a flush syncs twice. When
-DIR is opened, what follows a watermark is cut off, whatever bytes a power loss left there. A
-directory with a watermark in one of its logs keeps them without --marks.
+The file `logs.manifest` of DIR records how many bytes of each log are durable, so a flush syncs twice.
+When DIR is opened, what a log has behind them is not read, whatever a power loss left there: `note log
+LOG: ..` names the place. It stays in the file. A log of which durable bytes are missing is a fault, and
+nothing is changed. With --no-manifest neither file is read or written.
 
 Exit status:
   0  every step was answered

@@ -216,6 +216,43 @@ pub const DEAD_FILE: Word = Word {
     ..OPTION
 };
 
+/// Files of live ledgers.
+pub const LIVE_FILE: Word = Word {
+    name: "live-file",
+    value: Value::Paths { name: "FILE" },
+    help: "Take each ledger that this file does not list as deleted; may be repeated",
+    ..OPTION
+};
+
+/// Whether no ledger may be live.
+pub const LIVE_NONE: Word = Word {
+    name: "live-none",
+    help: "Take each ledger as deleted that no --live-file lists, also if none is listed",
+    ..OPTION
+};
+
+/// Whether manifests are only checked.
+pub const CHECK: Word = Word {
+    name: "check",
+    conflicts: &["rebuild"],
+    help: "Check the manifest, and show no records",
+    ..OPTION
+};
+
+/// Whether a damaged manifest is made anew.
+pub const REBUILD: Word = Word {
+    name: "rebuild",
+    help: "Make a damaged manifest anew of the records before the damage",
+    ..OPTION
+};
+
+/// Whether the manifest of the directory is neither read nor written.
+pub const NO_MANIFEST: Word = Word {
+    name: "no-manifest",
+    help: "Neither read nor write the manifest of the directory",
+    ..OPTION
+};
+
 /// Whether the operator rebuilds the bookie's index.
 pub const INDEX_IS_REBUILT: Word = Word {
     name: "index-is-rebuilt",

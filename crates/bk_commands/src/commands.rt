@@ -3,8 +3,11 @@
 ghost use Rattle.std.specs.Prelude.{◌≤◌};
 
 use crate::compact::{CompactAsk, run_compact, tell_dead};
-use crate::dead::dead_in;
+use crate::dead::DeadFault;
+use crate::deleted::{Deleted, DeletedAsk, deleted_in};
 use crate::import::run_import;
+use crate::manifest::run_manifest;
+use crate::noted::note_deleted;
 use crate::program::StartFault;
 use bk_cli::words::{
     CUT_TORN, DATA, DIGEST, ENTRY, FILE, FIRST, FROM, LAST, LEDGER, LONG, OF_LEDGER, RAW,
@@ -27,6 +30,7 @@ pub(crate) fn run_call<W: Write, E: Write>(
 ) -> u8
     ensures { result ≤ 1 }
 {
+    note_deleted(rt, call, errors);
     if let Some(command) = dir_command(call) {
         let command = FolderCommand::Dir(command);
         return run_folder_as(rt, call.form, call.path, &command, writer, errors);
@@ -38,6 +42,7 @@ pub(crate) fn run_call<W: Write, E: Write>(
         "report" => run_report(rt, call, writer, errors),
         "seal" => run_seal(rt, call, writer, errors),
         "compact" => run_compaction(rt, call, writer, errors),
+        "manifest" => run_manifest(rt, call, writer, errors),
         _ => without_function(call, errors),
     }
 }
@@ -127,9 +132,9 @@ fn run_stat<W: Write, E: Write>(
 ) -> u8
     ensures { result ≤ 1 }
 {
-    match dead_in(rt, call) {
-        Ok(dead) => {
-            let command = FolderCommand::Stat(&dead);
+    match deleted_by(rt, call, errors) {
+        Ok(deleted) => {
+            let command = FolderCommand::Stat(&deleted.all);
             run_folder_as(rt, call.form, call.path, &command, writer, errors)
         }
         Err(fault) => {
@@ -170,8 +175,11 @@ fn run_report<W: Write, E: Write>(
         minor: DEFAULTS.minor,
         major: DEFAULTS.major,
     };
-    match dead_in(rt, call) {
-        Ok(dead) => report_folder(rt, call.form, call.path, &dead, THRESHOLDS, writer, errors),
+    match deleted_by(rt, call, errors) {
+        Ok(deleted) => {
+            let dead = &deleted.all;
+            report_folder(rt, call.form, call.path, dead, THRESHOLDS, writer, errors)
+        }
         Err(fault) => {
             tell_dead(rt.alloc(), call.form, fault, errors);
             1
@@ -243,8 +251,8 @@ fn run_import_of<W: Write, E: Write>(
     let Some(file) = call.text(&FILE) else {
         return without_function(call, errors);
     };
-    match dead_in(rt, call) {
-        Ok(dead) => run_import(rt, call.form, call.path, file, &dead, writer, errors),
+    match deleted_by(rt, call, errors) {
+        Ok(deleted) => run_import(rt, call.form, call.path, file, &deleted, writer, errors),
         Err(fault) => {
             tell_dead(rt.alloc(), call.form, fault, errors);
             1
@@ -265,6 +273,16 @@ fn run_compaction<W: Write, E: Write>(
         Ok(ask) => run_compact(rt, call.form, call.path, &ask, writer, errors),
         Err(_) => without_memory(errors),
     }
+}
+
+/// Returns the deleted ledgers of a call.
+fn deleted_by<E: Write>(
+    rt: &HostRuntime,
+    call: &FolderCall<'_>,
+    errors: &mut E,
+) -> Result<Deleted, DeadFault> {
+    let ask = DeletedAsk::of(rt.alloc(), call)?;
+    deleted_in(rt, call.form, call.path, &ask, errors)
 }
 
 /// Reports that memory is refused. Returns the status.

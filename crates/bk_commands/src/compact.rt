@@ -14,9 +14,12 @@ mod named;
 mod planned;
 mod rows;
 
-use crate::dead::{DeadFault, dead_ledgers};
+use crate::book::Book;
+use crate::dead::DeadFault;
+use crate::deleted::{Deleted, deleted_in};
 use crate::failed_calls::FailedCalls;
 use crate::folder_disk::FolderDisk;
+use crate::ignored::Ignored;
 use crate::opening::OpeningDisk;
 use crate::progress::Progress;
 pub use ask::CompactAsk;
@@ -148,15 +151,14 @@ fn find_work<W: Write, E: Write>(
     writer: &mut W,
     errors: &mut E,
 ) -> Result<Option<Work>, CompactFault> {
-    let named = Vec::from_slice(rt.alloc(), &ask.dead)?;
-    let dead = dead_ledgers(rt, named, &ask.dead_files)?;
+    let deleted = deleted_in(rt, form, path, &ask.deleted, errors)?;
     let (disk, logs) = find_logs(rt, path, watch)?;
     if logs.is_empty() {
         show_empty(rt.alloc(), form, path, writer, errors)?;
         return Ok(None);
     }
     if ask.is_dry {
-        show_dry(rt, form, path, disk, &logs, ask, &dead, writer, errors)?;
+        show_dry(rt, form, path, disk, &logs, ask, &deleted, writer, errors)?;
         return Ok(None);
     }
     drop(disk);
@@ -165,25 +167,66 @@ fn find_work<W: Write, E: Write>(
     {
         return Err(CompactFault::Index(file));
     }
-    let (disk, failed, logs) = open_work(rt, path, watch)?;
+    let Opened {
+        disk,
+        failed,
+        lengths: logs,
+        mut book,
+        ignored,
+    } = open_work(rt, path, ask, watch)?;
+    book.tell_torn(form, errors);
+    ignored.tell(form, errors);
+    let dead = book.delete_all(&deleted.named)?;
     let kept = kept_logs(rt, path, &logs)?;
     tell_kept(rt.alloc(), form, &kept, &logs, errors)?;
     let disk = OpeningDisk::keeping(rt, disk, failed, kept);
     Ok(Some(Work { disk, dead }))
 }
 
-/// Opens a directory as its one writer, and sets `watch` to the watch of its disk. Returns its disk,
-/// the calls on it that fail, and the lengths of its logs by id.
+/// A directory that is open to be compacted.
+#[derive(Drop)]
+struct Opened {
+    disk: FolderDisk,
+    failed: FailedCalls,
+    /// The lengths of its logs by id.
+    lengths: BTreeMap<u32, u64>,
+    book: Book,
+    ignored: Ignored,
+}
+
+/// Opens a directory as its one writer, and sets `watch` to the watch of its disk.
 fn open_work(
     rt: &HostRuntime,
     path: &str,
+    ask: &CompactAsk<'_>,
     watch: &mut Option<FaultWatch>,
-) -> Result<(FolderDisk, FailedCalls, BTreeMap<u32, u64>), CompactFault> {
+) -> Result<Opened, CompactFault> {
+    let alloc = rt.alloc();
     let mut disk = DirDisk::open_to_write(rt, path)?;
-    *watch = Some(disk.fault_watch(rt.alloc())?);
-    let failed = FailedCalls::on(rt.alloc(), &disk)?;
-    let logs = lengths_of(rt.alloc(), &mut disk)?;
-    Ok((FolderDisk::open(rt.alloc(), disk, false)?, failed, logs))
+    *watch = Some(disk.fault_watch(alloc)?);
+    let failed = FailedCalls::on(alloc, &disk)?;
+    let lengths = lengths_of(alloc, &mut disk)?;
+    if ask.deleted.no_manifest {
+        return Ok(Opened {
+            disk: FolderDisk::plain(alloc, disk),
+            lengths,
+            book: Book::closed(alloc, &failed)?,
+            ignored: Ignored::none(alloc),
+            failed,
+        });
+    }
+    let book = Book::open(alloc, &mut disk, &failed)?;
+    let opened = FolderDisk::kept(alloc, disk)?;
+    Ok(Opened {
+        disk: opened.disk,
+        failed,
+        lengths,
+        book,
+        ignored: Ignored {
+            reports: opened.reports,
+            torn: opened.torn,
+        },
+    })
 }
 
 /// Shows what a compaction of a directory would do, and flushes.
@@ -194,7 +237,7 @@ fn show_dry<W: Write, E: Write>(
     disk: DirDisk,
     lengths: &BTreeMap<u32, u64>,
     ask: &CompactAsk<'_>,
-    dead: &[u64],
+    deleted: &Deleted,
     writer: &mut W,
     errors: &mut E,
 ) -> Result<(), CompactFault> {
@@ -202,15 +245,15 @@ fn show_dry<W: Write, E: Write>(
     let kept = kept_logs(rt, path, lengths)?;
     tell_kept(alloc, form, &kept, lengths, errors)?;
     let failed = FailedCalls::on(alloc, &disk)?;
-    let disk = OpeningDisk::new(rt, FolderDisk::Plain(disk), failed);
+    let disk = OpeningDisk::new(rt, FolderDisk::plain(alloc, disk), failed);
     let look = Look {
         lengths,
         kept: &kept,
         ask,
-        dead,
+        dead: &deleted.all,
     };
     let summary = show_plan(alloc, form, disk, &look, writer)?;
-    show_named(rt, form, path, dead, writer, errors)?;
+    show_named(rt, form, path, &deleted.named, writer, errors)?;
     write_summary(alloc, form, &summary, writer)
 }
 

@@ -8,12 +8,13 @@ ghost use Rattle.std.specs.Prelude.{false};
 ghost use Rattle.std.specs.FinMap as map;
 ghost use Rattle.bk_commands.specs.Failures.{failures_of};
 
+use crate::book::Book;
 use crate::failed_calls::FailedCalls;
 use crate::folder_disk::FolderDisk;
 use crate::line::Line;
 use crate::opening_view::OpeningView;
 use bk_disk::{DiskFault, LogDisk, LogView};
-use bk_drive::{Answer, OpenFault, Settings, Step, drive};
+use bk_drive::{Answer, OpenFault, Settings, Step, drive, drive_recorded};
 use bk_script::ScriptDisk;
 use std::alloc::{AllocError, Global};
 use std::fmt;
@@ -63,6 +64,8 @@ pub struct OpeningDisk {
     opening: Opening,
     /// The logs whose file stays when the log is removed.
     kept: Vec<u32>,
+    /// Where a script records deletions and fences.
+    book: Option<Book>,
 }
 
 impl OpeningDisk {
@@ -83,6 +86,7 @@ impl OpeningDisk {
             disk,
             failed,
             kept,
+            book: None,
             opening: Opening {
                 line: Line::new(rt),
                 logs: 0,
@@ -91,6 +95,14 @@ impl OpeningDisk {
                 last: 0,
             },
         }
+    }
+
+    /// Returns the same disk for a script, which records deletions and fences in this book before
+    /// they take effect, and begins with the fences that it has.
+    pub(crate) fn recording(self, book: Book) -> OpeningDisk {
+        let mut disk = self;
+        disk.book = Some(book);
+        disk
     }
 
     /// Returns the calls of the system that fail, which can be reported after the disk was moved or
@@ -250,7 +262,16 @@ impl ScriptDisk for OpeningDisk {
         dead: &[u64],
         steps: &[Step],
     ) -> Result<Vec<Answer>, OpenFault> {
-        let ran = drive(alloc, self, settings, dead, steps)?;
+        let mut disk = self;
+        let Some(mut book) = disk.book.take() else {
+            let ran = drive(alloc, disk, settings, dead, steps)?;
+            return Ok(ran.answers);
+        };
+        let Ok(ledgers) = book.ledgers() else {
+            return Err(OpenFault::Memory);
+        };
+        let fenced = &ledgers.fenced;
+        let ran = drive_recorded(alloc, disk, settings, dead, fenced, steps, &mut book)?;
         Ok(ran.answers)
     }
 }

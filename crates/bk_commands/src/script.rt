@@ -4,13 +4,17 @@ ghost use Rattle.std.specs.Prelude.{◌≡◌, ◌≤◌};
 ghost use Rattle.bk_script.specs.Run.{RunsScript};
 ghost use Rattle.bk_commands.specs.Folder.{RunsOverFolder};
 
+use crate::book::{Book, BookFault};
 use crate::failed_calls::FailedCalls;
 use crate::folder_disk::FolderDisk;
+use crate::ignored::Ignored;
 use crate::opening::OpeningDisk;
 use crate::way_on::WayOn;
 use bk_cli::ScriptCall;
-use bk_disk::{DirDisk, DiskFault, FileFault, FolderFault, MemDisk};
+use bk_disk::{DirDisk, DiskFault, FaultWatch, FileFault, FolderFault, MemDisk};
 use bk_inspect::{Form, unlisted};
+use bk_manifest::ManifestError;
+use bk_manifest_disk as manifest;
 use bk_script::{RunFault, ScriptFault, run_on};
 use std::alloc::{AllocError, Global};
 use std::fs::{self, File};
@@ -58,10 +62,18 @@ pub(crate) fn run_over_folder<R: Read, W: Write, E: Write>(
     ensures done { result ≡ 0 → RunsOverFolder call.now.settings call.now.dead.items (R.remaining reader.old) (R.remaining reader.new)
         (W.contents writer.old) (W.contents writer.new) }
 {
-    match open_or_make(rt, path, call.marks) {
-        Ok(disk) => run_on_folder(rt.alloc(), disk, call, reader, writer, errors),
+    let opened = match open_or_make(rt, path, call.no_manifest) {
+        Ok(opened) => opened,
         Err(fault) => {
-            let _ = writeln!(errors, "fault {fault}");
+            tell_unopened(&fault, errors);
+            return 1;
+        }
+    };
+    opened.tell(Form::Text, errors);
+    match recorded_disk(opened, &call.dead) {
+        Ok((disk, dead)) => run_on_folder(rt.alloc(), disk, &dead, call, reader, writer, errors),
+        Err(fault) => {
+            tell_unopened(&fault, errors);
             1
         }
     }
@@ -71,6 +83,7 @@ pub(crate) fn run_over_folder<R: Read, W: Write, E: Write>(
 fn run_on_folder<R: Read, W: Write, E: Write>(
     alloc: Global,
     disk: OpeningDisk,
+    dead: &[u64],
     call: &ScriptCall<'_>,
     reader: &mut R,
     writer: &mut W,
@@ -84,7 +97,7 @@ fn run_on_folder<R: Read, W: Write, E: Write>(
         tell(&RunFault::Script(ScriptFault::Memory), errors);
         return 1;
     };
-    match run_on(alloc, disk, call.settings, &call.dead, reader, writer) {
+    match run_on(alloc, disk, call.settings, dead, reader, writer) {
         Ok(()) => {
             failed.tell(Form::Text, errors);
             0
@@ -94,6 +107,27 @@ fn run_on_folder<R: Read, W: Write, E: Write>(
             failed.tell(Form::Text, errors);
             1
         }
+    }
+}
+
+/// Returns the disk of a script on a directory, and all deleted ledgers: these, whose deletion is
+/// durable now, and those recorded earlier.
+fn recorded_disk(opened: Opening, dead: &[u64]) -> Result<(OpeningDisk, Vec<u64>), OpeningFault> {
+    let Opening {
+        disk, mut book, ..
+    } = opened;
+    let all = match book.delete_all(dead) {
+        Ok(all) => all,
+        Err(fault) => return Err(OpeningFault::Book(fault)),
+    };
+    Ok((disk.recording(book), all))
+}
+
+/// Reports why a directory is not written, and the way on if there is one. A failed write is ignored.
+fn tell_unopened<E: Write>(fault: &OpeningFault, errors: &mut E) {
+    let _ = writeln!(errors, "fault {fault}");
+    if let Some(way_on) = WayOn::behind_opening(fault) {
+        let _ = writeln!(errors, "help: {way_on}");
     }
 }
 
@@ -119,24 +153,20 @@ pub enum OpeningFault {
     /// The directory is not opened.
     #[error("{0}")]
     Folder(FolderFault),
-    /// A log cannot be cut to its watermark, or not be asked for it, since this call of the system
-    /// failed.
+    /// This call of the system failed.
     #[error("disk: {0}")]
     Call(FileFault),
-    /// The same without such a call: `Memory`, or `NoLog` if a log is removed meanwhile.
+    /// The logs cannot be opened by their manifest.
     #[error("{0}")]
-    Marks(DiskFault),
+    Logs(manifest::Fault),
+    /// The manifest of the ledgers cannot be opened or written.
+    #[error("{0}")]
+    Book(BookFault),
 }
 
 impl From<FolderFault> for OpeningFault {
     fn from(fault: FolderFault) -> OpeningFault {
         OpeningFault::Folder(fault)
-    }
-}
-
-impl From<DiskFault> for OpeningFault {
-    fn from(fault: DiskFault) -> OpeningFault {
-        OpeningFault::Marks(fault)
     }
 }
 
@@ -146,32 +176,101 @@ impl From<AllocError> for OpeningFault {
     }
 }
 
-/// Returns the disk of the directory at a path, to be written, as its one writer until it is
-/// dropped. The directory is created if nothing is there and its parent exists. Its logs get
-/// watermarks if `marks` says so, or if one has a watermark. The disk shows the progress of an
+/// A directory that is open to be written.
+#[derive(Drop)]
+pub struct Opening {
+    /// Its logs.
+    pub disk: OpeningDisk,
+    /// Its deletions and fences.
+    pub book: Book,
+    /// What its manifests ignore.
+    pub ignored: Ignored,
+}
+
+/// Opens the directory at a path to be written, as its one writer until its disk is dropped, with the
+/// manifests. Both are created if nothing is there and the parent exists. With `no_manifest` neither
+/// manifest is read or written. The disk shows the progress of an
 /// opening (`OpeningDisk`).
 ///
 /// # Errors
 ///
 /// - `Folder`: the system refuses the directory, or cannot list it, with the path and the reason;
 ///   another disk writes there; or memory is refused.
-/// - `Call`, `Marks`: the watermark of a log cannot be read, or a log not be cut to it.
+/// - `Call`: a call of the system fails.
+/// - `Logs`: the manifest of the logs is damaged, or durable bytes of a log are missing. Nothing is
+///   changed.
+/// - `Book`: the manifest of the ledgers cannot be opened, or is damaged; it is as it was.
 pub fn open_or_make(
     rt: &HostRuntime,
     path: &str,
-    marks: bool,
-) -> Result<OpeningDisk, OpeningFault> {
-    let disk = dir_disk(rt, path)?;
+    no_manifest: bool,
+) -> Result<Opening, OpeningFault> {
+    let mut disk = dir_disk(rt, path)?;
     let watch = disk.fault_watch(rt.alloc())?;
     let failed = FailedCalls::on(rt.alloc(), &disk)?;
-    match FolderDisk::open(rt.alloc(), disk, marks) {
-        Ok(disk) => Ok(OpeningDisk::new(rt, disk, failed)),
-        Err(DiskFault::Disk) => match watch.last(rt.alloc())? {
-            Some(call) => Err(OpeningFault::Call(call)),
-            None => Err(OpeningFault::Marks(DiskFault::Disk)),
-        },
-        Err(fault) => Err(OpeningFault::Marks(fault)),
+    if no_manifest {
+        let book = Book::closed(rt.alloc(), &failed)?;
+        let disk = OpeningDisk::new(rt, FolderDisk::plain(rt.alloc(), disk), failed);
+        let ignored = Ignored::none(rt.alloc());
+        return Ok(Opening {
+            disk,
+            book,
+            ignored,
+        });
     }
+    let book = match Book::open(rt.alloc(), &mut disk, &failed) {
+        Ok(book) => book,
+        Err(fault) => return Err(of_book(rt.alloc(), fault, &watch)?),
+    };
+    match FolderDisk::kept(rt.alloc(), disk) {
+        Ok(opened) => Ok(Opening {
+            disk: OpeningDisk::new(rt, opened.disk, failed),
+            book,
+            ignored: Ignored {
+                reports: opened.reports,
+                torn: opened.torn,
+            },
+        }),
+        Err(fault) => Err(of_logs(rt.alloc(), fault, &watch)?),
+    }
+}
+
+impl Opening {
+    /// Reports what the manifests ignore. A failed write is ignored.
+    pub fn tell<E: Write>(&self, form: Form, errors: &mut E) {
+        self.book.tell_torn(form, errors);
+        self.ignored.tell(form, errors);
+    }
+}
+
+/// Returns why logs cannot be opened: the call of the system, if one failed.
+fn of_logs(
+    alloc: Global,
+    fault: manifest::Fault,
+    watch: &FaultWatch,
+) -> Result<OpeningFault, AllocError> {
+    let is_of_disk = matches!(
+        fault,
+        manifest::Fault::Disk(DiskFault::Disk) | manifest::Fault::Manifest(ManifestError::Disk)
+    );
+    if is_of_disk && let Some(call) = watch.last(alloc)? {
+        return Ok(OpeningFault::Call(call));
+    }
+    Ok(OpeningFault::Logs(fault))
+}
+
+/// Returns why a manifest cannot be opened: the call of the system, if one failed.
+pub(crate) fn of_book(
+    alloc: Global,
+    fault: BookFault,
+    watch: &FaultWatch,
+) -> Result<OpeningFault, AllocError> {
+    if fault.error == ManifestError::Disk
+        && let Some(call) = watch.last(alloc)?
+    {
+        return Ok(OpeningFault::Call(call));
+    }
+    Ok(OpeningFault::Book(fault))
 }
 
 /// The same, without the progress of an opening.

@@ -5,6 +5,7 @@ mod disk;
 mod faults;
 mod folder;
 mod json;
+mod manifest;
 mod opening;
 mod over;
 mod rescue;

@@ -2,4 +2,3 @@ pub mod Copies
 pub mod Damage
 pub mod Leaving
 pub mod Notes
-pub mod Remaining

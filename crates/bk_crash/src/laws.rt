@@ -1,17 +1,11 @@
 //! Theorems about a crash of any store, each as a function that does nothing.
 
-ghost use Rattle.std.specs.Prelude.{◌≡◌, ◌++◌, ℕ, List, take, true};
+ghost use Rattle.std.specs.Prelude.{◌≡◌, ℕ, List, true};
 ghost use Rattle.bk_record.specs.Files.{Files, file_of};
 ghost use Rattle.bk_record.specs.Scan.{Payloads};
 ghost use Rattle.bk_disk.specs.Watermarks.{Watermarks, AreTruncated};
 ghost use Rattle.bk_watermark.specs.Marking.{Written, AreCovered, sure_fronts};
 ghost use Rattle.bk_crash.specs.Damage.{MayDamage};
-ghost use Rattle.bk_crash.specs.Remaining.{MayRemain};
-ghost use Rattle.bk_manifest.specs.Fact.{Fact};
-ghost use Rattle.bk_manifest_disk.specs.declared.lack.Lack.{Lack};
-ghost use Rattle.bk_manifest_disk.specs.Limiting.{LogLimits, shown_files};
-ghost use Rattle.bk_manifest_disk.specs.Recording.{AreRecorded, durable_fronts};
-ghost use Rattle.bk_manifest_disk.specs.Opening.{AreOpened, LacksBy};
 ghost use Rattle.bk_store.specs.Representation.{Represents};
 ghost use Rattle.bk_store.specs.Published.{IndexIsPublished};
 ghost use Rattle.bk_store.specs.Logs.{open_parts};
@@ -46,18 +40,4 @@ pub fn a_mark_makes_a_cut()
     ensures { (files gone kept left seen : Files) (marks : Written) (found : Watermarks)
         → AreCovered kept marks → MayDamage files gone kept marks left found → AreTruncated left found seen
         → MayLeave files gone (sure_fronts kept marks) seen }
-{}
-
-/// On a device that may leave any bytes after the synced ones, opening the logs of a `KeptDisk` by
-/// their manifest gives files that a crash may leave of that disk. So crash safety holds on such a
-/// device too. And no such opening finds that durable bytes of a log are missing. Both hold also if
-/// the manifest has some records that were noted and not yet durable.
-pub fn a_manifest_makes_a_cut()
-    ensures leaves { (files gone kept left seen : Files) (limits : LogLimits) (records noted : List Fact) (k : ℕ)
-        → AreRecorded (shown_files limits files) (shown_files limits kept) gone records noted
-        → MayRemain files gone kept (records ++ take k noted) left → AreOpened left (records ++ take k noted) seen
-        → MayLeave (shown_files limits files) gone (durable_fronts (shown_files limits files) records (shown_files limits kept)) seen }
-    ensures whole { (files gone kept left : Files) (limits : LogLimits) (records noted : List Fact) (k : ℕ)
-        → AreRecorded (shown_files limits files) (shown_files limits kept) gone records noted
-        → MayRemain files gone kept (records ++ take k noted) left → (lack : Lack) → ¬ (LacksBy (records ++ take k noted) left lack) }
 {}

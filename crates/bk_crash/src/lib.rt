@@ -7,6 +7,6 @@ mod power_disk;
 mod written;
 mod written_log;
 
-pub use laws::{a_crash_loses_nothing, a_cut_opens, a_manifest_makes_a_cut, a_mark_makes_a_cut};
+pub use laws::{a_crash_loses_nothing, a_cut_opens, a_mark_makes_a_cut};
 pub use power_disk::PowerDisk;
 pub use written::{Choices, File, Written};

@@ -6,8 +6,6 @@ pub mod ReaderTransitions
 pub mod Runs
 pub mod StoreRefinement
 pub mod Closing
-pub mod LedgerReadRefinement
 pub mod Simulation
 pub mod Driving
-pub mod Recording
 pub mod Seats

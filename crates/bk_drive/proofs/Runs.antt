@@ -1,6 +1,6 @@
--- Runs of the machine and the abstract machine side by side: the first state, one run after
--- another, the last state.
-use Rattle.std.proofs.Common.{◌≡◌, ℕ, List, ◌++◌, None, Bool, true, false, IsTrue, Result, Ok, Err, cond, not, refl, sym, ap, subst, ◌∙◌}
+-- Runs of the machine and the abstract machine side by side: the first state, one step more, the
+-- last state.
+use Rattle.std.proofs.Common.{◌≡◌, ℕ, List, [], ◌∷◌, ◌++◌, None, Bool, true, false, IsTrue, Result, Ok, Err, cond, not, refl, sym, ap, subst, ◌∙◌}
 use Rattle.std.specs.Option.{option_or}
 use Rattle.std.specs.FinMap as finite
 use Rattle.std.specs.FinSet as set
@@ -28,9 +28,10 @@ use Rattle.bk_store.specs.declared.answer.Fence.TheVariants as fences
 use Rattle.bk_store.specs.declared.answer.FenceFault.{FenceFault}
 use Rattle.bk_store.specs.declared.answer.FenceFault.TheVariants as fence_faults
 use Rattle.bk_cache.specs.declared.swap.Swap.{Swap}
+use Rattle.bk_cache.specs.declared.swap.Swap.TheVariants as swaps
 use Rattle.bk_store.proofs.Refinement.{plain_add, plain_delete, plain_fence, plain_swap}
 use Rattle.bk_drive.specs.Abstract.{AbstractMachine}
-use Rattle.bk_drive.specs.Machine.{MachineState}
+use Rattle.bk_drive.specs.Machine.{MachineState, MachineTransition, AbstractTransition}
 use Rattle.bk_drive.specs.Headline.{MachineRefines, Run, initial_machine, initial_abstract, reader_count}
 use Rattle.bk_drive.specs.Headline.Run.{stop, step}
 use Rattle.bk_drive.specs.declared.step.Step.{Step}
@@ -95,18 +96,18 @@ fence_logs s t ledger (Ok fences.AlreadyFenced) turn = logs_same s t turn.2
 fence_logs s t ledger (Err fence_faults.Memory) turn = logs_same s t turn.2
 fence_logs s t ledger (Ok fences.Fenced) turn = logs_as turn.2 (record { keeper = refl; logs = refl; next = refl })
 
--- ---- runs
+-- ---- one step more
 
 -- The machine refines the abstract machine at the end of a run.
 pub run_end : {limit : ℕ} {d e : MachineState} {p q : AbstractMachine} {ss : List Step} {as' : List Answer} → Run limit d p ss as' e q → MachineRefines e q
 run_end (stop agrees) = agrees
 run_end (step agreed turn beside later) = run_end later
 
--- One run after another.
-pub run_append : {limit : ℕ} {d e f : MachineState} {p q r : AbstractMachine} {ss ts : List Step} {as' bs : List Answer} → Run limit d p ss as' e q
-    → Run limit e q ts bs f r → Run limit d p (ss ++ ts) (as' ++ bs) f r
-run_append (stop agreed) later = later
-run_append (step agreed turn beside rest) later = step agreed turn beside (run_append rest later)
+-- One step more at the end of a run.
+pub run_push : {limit : ℕ} {d e f : MachineState} {p q r : AbstractMachine} {ss : List Step} {as' : List Answer} {x : Step} {a : Answer} → Run limit d p ss as' e q
+    → MachineTransition e x a f → AbstractTransition limit q x a r → MachineRefines f r → Run limit d p (ss ++ x ∷ []) (as' ++ a ∷ []) f r
+run_push (stop agreed) turn beside agrees = step agreed turn beside (stop agrees)
+run_push (step agreed first with later) turn beside agrees = step agreed first with (run_push later turn beside agrees)
 
 -- ---- the first state
 

@@ -18,7 +18,7 @@ use Rattle.bk_store.specs.declared.answer.FenceFault.{FenceFault}
 use Rattle.bk_drive.specs.Abstract.{AbstractMachine, abstract_after_work}
 use Rattle.bk_drive.specs.Machine.{ReaderLease, WorkTransition, ClosesOrRemoves, HasNoReader, MachineTransition, ReaderTakeTransition, ReaderFetchAnswer, ReaderReleaseTransition, AbstractTransition}
 use Rattle.bk_drive.specs.Machine.MachineTransition.{worked}
-use Rattle.bk_drive.specs.Machine.AbstractTransition.{worked as plain_worked, added, recovered, deleted, fenced, taken, fetched, released, asked}
+use Rattle.bk_drive.specs.Machine.AbstractTransition.{worked as plain_worked, added, recovered, deleted, fenced, taken, fetched, released}
 use Rattle.bk_drive.specs.ReaderLeases.{AreOpenLeases}
 use Rattle.bk_drive.specs.Headline.{LeasesRefine, MachineRefines}
 use Rattle.bk_drive.specs.declared.step.Step.{Step}
@@ -29,10 +29,6 @@ use Rattle.bk_drive.specs.declared.step.Answer.TheVariants as answers
 use Rattle.bk_drive.specs.declared.step.TakeAnswer.{TakeAnswer}
 use Rattle.bk_drive.specs.declared.step.FetchAnswer.{FetchAnswer}
 use Rattle.bk_drive.specs.declared.step.ReleaseAnswer.{ReleaseAnswer}
-use Rattle.bk_drive.specs.LedgerReads.{LedgerReadOf}
-use Rattle.bk_drive.specs.declared.ledger_reads.LedgerRead.{LedgerRead}
-use Rattle.bk_drive.specs.declared.ledger_reads.LedgerReadAnswer.{LedgerReadAnswer}
-use Rattle.bk_drive.proofs.LedgerReadRefinement.{reads_plain}
 use Rattle.bk_drive.proofs.Runs.{added_plain, deleted_plain, fenced_plain}
 use Rattle.bk_drive.proofs.ReaderTransitions.{owed_take, owed_fetch, owed_release}
 
@@ -103,7 +99,3 @@ pub goes_released : (s : State) (readers readers' : List (Option ReaderLease)) (
 goes_released s readers readers' reader r turn leases = λ p agrees.
     let done = owed_release _ p agrees reader r readers' turn in
     (record p { readers = done.0 }, released done.1, record { store = agrees.store; readers = done.2; leases = leases })
-
-pub goes_asked : (s : State) (readers : List (Option ReaderLease)) (kept : SatisfiesInvariant s) (honest : IsTrue s.honest) (read : LedgerRead)
-    (r : LedgerReadAnswer) → LedgerReadOf s read r → GoesOn s readers (steps.Read read) (answers.Read r) s readers
-goes_asked s readers kept honest read r turn = λ p agrees. (p, asked (reads_plain s p.store kept honest agrees.store read r turn), agrees)

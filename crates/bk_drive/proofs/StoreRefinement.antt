@@ -1,6 +1,6 @@
 -- A step of the store alone keeps `StoreRefines`, and its answer reports the failures of the
 -- device.
-use Rattle.std.proofs.Common.{◌≡◌, ℕ, None, Ok, IsTrue, cond, refl, sym, ◌∙◌, unwrap_or, arith}
+use Rattle.std.proofs.Common.{◌≡◌, ◌<◌, ℕ, Option, None, Result, Ok, IsTrue, cond, refl, sym, ◌∙◌, unwrap_or, arith}
 use Rattle.std.specs.Option.{option_or}
 use Rattle.std.specs.FinMap as finite
 use Rattle.std.specs.FinSet as set

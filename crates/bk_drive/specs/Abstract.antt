@@ -3,7 +3,7 @@
 -- first, then the three transitions of a reader. The transitions of the map (`AbstractAdd`,
 -- `AbstractDelete`, `AbstractFence`) are in `specs/Abstract.antt` of bk_store. `AbstractTransition`
 -- (specs/Machine.antt) puts them together.
-use Rattle.std.specs.Prelude.{◌≡◌, ℕ, ◌≤◌, List, length, slice_get, slice_set, Option, Some, None, IsSome, Result, Ok, Err}
+use Rattle.std.specs.Prelude.{◌≡◌, ℕ, ◌≤◌, true, false, List, length, slice_get, slice_set, Option, Some, None, IsSome, Result, Ok, Err}
 use Rattle.std.specs.FinMap as finite
 use Rattle.bk_record.specs.Key.{EntryKey}
 use Rattle.bk_log.specs.declared.fault.FetchFault.{FetchFault}

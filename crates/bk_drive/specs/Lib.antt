@@ -1,9 +1,7 @@
 pub mod Abstract
-pub mod LedgerReads
 pub mod Machine
 pub mod Held
 pub mod ReaderLeases
 pub mod Headline
-pub mod Recorded
 pub mod Failing
 pub mod Frame

@@ -42,6 +42,7 @@ use Rattle.bk_collect.specs.declared.answer.RemoveAnswer.TheVariants as removes
 use Rattle.bk_collect.specs.declared.answer.RetireAnswer.{RetireAnswer}
 use Rattle.bk_collect.specs.declared.answer.CollectFault.{CollectFault}
 use Rattle.bk_compact.specs.Compacting.{BeginTransition, CopyTransition, EndCopyTransition, SwitchTransition, FinishTransition, GiveUpTransition}
+use Rattle.bk_compact.specs.declared.answer.Kind.{Kind}
 use Rattle.bk_compact.specs.declared.answer.BeginAnswer.{BeginAnswer}
 use Rattle.bk_compact.specs.declared.answer.CopyAnswer.{CopyAnswer}
 use Rattle.bk_compact.specs.declared.answer.EndAnswer.{EndAnswer}
@@ -49,9 +50,6 @@ use Rattle.bk_compact.specs.declared.answer.SwitchAnswer.{SwitchAnswer}
 use Rattle.bk_compact.specs.declared.answer.FinishAnswer.{FinishAnswer}
 use Rattle.bk_compact.specs.declared.answer.GiveUpAnswer.{GiveUpAnswer}
 use Rattle.bk_drive.specs.Abstract.{AbstractLease, AbstractMachine, IsIdleReader, HasAt, IsBusy, AbstractReaderTake, AbstractReaderFetch, AbstractReaderRelease, abstract_after_work}
-use Rattle.bk_drive.specs.LedgerReads.{LedgerReadOf, AbstractLedgerRead}
-use Rattle.bk_drive.specs.declared.ledger_reads.LedgerRead.{LedgerRead}
-use Rattle.bk_drive.specs.declared.ledger_reads.LedgerReadAnswer.{LedgerReadAnswer}
 use Rattle.bk_drive.specs.declared.step.TakeAnswer.{TakeAnswer}
 use Rattle.bk_drive.specs.declared.step.TakeAnswer.TheVariants as takes
 use Rattle.bk_drive.specs.declared.step.FetchAnswer.{FetchAnswer}
@@ -195,7 +193,6 @@ pub data MachineTransition : MachineState → Step → Answer → MachineState �
       → MachineTransition d (steps.Fetch reader) (answers.Fetch r) d
   released : {d : MachineState} {readers : List (Option ReaderLease)} {reader : ℕ} {r : ReleaseAnswer} → ReaderReleaseTransition d.readers reader r readers
       → MachineTransition d (steps.Release reader) (answers.Release r) (record d { readers = readers })
-  asked : {d : MachineState} {read : LedgerRead} {r : LedgerReadAnswer} → LedgerReadOf d.store read r → MachineTransition d (steps.Read read) (answers.Read r) d
 
 -- ---- the abstract machine
 
@@ -219,5 +216,3 @@ pub data AbstractTransition : ℕ → AbstractMachine → Step → Answer → Ab
       → AbstractTransition limit p (steps.Fetch reader) (answers.Fetch r) p
   released : {limit : ℕ} {p : AbstractMachine} {readers : List (Option AbstractLease)} {reader : ℕ} {r : ReleaseAnswer} → AbstractReaderRelease p.readers reader r readers
       → AbstractTransition limit p (steps.Release reader) (answers.Release r) (record p { readers = readers })
-  asked : {limit : ℕ} {p : AbstractMachine} {read : LedgerRead} {r : LedgerReadAnswer} → AbstractLedgerRead p.store read r
-      → AbstractTransition limit p (steps.Read read) (answers.Read r) p

@@ -1,10 +1,7 @@
 //! A machine over one store: steps, four readers, and the main theorem about lists of steps.
 #![tactic(auto)]
 
-mod ledger_reads;
 mod readers;
-mod recorded;
-mod recorder;
 mod run;
 mod step;
 mod taking;
@@ -20,9 +17,6 @@ pub use bk_store::{
     AddFault, AddKind, Added, DeleteFault, Fence, FenceFault, LogCause, Mark, OpenFault, Receipt,
     Settings, StepFault, Store, SwapAnswer, TakeFault,
 };
-pub use ledger_reads::{LedgerRead, LedgerReadAnswer};
 pub use readers::{Readers, Reading};
-pub use recorded::drive_recorded;
-pub use recorder::{Recorder, RecordsNothing};
 pub use run::{Ran, apply, drive};
 pub use step::{Answer, FetchAnswer, ReleaseAnswer, Step, TakeAnswer, Work};

@@ -15,10 +15,8 @@ ghost use Rattle.bk_drive.specs.Failing.{IsDiskFault, AnswerReportsFailure, None
 ghost use Rattle.bk_drive.specs.Frame.{SlotsFrame, CachesFrame, FailureCountByAnswer};
 ghost use Rattle.bk_store.specs.Frame.{CoreUnchanged};
 
-use crate::ledger_reads::read_ledgers;
-use crate::recorder::RecordsNothing;
 use crate::taking::{fetch_by, release, take};
-use crate::{Answer, Readers, Step, Work, drive_recorded};
+use crate::{Answer, Readers, Step, Work};
 use bk_collect::{CloseAnswer, close, rebuild, remove, retire};
 use bk_compact::{begin, copy, end_copy, finish, give_up, switch};
 use bk_disk::LogDisk;
@@ -109,12 +107,32 @@ pub fn drive<D: LogDisk>(
     ensures unfailing_opening { NeverFails D.failures → AreSound D.View.sound → ¬ (IsErrOf result OpenFault.Disk) }
     ensures one_answer { IfOk result (λ ran. length ran.answers.items ≡ length steps.now) }
 {
-    drive_recorded(alloc, disk, settings, dead, &[], steps, &mut RecordsNothing)
+    let mut store = Store::open(alloc, disk, settings, dead)?;
+    // Lemma: the settings are in range.
+    store.reveal_invariant();
+    let Ok(mut answers) = Vec::with_capacity(alloc, steps.len()) else {
+        return Err(OpenFault::Memory);
+    };
+    let mut readers = Readers::new();
+    for step in steps {
+        answers
+            .push(turn(alloc, &mut store, &mut readers, step))
+            .unwrap();
+    }
+    // Lemma: no two logs share a slot, so no lease is on a closed log.
+    store.reveal_invariant();
+    // Lemma: the failures that the store counts are those of its disk.
+    let _ = store.disk();
+    Ok(Ran {
+        store,
+        answers,
+        readers,
+    })
 }
 
 /// Performs one step of the machine and returns its answer. The abstract machine gives the same
 /// answer.
-pub(crate) fn turn<D: LogDisk>(
+fn turn<D: LogDisk>(
     alloc: Global,
     store: &mut Store<D>,
     readers: &mut Readers<D::View>,
@@ -144,7 +162,6 @@ pub(crate) fn turn<D: LogDisk>(
         Step::Release(reader) => Answer::Release(release(readers, *reader)),
         Step::Delete(ledger) => Answer::Delete(store.delete(*ledger)),
         Step::Fence(ledger) => Answer::Fence(store.fence(*ledger)),
-        Step::Read(read) => Answer::Read(read_ledgers(store, *read)),
     }
 }
 

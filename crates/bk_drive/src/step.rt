@@ -1,6 +1,5 @@
 //! Steps and their answers.
 
-use crate::{LedgerRead, LedgerReadAnswer};
 use bk_collect::{CloseAnswer, CollectFault, RemoveAnswer, RetireAnswer};
 use bk_compact::{
     BeginAnswer, CopyAnswer, EndAnswer, FinishAnswer, GiveUpAnswer, Kind, SwitchAnswer,
@@ -64,8 +63,6 @@ pub enum Step {
     Delete(u64),
     /// Fences this ledger: later ordinary adds to it are refused.
     Fence(u64),
-    /// Reads by ledger.
-    Read(LedgerRead),
 }
 
 /// Answer of a take.
@@ -133,8 +130,4 @@ pub enum Answer {
     Switch(SwitchAnswer),
     Finish(FinishAnswer),
     GiveUp(GiveUpAnswer),
-    Read(LedgerReadAnswer),
-    /// The step was not performed, since what must be durable before it could not be recorded. Only
-    /// `drive_recorded` gives this answer.
-    Unrecorded,
 }

@@ -14,7 +14,3 @@ pub mod Cuts
 pub mod Copies
 pub mod Keeps
 pub mod Picked
-pub mod Walks
-pub mod LastTaken
-pub mod Exports
-pub mod Exported

@@ -41,12 +41,3 @@ HeadState (Whole header) states.Bad = ⊥
 -- the state of a log with these bytes
 abbrev pub HasState : List ℕ → LogStanding → Type 0
 HasState file state = (head : Head) × IsHead file head × HeadState head state
-
-abbrev pub IsJudged : Head → ℕ → Type 0
-IsJudged Short status = status ≡ 0
-IsJudged (Bad fault) status = status ≡ 1
-IsJudged (Whole header) status = status ≡ 0
-
--- 1 exactly if a log has a header that is invalid, else 0
-abbrev pub JudgesHead : List ℕ → ℕ → Type 0
-JudgesHead file status = (head : Head) × IsHead file head × IsJudged head status

@@ -10,6 +10,3 @@ pub mod Sealing
 pub mod Copying
 pub mod Cutting
 pub mod Unsealed
-pub mod Walking
-pub mod LastRecords
-pub mod Exporting

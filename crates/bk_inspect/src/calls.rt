@@ -1,11 +1,10 @@
 //! Calls on a disk and on views, with their faults as those of a command. All of them only read.
 
-ghost use Rattle.std.specs.Prelude.{◌≡◌, IsTrue, IfErr, IfOk, IsErrOf, IsNone, length, drop, take};
+ghost use Rattle.std.specs.Prelude.{◌≡◌, IsTrue, IfErr, IfOk, length, drop, take};
 ghost use Rattle.std.specs.FinMap as map;
 ghost use Rattle.bk_disk.specs.Disk.{IsFile, IsInView};
 ghost use Rattle.bk_inspect.specs.Maps.{IfBytes};
 ghost use Rattle.bk_inspect.specs.Reading.{OnlyReads};
-ghost use Rattle.bk_inspect.specs.declared.fault.DirFault.TheVariants as faults;
 
 use crate::DirFault;
 use bk_disk::{DiskFault, LogDisk, LogView};
@@ -31,13 +30,10 @@ pub(crate) fn view_of<D: LogDisk>(
     ensures reads { OnlyReads (D.honest disk.old) (D.files disk.old) (D.honest disk.new) (D.files disk.new) }
     ensures ok { IsTrue (D.honest disk.old)
         → IfOk result (λ view. IsFile (D.files disk.old) log (D.View.bytes view) × IsTrue (D.View.honest view)) }
-    ensures gone { IsTrue (D.honest disk.old)
-        → IsErrOf result faults.NoLog → IsNone (map.get (D.files disk.old) log) }
 {
     match disk.view(alloc, log) {
         Ok(view) => Ok(view),
-        Err(DiskFault::NoLog) => Err(DirFault::NoLog),
-        Err(fault) => Err(DirFault::from(fault).of_known()),
+        Err(fault) => Err(DirFault::from(fault)),
     }
 }
 

@@ -1,7 +1,5 @@
 //! The commands that read a directory of entry logs.
 
-ghost use Rattle.std.specs.Prelude.{◌≤◌, ◌↔◌, IsTrue};
-
 use crate::DigestChoice;
 use bk_record::Key;
 
@@ -72,9 +70,7 @@ pub struct EntryRange {
 
 impl EntryRange {
     /// Returns whether this is a number of the range.
-    pub(crate) fn has(&self, entry: u64) -> bool
-        ensures { IsTrue result ↔ (self.now.first ≤ entry) × (entry ≤ self.now.last) }
-    {
+    pub(crate) fn has(&self, entry: u64) -> bool {
         self.first <= entry && entry <= self.last
     }
 }

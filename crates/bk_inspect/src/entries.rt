@@ -1,7 +1,6 @@
 //! `entries`: the last records of a ledger's entries, in order.
 
-ghost use Rattle.std.specs.Prelude.{◌≡◌, ◌≤◌, IfOk, OnOk, []};
-ghost use Rattle.bk_inspect.specs.LastRecords.{HasLast, Notes};
+ghost use Rattle.std.specs.Prelude.{◌≤◌, IfOk};
 ghost use Rattle.bk_inspect.specs.Reading.{OnlyReads};
 
 use crate::form::write_row;
@@ -31,8 +30,6 @@ pub(crate) struct LastRecords {
 }
 
 impl TakesEntries for LastRecords {
-    ghost has = { λ first now taken. (now.range ≡ first.range) × HasLast now.range now.records taken };
-
     fn take_in(&mut self, log: u32, found: Found) -> Result<(), AllocError> {
         let entry = found.key.entry();
         if found.key.ledger() == self.range.ledger && self.range.has(entry) {
@@ -44,9 +41,7 @@ impl TakesEntries for LastRecords {
 
 impl LastRecords {
     /// Returns those of no log.
-    pub(crate) fn new(alloc: Global, range: EntryRange) -> LastRecords
-        ensures { (result.range ≡ range) × HasLast range result.records [] }
-    {
+    pub(crate) fn new(alloc: Global, range: EntryRange) -> LastRecords {
         LastRecords {
             range,
             records: BTreeMap::new(alloc),
@@ -54,9 +49,7 @@ impl LastRecords {
     }
 
     /// Notes a record of an entry, unless one of a later log is known.
-    fn note(&mut self, entry: u64, standing: Standing) -> Result<(), AllocError>
-        ensures { OnOk result ((self.new.range ≡ self.old.range) × Notes self.old.records entry standing self.new.records) }
-    {
+    fn note(&mut self, entry: u64, standing: Standing) -> Result<(), AllocError> {
         match self.records.get(&entry) {
             Some(known) if known.log > standing.log => {}
             _ => {

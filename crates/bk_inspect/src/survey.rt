@@ -12,9 +12,6 @@ pub(crate) struct Unread {
     pub(crate) reason: io::Error,
 }
 
-/// Why something that has a log's name is no log.
-const NO_FILE: &str = "no regular file";
-
 /// How often a directory is read again until it is found unchanged.
 const LOOKS: u8 = 32;
 
@@ -97,7 +94,8 @@ fn entry_of(rt: &HostRuntime, entry: &DirEntry) -> Entry {
         return Entry::Other;
     };
     match open_file(rt, entry) {
-        Ok(()) => Entry::Log(log),
+        Ok(true) => Entry::Log(log),
+        Ok(false) => Entry::Other,
         Err(reason) => match fs::symlink_metadata(rt, entry.path()) {
             Err(again) if again.kind() == ErrorKind::NotFound => Entry::Gone,
             _ => Entry::Unread(Unread { log, reason }),
@@ -105,12 +103,11 @@ fn entry_of(rt: &HostRuntime, entry: &DirEntry) -> Entry {
     }
 }
 
-/// Opens a file and closes it. Fails with `InvalidInput` if it is no regular file, such as a
-/// directory or a pipe.
-fn open_file(rt: &HostRuntime, entry: &DirEntry) -> io::Result<()> {
+/// Opens a file and closes it. Returns whether it is a file.
+fn open_file(rt: &HostRuntime, entry: &DirEntry) -> io::Result<bool> {
     if !fs::metadata(rt, entry.path())?.is_file() {
-        return Err(io::Error::new(ErrorKind::InvalidInput, NO_FILE));
+        return Ok(false);
     }
     let _opened = File::open(rt, entry.path())?;
-    Ok(())
+    Ok(true)
 }

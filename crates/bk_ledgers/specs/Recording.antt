@@ -1,9 +1,7 @@
 -- Records that become durable together, or are refused. Read `RecordsTransition` first.
-use Rattle.std.specs.Prelude.{◌≡◌, ◌⊎◌, ◌<◌, ◌≤◌, ◌^◌, List, [], ◌∷◌, ◌++◌, Result, Ok, Err, IsTrue, true, is_some}
+use Rattle.std.specs.Prelude.{◌≡◌, ◌⊎◌, ◌<◌, ◌≤◌, ◌^◌, List, [], ◌∷◌, ◌++◌, Result, Ok, Err, IsTrue}
 use Rattle.bk_manifest.specs.Fact.{Fact, AreFacts}
 use Rattle.bk_manifest.specs.Keeping.{Kept, durable, FindsDurable}
-use Rattle.bk_manifest.specs.State.{last_about}
-use Rattle.bk_manifest.specs.declared.subject.Subject.{Subject}
 use Rattle.bk_manifest.specs.declared.fault.ManifestError.{ManifestError}
 use Rattle.bk_manifest.specs.declared.fault.ManifestError.TheVariants as error
 
@@ -44,16 +42,6 @@ RecordsTransition more m (Err refusal) m' = IsRefusal more m m' refusal × Recor
 -- The record is durable, or it is not, for this reason.
 abbrev pub RecordTransition : Fact → Kept → Result (Unit {0}) ManifestError → Kept → Type 0
 RecordTransition one m result m' = RecordsTransition (one ∷ []) m result m'
-
--- A record about the subject is durable already.
-abbrev pub IsRecorded : Subject → Kept → Type 0
-IsRecorded subject m = IsTrue m.honest → is_some (last_about subject (durable m)) ≡ true
-
--- The record becomes durable, unless one about its subject is: then nothing changes. Or it does not, for
--- this reason.
-abbrev pub OnceTransition : Fact → Subject → Kept → Result (Unit {0}) ManifestError → Kept → Type 0
-OnceTransition one subject m (Ok done_) m' = Records (one ∷ []) m m' ⊎ (IsRecorded subject m × (m' ≡ m))
-OnceTransition one subject m (Err refusal) m' = IsRefusal (one ∷ []) m m' refusal × RecordsNone m m'
 
 -- No refused record may be in the file any more, or one may still be, for this reason.
 abbrev pub SettleTransition : Kept → Result (Unit {0}) ManifestError → Kept → Type 0

@@ -173,8 +173,7 @@ fn bytes_of(rt: &HostRuntime, path: &str) -> Result<Option<Vec<u8>>, ReadFault> 
             let path = String::from_str(rt.alloc(), path)?;
             return Err(ReadFault::NotPlain { path });
         }
-        // Nothing is there, or no directory: the command reports that when it opens the logs.
-        Err(reason) if is_missing(&reason) => return Ok(None),
+        Err(reason) if reason.kind() == ErrorKind::NotFound => return Ok(None),
         Err(reason) => return Err(unread(rt, path, reason)),
     }
     match fs::read(rt, path) {
@@ -182,14 +181,6 @@ fn bytes_of(rt: &HostRuntime, path: &str) -> Result<Option<Vec<u8>>, ReadFault> 
         Err(reason) if reason.kind() == ErrorKind::NotFound => Ok(None),
         Err(reason) => Err(unread(rt, path, reason)),
     }
-}
-
-/// Returns whether nothing has the path of a file, or a part of the path is no directory.
-fn is_missing(reason: &io::Error) -> bool {
-    matches!(
-        reason.kind(),
-        ErrorKind::NotFound | ErrorKind::NotADirectory
-    )
 }
 
 /// Returns the fault of a file that the system refuses.

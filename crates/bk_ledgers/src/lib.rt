@@ -3,12 +3,10 @@
 
 mod directory;
 mod listed;
-mod once;
 mod recording;
 
 pub use directory::{
     LEDGERS, Opened, Read, ReadFault, TORN, open_ledgers, read_file, read_ledgers,
 };
 pub use listed::{Listed, ledgers_of};
-pub use once::{record_deletion, record_fence};
 pub use recording::{record, record_deletions, settle};

@@ -1,12 +1,2 @@
 pub mod Records
 pub mod Lacks
-pub mod Fronts
-pub mod Grown
-pub mod Shown
-pub mod Showing
-pub mod Changing
-pub mod Recorded
-pub mod DurableFronts
-pub mod Kept
-pub mod Found
-pub mod OpenedLogs

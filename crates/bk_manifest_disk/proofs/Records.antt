@@ -20,7 +20,7 @@ ties Less it = cc
 ties Equal it = refl
 ties Greater it = cc
 
-pub log_tied : (a b : ℕ) → eq_by_cmp subject_cmp (the_log a) (the_log b) ≡ eq_by_cmp nat_cmp a b
+log_tied : (a b : ℕ) → eq_by_cmp subject_cmp (the_log a) (the_log b) ≡ eq_by_cmp nat_cmp a b
 log_tied a b =
     elim (nat_cmp a b) as (λ o. is_eq (ordering_then Equal (ordering_then o Equal)) ≡ is_eq o) [ Less ↦ refl | Equal ↦ refl | Greater ↦ refl ]
 

@@ -1,6 +1,6 @@
 -- What an opening finds of a log, by the last record about it and its file. Read `IsFinding` first:
 -- it has one row per finding.
-use Rattle.std.specs.Prelude.{◌≡◌, ℕ, ◌<◌, ◌≤◌, List, Option, None, Some}
+use Rattle.std.specs.Prelude.{◌≡◌, ℕ, ◌<◌, ◌≤◌, List, take, Option, None, Some, option_map}
 use Rattle.std.specs.Ordering.{nat_cmp}
 use Rattle.std.specs.BTreeMap.{BTreeMap, get}
 use Rattle.bk_manifest.specs.declared.state.LogState.{LogState}
@@ -45,6 +45,14 @@ abbrev pub IsLack : List Fact → Lengths → Lack → Type 0
 IsLack records lengths (lack.Shorter log durable length) =
     (recorded_length records log ≡ Some durable) × (get nat_cmp lengths log ≡ Some length) × (length < durable)
 IsLack records lengths (lack.Missing log durable) = (recorded_length records log ≡ Some durable) × (get nat_cmp lengths log ≡ None)
+
+-- file of a log after an opening: the durable bytes; none if the log was never published or was
+-- removed; unchanged if the manifest does not know the log
+abbrev pub opened_file : Option LogState → Option (List ℕ) → Option (List ℕ)
+opened_file None file = file
+opened_file (Some Made) file = None
+opened_file (Some (Durable durable)) file = option_map (take durable) file
+opened_file (Some (Removed durable)) file = None
 
 -- the same of a state: each durable byte of a log is there, or not
 abbrev pub state_length : State → ℕ → Option ℕ

@@ -1,27 +1,10 @@
-//! What an opening finds of logs and their manifest, and disks that hide what is not durable and
-//! record what is.
+//! What an opening finds of logs and their manifest, and the file of a manifest in a directory.
 #![tactic(auto)]
 
-mod fault;
-mod kept_disk;
 mod kept_file;
 mod lack;
-mod limited_disk;
-mod limited_view;
-mod limits;
-mod looking;
-mod opening;
-mod recording;
-mod report;
 mod table;
 
-pub use fault::Fault;
-pub use kept_disk::KeptDisk;
 pub use kept_file::KeptFile;
 pub use lack::{Lack, find_lack};
-pub use limited_disk::LimitedDisk;
-pub use limited_view::LimitedView;
-pub use looking::{Limited, limit_logs};
-pub use opening::{Opened, open};
-pub use report::{Cause, Report};
 pub use table::{Finding, finding_of};

@@ -1,8 +1,6 @@
 //! What an opening finds of a log.
 
-ghost use Rattle.std.specs.Prelude.{◌≡◌, ℕ, Some};
 ghost use Rattle.bk_manifest_disk.specs.Table.{IsFinding};
-ghost use Rattle.bk_manifest_disk.specs.Opening.{finding_at};
 
 use bk_manifest::LogState;
 
@@ -13,25 +11,24 @@ pub enum Finding {
     Nothing,
     /// The file has the durable bytes and no others.
     Whole { length: u64 },
-    /// Bytes follow the durable ones: the opening hides them.
+    /// Bytes stand after the durable ones: the opening cuts them.
     Longer { durable: u64, length: u64 },
     /// Durable bytes are missing at the end of the file: a fault.
     Shorter { durable: u64, length: u64 },
     /// The file is missing, and its removal was not recorded: a fault.
     Missing { durable: u64 },
-    /// The log was made, and no byte of it was ever published: the opening shows it empty.
+    /// The log was made, and no byte of it was ever published: the opening removes it.
     Unpublished { length: u64 },
     /// The manifest does not know the log: the opening syncs and records it.
     Unknown { length: u64 },
     /// The log was removed when `durable` of its bytes were durable, and a crash brought it back:
-    /// the opening hides all others, and records the log.
+    /// the opening removes it again.
     Back { durable: u64, length: u64 },
 }
 
 /// Returns what an opening finds of a log.
 pub fn finding_of(recorded: Option<LogState>, length: Option<u64>) -> Finding
-    ensures row { IsFinding recorded length result }
-    ensures value { (n : ℕ) → length ≡ Some n → result ≡ finding_at recorded n }
+    ensures { IsFinding recorded length result }
 {
     match (recorded, length) {
         (Some(LogState::Durable { length: durable }), Some(length)) => {

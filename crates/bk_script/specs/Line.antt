@@ -14,7 +14,6 @@ use Rattle.bk_store.specs.declared.adding.AddKind.TheVariants.{Ordinary, Recover
 use Rattle.bk_drive.specs.declared.step.Work.{Work}
 use Rattle.bk_drive.specs.declared.step.Work.TheVariants.{Swap, WriteOne, Publish, Roll, Retire, Rebuild, Close, Remove}
 use Rattle.bk_drive.specs.declared.step.Work.TheVariants.{Begin, Copy, EndCopy, Switch, Finish, GiveUp}
-use Rattle.bk_drive.specs.declared.ledger_reads.LedgerRead.TheVariants.{Holds, IsFenced, LastEntry, Entries, Ledgers}
 use Rattle.bk_compact.specs.declared.answer.Kind.TheVariants.{Minor, Major}
 
 -- Words separated by single spaces.
@@ -76,19 +75,12 @@ pub record Form : Type 0 where
   pub ranges : List Range
   pub step : List ℕ → Step
 
--- A word alone, and words with one, two and three numbers.
+-- A word alone, and words with one and with three numbers.
 abbrev pub alone : List ℕ → Work → Form
 alone word call = record { word = word; ranges = []; step = λ numbers. steps.Work call }
 
 abbrev pub with_one : List ℕ → Range → (ℕ → Step) → Form
 with_one word range make = record { word = word; ranges = range ∷ []; step = λ numbers. make (slice_index numbers 0) }
-
-abbrev pub with_two : List ℕ → Range → Range → (ℕ → ℕ → Step) → Form
-with_two word first second make = record {
-  word = word;
-  ranges = first ∷ second ∷ [];
-  step = λ numbers. make (slice_index numbers 0) (slice_index numbers 1);
-}
 
 abbrev pub with_three : List ℕ → Range → Range → Range → (ℕ → ℕ → ℕ → Step) → Form
 with_three word first second third make = record {
@@ -120,11 +112,6 @@ forms =
     ∷ with_one (codes "release") reader steps.Release
     ∷ with_one (codes "delete") id steps.Delete
     ∷ with_one (codes "fence") id steps.Fence
-    ∷ with_one (codes "fenced") id (λ ledger. steps.Read (IsFenced ledger))
-    ∷ with_one (codes "last") id (λ ledger. steps.Read (LastEntry ledger))
-    ∷ with_two (codes "holds") id id (λ ledger entry. steps.Read (Holds (record { ledger = ledger; entry = entry })))
-    ∷ with_two (codes "ledgers") id count (λ from most. steps.Read (Ledgers from most))
-    ∷ with_three (codes "entries") id id count (λ ledger from most. steps.Read (Entries ledger from most))
     ∷ with_three (codes "take") reader id id (λ n ledger entry. steps.Take n (record { ledger = ledger; entry = entry }))
     ∷ []
 

@@ -1,8 +1,6 @@
 -- The texts of answers and faults (this project's rule). Numbers are decimal, data is lower-case
 -- hexadecimal.
-use Rattle.std.specs.Prelude.{ℕ, ◌/◌, ◌%◌, ◌==◌, Bool, true, false, if◌then◌else◌, List, [], ◌∷◌, ◌++◌, length, drop, codes, Option, Some, None, Result, Ok, Err}
-use Rattle.std.specs.Global.{Vec}
-use Rattle.std.specs.declared.alloc.AllocError.{AllocError}
+use Rattle.std.specs.Prelude.{ℕ, ◌/◌, ◌%◌, List, [], ◌∷◌, ◌++◌, drop, codes, false, Result, Ok, Err}
 use Rattle.std.specs.List.{flat_map}
 use Rattle.std.specs.Fmt.{decimal, signed_decimal, digit_glyph}
 use Rattle.bk_record.specs.Location.{packed}
@@ -62,8 +60,6 @@ use Rattle.bk_drive.specs.declared.step.FetchAnswer.{FetchAnswer}
 use Rattle.bk_drive.specs.declared.step.FetchAnswer.TheVariants as fetches
 use Rattle.bk_drive.specs.declared.step.ReleaseAnswer.{ReleaseAnswer}
 use Rattle.bk_drive.specs.declared.step.ReleaseAnswer.TheVariants as releases
-use Rattle.bk_drive.specs.declared.ledger_reads.LedgerReadAnswer.{LedgerReadAnswer}
-use Rattle.bk_drive.specs.declared.ledger_reads.LedgerReadAnswer.TheVariants as told
 use Rattle.bk_drive.specs.declared.step.Answer.{Answer}
 use Rattle.bk_drive.specs.declared.step.Answer.TheVariants as answers
 
@@ -254,30 +250,6 @@ abbrev pub give_up_text : GiveUpAnswer → List ℕ
 give_up_text give_ups.NoJob = codes "no job"
 give_up_text give_ups.GivenUp = codes "given up"
 
-abbrev pub yes_or_no : Bool → List ℕ
-yes_or_no true = codes "yes"
-yes_or_no false = codes "no"
-
-abbrev pub last_text : Option ℕ → List ℕ
-last_text None = codes "no entry"
-last_text (Some entry) = codes "last " ++ decimal entry
-
--- Numbers, each behind a space.
-abbrev pub spaced : List ℕ → List ℕ
-spaced = flat_map (λ n. 32 ∷ decimal n)
-
--- The numbers of a page behind a word, or the text of an empty page.
-abbrev pub page_text : List ℕ → List ℕ → Result (Vec ℕ) AllocError → List ℕ
-page_text word none (Ok page) = if length page.items == 0 then none else word ++ spaced page.items
-page_text word none (Err fault) = codes "fault memory"
-
-abbrev pub read_text : LedgerReadAnswer → List ℕ
-read_text (told.Holds is) = yes_or_no is
-read_text (told.IsFenced is) = yes_or_no is
-read_text (told.LastEntry last) = last_text last
-read_text (told.Entries page) = page_text (codes "entries") (codes "no entry") page
-read_text (told.Ledgers page) = page_text (codes "ledgers") (codes "no ledger") page
-
 -- The text of an answer.
 abbrev pub text_of : Answer → List ℕ
 text_of (answers.Add answer) = add_text answer
@@ -300,8 +272,6 @@ text_of (answers.EndCopy answer) = end_text answer
 text_of (answers.Switch answer) = switch_text answer
 text_of (answers.Finish answer) = finish_text answer
 text_of (answers.GiveUp answer) = give_up_text answer
-text_of (answers.Read answer) = read_text answer
-text_of answers.Unrecorded = codes "fault disk"
 
 -- One line for each answer.
 abbrev pub lines_of : List Answer → List ℕ

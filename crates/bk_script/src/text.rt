@@ -8,7 +8,6 @@ ghost use Rattle.bk_script.specs.Text.{release_text, roll_text, swap_text, take_
 mod collecting;
 mod compacting;
 mod faults;
-mod reading;
 
 use bk_drive::{
     AddFault, Added, Answer, DeleteFault, Fence, FenceFault, FetchAnswer, PublishAnswer,
@@ -48,8 +47,6 @@ impl Display for Text<'_, Answer> {
             Answer::Switch(answer) => Text(answer).fmt(f),
             Answer::Finish(answer) => Text(answer).fmt(f),
             Answer::GiveUp(answer) => Text(answer).fmt(f),
-            Answer::Read(answer) => Text(answer).fmt(f),
-            Answer::Unrecorded => write!(f, "fault disk"),
         }
     }
 }

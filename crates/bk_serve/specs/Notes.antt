@@ -1,18 +1,31 @@
 -- Records that become durable, or are refused. Read `NoteTransition` first.
-use Rattle.std.specs.Prelude.{◌≡◌, ◌≤◌, [], ◌∷◌, Result, Ok, Err}
+use Rattle.std.specs.Prelude.{◌≡◌, ◌⊎◌, ◌<◌, ◌≤◌, ◌^◌, [], ◌∷◌, ◌++◌, Result, Ok, Err, IsTrue}
 use Rattle.bk_manifest.specs.Fact.{Fact, AreFacts}
-use Rattle.bk_manifest.specs.Keeping.{Kept}
-use Rattle.bk_ledgers.specs.Recording.{HasFailed, Records, RecordsNone}
+use Rattle.bk_manifest.specs.Keeping.{Kept, durable, FindsDurable}
 use Rattle.bk_serve_core.specs.declared.refusal.Refusal.{Refusal}
 use Rattle.bk_serve_core.specs.declared.refusal.Refusal.TheVariants as f
 
+-- Unless a record is noted, an opening finds the durable records and no others. A record that is noted
+-- was refused, and may be in the file.
+abbrev pub IsSure : Kept → Type 0
+IsSure m = m.pending ≡ [] → IsTrue m.honest → FindsDurable m
+
 -- One more fact is durable, and an opening finds no others.
-abbrev pub Notes : Fact → Kept → Kept → Type 0
-Notes one m m' = Records (one ∷ []) m m'
+pub record Notes (one : Fact) (m m' : Kept) : Type 0 where
+  pub honest : m'.honest ≡ m.honest
+  pub noted : IsTrue m.honest → durable m' ≡ durable m ++ one ∷ []
+  pub none : m'.pending ≡ []
+  pub found : IsTrue m.honest → FindsDurable m'
 
 -- No further fact is durable.
-abbrev pub NotesNone : Kept → Kept → Type 0
-NotesNone m m' = RecordsNone m m'
+pub record NotesNone (m m' : Kept) : Type 0 where
+  pub honest : m'.honest ≡ m.honest
+  pub same : IsTrue m.honest → durable m' ≡ durable m
+  pub sure : IsSure m → IsSure m'
+
+-- the device failed, or the file is too long for one more batch
+abbrev pub HasFailed : Kept → Kept → Type 0
+HasFailed m m' = (m.failures < m'.failures) ⊎ (2 ^ 63 ≤ m'.stop)
 
 -- why a fact is not durable
 abbrev pub IsNoteRefusal : Fact → Kept → Kept → Refusal → Type 0

@@ -4,17 +4,18 @@ ghost use Rattle.bk_manifest.specs.Fact.{fact};
 ghost use Rattle.bk_serve.specs.Notes.{NoteTransition, SettleTransition};
 
 use crate::refusals::of_note;
-use bk_ledgers as ledgers;
 use bk_manifest::{Manifest, ManifestFile, Record};
 use bk_serve_core::Refusal;
 use std::alloc::Global;
 
 /// Takes a record back that was refused and may be in the file, if there is one.
-#[tactic(auto, using(crate::proofs::Refusing::refused_settle))]
 pub(crate) fn settle<F: ManifestFile>(alloc: Global, notes: &mut Manifest<F>) -> Result<(), Refusal>
     ensures { SettleTransition notes.old result notes.new }
 {
-    match ledgers::settle(alloc, notes) {
+    if notes.noted().is_empty() {
+        return Ok(());
+    }
+    match notes.withdraw(alloc) {
         Ok(()) => Ok(()),
         Err(error) => Err(of_note(error)),
     }
@@ -22,7 +23,6 @@ pub(crate) fn settle<F: ManifestFile>(alloc: Global, notes: &mut Manifest<F>) ->
 
 /// Makes a record durable. If that fails, takes it back; if this fails too, the record stays noted,
 /// and may be in the file.
-#[tactic(auto, using(crate::proofs::Refusing::refused_note))]
 pub(crate) fn note<F: ManifestFile>(
     alloc: Global,
     notes: &mut Manifest<F>,
@@ -30,8 +30,15 @@ pub(crate) fn note<F: ManifestFile>(
 ) -> Result<(), Refusal>
     ensures { NoteTransition (fact one) notes.old result notes.new }
 {
-    match ledgers::record(alloc, notes, one) {
+    settle(alloc, notes)?;
+    if notes.note(one).is_err() {
+        return Err(Refusal::Memory);
+    }
+    match notes.commit(alloc) {
         Ok(()) => Ok(()),
-        Err(error) => Err(of_note(error)),
+        Err(error) => {
+            let _ = notes.withdraw(alloc);
+            Err(of_note(error))
+        }
     }
 }

@@ -3,13 +3,15 @@
 use crate::folder::open_folder;
 use crate::host::Host;
 use bk_disk::{DirDisk, FolderFault, LogDisk};
-use bk_ledgers::{ledgers_of, open_ledgers};
-use bk_manifest::{Manifest, ManifestError, ManifestFile};
+use bk_manifest::{Manifest, ManifestError, ManifestFile, Record};
 use bk_manifest_disk::KeptFile;
 use bk_serve_core::Refusal;
 use bk_store::{FenceFault, Settings, Store};
 use std::alloc::{AllocError, AllocFailed, Global};
 use thiserror::Error;
+
+/// Name of the file of the manifest.
+const MANIFEST: &str = "ledgers.manifest";
 
 /// The settings of the store.
 const SETTINGS: Settings = Settings {
@@ -92,6 +94,39 @@ fn of_store(fault: bk_store::OpenFault) -> Refusal {
     }
 }
 
+/// Opens the manifest of a file. Makes an empty one if there is none.
+fn open_notes(alloc: Global, disk: &mut DirDisk) -> Result<Manifest<KeptFile>, OpenFault> {
+    let file = KeptFile::new(disk.file(alloc, MANIFEST)?);
+    if let Some(opened) = Manifest::open(alloc, file)? {
+        return Ok(opened.manifest);
+    }
+    let file = KeptFile::new(disk.file(alloc, MANIFEST)?);
+    Ok(Manifest::create(alloc, file, 0)?)
+}
+
+/// Ledgers that records name.
+#[derive(Drop)]
+struct Named {
+    deleted: Vec<u64>,
+    fenced: Vec<u64>,
+}
+
+/// Returns the deleted ledgers of a list of records, and the fenced ones.
+fn named_in(alloc: Global, records: &[Record]) -> Result<Named, AllocError> {
+    let mut named = Named {
+        deleted: Vec::new(alloc),
+        fenced: Vec::new(alloc),
+    };
+    for one in records {
+        match one {
+            Record::DeletedLedger(ledger) => named.deleted.push(*ledger)?,
+            Record::FencedLedger(ledger) => named.fenced.push(*ledger)?,
+            _ => {}
+        }
+    }
+    Ok(named)
+}
+
 /// Fences ledgers that were fenced before. A deleted one stays deleted.
 fn fence_all<D: LogDisk>(store: &mut Store<D>, ledgers: &[u64]) -> Result<(), AllocError> {
     for ledger in ledgers {
@@ -109,7 +144,7 @@ fn open_host<D: LogDisk, F: ManifestFile>(
     notes: Manifest<F>,
 ) -> Result<Host<D, F>, OpenFault> {
     let records = notes.state().records(alloc)?;
-    let named = ledgers_of(alloc, &records)?;
+    let named = named_in(alloc, &records)?;
     let mut store = match Store::open(alloc, disk, SETTINGS, &named.deleted) {
         Ok(store) => store,
         Err(fault) => return Err(OpenFault::Store(fault)),
@@ -126,6 +161,6 @@ fn open_host<D: LogDisk, F: ManifestFile>(
 pub(crate) fn open(rt: &HostRuntime, path: &str) -> Result<Host<DirDisk, KeptFile>, OpenFault> {
     let alloc = rt.alloc();
     let mut disk = open_folder(rt, path)?;
-    let notes = open_ledgers(alloc, &mut disk)?.manifest;
+    let notes = open_notes(alloc, &mut disk)?;
     open_host(alloc, disk, notes)
 }

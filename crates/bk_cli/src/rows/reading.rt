@@ -2,7 +2,8 @@
 
 use crate::row::CommandRow;
 use crate::words::{
-    DATA, DEAD, DEAD_FILE, DIGEST, ENTRY, FIRST, FROM, HEX, LAST, LEDGER, LOG, LONG, OF_LEDGER, RAW,
+    DATA, DEAD, DEAD_FILE, DIGEST, ENTRY, FIRST, FROM, HEX, LAST, LEDGER, LIVE_FILE, LIVE_NONE,
+    LOG, LONG, NO_MANIFEST, OF_LEDGER, RAW,
 };
 
 /// In the order of the help.
@@ -73,15 +74,18 @@ Example:
     CommandRow {
         name: "stat",
         operands: &[],
-        options: &[DEAD, DEAD_FILE],
+        options: &[DEAD, DEAD_FILE, LIVE_FILE, LIVE_NONE, NO_MANIFEST],
         summary: "Show the entries and live bytes of each log",
         help: "\
 Prints one line per log, by rising id: `ID LENGTH ENTRIES BYTES LIVE SHARE STATE`. ENTRIES is the
 number of entries, BYTES the size of their records, LIVE the part of BYTES that belongs to ledgers
-that neither --dead nor --dead-file names. SHARE is LIVE in thousandths of BYTES, rounded down, or `-` if there are no
+that are not deleted. SHARE is LIVE in thousandths of BYTES, rounded down, or `-` if there are no
 bytes. STATE is that of `logs`. The last line has the sums: `logs N length N entries N bytes N live N
 share SHARE`. A log is compacted if its share is below a threshold; a bookie's are 200 and 800 by
 default.
+
+Deleted are the ledgers that the directory's manifest records, those that --dead and --dead-file
+name, and with --live-file or --live-none each ledger of DIR that no such file lists.
 
 If a log cannot be read to its end, `fault log ID: TEXT` goes to the error stream, and the log is
 counted up to there.
@@ -98,14 +102,14 @@ Example:
     CommandRow {
         name: "report",
         operands: &[],
-        options: &[DEAD, DEAD_FILE],
+        options: &[DEAD, DEAD_FILE, LIVE_FILE, LIVE_NONE, NO_MANIFEST],
         summary: "Write a page on the logs, for a browser",
         help: "\
 Writes one HTML page to the standard output, which loads nothing and runs no script. It shows
   faults     each log that is at fault by `check`, and each that cannot be opened
   logs       for each log the bytes of live and of dead entries, of foreign records, the torn bytes at
-             its end, and the bytes from a bad length on. Dead are the entries of ledgers that --dead or
-             --dead-file names
+             its end, and the bytes from a bad length on. Dead are the entries of deleted ledgers, by
+             the manifest and the options as in `stat`
   freed      how many bytes a compaction would free, by its threshold
   ledgers    the 20 largest ledgers
   sizes      how many entries have which size
@@ -132,8 +136,8 @@ Prints one line per ledger, rising: `LEDGER RECORDS BYTES FIRST LAST LOGS`. RECO
 its records in all logs, BYTES their size, FIRST and LAST its first and last entry, LOGS the number
 of logs with a record. An entry with two records counts twice.
 
-If a log's header is invalid, or a log cannot be read to its end, `fault log ID: TEXT` goes to the
-error stream, and the log is counted as far as it can be read.
+If a log cannot be read to its end, `fault log ID: TEXT` goes to the error stream, and the log is
+counted up to there.
 
 Exit status: 0, 1 on a fault, 2 if the command line is wrong.
 
@@ -153,8 +157,8 @@ Prints one line per entry of the ledger, rising: `ENTRY LOG AT SIZE`. LOG is the
 record, AT the position of the payload there, SIZE the size of the record. If an entry has several
 records, the last one counts, by log id, then position.
 
-If a log's header is invalid, or a log cannot be read to its end, `fault log ID: TEXT` goes to the
-error stream, and the log is searched as far as it can be read.
+If a log cannot be read to its end, `fault log ID: TEXT` goes to the error stream, and the log is
+searched up to there.
 
 Exit status: 0, 1 on a fault, 2 if the command line is wrong.
 
@@ -178,9 +182,9 @@ an entry is a line, `ENTRY DATA`: its number and its data in hexadecimal, or `-`
 bytes each) and data. All numbers are big-endian. `import` reads that. With --json the members are
 `ledger`, `entry` and `data`.
 
-If a log's header is invalid, or a log cannot be read to its end, `fault log ID: TEXT` goes to the
-error stream, and the log is searched as far as it can be read. What can be read is written. A
-deleted ledger is exported like any other, as long as its records are there.
+If a log cannot be read to its end, `fault log ID: TEXT` goes to the error stream, and the log is
+searched up to there. What can be read is written. A deleted ledger is exported like any other, as long
+as its records are there.
 
 Exit status: 0 if each entry was written, once; 1 on a fault; 2 if the command line is wrong.
 
@@ -199,10 +203,10 @@ Examples:
         help: "\
 Prints `LOG AT DATA`, or `not found`. LOG is the log of the entry's last record, AT the position of
 the payload there, DATA the data in hexadecimal, or `-` if there is none. If an entry has several
-records, the last one counts, by log id, then position. All logs are scanned.
+records, the last one counts, by log id, then position. All logs are scanned; headers are not read.
 
-If a log's header is invalid, or a log cannot be read to its end, `fault log ID: TEXT` goes to the
-error stream, and the log is searched as far as it can be read.
+If a log cannot be read to its end, `fault log ID: TEXT` goes to the error stream, and the log is
+searched up to there.
 
 Exit status: 0, also if the entry is not found; 1 on a fault; 2 if the command line is wrong.
 
@@ -223,9 +227,8 @@ the number of records with a negative id, such as those of a ledgers map, and th
 the end that are no whole record. The header is not read. A length field below 16 ends the scan:
 `fault bad length AT N`.
 
-With --ledger or --from (0 to 4294967295) fewer entries are shown, and `entries` counts those shown;
-the whole log is scanned. With --data each line ends with the data in hexadecimal, or `-` if there
-is none.
+With --ledger or --from fewer entries are shown, and `entries` counts those shown; the whole log is
+scanned. With --data each line ends with the data in hexadecimal, or `-` if there is none.
 
 Exit status: 0, 1 on a fault, 2 if the command line is wrong.
 

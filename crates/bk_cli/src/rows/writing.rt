@@ -2,8 +2,8 @@
 
 use crate::row::CommandRow;
 use crate::words::{
-    ALL_UNSEALED, BELOW, CUT_TORN, DEAD, DEAD_FILE, DRY_RUN, FILE, INDEX_IS_REBUILT, MAJOR, MINOR,
-    SEALED_LOG,
+    ALL_UNSEALED, BELOW, CHECK, CUT_TORN, DEAD, DEAD_FILE, DRY_RUN, FILE, INDEX_IS_REBUILT,
+    LIVE_FILE, LIVE_NONE, MAJOR, MINOR, NO_MANIFEST, REBUILD, SEALED_LOG,
 };
 
 /// In the order of the help.
@@ -17,6 +17,9 @@ pub static WRITING: &[CommandRow] = &[
             BELOW,
             DEAD,
             DEAD_FILE,
+            LIVE_FILE,
+            LIVE_NONE,
+            NO_MANIFEST,
             DRY_RUN,
             INDEX_IS_REBUILT,
         ],
@@ -24,15 +27,19 @@ pub static WRITING: &[CommandRow] = &[
         help: "\
 Opens a store on the logs of DIR and removes each log that no index entry points into. Then it
 compacts one log after another, the one with the smallest live share first, until no log has a live
-share below the threshold. The live bytes of a log are the records of ledgers that neither --dead nor
---dead-file names. Live entries are copied to a new log; the old log is removed after the new one is
+share below the threshold. The live bytes of a log are the records of ledgers that are not deleted.
+Live entries are copied to a new log; the old log is removed after the new one is
 sealed and synced. The last line is `before N after N freed BYTES moved ENTRIES`: the number of logs
 before and after, the number of bytes by which the files are shorter (`-BYTES` if they are longer),
 and the number of entries copied.
 
-A directory does not record which ledgers are deleted: without --dead every ledger is live. The
-entries of a ledger that is named are lost for good when their log is removed. A FILE has one ledger
-per line, in plain digits; empty lines are ignored.
+Deleted are the ledgers that the directory's manifest records, those that --dead and --dead-file
+name, and with --live-file or --live-none each ledger of DIR that no such file lists. The deletion of
+those that are named is recorded, durably, before anything is removed: they stay deleted. With
+--no-manifest nothing is recorded, and what is recorded does not count. The entries of a deleted ledger
+are lost for good when their log is removed. A FILE has one ledger per line, in plain digits; empty
+lines are ignored. A FILE of live ledgers may also have lines as `ledgerID: 12`; one that lists none is
+refused, unless --live-none says that none is live.
 
 A stock bookie has an index of its own, which points into logs that a compaction removes. If DIR has
 `VERSION`, `lastMark`, `locations` or `ledgers`, the command is refused without --index-is-rebuilt. With
@@ -43,9 +50,9 @@ A file with a log's name that is shorter than a header (1024 bytes) and not empt
 on the error stream, unless its copy FILE.torn has the same bytes: it may be what a crash left of a log.
 
 With --dry-run the directory is only read. One line per log to be taken is printed, by rising id:
-`ID LENGTH remove` or `ID LENGTH compact ENTRIES`. Then one per ledger that is named, rising: `ledger
-LEDGER entries N bytes N`, the records that it has in all logs; 0 if no log has one. The last line is the one that the compaction would
-print. If there are not enough free ids or slots for all copies, the logs to be removed are printed, and
+`ID LENGTH remove` or `ID LENGTH compact ENTRIES`. Then one per ledger that is named, or not listed as
+live, rising: `ledger LEDGER entries N bytes N`, the records that it has in all logs; 0 if no log has
+one. The last line is the one that the compaction would print. If there are not enough free ids or slots for all copies, the logs to be removed are printed, and
 then the fault. With --json a log has `log`, `length`, `fate` and `entries`, a ledger
 `ledger`, `entries` and `bytes`, and the last line `before`, `after`, `freed` and `moved`.
 
@@ -78,7 +85,8 @@ Opens a store on the logs of DIR, which is created if it does not exist, and add
 N held N`: the number of entries added, and of those whose key an entry in DIR has; that entry is
 unchanged, and its data is not compared. FILE is read once, in pieces.
 
-A ledger that --dead or --dead-file names is deleted in DIR: its entries are refused. A record that is
+A ledger that --dead or --dead-file names, or that the directory's manifest records, is deleted in DIR:
+its entries are refused. The manifest records those that are named. A record that is
 none ends the command: `bad record at N` has its first byte.
 
 One program at a time writes to a directory. If another one does, the command is refused and names
@@ -91,6 +99,44 @@ entries before it may be in DIR; 2 if the command line is wrong.
 Example:
   $ ./bookie import rescued ledger1
   added 2 held 0
+",
+    },
+    CommandRow {
+        name: "manifest",
+        operands: &[],
+        options: &[CHECK, REBUILD],
+        summary: "Show which ledgers the directory's manifest records as deleted or fenced",
+        help: "\
+Prints a line for the manifest of DIR, the file `ledgers.manifest`, and one for each record that
+stands: the last one about its subject.
+  FILE generation N records N standing N torn N
+  deleted LEDGER
+  fenced LEDGER
+  attribute LEDGER kind KIND length BYTES
+The torn bytes are what an interrupted write left at the end; they are no records, and the next write
+replaces them. Without such a file `no manifest in DIR` goes to the error stream, with status 0.
+
+A damaged manifest is a fault with the position of the damage: `fault damaged manifest AT in FILE`. No
+command that writes opens such a directory, since deleted ledgers would come back. With --check the
+records are not printed.
+
+With --rebuild a damaged manifest is copied to `ledgers.manifest.damaged`, durably, and then replaced
+by one of the records before the damage. Prints `rebuilt FILE records N unread N kept COPY`; N bytes
+after the damage were not read, so name the ledgers that were deleted since with --dead-file of
+`compact`. One that is not damaged stays: `whole FILE`. If the copy is there and has other bytes,
+nothing is changed, `fault copy exists: COPY`: move it away.
+
+Reading takes no lock. With --rebuild, one program at a time writes to a directory: if another one
+does, the command is refused and names its process.
+
+Exit status: 0 if the manifest was shown or rebuilt, or is not there; 1 on a fault, `fault TEXT` on the
+error stream; 2 if the command line is wrong.
+
+Example:
+  $ ./bookie manifest /var/bookie/current
+  ledgers.manifest generation 0 records 2 standing 2 torn 0
+  deleted 2
+  fenced 5
 ",
     },
     CommandRow {

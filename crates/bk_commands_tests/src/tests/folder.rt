@@ -196,7 +196,7 @@ fn a_folder_with_other_files(rt: HostRuntime) -> Result<(), Fail> {
     anew(&rt, folder)?;
     write_log(&rt, folder)?;
     write_others(&rt, folder)?;
-    fs::create_dir(&rt, "bk_shell_files/2.d")?;
+    fs::create_dir(&rt, "bk_shell_files/2.log")?;
     symlink(&rt, "0.log", "bk_shell_files/3.log")?;
     check(&rt, &rt, &FILES);
     fs::remove_dir_all(&rt, folder)?;

@@ -30,11 +30,11 @@ fn calls(rt: &impl Abort) -> [(DirCommand, u8); 9] {
         (DirCommand::Header(0), 2),
         (DirCommand::Map(0), 3),
         (DirCommand::Scan(0), 1),
-        (find(rt, 1, 0), 4),
+        (find(rt, 1, 0), 2),
         (DirCommand::Check, 4),
         (DirCommand::ScanPart(0, ALL), 1),
-        (DirCommand::Ledgers, 4),
-        (DirCommand::Entries(FIRST), 4),
+        (DirCommand::Ledgers, 2),
+        (DirCommand::Entries(FIRST), 2),
     ]
 }
 

@@ -2,9 +2,7 @@
 
 use super::{HELLO_AND_MAP, Row, SEALED, check, done, find};
 use bk_disk::DirDisk;
-use bk_inspect::{
-    DataForm, DirCommand, EntryRange, FolderCommand, Form, run_folder, run_folder_as,
-};
+use bk_inspect::{DirCommand, FolderCommand, Form, run_folder, run_folder_as};
 use std::fs;
 use std::os::unix::fs::symlink;
 use std::process::Abort;
@@ -149,37 +147,6 @@ fn a_log_that_leads_nowhere_is_told_and_the_others_are_shown(rt: HostRuntime) ->
     symlink(&rt, "nothing", "bk_dir_dangling/5.log")?;
     check_folder(&rt, &rt, "bk_dir_dangling", &rows);
     fs::remove_dir_all(&rt, "bk_dir_dangling")?;
-    Ok(())
-}
-
-/// What is reported of log 5 if it is a directory.
-const NO_FILE: &str = "fault log 5: disk: no regular file\n";
-
-#[test]
-fn a_directory_with_the_name_of_a_log_is_told(rt: HostRuntime) -> Result<(), Fail> {
-    let all = EntryRange {
-        ledger: 1,
-        first: 0,
-        last: u64::MAX,
-    };
-    let rows = [
-        beside(1, NO_FILE, DirCommand::Logs, "0 1089 sealed\n"),
-        beside(1, NO_FILE, DirCommand::Check, "0 ok\n"),
-        beside(1, NO_FILE, find(&rt, 1, 0), "0 1028 68656c6c6f\n"),
-        beside(1, NO_FILE, DirCommand::Ledgers, "1 1 25 0 0 1\n"),
-        beside(1, NO_FILE, DirCommand::Entries(all), "0 0 1028 25\n"),
-    ];
-    let _ = anew(&rt, "bk_dir_no_file")?;
-    fs::create_dir(&rt, "bk_dir_no_file/5.log")?;
-    check_folder(&rt, &rt, "bk_dir_no_file", &rows);
-    let mut output = Vec::new(rt.alloc());
-    let mut errors = Vec::new(rt.alloc());
-    let export = FolderCommand::Export(all, DataForm::Hex);
-    let status = run_folder(&rt, "bk_dir_no_file", &export, &mut output, &mut errors);
-    assert_eq!(rt; output.as_slice(), b"0 68656c6c6f\n".as_slice());
-    assert_eq!(rt; errors.as_slice(), NO_FILE.as_bytes());
-    assert_eq!(rt; status, 1);
-    fs::remove_dir_all(&rt, "bk_dir_no_file")?;
     Ok(())
 }
 

@@ -1,7 +1,7 @@
 //! Files that are cut, changed or made up.
 
 use super::{File, HELLO, OPEN, Row, SEALED, SEALED_LOG, check, disk_of, done, find, run};
-use bk_inspect::{DirCommand, EntryRange};
+use bk_inspect::DirCommand;
 use std::alloc::Global;
 use std::process::Abort;
 use std::test::Fail;
@@ -189,16 +189,6 @@ fn a_bad_log_before_a_whole_one(rt: HostRuntime) -> Result<(), Fail> {
     Ok(())
 }
 
-/// What is reported of both.
-const BOTH: &str = "fault log 2: version 2\nfault log 4: bad length 1049 7\n";
-
-/// All entries of ledger 1.
-const ALL: EntryRange = EntryRange {
-    ledger: 1,
-    first: 0,
-    last: u64::MAX,
-};
-
 #[test]
 fn a_bad_log_among_others(rt: HostRuntime) -> Result<(), Fail> {
     let rows = [
@@ -219,10 +209,12 @@ fn a_bad_log_among_others(rt: HostRuntime) -> Result<(), Fail> {
             "1028 1 0 25\n",
             "fault bad length 1049 7\n",
         ),
-        told(find(&rt, 1, 0), "4 1028 68656c6c6f\n", BOTH),
-        told(find(&rt, 1, 1), "", BOTH),
-        told(DirCommand::Ledgers, "1 3 75 0 0 3\n", BOTH),
-        told(DirCommand::Entries(ALL), "0 4 1028 25\n", BOTH),
+        told(
+            find(&rt, 1, 0),
+            "4 1028 68656c6c6f\n",
+            "fault log 4: bad length 1049 7\n",
+        ),
+        told(find(&rt, 1, 1), "", "fault log 4: bad length 1049 7\n"),
     ];
     let mut disk = disk_of(rt.alloc(), &[SEALED_LOG, BAD_HEAD, BAD_LENGTH])?;
     check(&rt, rt.alloc(), &mut disk, &rows, "with bad logs");

@@ -1,14 +1,13 @@
 //! Parses lines whose step is made of numbers only.
 
 ghost use Rattle.std.specs.Prelude.{◌≡◌, [], ◌∷◌, true, false, Some, None, slice_index, if◌then◌else◌, MatchOption};
-ghost use Rattle.bk_drive.specs.declared.ledger_reads.LedgerRead.TheVariants as reads;
 ghost use Rattle.bk_drive.specs.declared.step.Step.TheVariants as steps;
 ghost use Rattle.bk_script.specs.Line.{fits, formed};
 ghost use Rattle.bk_script.specs.Line as lines;
 ghost use Rattle.bk_script.specs.Numbers.{listed};
 
 use crate::line::numbers::Numbers;
-use bk_drive::{Kind, LedgerRead, Step, Work};
+use bk_drive::{Kind, Step, Work};
 use bk_record::{Key, LAST_ID, LAST_LOG};
 
 /// Largest number of entries or moves in a line (this project's rule).
@@ -38,11 +37,6 @@ pub(crate) fn step_of(name: &str, numbers: Numbers, last_reader: u32) -> Option<
         "release" => Some(Step::Release(reader(numbers, last_reader)?)),
         "delete" => Some(Step::Delete(ledger(numbers)?)),
         "fence" => Some(Step::Fence(ledger(numbers)?)),
-        "fenced" => Some(Step::Read(LedgerRead::IsFenced(ledger(numbers)?))),
-        "last" => Some(Step::Read(LedgerRead::LastEntry(ledger(numbers)?))),
-        "holds" => holds(numbers),
-        "ledgers" => ledgers(numbers),
-        "entries" => entries(numbers),
         "take" => take(numbers, last_reader),
         _ => None,
     }
@@ -105,35 +99,4 @@ fn take(numbers: Numbers, last_reader: u32) -> Option<Step>
         Some(key) => Some(Step::Take(reader as u32, key)),
         None => None,
     }
-}
-
-/// Returns the look-up of the key that the two numbers are.
-fn holds(numbers: Numbers) -> Option<Step>
-    ensures { result ≡ (if fits 0 (lines.id ∷ lines.id ∷ []) (listed numbers)
-        then Some (steps.Read (reads.Holds (record { ledger = slice_index (listed numbers) 0; entry = slice_index (listed numbers) 1 })))
-        else None) }
-{
-    let (ledger, entry) = numbers.two(LAST_ID, LAST_ID)?;
-    let key = Key::new(ledger, entry)?;
-    Some(Step::Read(LedgerRead::Holds(key)))
-}
-
-/// Returns the page of ledgers whose first id and length the two numbers are.
-fn ledgers(numbers: Numbers) -> Option<Step>
-    ensures { result ≡ (if fits 0 (lines.id ∷ lines.count ∷ []) (listed numbers)
-        then Some (steps.Read (reads.Ledgers (slice_index (listed numbers) 0) (slice_index (listed numbers) 1)))
-        else None) }
-{
-    let (from, most) = numbers.two(LAST_ID, MAX_COUNT)?;
-    Some(Step::Read(LedgerRead::Ledgers(from, most)))
-}
-
-/// Returns the page of entries whose ledger, first id and length the three numbers are.
-fn entries(numbers: Numbers) -> Option<Step>
-    ensures { result ≡ (if fits 0 (lines.id ∷ lines.id ∷ lines.count ∷ []) (listed numbers)
-        then Some (steps.Read (reads.Entries (slice_index (listed numbers) 0) (slice_index (listed numbers) 1) (slice_index (listed numbers) 2)))
-        else None) }
-{
-    let (ledger, from, most) = numbers.three(LAST_ID, LAST_ID, MAX_COUNT)?;
-    Some(Step::Read(LedgerRead::Entries(ledger, from, most)))
 }

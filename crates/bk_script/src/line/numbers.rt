@@ -56,17 +56,6 @@ impl Numbers {
         }
     }
 
-    /// Returns both numbers, if neither exceeds its bound.
-    pub(crate) fn two(self, first: u64, second: u64) -> Option<(u64, u64)>
-        ensures value { IfSome result (λ r. (r.0 ≤ first) × (r.1 ≤ second) × (listed self ≡ r.0 ∷ r.1 ∷ [])) }
-        ensures none { IfNone result ((a b : ℕ) → a ≤ first → b ≤ second → listed self ≢ a ∷ b ∷ []) }
-    {
-        match self {
-            Numbers::Two(a, b) if a <= first && b <= second => Some((a, b)),
-            _ => None,
-        }
-    }
-
     /// Returns all three numbers, if none exceeds its bound.
     pub(crate) fn three(self, first: u64, second: u64, third: u64) -> Option<(u64, u64, u64)>
         ensures value { IfSome result (λ r. (r.0 ≤ first) × (r.1 ≤ second) × (r.2 ≤ third)

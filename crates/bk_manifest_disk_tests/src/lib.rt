@@ -1,5 +1,0 @@
-//! Tests of `bk_manifest_disk`.
-#![tactic(auto)]
-
-#[cfg(test)]
-mod tests;
