@@ -20,12 +20,12 @@ struct Answered {
 /// Makes two logs, writes and syncs the first, and removes it. Goes on after each failure.
 fn live(alloc: Global, disk: &mut Kept) -> Answered {
     let mut has_failed = disk.create(alloc, 1) == Err(DiskFault::Disk);
-    let mut synced = 0;
+    let mut synced = 0u64;
     for piece in [b"abcd".as_slice(), b"efgh"] {
         let written = disk.append(alloc, 1, piece).is_ok();
         let answer = disk.sync(alloc, 1);
         if written && answer.is_ok() {
-            synced += 4;
+            synced = synced.saturating_add(4);
         }
         has_failed = has_failed || answer == Err(DiskFault::Disk);
     }
