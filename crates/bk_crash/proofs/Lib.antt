@@ -3,3 +3,4 @@ pub mod Damage
 pub mod Leaving
 pub mod Notes
 pub mod Remaining
+pub mod Twice

@@ -1,6 +1,7 @@
 //! Theorems about a crash of any store, each as a function that does nothing.
 
 ghost use Rattle.std.specs.Prelude.{◌≡◌, ◌++◌, ℕ, List, take, true};
+ghost use Rattle.std.specs.FinMap as map;
 ghost use Rattle.bk_record.specs.Files.{Files, file_of};
 ghost use Rattle.bk_record.specs.Scan.{Payloads};
 ghost use Rattle.bk_disk.specs.Watermarks.{Watermarks, AreTruncated};
@@ -38,6 +39,14 @@ pub fn a_crash_loses_nothing()
         → RemovedFilesAreHarmless (file_of gone) s.index (written_at s) s.ledgers.dead map → AreSynced kept (open_parts s.logs)
         → MayLeave s.files gone kept left → IsOpened true left settings dead t → StayDead s.ledgers.dead t.ledgers.dead
         → (found : Payloads) × (IsContents found t × IsBetween s.index map t.ledgers.dead found) }
+{}
+
+/// What a second crash leaves of the files that a first one left, the first one may have left. So
+/// crash safety holds as well if the opening after a crash is interrupted, any number of times: an
+/// opening changes no file, and what was durable stays so.
+pub fn a_second_crash_leaves_no_more()
+    ensures { (files gone kept left again : Files)
+        → MayLeave files gone kept left → MayLeave left map.empty kept again → MayLeave files gone kept again }
 {}
 
 /// On a device that may leave any bytes after the synced ones, truncating each log at its watermark
