@@ -1,5 +1,10 @@
 //! Imports entries: adds them, and flushes the cache whenever it is full and at the end.
 
+ghost use Rattle.std.specs.Prelude.{◌≡◌, ◌∷◌, [], None, OnOk, IfOk, IsTrue};
+ghost use Rattle.bk_store.specs.Contents.{PreservesContents, contents_at};
+ghost use Rattle.bk_store.specs.Frame.{CachesUnchanged};
+ghost use Rattle.bk_import.specs.Importing.{Gains, Imports, IsFlushed, contents_of};
+
 use crate::records::{RecordsFault, next_record};
 use bk_disk::LogDisk;
 use bk_flush::{PublishAnswer, RollAnswer, WriteAnswer, publish, roll, swap, write_one};
@@ -45,7 +50,7 @@ pub enum ImportFault {
     /// A step of a flush fails.
     #[error("{0}")]
     Step(StepFault),
-    /// A flush did not end, which no store does.
+    /// A flush or the input did not end, which no store and no file does.
     #[error("flush")]
     Flush,
 }
@@ -99,7 +104,11 @@ pub fn import<D: LogDisk, R: Read>(
     settings: Settings,
     dead: &[u64],
     reader: &mut R,
-) -> Result<Done<D>, ImportFault> {
+) -> Result<Done<D>, ImportFault>
+    ensures imports { IfOk result (λ done. Imports (IsTrue (D.honest disk)) (R.remaining reader.old)
+        (contents_of (D.files disk) dead.now) (contents_at done.store)) }
+    ensures published { IfOk result (λ done. IsFlushed done.store) }
+{
     let mut store = Store::open(alloc, disk, settings, dead)?;
     let imported = import_into(alloc, &mut store, reader)?;
     Ok(Done { store, imported })
@@ -110,11 +119,24 @@ fn import_into<D: LogDisk, R: Read>(
     alloc: Global,
     store: &mut Store<D>,
     reader: &mut R,
-) -> Result<Imported, ImportFault> {
+) -> Result<Imported, ImportFault>
+    ensures imports { OnOk result (Imports (IsTrue store.old.honest) (R.remaining reader.old)
+        (contents_at store.old) (contents_at store.new)) }
+    ensures published { OnOk result (IsFlushed store.new) }
+{
     let imported = add_all(alloc, store, reader)?;
     flush(store)?;
+    seal(store)?;
+    Ok(imported)
+}
+
+/// Seals the log that is written, if there is one.
+fn seal<D: LogDisk>(store: &mut Store<D>) -> Result<(), ImportFault>
+    ensures frame { PreservesContents store.old store.new }
+    ensures caches { CachesUnchanged store.old store.new }
+{
     match roll(store)? {
-        RollAnswer::Sealed(_) | RollAnswer::NothingOpen => Ok(imported),
+        RollAnswer::Sealed(_) | RollAnswer::NothingOpen => Ok(()),
         RollAnswer::FlushRunning => Err(ImportFault::Flush),
     }
 }
@@ -124,13 +146,17 @@ fn add_all<D: LogDisk, R: Read>(
     alloc: Global,
     store: &mut Store<D>,
     reader: &mut R,
-) -> Result<Imported, ImportFault> {
+) -> Result<Imported, ImportFault>
+    ensures imports { OnOk result (Imports (IsTrue store.old.honest) (R.remaining reader.old)
+        (contents_at store.old) (contents_at store.new)) }
+    ensures honest { store.new.honest ≡ store.old.honest }
+{
     let mut at = 0u64;
     let mut imported = Imported { added: 0, held: 0 };
-    for _ in 0..u64::MAX {
+    'records: for _ in 0..u64::MAX {
         let payload = match next_record(alloc, reader) {
             Ok(Some(payload)) => payload,
-            Ok(None) => break,
+            Ok(None) => return Ok(imported),
             Err(fault) => return Err(ImportFault::of_record(at, fault)),
         };
         let size = (payload.len() as u64).saturating_add(LENGTH_FIELD as u64);
@@ -140,31 +166,73 @@ fn add_all<D: LogDisk, R: Read>(
             Added::Held => imported.held = imported.held.saturating_add(1),
         }
     }
-    Ok(imported)
+    Err(ImportFault::Flush)
 }
 
 /// Adds an entry; flushes the cache before if it has no room.
-fn add<D: LogDisk>(store: &mut Store<D>, payload: &[u8]) -> Result<Added, ImportFault> {
+fn add<D: LogDisk>(store: &mut Store<D>, payload: &[u8]) -> Result<Added, ImportFault>
+    ensures gains { OnOk result (IsTrue store.old.honest → Gains (contents_at store.old) (contents_at store.new) (payload.now ∷ [])) }
+    ensures honest { store.new.honest ≡ store.old.honest }
+{
+    store.reveal_invariant();
     match store.add(payload) {
-        Err(AddFault::Full { .. }) => {
-            flush(store)?;
-            Ok(store.add(payload)?)
-        }
-        answer => Ok(answer?),
+        Ok(added) => Ok(added),
+        Err(AddFault::Full { .. }) => add_flushed(store, payload),
+        Err(fault) => Err(ImportFault::Add(fault)),
     }
 }
 
+/// Flushes the cache, and adds an entry.
+fn add_flushed<D: LogDisk>(store: &mut Store<D>, payload: &[u8]) -> Result<Added, ImportFault>
+    ensures gains { OnOk result (IsTrue store.old.honest → Gains (contents_at store.old) (contents_at store.new) (payload.now ∷ [])) }
+    ensures honest { store.new.honest ≡ store.old.honest }
+{
+    flush(store)?;
+    store.reveal_invariant();
+    Ok(store.add(payload)?)
+}
+
 /// Flushes the cache: its entries are in synced logs afterwards.
-fn flush<D: LogDisk>(store: &mut Store<D>) -> Result<(), ImportFault> {
-    let SwapAnswer::Swapped(entries) = swap(store) else {
-        return Ok(());
-    };
-    for _ in 0..entries {
-        match write_one(store)? {
-            WriteAnswer::Wrote(_) => {}
-            WriteAnswer::AllWritten | WriteAnswer::NoFlush => return Err(ImportFault::Flush),
-        }
+fn flush<D: LogDisk>(store: &mut Store<D>) -> Result<(), ImportFault>
+    ensures frame { PreservesContents store.old store.new }
+    ensures published { OnOk result (IsFlushed store.new) }
+{
+    match swap(store) {
+        SwapAnswer::Swapped(entries) => write_all(store, entries),
+        SwapAnswer::Nothing => Ok(()),
+        SwapAnswer::Running => Err(ImportFault::Flush),
     }
+}
+
+/// Writes the entries of a flush, of which there are so many, and publishes them.
+fn write_all<D: LogDisk>(store: &mut Store<D>, entries: u64) -> Result<(), ImportFault>
+    ensures frame { PreservesContents store.old store.new }
+    ensures active { store.new.caches.active ≡ store.old.caches.active }
+    ensures published { OnOk result (store.new.caches.flush ≡ None) }
+{
+    'entries: for _ in 0..entries {
+        write_next(store)?;
+    }
+    publish_all(store)
+}
+
+/// Writes the next entry of a flush.
+fn write_next<D: LogDisk>(store: &mut Store<D>) -> Result<(), ImportFault>
+    ensures frame { PreservesContents store.old store.new }
+    ensures active { store.new.caches.active ≡ store.old.caches.active }
+{
+    match write_one(store)? {
+        WriteAnswer::Wrote(_) => Ok(()),
+        WriteAnswer::AllWritten | WriteAnswer::NoFlush => Err(ImportFault::Flush),
+    }
+}
+
+/// Publishes the entries of a flush, which are all written.
+fn publish_all<D: LogDisk>(store: &mut Store<D>) -> Result<(), ImportFault>
+    ensures frame { PreservesContents store.old store.new }
+    ensures active { store.new.caches.active ≡ store.old.caches.active }
+    ensures published { OnOk result (store.new.caches.flush ≡ None) }
+{
     match publish(store)? {
         PublishAnswer::Published(_) => Ok(()),
         PublishAnswer::NotAllWritten | PublishAnswer::NoFlush => Err(ImportFault::Flush),

@@ -1,5 +1,6 @@
 //! Round trips: what `export` writes of one disk is imported to another, which then exports the same.
 
+mod faults;
 mod refused;
 mod trips;
 
@@ -10,9 +11,9 @@ use std::alloc::{AllocError, Global};
 use std::test::Fail;
 
 /// The bytes of an export of a ledger, and its status.
-fn export(
+fn export<D: LogDisk>(
     alloc: Global,
-    disk: &mut MemDisk,
+    disk: &mut D,
     range: EntryRange,
     form: Form,
     data: DataForm,
