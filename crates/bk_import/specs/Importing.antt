@@ -34,7 +34,7 @@ pub record Gains (before after : EntryKey → Option (List ℕ)) (payloads : Lis
 abbrev pub contents_of : Files → List ℕ → EntryKey → Option (List ℕ)
 contents_of files dead key = if set.contains (valid_ledgers dead) key.ledger then None else finite.get (scan_of files) key
 
--- no entry is in a write cache only
+-- no write cache has an entry
 abbrev pub IsFlushed : State → Type 0
 IsFlushed s = (key : EntryKey) → written_at s key ≡ None
 

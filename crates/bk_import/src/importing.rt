@@ -98,6 +98,9 @@ impl ImportFault {
 /// - `BadRecord`: what follows is cut off, or its length is below 16 or above 5,000,000.
 /// - `Add`: a negative id (`Bad`), a deleted ledger, or out of memory.
 /// - `Step`: the device fails, slots or ids of logs are used up, or out of memory.
+/// - `Flush`: a flush or the input does not end, which does not occur.
+///
+/// The store is dropped then. Entries before the fault may be on the disk.
 pub fn import<D: LogDisk, R: Read>(
     alloc: Global,
     disk: D,
