@@ -1,6 +1,9 @@
 pub mod Copies
 pub mod Damage
+pub mod Front
+pub mod KeptIndex
 pub mod Leaving
 pub mod Notes
+pub mod PublishedEntries
 pub mod Remaining
 pub mod Twice

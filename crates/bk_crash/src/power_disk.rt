@@ -1,14 +1,16 @@
-//! A disk whose power fails: it passes on N calls; each later call fails and changes nothing.
+//! A disk whose power fails: it passes on N calls; each later call fails and changes nothing, but
+//! an append during which the power fails may write a prefix of its bytes.
 
-ghost use Rattle.std.specs.Prelude.{◌≡◌, ◌↔◌, ◌+◌, ◌<◌, ◌≤◌, ◌^◌, false, length, take, IsTrue, OnOk};
+ghost use Rattle.std.specs.Prelude.{◌≡◌, ◌↔◌, ◌+◌, ◌<◌, ◌≤◌, ◌^◌, false, length, take, IsTrue, OnOk, OnErr};
 ghost use Rattle.std.specs.Bool.{OnTrue, OnFalse};
 ghost use Rattle.std.specs.FinMap as map;
-ghost use Rattle.bk_disk.specs.Disk.{FailsExactlyOnDiskFault, Lists, Creates, Appends, Patches, Syncs, Removes};
+ghost use Rattle.bk_disk.specs.Disk.{FailsExactlyOnDiskFault, Lists, Measures, Creates, Appends, Patches, Syncs, Reads, Views, Removes};
 ghost use Rattle.bk_record.specs.Files.{file_of};
-ghost use Rattle.bk_disk.specs.Watermarks.{IsDurableUpTo, HasWatermark};
+ghost use Rattle.bk_disk.specs.Watermarks.{IsDurableUpTo, HasWatermark, TruncatesToWatermarks};
 ghost use Rattle.bk_disk.specs.Durable.{DurableGrows, ListDurability, SyncDurability, RemoveDurability};
 ghost use Rattle.bk_crash.specs.Noting.{IsNoted, IsNotedInPart, IsMarkNoted, noted, made_log, longer_log, patched_log, synced_log, marked_log, with_removed};
 ghost use Rattle.bk_crash.specs.AllLogs.{logs_of, gone_of};
+ghost use Rattle.bk_crash.specs.Power.{IsOff, WritesFront};
 
 use crate::Written;
 use bk_disk::{DiskFault, LogDisk, WatermarkDisk};
@@ -29,6 +31,7 @@ pub struct PowerDisk<D: LogDisk> {
 struct Power {
     left: u64,
     refused: u64,
+    ghost spent: { 0 < refused → left ≡ 0 },
 }
 
 impl Power {
@@ -39,6 +42,7 @@ impl Power {
         ensures no { OnFalse result (self.new.refused ≡ self.old.refused) }
         ensures spent { OnTrue result (self.old.left ≡ 0) }
         ensures less { OnFalse result (0 < self.old.left → self.old.left ≡ self.new.left + 1) }
+        ensures off { IsOff self.old.refused → IsTrue result }
     {
         if self.left > 0 {
             self.left -= 1;
@@ -125,6 +129,7 @@ impl<D: LogDisk> LogDisk for PowerDisk<D> {
         ensures transition { IsTrue (D.honest self.old.inner) → Lists (λ v. v.items) (D.files self.old.inner) result (D.files self.new.inner) }
         ensures noted { logs_of self.new.written ≡ logs_of self.old.written }
         ensures gone { IsNoted result (gone_of self.old.written) (gone_of self.new.written) map.empty }
+        ensures dead { IsOff self.old.power.refused → (self.new.inner ≡ self.old.inner) × (self.new.written ≡ self.old.written) }
     {
         if self.power.fails() {
             return Err(DiskFault::Disk);
@@ -136,7 +141,14 @@ impl<D: LogDisk> LogDisk for PowerDisk<D> {
         listed
     }
 
-    fn length(&mut self, alloc: Global, log: u32) -> Result<u64, DiskFault> {
+    fn length(&mut self, alloc: Global, log: u32) -> Result<u64, DiskFault>
+        ensures honest { D.honest self.new.inner ≡ D.honest self.old.inner }
+        ensures durable { IsTrue (D.honest self.old.inner)
+            → DurableGrows (D.synced self.old.inner) (D.gone self.old.inner) (D.synced self.new.inner) (D.gone self.new.inner) }
+        ensures cause { FailsExactlyOnDiskFault (D.failures self.old.inner + self.old.power.refused) (D.failures self.new.inner + self.new.power.refused) result }
+        ensures transition { IsTrue (D.honest self.old.inner) → Measures (D.files self.old.inner) log result (D.files self.new.inner) }
+        ensures dead { IsOff self.old.power.refused → (self.new.inner ≡ self.old.inner) × (self.new.written ≡ self.old.written) }
+    {
         if self.power.fails() {
             return Err(DiskFault::Disk);
         }
@@ -152,6 +164,7 @@ impl<D: LogDisk> LogDisk for PowerDisk<D> {
         ensures transition { IsTrue (D.honest self.old.inner) → Creates (D.files self.old.inner) log result (D.files self.new.inner) }
         ensures noted { self.new.written.is_lost ≡ false → IsNoted result (logs_of self.old.written) (logs_of self.new.written) (map.insert (logs_of self.old.written) log made_log) }
         ensures gone { gone_of self.new.written ≡ gone_of self.old.written }
+        ensures dead { IsOff self.old.power.refused → (self.new.inner ≡ self.old.inner) × (self.new.written ≡ self.old.written) }
     {
         if self.power.fails() {
             return Err(DiskFault::Disk);
@@ -163,6 +176,8 @@ impl<D: LogDisk> LogDisk for PowerDisk<D> {
         made
     }
 
+    /// If the power fails in this call, a prefix of the bytes is written and recorded. If the
+    /// device fails at these, its failure alone is counted, and the power fails at the next call.
     fn append(&mut self, alloc: Global, log: u32, bytes: &[u8]) -> Result<(), DiskFault>
         ensures honest { D.honest self.new.inner ≡ D.honest self.old.inner }
         ensures durable { IsTrue (D.honest self.old.inner)
@@ -171,13 +186,23 @@ impl<D: LogDisk> LogDisk for PowerDisk<D> {
         ensures transition { IsTrue (D.honest self.old.inner) → Appends (D.files self.old.inner) log bytes.now result (D.files self.new.inner) }
         ensures noted { self.new.written.is_lost ≡ false → IsNotedInPart result (logs_of self.old.written) (logs_of self.new.written) (λ n. noted (longer_log (take n bytes.now)) (logs_of self.old.written) log)
             (noted (longer_log bytes.now) (logs_of self.old.written) log) }
+        ensures front { IsTrue (D.honest self.old.inner) → self.new.written.is_lost ≡ false → D.failures self.new.inner ≡ D.failures self.old.inner
+            → OnErr result (WritesFront (D.files self.old.inner) (logs_of self.old.written) log bytes.now (D.files self.new.inner) (logs_of self.new.written)) }
         ensures gone { gone_of self.new.written ≡ gone_of self.old.written }
+        ensures dead { IsOff self.old.power.refused → (self.new.inner ≡ self.old.inner) × (self.new.written ≡ self.old.written) }
     {
         let was_dead = self.power.refused > 0;
         if self.power.fails() {
             if !was_dead {
-                let kept = bytes.len().min(self.kept);
-                self.written.append(log, &bytes[..kept]);
+                let front = &bytes[..bytes.len().min(self.kept)];
+                match self.inner.append(alloc, log, front) {
+                    Ok(()) => self.written.append(log, front),
+                    Err(fault) => {
+                        if fault == DiskFault::Disk {
+                            self.power.refused = 0;
+                        }
+                    }
+                }
             }
             return Err(DiskFault::Disk);
         }
@@ -196,6 +221,7 @@ impl<D: LogDisk> LogDisk for PowerDisk<D> {
         ensures transition { IsTrue (D.honest self.old.inner) → Patches (D.files self.old.inner) log bytes.now result (D.files self.new.inner) }
         ensures noted { IsNoted result (logs_of self.old.written) (logs_of self.new.written) (noted (patched_log bytes.now) (logs_of self.old.written) log) }
         ensures gone { gone_of self.new.written ≡ gone_of self.old.written }
+        ensures dead { IsOff self.old.power.refused → (self.new.inner ≡ self.old.inner) × (self.new.written ≡ self.old.written) }
     {
         if self.power.fails() {
             return Err(DiskFault::Disk);
@@ -216,6 +242,7 @@ impl<D: LogDisk> LogDisk for PowerDisk<D> {
         ensures transition { IsTrue (D.honest self.old.inner) → Syncs (D.files self.old.inner) log result (D.files self.new.inner) }
         ensures noted { IsNoted result (logs_of self.old.written) (logs_of self.new.written) (noted synced_log (logs_of self.old.written) log) }
         ensures gone { gone_of self.new.written ≡ gone_of self.old.written }
+        ensures dead { IsOff self.old.power.refused → (self.new.inner ≡ self.old.inner) × (self.new.written ≡ self.old.written) }
     {
         if self.power.fails() {
             return Err(DiskFault::Disk);
@@ -227,14 +254,28 @@ impl<D: LogDisk> LogDisk for PowerDisk<D> {
         synced
     }
 
-    fn read_at(&mut self, alloc: Global, log: u32, at: u64, n: u64) -> Result<Vec<u8>, DiskFault> {
+    fn read_at(&mut self, alloc: Global, log: u32, at: u64, n: u64) -> Result<Vec<u8>, DiskFault>
+        ensures honest { D.honest self.new.inner ≡ D.honest self.old.inner }
+        ensures durable { IsTrue (D.honest self.old.inner)
+            → DurableGrows (D.synced self.old.inner) (D.gone self.old.inner) (D.synced self.new.inner) (D.gone self.new.inner) }
+        ensures cause { FailsExactlyOnDiskFault (D.failures self.old.inner + self.old.power.refused) (D.failures self.new.inner + self.new.power.refused) result }
+        ensures transition { IsTrue (D.honest self.old.inner) → Reads (λ v. v.items) (D.files self.old.inner) log at n result (D.files self.new.inner) }
+        ensures dead { IsOff self.old.power.refused → (self.new.inner ≡ self.old.inner) × (self.new.written ≡ self.old.written) }
+    {
         if self.power.fails() {
             return Err(DiskFault::Disk);
         }
         self.inner.read_at(alloc, log, at, n)
     }
 
-    fn view(&mut self, alloc: Global, log: u32) -> Result<D::View, DiskFault> {
+    fn view(&mut self, alloc: Global, log: u32) -> Result<D::View, DiskFault>
+        ensures honest { D.honest self.new.inner ≡ D.honest self.old.inner }
+        ensures durable { IsTrue (D.honest self.old.inner)
+            → DurableGrows (D.synced self.old.inner) (D.gone self.old.inner) (D.synced self.new.inner) (D.gone self.new.inner) }
+        ensures cause { FailsExactlyOnDiskFault (D.failures self.old.inner + self.old.power.refused) (D.failures self.new.inner + self.new.power.refused) result }
+        ensures transition { IsTrue (D.honest self.old.inner) → Views D.View.bytes D.View.honest (D.files self.old.inner) log result (D.files self.new.inner) }
+        ensures dead { IsOff self.old.power.refused → (self.new.inner ≡ self.old.inner) × (self.new.written ≡ self.old.written) }
+    {
         if self.power.fails() {
             return Err(DiskFault::Disk);
         }
@@ -250,6 +291,7 @@ impl<D: LogDisk> LogDisk for PowerDisk<D> {
         ensures noted { IsNoted result (logs_of self.old.written) (logs_of self.new.written) (map.remove (logs_of self.old.written) log) }
         ensures gone { self.new.written.is_lost ≡ false
             → IsNoted result (gone_of self.old.written) (gone_of self.new.written) (with_removed (gone_of self.old.written) log (map.get (logs_of self.old.written) log)) }
+        ensures dead { IsOff self.old.power.refused → (self.new.inner ≡ self.old.inner) × (self.new.written ≡ self.old.written) }
     {
         if self.power.fails() {
             return Err(DiskFault::Disk);
@@ -265,7 +307,13 @@ impl<D: LogDisk> LogDisk for PowerDisk<D> {
 impl<D: WatermarkDisk> WatermarkDisk for PowerDisk<D> {
     ghost marks = { λ disk. D.marks disk.inner };
 
-    fn truncate_to_watermarks(&mut self, alloc: Global) -> Result<(), DiskFault> {
+    fn truncate_to_watermarks(&mut self, alloc: Global) -> Result<(), DiskFault>
+        ensures honest { D.honest self.new.inner ≡ D.honest self.old.inner }
+        ensures cause { FailsExactlyOnDiskFault (D.failures self.old.inner + self.old.power.refused) (D.failures self.new.inner + self.new.power.refused) result }
+        ensures transition { IsTrue (D.honest self.old.inner)
+            → TruncatesToWatermarks (D.files self.old.inner) (D.marks self.old.inner) result (D.files self.new.inner) }
+        ensures dead { IsOff self.old.power.refused → (self.new.inner ≡ self.old.inner) × (self.new.written ≡ self.old.written) }
+    {
         if self.power.fails() {
             return Err(DiskFault::Disk);
         }
@@ -283,10 +331,11 @@ impl<D: WatermarkDisk> WatermarkDisk for PowerDisk<D> {
         ensures marked { IsTrue (D.honest self.old.inner) → OnOk result (HasWatermark (D.marks self.new.inner) log mark) }
         ensures noted { IsMarkNoted result (logs_of self.old.written) (logs_of self.new.written) (noted (marked_log mark) (logs_of self.old.written) log) log }
         ensures gone { gone_of self.new.written ≡ gone_of self.old.written }
+        ensures dead { IsOff self.old.power.refused → (self.new.inner ≡ self.old.inner) × (self.new.written ≡ self.old.written) }
     {
-        let was_dead = self.power.refused > 0;
+        let was_refused = self.power.refused > 0;
         if self.power.fails() {
-            if !was_dead {
+            if !was_refused {
                 self.written.mark(log, mark);
             }
             return Err(DiskFault::Disk);
