@@ -9,7 +9,10 @@ SHORTEST = 16
 # A log's name: its id in hexadecimal.
 NAME = re.compile(r"(0|[1-9a-f][0-9a-f]{0,7})\.log")
 LAST_LOG = 0x7FFFFFFF
-TAG, MARK_END = b"mark", 32
+# The file of durable lengths, its header, and what is around the body of a batch: size and two checksums.
+MANIFEST, MANIFEST_HEADER, BATCH = "logs.manifest", 24, 12
+# Sizes of records about logs, by kind: made, durable, removed.
+SIZES = {1: 5, 2: 13, 3: 13}
 
 
 def number(data, at, size):
@@ -23,13 +26,23 @@ def log_of(name):
     return log if log is not None and log <= LAST_LOG else None
 
 
-def believed(data):
-    """The bytes of a log that its watermark vouches for; all bytes of one without."""
-    if len(data) < MARK_END or not any(data[:MARK_END]):
-        return b""
-    if data[20:24] == TAG:
-        return data[: int.from_bytes(data[24:MARK_END], "big")]
-    return data
+def durable_lengths(path):
+    """The durable length of each log that the manifest of a directory has, by id; its checksums are not compared."""
+    file = os.path.join(path, MANIFEST)
+    if not os.path.isfile(file):
+        return {}
+    with open(file, "rb") as opened:
+        data = opened.read()
+    lengths, at = {}, MANIFEST_HEADER
+    while at + BATCH <= len(data):
+        size = number(data, at, 4)
+        if size < 0 or len(data) < at + BATCH + size:
+            break
+        body, at = data[at + 8 : at + 8 + size], at + BATCH + size
+        while body and body[0] in SIZES:
+            lengths[number(body, 1, 4)] = number(body, 5, 8) if body[0] != 1 else 0
+            body = body[SIZES[body[0]] :]
+    return lengths
 
 
 class Log:
@@ -55,16 +68,16 @@ class Log:
         return len(self.data) >= HEADER and any(self.data[8:20])
 
 
-def read_folder(path, marks=False):
-    """The logs of a directory, by id."""
-    logs = {}
+def read_folder(path):
+    """The logs of a directory, by id, each up to its durable bytes if the manifest of the directory has them."""
+    logs, lengths = {}, durable_lengths(path)
     for name in os.listdir(path):
         log = log_of(name)
         file = os.path.join(path, name)
         if log is not None and stat.S_ISREG(os.lstat(file).st_mode):
             with open(file, "rb") as opened:
                 data = opened.read()
-            logs[log] = Log(believed(data) if marks else data)
+            logs[log] = Log(data[: lengths.get(log, len(data))])
     return logs
 
 

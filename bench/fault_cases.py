@@ -60,7 +60,6 @@ class Case:
     """A command with one failing call, on a copy of a folder."""
 
     kinds = None
-    marks = False
     dead = ()
     # Whether a folder may have no entries but those that are known.
     only = True
@@ -84,8 +83,7 @@ class Case:
         base = self.top / self.name
         self.before = entries(0, 8)
         steps = "\n".join(flush_steps(self.before))
-        more = ["--marks"] if self.marks else []
-        self.must(["script", "--folder", base, "--log-limit", LIMIT, *more], steps)
+        self.must(["script", "--folder", base, "--log-limit", LIMIT], steps)
         self.before = coded(self.before)
         return base
 
@@ -95,7 +93,7 @@ class Case:
 
     def looked(self, ran):
         published, accepted, dead = self.story(ran)
-        return Looked({**self.before, **published}, accepted, dead, self.marks, self.only)
+        return Looked({**self.before, **published}, accepted, dead, self.only)
 
     def other_losses(self, folder):
         return []
@@ -132,7 +130,7 @@ class Script(Case):
         return [*reads, *flush_steps(first, True), "roll", *flush_steps(second, True), *reads]
 
     def words(self, folder):
-        return ["script", "--folder", folder, "--log-limit", LIMIT, *(["--marks"] if self.marks else []), *self.dead]
+        return ["script", "--folder", folder, "--log-limit", LIMIT, *self.dead]
 
     def text(self):
         return "\n".join(self.lines) + "\n"
@@ -161,10 +159,6 @@ class ScriptNew(Script):
 
     def make_base(self):
         self.before = {}
-
-
-class ScriptMarks(Script):
-    name, marks = "script-marks", True
 
 
 class ScriptJob(Script):
@@ -212,10 +206,6 @@ class Compact(Case):
         return {}, None if left else f"not compacted: {plan.out.strip()[-100:]}"
 
 
-class CompactMarks(Compact):
-    name, marks = "compact-marks", True
-
-
 class CompactKept(Compact):
     """A folder with what a crash may leave: a torn log, short ones with a copy and without, and an empty one."""
 
@@ -229,6 +219,8 @@ class CompactKept(Compact):
         (base / "21.log").write_bytes(b"BKLO\0\0\0\1")
         (base / "21.log.torn").write_bytes(b"BKLO\0\0\0\1")
         (base / "22.log").write_bytes(b"")
+        # The next call takes the logs as they are.
+        (base / entry_logs.MANIFEST).unlink()
         return base
 
 
@@ -287,10 +279,6 @@ class Seal(Case):
         return {}, f"{ran.last()}; check: {' | '.join(check.out.split(chr(10)))[-100:]}"
 
 
-class SealMarks(Seal):
-    name, marks = "seal-marks", True
-
-
 class Cut(Seal):
     """A log that ends in half a record, and one log more: a bad length."""
 
@@ -300,6 +288,8 @@ class Cut(Seal):
         base = super().make_base()
         path = base / f"{self.log:x}.log"
         path.write_bytes(path.read_bytes() + self.tail)
+        # The next call takes the logs as they are.
+        (base / entry_logs.MANIFEST).unlink()
         self.torn = path.read_bytes()
         return base
 
@@ -325,13 +315,6 @@ class CutBad(Cut):
     """A log that ends in zeros."""
 
     name, tail = "seal-cut-zeros", bytes(600)
-
-
-class CutMarks(Cut):
-    name, marks = "seal-cut-marks", True
-
-    def other_losses(self, folder):
-        return []
 
 
 class Load(Case):
@@ -377,6 +360,5 @@ def reads():
 
 
 CASES = [
-    Script, ScriptNew, ScriptMarks, ScriptJob, Compact, CompactMarks, CompactKept, CompactFile, CompactIndex,
-    Seal, SealMarks, Cut, CutBad, CutMarks, Load, *reads(),
+    Script, ScriptNew, ScriptJob, Compact, CompactKept, CompactFile, CompactIndex, Seal, Cut, CutBad, Load, *reads(),
 ]  # fmt: skip

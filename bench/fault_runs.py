@@ -234,13 +234,13 @@ def open_and_read(program, folder, keys, dead):
 class Looked:
     """What was found in a folder that should have certain entries: what is lost, and what leads nowhere."""
 
-    def __init__(self, must, may, dead, marks=False, only=True):
-        self.must, self.may, self.dead, self.marks, self.only = must, may, dead, marks, only
+    def __init__(self, must, may, dead, only=True):
+        self.must, self.may, self.dead, self.only = must, may, dead, only
         self.lost, self.stuck = [], []
 
     def copy(self):
         """The same question, without what was found."""
-        return Looked(self.must, self.may, self.dead, self.marks, self.only)
+        return Looked(self.must, self.may, self.dead, self.only)
 
     def compare(self, found, how):
         for key, data in self.must.items():
@@ -253,7 +253,7 @@ class Looked:
 
     def look(self, program, folder):
         """Reads a folder beside the program, and by it, as the printed ways on allow."""
-        self.compare(entry_logs.last_records(entry_logs.read_folder(folder, self.marks)), "read")
+        self.compare(entry_logs.last_records(entry_logs.read_folder(folder)), "read")
         found = open_and_read(program, folder, {**self.may, **self.must}, self.dead)
         if isinstance(found, str):
             self.stuck.append(found)

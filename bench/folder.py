@@ -17,8 +17,6 @@ LARGE = (10_240, 2_000, 48, 100_000_000)
 KEYS = (100, 20_000, 50, 1_073_741_824)
 NO_LIMIT = 1_073_741_824
 RUNS = 5
-# Where a log has its mark.
-MARK = slice(20, 32)
 
 
 def row(name, *values):
@@ -57,7 +55,7 @@ class Programs:
         """Each that is there with the word by which it fills a folder, and the words behind the numbers."""
         found = [
             ("store", self.store, "fill", [NO_LIMIT]),
-            ("marked", self.store, "mark", [NO_LIMIT]),
+            ("recorded", self.store, "record", [NO_LIMIT]),
             ("plain", self.plain, "fill", [NO_LIMIT]),
             ("leveldb", self.leveldb, "fill", []),
         ]
@@ -114,17 +112,10 @@ def logs_of(folder):
     return sorted(folder.glob("*.log"), key=lambda path: int(path.stem, 16))
 
 
-def bytes_but(path, but):
-    """The bytes of a file, with zeros in one place."""
-    found = bytearray(path.read_bytes())
-    found[but] = bytes(len(found[but]))
-    return found
-
-
-def must_be_same(one, other, but=slice(0, 0)):
-    """The logs of both folders have the same bytes, but for those of one place."""
+def must_be_same(one, other):
+    """The logs of both folders have the same bytes."""
     names = [[path.name for path in logs_of(folder)] for folder in (one, other)]
-    same = names[0] == names[1] and all(bytes_but(one / it, but) == bytes_but(other / it, but) for it in names[0])
+    same = names[0] == names[1] and all((one / it).read_bytes() == (other / it).read_bytes() for it in names[0])
     if not same:
         raise SystemExit("bookie-bench: the two programs did not write the same logs")
 
@@ -143,7 +134,7 @@ def fill_times(programs, folders, length, batch, publishes):
             least[name]["all"] = min(total, least[name].get("all", total))
         if "store" in filled:
             must_be_same(filled["store"], filled["plain"])
-            must_be_same(filled["store"], filled["marked"], MARK)
+            must_be_same(filled["store"], filled["recorded"])
     return least
 
 
@@ -160,18 +151,18 @@ def show_fill(programs, folders, length, batch, publishes):
     count = batch * publishes
     least = fill_times(programs, folders, length, batch, publishes)
     print(f"\n{count:,} entries of {length:,} bytes, {batch:,} a publish: microseconds an entry, least of {RUNS} runs")
-    row("", "store", "plain Rust", "ratio", "marked", "to store", "LevelDB")
+    row("", "store", "plain Rust", "ratio", "recorded", "to store", "LevelDB")
 
     def show(title, plus, minus=(), leveldb=None):
         each = []
-        for name in ("store", "plain", "marked"):
+        for name in ("store", "plain", "recorded"):
             found = least.get(name)
             time = found and sum(found[it] for it in plus) - sum(found[it] for it in minus)
             each.append(time and time / count / 1000)
         beside = least["leveldb"].get(leveldb) if leveldb else None
-        ours, plain, marked = ["-" if it is None else f"{it:.3f}" for it in each]
+        ours, plain, recorded = ["-" if it is None else f"{it:.3f}" for it in each]
         level = "-" if beside is None else f"{beside / count / 1000:.3f}"
-        row(title, ours, plain, ratio(*each[:2]), marked, ratio(each[2], each[0]), level)
+        row(title, ours, plain, ratio(*each[:2]), recorded, ratio(each[2], each[0]), level)
 
     show("SHA-256 of a payload alone", ["digest"])
     show("add, its digest taken off", ["add"], ["digest"])
@@ -183,11 +174,11 @@ def show_fill(programs, folders, length, batch, publishes):
     for title, stage, level in (("added to published", "all", "publish"), ("read", "fetch", "fetch")):
         speeds = [
             "-" if not least.get(name) else f"{count * 1e9 / least[name][it]:,.0f}"
-            for name, it in (("store", stage), ("plain", stage), ("marked", stage), ("leveldb", level))
+            for name, it in (("store", stage), ("plain", stage), ("recorded", stage), ("leveldb", level))
         ]
         row(f"{title}, entries a second", speeds[0], speeds[1], "", speeds[2], "", speeds[3])
     made = fill_syncs(programs, folders, length, batch // 10)
-    shown = ["-" if made.get(name) is None else f"{made[name]:g}" for name in ("store", "plain", "marked", "leveldb")]
+    shown = ["-" if made.get(name) is None else f"{made[name]:g}" for name in ("store", "plain", "recorded", "leveldb")]
     row("syncs a publish", shown[0], shown[1], "", shown[2], "", shown[3])
 
 

@@ -36,7 +36,7 @@ def commands(folder, log, has_load):
     yield ["seal", folder, log], "", False
     yield ["seal", "--cut-torn", folder, log], "", False
     yield ["script", "--folder", folder], STEPS, False
-    yield ["script", "--folder", folder, "--marks"], STEPS, False
+    yield ["script", "--folder", folder, "--no-manifest"], STEPS, False
     if has_load:
         yield ["load", "--folder", folder, "--threads", "2", "--adds", "20"], "", False
 
@@ -304,7 +304,7 @@ class Hostile:
     def written(self, words, before, after):
         """What a command that writes did beyond that: to files that are no logs, or to entries of ledgers that live."""
         found = []
-        own = ("writer.lock", ".")
+        own = ("writer.lock", "ledgers.manifest", entry_logs.MANIFEST, ".")
         for name, it in before.items():
             is_log = entry_logs.log_of(name) is not None and it[0] == stat.S_IFREG
             if not is_log and name not in own and after.get(name) != it:

@@ -40,8 +40,8 @@ class Finding:
 class Looker:
     """Looks at directories; one that was seen before, with the same promises, is not looked at again."""
 
-    def __init__(self, path, room, watermarks):
-        self.program, self.room, self.watermarks = Operator(path), room / "looked", watermarks
+    def __init__(self, path, room):
+        self.program, self.room = Operator(path), room / "looked"
         self.seen = {}
 
     def look(self, tar, promise):
@@ -58,7 +58,7 @@ class Looker:
             if promise.must:
                 finding.lost.append("the directory is not there")
             return finding
-        looked = fault_runs.Looked(promise.must, promise.may, promise.dead, self.watermarks)
+        looked = fault_runs.Looked(promise.must, promise.may, promise.dead)
         self.program.refused = 0
         for step in (self.check, self.read, self.add_again, self.compact):
             trouble = step(folder, looked)
@@ -95,7 +95,7 @@ class Looker:
         if isinstance(found, str):
             return found
         looked.compare(found, "opened")
-        found = entry_logs.last_records(entry_logs.read_folder(folder, self.watermarks))
+        found = entry_logs.last_records(entry_logs.read_folder(folder))
         # Of the entries of a load only those are known that are promised.
         looked.compare({key: data for key, data in found.items() if key[0] <= MARKER or key in looked.must}, "read")
         return None

@@ -7,8 +7,8 @@ import entry_logs
 from power_nbd import Message
 
 FOLDER = "/mnt/logs"
-# How logs are kept against what a device leaves behind their synced bytes: the options of `script --folder`.
-KEEPING = ["--marks"]
+# Without a record of what is durable: the options of `script --folder`.
+UNRECORDED = ["--no-manifest"]
 # A ledger that is used for nothing else: the library of the guest reports each read of its entries (power.c).
 MARKER, WORD, NO_MARKER = 900, "marker", 1 << 40
 LIMITS = ("2048", "4000", "9000", "30000")
@@ -58,9 +58,9 @@ class Process:
 class Story:
     """Runs of the program, one after another: flushes with deletions and compactions, some of them killed."""
 
-    def __init__(self, chance, watermarks, length, with_load=False):
+    def __init__(self, chance, no_manifest, length, with_load=False):
         self.chance, self.limit = chance, chance.choice(LIMITS)
-        self.keeping = KEEPING if watermarks else []
+        self.keeping = UNRECORDED if no_manifest else []
         self.live, self.dead, self.next_ledger = [1, 2, 3, 4], [], 5
         self.next_entry, self.next_marker = 0, 1
         self.entries, self.processes, self.compaction = {}, [], []

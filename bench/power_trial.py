@@ -70,7 +70,7 @@ class Trial:
         self.chance = random.Random(f"{asked.seed} {name}")
         self.base = self.kind.empty(room / name)
         self.first = first_files(room, asked.program, [name])
-        self.looker = Looker(asked.program, room, asked.watermarks)
+        self.looker = Looker(asked.program, room)
         self.guest, self.cuts, self.runs = None, 0, 0
 
     def is_over(self):
@@ -117,7 +117,7 @@ class Trial:
 
     def one_run(self):
         """Records a run of several processes, and cuts it at several events."""
-        story = Story(self.chance, self.asked.watermarks, PROCESSES, self.asked.load)
+        story = Story(self.chance, self.asked.no_manifest, PROCESSES, self.asked.load)
         began, start = time.monotonic(), Image(self.base)
         try:
             messages, recording = self.job(self.with_syncs(f"{self.mount()}\n{self.prepare()}{story.job()}"), start)
@@ -178,7 +178,7 @@ class Trial:
         ends = {message.words[1]: message for message in messages if message.words[0] == "end"}
         finding.refused += troubles([look, compaction], ends.values())
         finding.ways_on = sum(message.words[0] == "begin" for message in messages) - 2
-        looked = fault_runs.Looked(promise.must, promise.may, promise.dead, self.asked.watermarks)
+        looked = fault_runs.Looked(promise.must, promise.may, promise.dead)
         if not finding.refused and len(ends) == 2:
             looked.compare(found_by(look, ends["0"].data.decode(errors="replace")), "opened in the machine")
         elif not finding.refused:
@@ -193,7 +193,7 @@ class Trial:
 
     def recovery(self, promise):
         """The runs that recover a directory: one that reads every entry, and a compaction."""
-        story = Story(self.chance, self.asked.watermarks, 0)
+        story = Story(self.chance, self.asked.no_manifest, 0)
         story.dead = sorted(promise.dead)
         look = story.look(0, {**promise.may, **promise.must})
         dead = [f"--dead={ledger}" for ledger in story.dead]

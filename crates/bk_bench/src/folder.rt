@@ -7,8 +7,8 @@ use crate::BenchFault;
 use crate::entries::{Amount, LEDGERS, Order, payload_of};
 use crate::stages::{SETTINGS, add, compact, digest, fetch, publish, write};
 use bk_disk::{DirDisk, LogDisk};
+use bk_manifest_disk::open_logs;
 use bk_store::{Settings, Store};
-use bk_watermark::WatermarkedDisk;
 use std::alloc::{AllocError, Global};
 use std::time::Instant;
 
@@ -20,8 +20,8 @@ const IDS: u64 = 16;
 pub(crate) enum FolderWork {
     /// Adds, flushes and reads entries by leases.
     Fill(Filling),
-    /// The same with durability watermarks.
-    Mark(Filling),
+    /// The same with a manifest of the logs.
+    Record(Filling),
     /// Opens a store on the logs of the directory.
     Open,
     /// Compacts the log with the lowest live share, with every tenth ledger deleted.
@@ -65,9 +65,9 @@ struct Times {
 pub(crate) fn run(rt: &HostRuntime, path: &str, work: FolderWork) -> Result<(), BenchFault> {
     match work {
         FolderWork::Fill(filling) => fill(rt, disk_at(rt, path)?, filling),
-        FolderWork::Mark(filling) => match WatermarkedDisk::open(disk_at(rt, path)?, rt.alloc()) {
-            Ok(disk) => fill(rt, disk, filling),
-            Err(_) => Err(BenchFault::Answer("marks")),
+        FolderWork::Record(filling) => match open_logs(rt.alloc(), disk_at(rt, path)?) {
+            Ok(opened) => fill(rt, opened.disk, filling),
+            Err(_) => Err(BenchFault::Answer("manifest")),
         },
         FolderWork::Open => open(rt, path),
         FolderWork::Compact => compact_one(rt, path),

@@ -53,12 +53,12 @@ fn numbers(alloc: Global, words: &[&str]) -> Result<Vec<u64>, BenchFault> {
     Ok(numbers)
 }
 
-/// Reads a stage over a directory: `fill DIR LENGTH BATCH PUBLISHES LIMIT`, `mark` with the same
+/// Reads a stage over a directory: `fill DIR LENGTH BATCH PUBLISHES LIMIT`, `record` with the same
 /// words, `open DIR`, `compact DIR`.
 fn folder_work(alloc: Global, words: &[&str]) -> Result<Work, BenchFault> {
     let (path, work) = match words {
         ["fill", path, numbers @ ..] => (path, FolderWork::Fill(filling(numbers)?)),
-        ["mark", path, numbers @ ..] => (path, FolderWork::Mark(filling(numbers)?)),
+        ["record", path, numbers @ ..] => (path, FolderWork::Record(filling(numbers)?)),
         ["open", path] => (path, FolderWork::Open),
         ["compact", path] => (path, FolderWork::Compact),
         _ => return Err(BenchFault::Words),

@@ -24,7 +24,7 @@ use Rattle.clap.proofs.OnLiterals.{clap_on_literals}
 use Rattle.clap.proofs.WalkLemmas.{first_value-rows, raw_values-rows}
 use Rattle.bk_store.specs.declared.settings.Settings.{Settings}
 use Rattle.bk_cli.specs.declared.script.ScriptCall.{ScriptCall}
-use Rattle.bk_cli.specs.CommandLine.{program, last_ledger, Asks, AsksFlag, AsksLedgers, AsksMarks, AsksSettings, IsNumberIn}
+use Rattle.bk_cli.specs.CommandLine.{program, last_ledger, Asks, AsksFlag, AsksLedgers, AsksNoManifest, AsksSettings, IsNumberIn}
 
 -- a word is at most one number
 pub same_number : (word : Text) (m n : ℕ) → m < 2 ^ 64 → n < 2 ^ 64 → word ≡ decimal m → word ≡ decimal n → m ≡ n
@@ -156,10 +156,10 @@ module _ (words : List Text) (rows : List Row) (called : subcommand_of program w
       record { faultless = faultless; rows = rows; called = called; asked = asked; over = over; ledgers = ledgers }
   asked_by faultless (Err error) asked over ledgers = tt
 
-  pub marks_by : (result : Result ScriptCall Error) → IfOk result (λ call. AsksFlag (one_of (codes "marks") rows) call.marks)
-      → IfOk result (λ call. AsksMarks words call.marks)
-  marks_by (Ok call) asked = record { rows = rows; called = called; asked = asked }
-  marks_by (Err error) asked = tt
+  pub unrecorded_by : (result : Result ScriptCall Error) → IfOk result (λ call. AsksFlag (one_of (codes "no-manifest") rows) call.no_manifest)
+      → IfOk result (λ call. AsksNoManifest words call.no_manifest)
+  unrecorded_by (Ok call) asked = record { rows = rows; called = called; asked = asked }
+  unrecorded_by (Err error) asked = tt
 
   pub refused_by : (result : Result ScriptCall Error)
       → IfErr result (λ error. (settings : Settings) (dead : List ℕ) → AsksSettings rows settings → AsksLedgers (all_of (codes "LEDGER") rows) dead

@@ -27,7 +27,7 @@ abbrev pub script : App
 script = with_rule (with_rule (with_rule (with_rule (with_rule (with_rule (with_rule (with_rule (with_rule (with_rule (new_app (codes "script"))
     (option_rule (codes "log-limit"))) (option_rule (codes "cache-limit"))) (option_rule (codes "recent"))) (option_rule (codes "slots")))
     (option_rule (codes "leases"))) (option_rule (codes "minor"))) (option_rule (codes "major"))) (option_rule (codes "folder")))
-    (flag_rule (codes "marks"))) (words_rule (codes "LEDGER"))
+    (flag_rule (codes "no-manifest"))) (words_rule (codes "LEDGER"))
 
 -- the program, which is called with a command
 abbrev pub program : App
@@ -77,8 +77,8 @@ pub record Asks (words : List Text) (folder : Option Text) (settings : Settings)
   pub over : first_of (codes "folder") rows ≡ folder
   pub ledgers : AsksLedgers (all_of (codes "LEDGER") rows) dead
 
--- The words call `script`, with or without watermarks.
-pub record AsksMarks (words : List Text) (marks : Bool) : Type 0 where
+-- The words call `script`, with or without the manifests of the directory.
+pub record AsksNoManifest (words : List Text) (no_manifest : Bool) : Type 0 where
   pub rows : List Row
   pub called : subcommand_of program words ≡ Some (codes "script", rows)
-  pub asked : AsksFlag (one_of (codes "marks") rows) marks
+  pub asked : AsksFlag (one_of (codes "no-manifest") rows) no_manifest

@@ -2,7 +2,7 @@
 
 use crate::help::PROGRAM;
 use crate::row::{CommandRow, Usage, Value, Word};
-use crate::rows::{READING, WRITING, row_of};
+use crate::rows::{counting_rows, reading_rows, row_of, writing_rows};
 use crate::words::LOG;
 use bk_decimal::number;
 use bk_disk::log_of;
@@ -329,7 +329,11 @@ fn folder_commands<'a>(alloc: Global) -> Result<Command<'a>, AllocError> {
         .about("Entry log storage of a bookie")
         .subcommand_required(true)
         .arg(json_arg(alloc))?;
-    for row in READING.iter().chain(WRITING) {
+    for row in reading_rows()
+        .iter()
+        .chain(counting_rows())
+        .chain(writing_rows())
+    {
         commands = commands.subcommand(row.command(alloc)?)?;
     }
     Ok(commands)

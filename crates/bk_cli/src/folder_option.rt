@@ -1,4 +1,4 @@
-//! The options of `script` for a directory: its path, and whether its logs get watermarks.
+//! The options of `script` for a directory: its path, and whether its manifests are left alone.
 
 ghost use Rattle.std.specs.Prelude.{◌≡◌, false, codes, option_map};
 ghost use Rattle.clap.specs.Matches.{found_of};
@@ -31,23 +31,23 @@ pub(crate) fn read_folder<'a>(matches: &ArgMatches<'a>) -> Option<&'a str>
     matches.get_str("folder")
 }
 
-/// The name of the option for watermarks, without the two dashes.
-pub(crate) const MARKS: &str = "marks";
+/// The name of the option for the manifests, without the two dashes.
+pub(crate) const NO_MANIFEST: &str = "no-manifest";
 
-/// Returns the option for watermarks.
-pub(crate) fn marks_arg<'a>(alloc: Global) -> Arg<'a>
-    ensures rule { rule_of result ≡ flag_rule (codes "marks") }
+/// Returns the option for the manifests.
+pub(crate) fn no_manifest_arg<'a>(alloc: Global) -> Arg<'a>
+    ensures rule { rule_of result ≡ flag_rule (codes "no-manifest") }
     ensures local { result.global ≡ false }
 {
-    Arg::new(alloc, "marks")
-        .long("marks")
+    Arg::new(alloc, "no-manifest")
+        .long("no-manifest")
         .action(ArgAction::SetTrue)
-        .help("Write durability watermarks, which tell after a crash how far each log is valid")
+        .help("Neither read nor write the manifests of the directory")
 }
 
-/// Returns whether watermarks are requested.
-pub(crate) fn read_marks(matches: &ArgMatches<'_>) -> bool
-    ensures { AsksFlag (one_of (codes "marks") (rows_of (found_of matches.now))) result }
+/// Returns whether the manifests are neither read nor written.
+pub(crate) fn read_no_manifest(matches: &ArgMatches<'_>) -> bool
+    ensures { AsksFlag (one_of (codes "no-manifest") (rows_of (found_of matches.now))) result }
 {
-    matches.get_flag("marks")
+    matches.get_flag("no-manifest")
 }

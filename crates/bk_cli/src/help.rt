@@ -1,7 +1,7 @@
 //! The help of the program and of `script`, and the list of commands.
 
 use crate::row::Listed;
-use crate::rows::{READING, WRITING};
+use crate::rows::{counting_rows, reading_rows, writing_rows};
 use std::fmt;
 use std::fmt::{Display, Formatter};
 
@@ -44,11 +44,11 @@ impl Display for Commands {
     fn fmt<W: fmt::Write>(&self, f: &mut Formatter<W>) -> fmt::Result {
         f.write_str(CALLED)?;
         f.write_str("Inspect a directory of entry logs:\n")?;
-        for row in READING {
+        for row in reading_rows().iter().chain(counting_rows()) {
             write!(f, "{}", Listed { row })?;
         }
         f.write_str("\nWrite to a directory of entry logs:\n")?;
-        for row in WRITING {
+        for row in writing_rows() {
             write!(f, "{}", Listed { row })?;
         }
         f.write_str(OTHERS)
@@ -165,16 +165,19 @@ below --minor or --major. Until the compaction ends, the log and its copy are in
 removed by `close` and `remove`.
 
 With --folder the store is opened on the logs of DIR, and entries published there are found by the
-next call. DIR is created if it does not exist and its parent does. A directory does not record which
-ledgers are deleted: name them again as operands. One program at a time writes to a directory; a
+next call. DIR is created if it does not exist and its parent does. The file `ledgers.manifest` of DIR
+records each deletion and each fence before it takes effect, so that the next call finds them. A
+LEDGER that was deleted elsewhere is recorded too. If a record cannot be written, the step and those
+after it answer `fault disk` and do nothing. One program at a time writes to a directory; a
 second one is refused, and names the first one's process. The answers are those of a store in memory,
 unless a step meets a fault. Each call of the system that fails is reported once on the error stream,
 `FILE: OPERATION: REASON`. If the error stream is a terminal and the opening takes longer than a
 second, a line there shows the progress.
 
-With --marks each log of DIR gets a durability watermark in its header, and a flush syncs twice. When
-DIR is opened, what follows a watermark is cut off, whatever bytes a power loss left there. A
-directory with a watermark in one of its logs keeps them without --marks.
+The file `logs.manifest` of DIR records how many bytes of each log are durable, so a flush syncs twice.
+When DIR is opened, what a log has behind them is not read, whatever a power loss left there: `note log
+LOG: ..` names the place. It stays in the file. If durable bytes of a log are missing, DIR is not opened,
+and nothing is changed. With --no-manifest neither file is read or written.
 
 Exit status:
   0  every step was answered

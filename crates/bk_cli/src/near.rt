@@ -2,7 +2,7 @@
 
 use crate::folder::command_of;
 use crate::help::PROGRAM;
-use crate::rows::{READING, WRITING};
+use crate::rows::{counting_rows, reading_rows, writing_rows};
 use clap::error::ErrorKind;
 use clap::{Command, Error};
 use std::alloc::{AllocError, Global};
@@ -34,7 +34,11 @@ pub fn near_command_error<S: AsStr>(
 
 /// Returns the command that differs from a word in one slip.
 fn near_command(alloc: Global, word: &str) -> Result<Option<&'static str>, AllocError> {
-    for row in READING.iter().chain(WRITING) {
+    for row in reading_rows()
+        .iter()
+        .chain(counting_rows())
+        .chain(writing_rows())
+    {
         if osa_distance(alloc, word, row.name)? == 1 {
             return Ok(Some(row.name));
         }

@@ -7,9 +7,11 @@ ghost use Rattle.clap.specs.Values.{kind_of};
 ghost use Rattle.clap.specs.Walk.{Text, all_of, first_of, one_of, rows_of};
 ghost use Rattle.bk_store.specs.Limits.{IsAllowed};
 ghost use Rattle.bk_store.specs.declared.settings.Settings.{Settings};
-ghost use Rattle.bk_cli.specs.CommandLine.{program, Asks, AsksFlag, AsksLedgers, AsksMarks, AsksSettings};
+ghost use Rattle.bk_cli.specs.CommandLine.{program, Asks, AsksFlag, AsksLedgers, AsksNoManifest, AsksSettings};
 
-use crate::folder_option::{FOLDER, MARKS, folder_arg, marks_arg, read_folder, read_marks};
+use crate::folder_option::{
+    FOLDER, NO_MANIFEST, folder_arg, no_manifest_arg, read_folder, read_no_manifest,
+};
 use crate::help::{ABOUT_SCRIPT, PROGRAM_HELP, SCRIPT_HELP};
 use crate::ledgers::{ledgers_arg, read_ledgers};
 use crate::number_option::{BadValue, NumberOption};
@@ -29,8 +31,8 @@ pub struct ScriptCall<'a> {
     pub settings: Settings,
     /// The path of the directory; `None` for a new disk in memory.
     pub folder: Option<&'a str>,
-    /// Whether the logs of the directory get durability watermarks.
-    pub marks: bool,
+    /// Whether the manifests of the directory are neither read nor written.
+    pub no_manifest: bool,
     /// The ledgers deleted earlier, in the order of the words, each 0 to 9223372036854775807.
     pub dead: Vec<u64>,
 }
@@ -115,7 +117,7 @@ pub fn script_call<'a, S: AsStr>(alloc: Global, words: &'a [S]) -> Result<Script
     ensures allowed { IfOk result (λ call. IsAllowed call.settings) }
     ensures asked { IfOk result (λ call. Asks (map S.text words.now) (option_map (λ path. path.now) call.folder) call.settings
         call.dead.items) }
-    ensures marked { IfOk result (λ call. AsksMarks (map S.text words.now) call.marks) }
+    ensures unrecorded { IfOk result (λ call. AsksNoManifest (map S.text words.now) call.no_manifest) }
     ensures refused { IfErr result (λ error. (folder : Option Text) (settings : Settings) (dead : List ℕ)
         → Asks (map S.text words.now) folder settings dead → kind_of error ≡ ErrorKind.OutOfMemory) }
 {
@@ -139,7 +141,7 @@ fn read_script<'a>(alloc: Global, script: &ArgMatches<'a>) -> Result<ScriptCall<
     ensures allowed { IfOk result (λ call. IsAllowed call.settings) }
     ensures asked { IfOk result (λ call. AsksSettings (rows_of (found_of script.now)) call.settings) }
     ensures over { IfOk result (λ call. first_of (codes "folder") (rows_of (found_of script.now)) ≡ option_map (λ path. path.now) call.folder) }
-    ensures marked { IfOk result (λ call. AsksFlag (one_of (codes "marks") (rows_of (found_of script.now))) call.marks) }
+    ensures unrecorded { IfOk result (λ call. AsksFlag (one_of (codes "no-manifest") (rows_of (found_of script.now))) call.no_manifest) }
     ensures ledgers { IfOk result (λ call. AsksLedgers (all_of (codes "LEDGER") (rows_of (found_of script.now))) call.dead.items) }
     ensures refused { IfErr result (λ error. (settings : Settings) (dead : List ℕ) → AsksSettings (rows_of (found_of script.now)) settings
         → AsksLedgers (all_of (codes "LEDGER") (rows_of (found_of script.now))) dead → kind_of error ≡ ErrorKind.OutOfMemory) }
@@ -152,7 +154,7 @@ fn read_script<'a>(alloc: Global, script: &ArgMatches<'a>) -> Result<ScriptCall<
         Ok(dead) => Ok(ScriptCall {
             settings,
             folder: read_folder(script),
-            marks: read_marks(script),
+            no_manifest: read_no_manifest(script),
             dead,
         }),
         Err(bad) => Err(bad_script(alloc, &bad)?),
@@ -227,7 +229,7 @@ fn near_option(alloc: Global, word: &str) -> Result<Option<&'static str>, AllocE
     for name in numbers
         .iter()
         .map(|option| option.name)
-        .chain([FOLDER, MARKS])
+        .chain([FOLDER, NO_MANIFEST])
     {
         if osa_distance(alloc, word.trim_start_matches('-'), name)? <= 1 {
             return Ok(Some(name));
@@ -261,7 +263,7 @@ fn command<'a>(alloc: Global) -> Result<Command<'a>, AllocError>
         .arg(MINOR.arg(alloc))?
         .arg(MAJOR.arg(alloc))?
         .arg(folder_arg(alloc))?
-        .arg(marks_arg(alloc))?
+        .arg(no_manifest_arg(alloc))?
         .arg(ledgers_arg(alloc))?;
     Command::new(alloc, "bookie")
         .bin_name("bookie")?

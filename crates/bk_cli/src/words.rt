@@ -133,6 +133,14 @@ pub const LONG: Word = Word {
     ..OPTION
 };
 
+/// Whether a check reads no entry.
+pub const QUICK: Word = Word {
+    name: "quick",
+    conflicts: &["digest", "long"],
+    help: "Check headers and ledgers maps alone, and read no entry",
+    ..OPTION
+};
+
 /// Whether the records of the entries are written as they are.
 pub const RAW: Word = Word {
     name: "raw",
@@ -213,6 +221,43 @@ pub const DEAD_FILE: Word = Word {
     name: "dead-file",
     value: Value::Paths { name: "FILE" },
     help: "Take the ledgers of this file as deleted, one per line; may be repeated",
+    ..OPTION
+};
+
+/// Files of live ledgers.
+pub const LIVE_FILE: Word = Word {
+    name: "live-file",
+    value: Value::Paths { name: "FILE" },
+    help: "Take each ledger that this file does not list as deleted; may be repeated",
+    ..OPTION
+};
+
+/// Whether no ledger may be live.
+pub const LIVE_NONE: Word = Word {
+    name: "live-none",
+    help: "Take each ledger as deleted that no --live-file lists, also if none is listed",
+    ..OPTION
+};
+
+/// Whether manifests are only checked.
+pub const CHECK: Word = Word {
+    name: "check",
+    conflicts: &["rebuild"],
+    help: "Check the manifests and the logs, and show no records",
+    ..OPTION
+};
+
+/// Whether a damaged manifest is made anew.
+pub const REBUILD: Word = Word {
+    name: "rebuild",
+    help: "Make a manifest anew that is damaged, or that the logs do not fit",
+    ..OPTION
+};
+
+/// Whether the manifests of the directory are neither read nor written.
+pub const NO_MANIFEST: Word = Word {
+    name: "no-manifest",
+    help: "Neither read nor write the manifests of the directory",
     ..OPTION
 };
 

@@ -3,16 +3,20 @@
 ghost use Rattle.std.specs.Prelude.{◌≤◌};
 
 use crate::compact::{CompactAsk, run_compact, tell_dead};
-use crate::dead::dead_in;
+use crate::dead::DeadFault;
+use crate::deleted::{Deleted, DeletedAsk, deleted_in};
 use crate::import::run_import;
+use crate::manifest::run_manifest;
+use crate::noted::note_deleted;
 use crate::program::StartFault;
+use crate::seal::run_seal;
 use bk_cli::words::{
-    CUT_TORN, DATA, DIGEST, ENTRY, FILE, FIRST, FROM, LAST, LEDGER, LONG, OF_LEDGER, RAW,
+    DATA, DIGEST, ENTRY, FILE, FIRST, FROM, LAST, LEDGER, LONG, NO_MANIFEST, OF_LEDGER, QUICK, RAW,
 };
 use bk_cli::{DEFAULTS, FolderCall};
 use bk_inspect::{
-    DataForm, Digest, DigestChoice, DirCommand, EntryRange, FolderCommand, ScanChoice,
-    run_cut_and_seal_folder, run_folder_as, run_seal_folder, unsealed_in,
+    DataForm, Digest, DigestChoice, DirCommand, Ends, EntryRange, FolderCommand, ScanChoice,
+    run_folder_as,
 };
 use bk_record::{Key, LAST_ID};
 use bk_survey::{Thresholds, report_folder};
@@ -27,9 +31,11 @@ pub(crate) fn run_call<W: Write, E: Write>(
 ) -> u8
     ensures { result ≤ 1 }
 {
+    note_deleted(rt, call, errors);
     if let Some(command) = dir_command(call) {
         let command = FolderCommand::Dir(command);
-        return run_folder_as(rt, call.form, call.path, &command, writer, errors);
+        let ends = ends_of(call);
+        return run_folder_as(rt, call.form, call.path, ends, &command, writer, errors);
     }
     match call.name() {
         "stat" => run_stat(rt, call, writer, errors),
@@ -38,7 +44,17 @@ pub(crate) fn run_call<W: Write, E: Write>(
         "report" => run_report(rt, call, writer, errors),
         "seal" => run_seal(rt, call, writer, errors),
         "compact" => run_compaction(rt, call, writer, errors),
+        "manifest" => run_manifest(rt, call, writer, errors),
         _ => without_function(call, errors),
+    }
+}
+
+/// Returns up to where the logs are read.
+fn ends_of(call: &FolderCall<'_>) -> Ends {
+    if call.has(&NO_MANIFEST) {
+        Ends::Files
+    } else {
+        Ends::Durable
     }
 }
 
@@ -79,8 +95,12 @@ fn key_of(call: &FolderCall<'_>) -> Option<Key> {
     Key::new(call.number(&LEDGER)?, call.number(&ENTRY)?)
 }
 
-/// Returns the check: with a digest if the option names one, and in detail if it is asked for.
+/// Returns the check: of headers and maps alone, or with a digest if the option names one, and in
+/// detail if it is asked for.
 fn check_of(call: &FolderCall<'_>) -> DirCommand {
+    if call.has(&QUICK) {
+        return DirCommand::CheckQuick;
+    }
     let choice = digest_of(call);
     if call.has(&LONG) {
         return DirCommand::CheckLong(choice);
@@ -127,10 +147,11 @@ fn run_stat<W: Write, E: Write>(
 ) -> u8
     ensures { result ≤ 1 }
 {
-    match dead_in(rt, call) {
-        Ok(dead) => {
-            let command = FolderCommand::Stat(&dead);
-            run_folder_as(rt, call.form, call.path, &command, writer, errors)
+    match deleted_by(rt, call, errors) {
+        Ok(deleted) => {
+            let command = FolderCommand::Stat(&deleted.all);
+            let ends = ends_of(call);
+            run_folder_as(rt, call.form, call.path, ends, &command, writer, errors)
         }
         Err(fault) => {
             tell_dead(rt.alloc(), call.form, fault, errors);
@@ -151,7 +172,8 @@ fn run_export<W: Write, E: Write>(
     match range_of(call) {
         Some(range) => {
             let command = FolderCommand::Export(range, data_form_of(call));
-            run_folder_as(rt, call.form, call.path, &command, writer, errors)
+            let ends = ends_of(call);
+            run_folder_as(rt, call.form, call.path, ends, &command, writer, errors)
         }
         None => without_function(call, errors),
     }
@@ -170,65 +192,19 @@ fn run_report<W: Write, E: Write>(
         minor: DEFAULTS.minor,
         major: DEFAULTS.major,
     };
-    match dead_in(rt, call) {
-        Ok(dead) => report_folder(rt, call.form, call.path, &dead, THRESHOLDS, writer, errors),
+    match deleted_by(rt, call, errors) {
+        Ok(deleted) => {
+            let dead = &deleted.all;
+            let ends = ends_of(call);
+            report_folder(
+                rt, call.form, call.path, ends, dead, THRESHOLDS, writer, errors,
+            )
+        }
         Err(fault) => {
             tell_dead(rt.alloc(), call.form, fault, errors);
             1
         }
     }
-}
-
-/// Runs `seal`.
-fn run_seal<W: Write, E: Write>(
-    rt: &HostRuntime,
-    call: &FolderCall<'_>,
-    writer: &mut W,
-    errors: &mut E,
-) -> u8
-    ensures { result ≤ 1 }
-{
-    match call.log() {
-        Some(log) => seal_one(rt, call, log, writer, errors),
-        None => seal_all(rt, call, writer, errors),
-    }
-}
-
-/// Seals a log, cut before if the option says so.
-fn seal_one<W: Write, E: Write>(
-    rt: &HostRuntime,
-    call: &FolderCall<'_>,
-    log: u32,
-    writer: &mut W,
-    errors: &mut E,
-) -> u8
-    ensures { result ≤ 1 }
-{
-    if call.has(&CUT_TORN) {
-        return run_cut_and_seal_folder(rt, call.form, call.path, log, writer, errors);
-    }
-    run_seal_folder(rt, call.form, call.path, log, writer, errors)
-}
-
-/// Seals each unsealed log, also after one that is left.
-fn seal_all<W: Write, E: Write>(
-    rt: &HostRuntime,
-    call: &FolderCall<'_>,
-    writer: &mut W,
-    errors: &mut E,
-) -> u8
-    ensures { result ≤ 1 }
-{
-    let Some((logs, is_whole)) = unsealed_in(rt, call.form, call.path, errors) else {
-        return 1;
-    };
-    let mut are_sealed = is_whole;
-    for log in &logs {
-        if seal_one(rt, call, *log, writer, errors) != 0 {
-            are_sealed = false;
-        }
-    }
-    if are_sealed { 0 } else { 1 }
 }
 
 /// Runs `import`.
@@ -243,8 +219,12 @@ fn run_import_of<W: Write, E: Write>(
     let Some(file) = call.text(&FILE) else {
         return without_function(call, errors);
     };
-    match dead_in(rt, call) {
-        Ok(dead) => run_import(rt, call.form, call.path, file, &dead, writer, errors),
+    match deleted_by(rt, call, errors) {
+        Ok(deleted) => {
+            let no_manifest = call.has(&NO_MANIFEST);
+            let (form, path) = (call.form, call.path);
+            run_import(rt, form, path, file, &deleted, no_manifest, writer, errors)
+        }
         Err(fault) => {
             tell_dead(rt.alloc(), call.form, fault, errors);
             1
@@ -265,6 +245,16 @@ fn run_compaction<W: Write, E: Write>(
         Ok(ask) => run_compact(rt, call.form, call.path, &ask, writer, errors),
         Err(_) => without_memory(errors),
     }
+}
+
+/// Returns the deleted ledgers of a call.
+fn deleted_by<E: Write>(
+    rt: &HostRuntime,
+    call: &FolderCall<'_>,
+    errors: &mut E,
+) -> Result<Deleted, DeadFault> {
+    let ask = DeletedAsk::of(rt.alloc(), call)?;
+    deleted_in(rt, call.form, call.path, &ask, errors)
 }
 
 /// Reports that memory is refused. Returns the status.

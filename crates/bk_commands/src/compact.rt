@@ -14,9 +14,12 @@ mod named;
 mod planned;
 mod rows;
 
-use crate::dead::{DeadFault, dead_ledgers};
+use crate::book::Book;
+use crate::dead::DeadFault;
+use crate::deleted::{Deleted, deleted_in};
 use crate::failed_calls::FailedCalls;
 use crate::folder_disk::FolderDisk;
+use crate::ignored::Ignored;
 use crate::opening::OpeningDisk;
 use crate::progress::Progress;
 pub use ask::CompactAsk;
@@ -25,12 +28,12 @@ use bk_disk::{DirDisk, DiskFault, FaultWatch, FileFault, LogDisk};
 use bk_drive::Settings;
 use bk_inspect::{Form, unlisted};
 use bk_offline_gc::{Done, Kind, SweepFault, sweep_disk};
-pub(crate) use fault::CompactFault;
-use fault::{reason_of, tell};
+use fault::tell;
+pub(crate) use fault::{CompactFault, reason_of};
 use index::index_in;
 use kept::{kept_logs, tell_kept};
 use named::show_named;
-use planned::{Look, show_plan};
+use planned::{Look, read_only, show_plan};
 pub(crate) use rows::{write_object, write_row};
 use rows::{EmptyRow, Size, Summary, write_summary};
 use std::alloc::Global;
@@ -148,15 +151,14 @@ fn find_work<W: Write, E: Write>(
     writer: &mut W,
     errors: &mut E,
 ) -> Result<Option<Work>, CompactFault> {
-    let named = Vec::from_slice(rt.alloc(), &ask.dead)?;
-    let dead = dead_ledgers(rt, named, &ask.dead_files)?;
-    let (disk, logs) = find_logs(rt, path, watch)?;
-    if logs.is_empty() {
+    let deleted = deleted_in(rt, form, path, &ask.deleted, errors)?;
+    let (disk, is_empty) = find_logs(rt, path, watch)?;
+    if is_empty {
         show_empty(rt.alloc(), form, path, writer, errors)?;
         return Ok(None);
     }
     if ask.is_dry {
-        show_dry(rt, form, path, disk, &logs, ask, &dead, writer, errors)?;
+        show_dry(rt, form, path, disk, ask, &deleted, writer, errors)?;
         return Ok(None);
     }
     drop(disk);
@@ -165,69 +167,105 @@ fn find_work<W: Write, E: Write>(
     {
         return Err(CompactFault::Index(file));
     }
-    let (disk, failed, logs) = open_work(rt, path, watch)?;
+    let Opened {
+        disk,
+        failed,
+        lengths: logs,
+        mut book,
+        ignored,
+    } = open_work(rt, path, ask, watch)?;
+    book.tell_torn(form, errors);
+    ignored.tell(form, errors);
+    let dead = book.delete_all(&deleted.named)?.deleted;
     let kept = kept_logs(rt, path, &logs)?;
     tell_kept(rt.alloc(), form, &kept, &logs, errors)?;
     let disk = OpeningDisk::keeping(rt, disk, failed, kept);
     Ok(Some(Work { disk, dead }))
 }
 
-/// Opens a directory as its one writer, and sets `watch` to the watch of its disk. Returns its disk,
-/// the calls on it that fail, and the lengths of its logs by id.
+/// A directory that is open to be compacted.
+#[derive(Drop)]
+struct Opened {
+    disk: FolderDisk,
+    failed: FailedCalls,
+    /// The lengths of its logs by id.
+    lengths: BTreeMap<u32, u64>,
+    book: Book,
+    ignored: Ignored,
+}
+
+/// Opens a directory as its one writer, and sets `watch` to the watch of its disk.
 fn open_work(
     rt: &HostRuntime,
     path: &str,
+    ask: &CompactAsk<'_>,
     watch: &mut Option<FaultWatch>,
-) -> Result<(FolderDisk, FailedCalls, BTreeMap<u32, u64>), CompactFault> {
+) -> Result<Opened, CompactFault> {
+    let alloc = rt.alloc();
     let mut disk = DirDisk::open_to_write(rt, path)?;
-    *watch = Some(disk.fault_watch(rt.alloc())?);
-    let failed = FailedCalls::on(rt.alloc(), &disk)?;
-    let logs = lengths_of(rt.alloc(), &mut disk)?;
-    Ok((FolderDisk::open(rt.alloc(), disk, false)?, failed, logs))
+    *watch = Some(disk.fault_watch(alloc)?);
+    let failed = FailedCalls::on(alloc, &disk)?;
+    let (book, mut disk, ignored) = if ask.deleted.no_manifest {
+        let disk = FolderDisk::plain(alloc, disk);
+        (Book::closed(alloc), disk, Ignored::none(alloc))
+    } else {
+        let book = Book::open(alloc, &mut disk, &failed)?;
+        let (disk, ignored) = FolderDisk::kept(alloc, disk)?;
+        (book, disk, ignored)
+    };
+    Ok(Opened {
+        lengths: lengths_of(alloc, &mut disk)?,
+        disk,
+        failed,
+        book,
+        ignored,
+    })
 }
 
 /// Shows what a compaction of a directory would do, and flushes.
-fn show_dry<W: Write, E: Write>(
+fn show_dry<'x, W: Write, E: Write>(
     rt: &HostRuntime,
     form: Form,
     path: &str,
     disk: DirDisk,
-    lengths: &BTreeMap<u32, u64>,
-    ask: &CompactAsk<'_>,
-    dead: &[u64],
+    ask: &'x CompactAsk<'x>,
+    deleted: &'x Deleted,
     writer: &mut W,
     errors: &mut E,
 ) -> Result<(), CompactFault> {
     let alloc = rt.alloc();
-    let kept = kept_logs(rt, path, lengths)?;
-    tell_kept(alloc, form, &kept, lengths, errors)?;
     let failed = FailedCalls::on(alloc, &disk)?;
-    let disk = OpeningDisk::new(rt, FolderDisk::Plain(disk), failed);
+    let mut disk = read_only(rt, form, path, disk, ask, errors)?;
+    let lengths = lengths_of(alloc, &mut disk)?;
+    let kept = kept_logs(rt, path, &lengths)?;
+    tell_kept(alloc, form, &kept, &lengths, errors)?;
     let look = Look {
-        lengths,
+        lengths: &lengths,
         kept: &kept,
         ask,
-        dead,
+        dead: &deleted.all,
     };
+    let disk = OpeningDisk::new(rt, disk, failed);
     let summary = show_plan(alloc, form, disk, &look, writer)?;
-    show_named(rt, form, path, dead, writer, errors)?;
+    let ends = ask.deleted.ends();
+    show_named(rt, form, path, ends, &deleted.named, writer, errors)?;
     write_summary(alloc, form, &summary, writer)
 }
 
-/// Returns the directory, opened to be read, and the lengths of its logs by id. Sets `watch` to the
-/// watch of its disk.
+/// Returns the directory, opened to be read, and whether it has no log. Sets `watch` to the watch of
+/// its disk.
 fn find_logs(
     rt: &HostRuntime,
     path: &str,
     watch: &mut Option<FaultWatch>,
-) -> Result<(DirDisk, BTreeMap<u32, u64>), CompactFault> {
+) -> Result<(DirDisk, bool), CompactFault> {
     let mut disk = DirDisk::open_to_read(rt, path)?;
     *watch = Some(disk.fault_watch(rt.alloc())?);
     if let Some(fault) = unlisted(rt, path) {
         return Err(CompactFault::Folder(fault));
     }
-    let logs = lengths_of(rt.alloc(), &mut disk)?;
-    Ok((disk, logs))
+    let is_empty = lengths_of(rt.alloc(), &mut disk)?.is_empty();
+    Ok((disk, is_empty))
 }
 
 /// Writes that the directory has no log, and that nothing is done.

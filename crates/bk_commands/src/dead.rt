@@ -1,14 +1,13 @@
-//! The deleted ledgers of a call.
+//! Files that list ledgers, one per line: deleted ones, or live ones.
 
-use bk_cli::FolderCall;
-use bk_cli::words::{DEAD, DEAD_FILE};
 use bk_decimal::number;
+use bk_ledgers::ReadFault;
 use bk_record::LAST_ID;
-use std::alloc::AllocError;
+use std::alloc::{AllocError, AllocFailed};
 use std::fmt::{Display, Formatter};
 use std::{error, fmt, fs, io};
 
-/// Why a file does not name deleted ledgers.
+/// Why it is not known which ledgers are deleted.
 #[derive(Debug, Drop)]
 pub(crate) enum DeadFault {
     /// The file at this path cannot be read, for this reason.
@@ -22,6 +21,12 @@ pub(crate) enum DeadFault {
         number: u64,
         end: LineEnd,
     },
+    /// No line of the files of live ledgers names one, and the call does not say that none is live.
+    NoneLive,
+    /// The logs cannot be read, to find their ledgers. The reason was reported.
+    Logs,
+    /// The manifest of the ledgers cannot be read.
+    Manifest(ReadFault),
     /// Out of memory.
     Memory,
 }
@@ -71,6 +76,9 @@ impl Display for DeadFault {
                     LineEnd::Return => write!(f, "; {end}"),
                 }
             }
+            DeadFault::NoneLive => write!(f, "no live ledger is named"),
+            DeadFault::Logs => write!(f, "ledgers of the logs unread"),
+            DeadFault::Manifest(fault) => write!(f, "{fault}"),
             DeadFault::Memory => write!(f, "memory"),
         }
     }
@@ -84,29 +92,48 @@ impl From<AllocError> for DeadFault {
     }
 }
 
-/// Returns the ledgers that a call names with `--dead`, and those of the files that it names with
-/// `--dead-file`.
-pub(crate) fn dead_in(rt: &HostRuntime, call: &FolderCall<'_>) -> Result<Vec<u64>, DeadFault> {
-    let named = call.numbers(rt.alloc(), &DEAD)?;
-    let files = call.texts(rt.alloc(), &DEAD_FILE)?;
-    dead_ledgers(rt, named, &files)
-}
-
-/// Returns these ledgers and those of the files at these paths.
-pub(crate) fn dead_ledgers(
-    rt: &HostRuntime,
-    named: Vec<u64>,
-    files: &[&str],
-) -> Result<Vec<u64>, DeadFault> {
-    let mut dead = named;
-    for path in files {
-        read_file(rt, path, &mut dead)?;
+impl<T: Drop> From<AllocFailed<T>> for DeadFault {
+    fn from(_: AllocFailed<T>) -> DeadFault {
+        DeadFault::Memory
     }
-    Ok(dead)
 }
 
-/// Appends the ledgers of a file.
-fn read_file(rt: &HostRuntime, path: &str, dead: &mut Vec<u64>) -> Result<(), DeadFault> {
+impl From<ReadFault> for DeadFault {
+    fn from(fault: ReadFault) -> DeadFault {
+        DeadFault::Manifest(fault)
+    }
+}
+
+/// The lines of a file of ledgers.
+#[derive(Clone, Copy, Debug, PartialEq, Eq)]
+pub(crate) enum Lines {
+    /// A ledger in plain digits.
+    Plain,
+    /// The same, or as the stock shell lists ledgers: `ledgerID: 12`.
+    Listed,
+}
+
+impl Lines {
+    /// Returns the ledger of a line.
+    fn ledger_of(self, line: &str) -> Option<u64> {
+        let digits = match self {
+            Lines::Plain => line,
+            Lines::Listed => match line.strip_prefix("ledgerID:") {
+                Some(rest) => rest.trim_start_matches(' '),
+                None => line,
+            },
+        };
+        number(digits, LAST_ID)
+    }
+}
+
+/// Appends the ledgers of a file. Empty lines are ignored.
+pub(crate) fn read_file(
+    rt: &HostRuntime,
+    path: &str,
+    lines: Lines,
+    ledgers: &mut Vec<u64>,
+) -> Result<(), DeadFault> {
     let text = match fs::read_to_string(rt, path) {
         Ok(text) => text,
         Err(reason) => {
@@ -118,14 +145,14 @@ fn read_file(rt: &HostRuntime, path: &str, dead: &mut Vec<u64>) -> Result<(), De
         if line.is_empty() {
             continue;
         }
-        let Some(ledger) = number(line, LAST_ID) else {
+        let Some(ledger) = lines.ledger_of(line) else {
             return Err(DeadFault::Line {
                 path: String::from_str(rt.alloc(), path)?,
                 number: (index as u64).saturating_add(1),
                 end: LineEnd::of(line),
             });
         };
-        if dead.push(ledger).is_err() {
+        if ledgers.push(ledger).is_err() {
             return Err(DeadFault::Memory);
         }
     }

@@ -3,8 +3,8 @@
 ghost use Rattle.std.specs.Prelude.{◌≤◌};
 
 use crate::compact::{CompactFault, end_early, write_object, write_row};
-use crate::opening::OpeningDisk;
-use crate::script::{OpeningFault, open_or_make};
+use crate::deleted::Deleted;
+use crate::script::{Opening, OpeningFault, open_or_make};
 use crate::way_on::WayOn;
 use bk_cli::DEFAULTS;
 use bk_disk::FolderFault;
@@ -74,6 +74,7 @@ impl Fault {
     fn way_on(&self) -> Option<WayOn> {
         match self {
             Fault::Import(ImportFault::Open(fault)) => WayOn::behind(fault),
+            Fault::Opening(fault) => WayOn::behind_opening(fault),
             _ => None,
         }
     }
@@ -87,13 +88,14 @@ pub(crate) fn run_import<W: Write, E: Write>(
     form: Form,
     path: &str,
     file: &str,
-    dead: &[u64],
+    deleted: &Deleted,
+    no_manifest: bool,
     writer: &mut W,
     errors: &mut E,
 ) -> u8
     ensures { result ≤ 1 }
 {
-    match import_file(rt, form, path, file, dead, errors) {
+    match import_file(rt, form, path, file, deleted, no_manifest, errors) {
         Ok(imported) => show(rt.alloc(), form, imported, writer, errors),
         Err(fault) => {
             let _ = tell(rt.alloc(), form, &fault, errors);
@@ -108,7 +110,8 @@ fn import_file<E: Write>(
     form: Form,
     path: &str,
     file: &str,
-    dead: &[u64],
+    deleted: &Deleted,
+    no_manifest: bool,
     errors: &mut E,
 ) -> Result<Imported, Fault> {
     let alloc = rt.alloc();
@@ -122,9 +125,15 @@ fn import_file<E: Write>(
     let Ok(mut reader) = BufReader::new(alloc, opened) else {
         return Err(Fault::Memory);
     };
-    let disk: OpeningDisk = open_or_make(rt, path, false)?;
+    let opened = open_or_make(rt, path, no_manifest)?;
+    opened.tell(form, errors);
+    let Opening { disk, mut book, .. } = opened;
     let failed = disk.failed_calls()?;
-    let done = import(alloc, disk, SETTINGS, dead, &mut reader);
+    let dead = match book.delete_all(&deleted.named) {
+        Ok(listed) => listed.deleted,
+        Err(fault) => return Err(Fault::Opening(OpeningFault::Book(fault))),
+    };
+    let done = import(alloc, disk, SETTINGS, &dead, &mut reader);
     failed.tell(form, errors);
     match done {
         Ok(done) => Ok(done.imported),

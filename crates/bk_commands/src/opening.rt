@@ -8,16 +8,17 @@ ghost use Rattle.std.specs.Prelude.{false};
 ghost use Rattle.std.specs.FinMap as map;
 ghost use Rattle.bk_commands.specs.Failures.{failures_of};
 
+use crate::book::Book;
 use crate::failed_calls::FailedCalls;
 use crate::folder_disk::FolderDisk;
 use crate::line::Line;
 use crate::opening_view::OpeningView;
 use bk_disk::{DiskFault, LogDisk, LogView};
-use bk_drive::{Answer, OpenFault, Settings, Step, drive};
+use bk_drive::{Answer, OpenFault, Settings, Step, drive_recorded};
 use bk_script::ScriptDisk;
 use std::alloc::{AllocError, Global};
-use std::fmt;
 use std::fmt::{Display, Formatter};
+use std::{fmt, mem};
 
 /// How long an opening takes before its progress is shown, in milliseconds.
 const PATIENCE: u64 = 1000;
@@ -63,6 +64,10 @@ pub struct OpeningDisk {
     opening: Opening,
     /// The logs whose file stays when the log is removed.
     kept: Vec<u32>,
+    /// Where a script records deletions and fences.
+    book: Book,
+    /// The ledgers that are fenced before a script begins.
+    fenced: Vec<u64>,
 }
 
 impl OpeningDisk {
@@ -83,6 +88,8 @@ impl OpeningDisk {
             disk,
             failed,
             kept,
+            book: Book::closed(rt.alloc()),
+            fenced: Vec::new(rt.alloc()),
             opening: Opening {
                 line: Line::new(rt),
                 logs: 0,
@@ -91,6 +98,15 @@ impl OpeningDisk {
                 last: 0,
             },
         }
+    }
+
+    /// Returns the same disk for a script, which records deletions and fences in this book before
+    /// they take effect, and begins with these ledgers fenced.
+    pub(crate) fn recording(self, book: Book, fenced: Vec<u64>) -> OpeningDisk {
+        let mut disk = self;
+        disk.book = book;
+        disk.fenced = fenced;
+        disk
     }
 
     /// Returns the calls of the system that fail, which can be reported after the disk was moved or
@@ -250,7 +266,10 @@ impl ScriptDisk for OpeningDisk {
         dead: &[u64],
         steps: &[Step],
     ) -> Result<Vec<Answer>, OpenFault> {
-        let ran = drive(alloc, self, settings, dead, steps)?;
+        let mut disk = self;
+        let mut book = mem::replace(&mut disk.book, Book::closed(alloc));
+        let fenced = mem::replace(&mut disk.fenced, Vec::new(alloc));
+        let ran = drive_recorded(alloc, disk, settings, dead, &fenced, steps, &mut book)?;
         Ok(ran.answers)
     }
 }

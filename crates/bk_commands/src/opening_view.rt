@@ -3,13 +3,14 @@
 ghost use Rattle.std.specs.Prelude.{[], false};
 
 use crate::failed_calls::FailedCalls;
-use bk_disk::{DirView, DiskFault, LogView};
+use crate::folder_disk::FolderView;
+use bk_disk::{DiskFault, LogView};
 
-/// A view of a log of an `OpeningDisk`: a `DirView`, whose failed reads are among the `FailedCalls`
-/// of the disk. It is not honest, as a `DirView`.
+/// A view of a log of an `OpeningDisk`: one of a `FolderDisk`, whose failed reads are among the
+/// `FailedCalls` of the disk. It is not honest, as a `DirView`.
 #[derive(Drop)]
 pub struct OpeningView {
-    pub(crate) view: DirView,
+    pub(crate) view: FolderView,
     pub(crate) failed: FailedCalls,
 }
 

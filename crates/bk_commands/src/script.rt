@@ -4,13 +4,18 @@ ghost use Rattle.std.specs.Prelude.{◌≡◌, ◌≤◌};
 ghost use Rattle.bk_script.specs.Run.{RunsScript};
 ghost use Rattle.bk_commands.specs.Folder.{RunsOverFolder};
 
+use crate::book::{Book, BookFault};
 use crate::failed_calls::FailedCalls;
 use crate::folder_disk::FolderDisk;
+use crate::ignored::Ignored;
+use crate::logs_fault::LogsFault;
 use crate::opening::OpeningDisk;
 use crate::way_on::WayOn;
 use bk_cli::ScriptCall;
-use bk_disk::{DirDisk, DiskFault, FileFault, FolderFault, MemDisk};
+use bk_disk::{DirDisk, FaultWatch, FileFault, FolderFault, MemDisk};
 use bk_inspect::{Form, unlisted};
+use bk_ledgers::Listed;
+use bk_manifest::ManifestError;
 use bk_script::{RunFault, ScriptFault, run_on};
 use std::alloc::{AllocError, Global};
 use std::fs::{self, File};
@@ -58,19 +63,29 @@ pub(crate) fn run_over_folder<R: Read, W: Write, E: Write>(
     ensures done { result ≡ 0 → RunsOverFolder call.now.settings call.now.dead.items (R.remaining reader.old) (R.remaining reader.new)
         (W.contents writer.old) (W.contents writer.new) }
 {
-    match open_or_make(rt, path, call.marks) {
-        Ok(disk) => run_on_folder(rt.alloc(), disk, call, reader, writer, errors),
+    let opened = match open_or_make(rt, path, call.no_manifest) {
+        Ok(opened) => opened,
         Err(fault) => {
-            let _ = writeln!(errors, "fault {fault}");
+            tell_unopened(&fault, errors);
+            return 1;
+        }
+    };
+    opened.tell(Form::Text, errors);
+    match recorded_disk(opened, &call.dead) {
+        Ok((disk, dead)) => run_on_folder(rt.alloc(), disk, &dead, call, reader, writer, errors),
+        Err(fault) => {
+            tell_unopened(&fault, errors);
             1
         }
     }
 }
 
-/// Runs the script on a directory that is open.
+/// Runs the script on a directory that is open. These ledgers are deleted.
+#[tactic(auto, using(crate::proofs::Folder::over_folder))]
 fn run_on_folder<R: Read, W: Write, E: Write>(
     alloc: Global,
     disk: OpeningDisk,
+    dead: &[u64],
     call: &ScriptCall<'_>,
     reader: &mut R,
     writer: &mut W,
@@ -84,7 +99,7 @@ fn run_on_folder<R: Read, W: Write, E: Write>(
         tell(&RunFault::Script(ScriptFault::Memory), errors);
         return 1;
     };
-    match run_on(alloc, disk, call.settings, &call.dead, reader, writer) {
+    match run_on(alloc, disk, call.settings, dead, reader, writer) {
         Ok(()) => {
             failed.tell(Form::Text, errors);
             0
@@ -94,6 +109,24 @@ fn run_on_folder<R: Read, W: Write, E: Write>(
             failed.tell(Form::Text, errors);
             1
         }
+    }
+}
+
+/// Returns the disk of a script on a directory, and all deleted ledgers: these, whose deletion is
+/// durable now, and those recorded earlier.
+fn recorded_disk(opened: Opening, dead: &[u64]) -> Result<(OpeningDisk, Vec<u64>), OpeningFault> {
+    let Opening { disk, mut book, .. } = opened;
+    match book.delete_all(dead) {
+        Ok(Listed { deleted, fenced }) => Ok((disk.recording(book, fenced), deleted)),
+        Err(fault) => Err(OpeningFault::Book(fault)),
+    }
+}
+
+/// Reports why a directory is not written, and the way on if there is one. A failed write is ignored.
+fn tell_unopened<E: Write>(fault: &OpeningFault, errors: &mut E) {
+    let _ = writeln!(errors, "fault {fault}");
+    if let Some(way_on) = WayOn::behind_opening(fault) {
+        let _ = writeln!(errors, "help: {way_on}");
     }
 }
 
@@ -119,24 +152,20 @@ pub enum OpeningFault {
     /// The directory is not opened.
     #[error("{0}")]
     Folder(FolderFault),
-    /// A log cannot be cut to its watermark, or not be asked for it, since this call of the system
-    /// failed.
+    /// A manifest or a log cannot be opened, since this call of the system failed.
     #[error("disk: {0}")]
     Call(FileFault),
-    /// The same without such a call: `Memory`, or `NoLog` if a log is removed meanwhile.
+    /// The logs cannot be opened by their manifest.
     #[error("{0}")]
-    Marks(DiskFault),
+    Logs(LogsFault),
+    /// The manifest of the ledgers cannot be opened or written.
+    #[error("{0}")]
+    Book(BookFault),
 }
 
 impl From<FolderFault> for OpeningFault {
     fn from(fault: FolderFault) -> OpeningFault {
         OpeningFault::Folder(fault)
-    }
-}
-
-impl From<DiskFault> for OpeningFault {
-    fn from(fault: DiskFault) -> OpeningFault {
-        OpeningFault::Marks(fault)
     }
 }
 
@@ -146,32 +175,105 @@ impl From<AllocError> for OpeningFault {
     }
 }
 
-/// Returns the disk of the directory at a path, to be written, as its one writer until it is
-/// dropped. The directory is created if nothing is there and its parent exists. Its logs get
-/// watermarks if `marks` says so, or if one has a watermark. The disk shows the progress of an
-/// opening (`OpeningDisk`).
+/// A directory that is open to be written.
+#[derive(Drop)]
+pub struct Opening {
+    /// Its logs.
+    pub disk: OpeningDisk,
+    /// Its deletions and fences.
+    pub book: Book,
+    /// What is ignored of its logs.
+    pub ignored: Ignored,
+}
+
+impl Opening {
+    /// Notes on the error stream what the manifests ignore. A failed write is ignored.
+    pub fn tell<E: Write>(&self, form: Form, errors: &mut E) {
+        self.book.tell_torn(form, errors);
+        self.ignored.tell(form, errors);
+    }
+}
+
+/// Opens the directory at a path to be written, as its one writer until its disk is dropped, with the
+/// manifests of its logs and ledgers. All are created if nothing is there and the parent exists. With
+/// `no_manifest` neither manifest is read or written, and the logs are read to their ends. The disk
+/// shows the progress of an opening (`OpeningDisk`).
 ///
 /// # Errors
 ///
 /// - `Folder`: the system refuses the directory, or cannot list it, with the path and the reason;
 ///   another disk writes there; or memory is refused.
-/// - `Call`, `Marks`: the watermark of a log cannot be read, or a log not be cut to it.
+/// - `Call`: a call of the system on a manifest or a log fails.
+/// - `Logs`: the manifest of the logs is damaged, or durable bytes of a log are missing. It and the
+///   logs are as they were.
+/// - `Book`: the manifest of the ledgers cannot be opened, or is damaged; it is as it was.
 pub fn open_or_make(
     rt: &HostRuntime,
     path: &str,
-    marks: bool,
-) -> Result<OpeningDisk, OpeningFault> {
+    no_manifest: bool,
+) -> Result<Opening, OpeningFault> {
+    let alloc = rt.alloc();
     let disk = dir_disk(rt, path)?;
-    let watch = disk.fault_watch(rt.alloc())?;
-    let failed = FailedCalls::on(rt.alloc(), &disk)?;
-    match FolderDisk::open(rt.alloc(), disk, marks) {
-        Ok(disk) => Ok(OpeningDisk::new(rt, disk, failed)),
-        Err(DiskFault::Disk) => match watch.last(rt.alloc())? {
-            Some(call) => Err(OpeningFault::Call(call)),
-            None => Err(OpeningFault::Marks(DiskFault::Disk)),
-        },
-        Err(fault) => Err(OpeningFault::Marks(fault)),
+    let failed = FailedCalls::on(alloc, &disk)?;
+    if no_manifest {
+        return Ok(Opening {
+            disk: OpeningDisk::new(rt, FolderDisk::plain(alloc, disk), failed),
+            book: Book::closed(alloc),
+            ignored: Ignored::none(alloc),
+        });
     }
+    open_recorded(rt, disk, failed)
+}
+
+/// Opens a directory with its manifests.
+fn open_recorded(
+    rt: &HostRuntime,
+    disk: DirDisk,
+    failed: FailedCalls,
+) -> Result<Opening, OpeningFault> {
+    let alloc = rt.alloc();
+    let mut disk = disk;
+    let watch = disk.fault_watch(alloc)?;
+    let book = match Book::open(alloc, &mut disk, &failed) {
+        Ok(book) => book,
+        Err(fault) => return Err(of_book(alloc, fault, &watch)?),
+    };
+    match FolderDisk::kept(alloc, disk) {
+        Ok((disk, ignored)) => Ok(Opening {
+            disk: OpeningDisk::new(rt, disk, failed),
+            book,
+            ignored,
+        }),
+        Err(fault) => Err(of_logs(alloc, LogsFault::from(fault), &watch)?),
+    }
+}
+
+/// Returns why logs cannot be opened: the call of the system, if one failed.
+fn of_logs(
+    alloc: Global,
+    fault: LogsFault,
+    watch: &FaultWatch,
+) -> Result<OpeningFault, AllocError> {
+    if fault.is_of_disk()
+        && let Some(call) = watch.last(alloc)?
+    {
+        return Ok(OpeningFault::Call(call));
+    }
+    Ok(OpeningFault::Logs(fault))
+}
+
+/// Returns why a manifest cannot be opened: the call of the system, if one failed.
+pub(crate) fn of_book(
+    alloc: Global,
+    fault: BookFault,
+    watch: &FaultWatch,
+) -> Result<OpeningFault, AllocError> {
+    if fault.error == ManifestError::Disk
+        && let Some(call) = watch.last(alloc)?
+    {
+        return Ok(OpeningFault::Call(call));
+    }
+    Ok(OpeningFault::Book(fault))
 }
 
 /// The same, without the progress of an opening.

@@ -1,6 +1,10 @@
 //! What an operator may do if a command refuses a directory.
 
+use crate::logs_fault::LogsFault;
+use crate::script::OpeningFault;
 use bk_drive::{LogCause, OpenFault};
+use bk_manifest::ManifestError;
+use bk_manifest_disk::Fault;
 use std::fmt;
 use std::fmt::{Display, Formatter};
 
@@ -15,6 +19,16 @@ pub(crate) enum WayOn {
     TooLong,
     /// A bookie's index would point into logs that are removed.
     RebuildIndex,
+    /// The manifest of a directory is damaged.
+    RebuildManifest,
+    /// The file that is to keep a damaged manifest is taken.
+    MoveCopy,
+    /// Durable bytes of a log are missing.
+    TakeLogs,
+    /// The manifest of the logs is damaged.
+    RebuildLogs,
+    /// No ledger is said to be live.
+    SayNoneLive,
 }
 
 impl WayOn {
@@ -39,6 +53,34 @@ impl WayOn {
     }
 }
 
+impl WayOn {
+    /// Returns the way on if a directory cannot be opened to be written.
+    pub(crate) fn behind_opening(fault: &OpeningFault) -> Option<WayOn> {
+        match fault {
+            OpeningFault::Book(fault) => WayOn::behind_book(fault.error),
+            OpeningFault::Logs(fault) => WayOn::behind_logs(*fault),
+            OpeningFault::Folder(_) | OpeningFault::Call(_) => None,
+        }
+    }
+
+    /// Returns the way on if logs cannot be opened by their manifest.
+    pub(crate) fn behind_logs(fault: LogsFault) -> Option<WayOn> {
+        match fault.fault {
+            Fault::Lack(_) => Some(WayOn::TakeLogs),
+            Fault::Manifest(ManifestError::Fault(_)) => Some(WayOn::RebuildLogs),
+            Fault::Manifest(_) | Fault::Disk(_) => None,
+        }
+    }
+
+    /// Returns the way on if a manifest cannot be opened.
+    pub(crate) fn behind_book(error: ManifestError) -> Option<WayOn> {
+        match error {
+            ManifestError::Fault(_) => Some(WayOn::RebuildManifest),
+            ManifestError::Memory | ManifestError::Disk | ManifestError::TooLong => None,
+        }
+    }
+}
+
 impl Display for WayOn {
     fn fmt<W: fmt::Write>(&self, f: &mut Formatter<W>) -> fmt::Result {
         match self {
@@ -50,6 +92,19 @@ impl Display for WayOn {
             ),
             WayOn::TooLong => f.write_str(
                 "a log has at most 4294967295 bytes: move the file away, or put the log back from a copy",
+            ),
+            WayOn::RebuildManifest => f.write_str(
+                "'./bookie manifest --rebuild' makes a new one of the records before the damage, and keeps the old file",
+            ),
+            WayOn::TakeLogs => f.write_str(
+                "put the log back from a copy, or take all logs as they are by './bookie manifest --rebuild', which keeps the old manifest",
+            ),
+            WayOn::RebuildLogs => f.write_str(
+                "'./bookie manifest --rebuild' makes a new one that takes all logs as they are, and keeps the old file",
+            ),
+            WayOn::MoveCopy => f.write_str("move that file away, and call the command again"),
+            WayOn::SayNoneLive => f.write_str(
+                "--live-none says that each ledger of the directory is deleted",
             ),
             WayOn::RebuildIndex => f.write_str(
                 "a bookie's index points into logs that a compaction removes: stop the bookie, compact with --index-is-rebuilt, then rebuild its index with 'bookkeeper shell rebuild-db-ledger-locations-index' before it starts",

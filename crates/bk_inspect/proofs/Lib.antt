@@ -14,6 +14,7 @@ pub mod Cuts
 pub mod Copies
 pub mod Keeps
 pub mod Picked
+pub mod Outlines
 pub mod Walks
 pub mod LastTaken
 pub mod Exports

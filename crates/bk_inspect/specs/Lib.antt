@@ -5,6 +5,7 @@ pub mod Texts
 pub mod Maps
 pub mod Digests
 pub mod Parts
+pub mod Outlines
 pub mod Shown
 pub mod Sealing
 pub mod Copying

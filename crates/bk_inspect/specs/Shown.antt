@@ -5,7 +5,7 @@ use Rattle.std.specs.FinMap as map
 use Rattle.bk_record.specs.Files.{Files, header_length, records_of, rest_of}
 use Rattle.bk_record.specs.Body.{Body}
 use Rattle.bk_inspect.specs.declared.command.DirCommand.{DirCommand}
-use Rattle.bk_inspect.specs.declared.command.DirCommand.TheVariants.{Logs, Header, Map, Scan, ScanPart, Find, Check, CheckDigests, CheckLong, Ledgers, Entries}
+use Rattle.bk_inspect.specs.declared.command.DirCommand.TheVariants.{Logs, Header, Map, Scan, ScanPart, Find, Check, CheckQuick, CheckDigests, CheckLong, Ledgers, Entries}
 use Rattle.bk_inspect.specs.declared.command.ScanChoice.{ScanChoice}
 use Rattle.bk_inspect.specs.declared.header.Head.{Head}
 use Rattle.bk_inspect.specs.declared.header.Head.TheVariants as heads
@@ -13,6 +13,7 @@ use Rattle.bk_inspect.specs.declared.listing.LogStanding.{LogStanding}
 use Rattle.bk_head.specs.Ledgers.{LedgersMap}
 use Rattle.bk_inspect.specs.Heads.{IsHead, HasState}
 use Rattle.bk_inspect.specs.Maps.{IsMapIn, map_lines}
+use Rattle.bk_inspect.specs.Outlines.{IsOutlineLine}
 use Rattle.bk_inspect.specs.Parts.{IsPartText}
 use Rattle.bk_inspect.specs.Reading.{OfFile}
 use Rattle.bk_inspect.specs.Texts.{log_line, header_line, scan_lines}
@@ -52,7 +53,7 @@ abbrev pub PartPrints : Bool → ℕ → ScanChoice → Files → Option (List �
 PartPrints true log choice files before now = Unit {0}
 PartPrints false log choice files before now = WritesText (λ text. OfFile files log (λ file. IsPartText choice file text)) before now
 
--- What a command writes if its status is 0. Nothing is said of `find`, `check`, `ledgers` and `entries`.
+-- What a command writes if its status is 0. Nothing is said of `find`, `ledgers`, `entries` and a `check` that reads entries.
 abbrev pub Prints : DirCommand → Files → Option (List ℕ) → Option (List ℕ) → Type 0
 Prints Logs files before now = WritesText (AreLines (IsLogLine files) (map.keys files)) before now
 Prints (Header log) files before now = WritesText (λ text. OfFile files log (λ file. (head : Head) × IsHead file head × HeadText head text)) before now
@@ -61,6 +62,7 @@ Prints (ScanPart log choice) files before now = PartPrints choice.data log choic
 Prints (Map log) files before now = WritesText (λ text. OfFile files log (λ file. (head : Head) × IsHead file head × MapText file head text)) before now
 Prints (Find key) files before now = Unit {0}
 Prints Check files before now = Unit {0}
+Prints CheckQuick files before now = WritesText (AreLines (IsOutlineLine files) (map.keys files)) before now
 Prints (CheckDigests choice) files before now = Unit {0}
 Prints (CheckLong choice) files before now = Unit {0}
 Prints Ledgers files before now = Unit {0}

@@ -31,7 +31,7 @@ enum Named {
 
 /// The copies in a directory of the system. One at a time is read or written.
 #[derive(Drop)]
-pub(crate) struct AsideFolder<'a> {
+pub struct AsideFolder<'a> {
     rt: HostRuntime,
     path: &'a str,
     /// The copy that is there, once its length was asked for.
@@ -43,7 +43,7 @@ pub(crate) struct AsideFolder<'a> {
 
 impl<'a> AsideFolder<'a> {
     /// Returns the copies in the directory at a path.
-    pub(crate) fn new(rt: &HostRuntime, path: &'a str) -> AsideFolder<'a> {
+    pub fn new(rt: &HostRuntime, path: &'a str) -> AsideFolder<'a> {
         AsideFolder {
             rt: *rt,
             path,

@@ -22,7 +22,9 @@ pub enum DirCommand {
     Find(Key),
     /// Whether each log is valid, and its map that of its entries.
     Check,
-    /// The same, and whether each entry fits the digest in its payload.
+    /// Whether each log's header is valid, and its map can be read. No entry is read.
+    CheckQuick,
+    /// What `Check` tells, and whether each entry fits the digest in its payload.
     CheckDigests(DigestChoice),
     /// One of these checks, with the torn bytes of unsealed logs.
     CheckLong(Option<DigestChoice>),
@@ -43,6 +45,7 @@ impl DirCommand {
             DirCommand::Logs
             | DirCommand::Find(_)
             | DirCommand::Check
+            | DirCommand::CheckQuick
             | DirCommand::CheckDigests(_)
             | DirCommand::CheckLong(_)
             | DirCommand::Ledgers

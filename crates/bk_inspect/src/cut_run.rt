@@ -59,7 +59,7 @@ pub fn run_cut_and_seal<D: CutDisk, A: Aside, W: Write, E: Write>(
 }
 
 /// The same, with a watch that has the reason if a call of the system fails.
-fn run_cut_watched<D: CutDisk, A: Aside, W: Write, E: Write>(
+pub fn run_cut_watched<D: CutDisk, A: Aside, W: Write, E: Write>(
     alloc: Global,
     form: Form,
     watch: Option<&FaultWatch>,

@@ -1,6 +1,10 @@
 //! The data of an entry in hexadecimal, read and written in pieces, so that an entry of any length
 //! takes little memory.
 
+ghost use Rattle.std.specs.Prelude.{◌≤◌, OnOk, length};
+ghost use Rattle.std.specs.Io.KnownBytes.{Appends};
+ghost use Rattle.hex.specs.Hex.{encode_lower};
+
 use crate::DirFault;
 use crate::calls::read_view;
 use bk_disk::LogView;
@@ -11,6 +15,9 @@ use std::io::Write;
 
 /// The number of bytes read at once.
 const WINDOW: u64 = 65_536;
+
+/// The number of bytes whose digits are written at once.
+const BLOCK: usize = 512;
 
 /// Writes the data of an entry of a view, which follows its two ids; `-` if there is none.
 pub(crate) fn show_data<V: LogView, W: Write>(
@@ -62,8 +69,21 @@ fn show_digits<V: LogView, W: Write>(
 
 /// Writes bytes as two digits each.
 fn show_bytes<W: Write>(bytes: &[u8], writer: &mut W) -> Result<(), DirFault> {
-    for byte in bytes {
-        write!(writer, "{byte:02x}")?;
+    for block in bytes.chunks(BLOCK) {
+        show_block(block, writer)?;
     }
     Ok(())
+}
+
+/// Writes at most `BLOCK` bytes as two digits each.
+fn show_block<W: Write>(block: &[u8], writer: &mut W) -> Result<(), DirFault>
+    requires { length block.now ≤ BLOCK }
+    ensures { OnOk result (Appends (W.contents writer.old) (W.contents writer.new) (encode_lower block.now)) }
+{
+    let mut buffer = [0; 2 * BLOCK];
+    let digits = &mut buffer[..2 * block.len()];
+    match hex::encode_to_slice(block, &mut *digits) {
+        Ok(()) => Ok(writer.write_all(digits)?),
+        Err(_) => Err(DirFault::Memory),
+    }
 }

@@ -6,6 +6,7 @@
 ghost use Rattle.std.specs.Prelude.{◌≤◌};
 
 use crate::cut_folder::log_path;
+use crate::ends::{Ended, with_ends};
 use crate::export::run_export_watched;
 use crate::fault::tell_fault;
 use crate::folder_disk::Folder;
@@ -14,10 +15,12 @@ use crate::run::run_dir_watched;
 use crate::stat::run_stat_watched;
 use crate::unsealed::find_watched;
 use crate::visit::{TakesLogs, visit_watched};
-use crate::{DataForm, DirCommand, DirFault, EntryRange, Form};
+use crate::{DataForm, DirCommand, DirFault, Ends, EntryRange, Form};
 use bk_disk::{DirDisk, FaultWatch, FolderFault};
+use bk_manifest_disk::LimitedDisk;
 use serde::Serialize;
 use std::alloc::Global;
+use std::collections::BTreeMap;
 use std::fs;
 use std::io::{self, ErrorKind, Write};
 use std::os::unix::fs::MetadataExt;
@@ -55,7 +58,10 @@ pub fn run_folder<W: Write, E: Write>(
     ensures { result ≤ 1 }
 {
     match DirDisk::open(rt, path) {
-        Ok(disk) => run_on(rt, Form::Text, path, disk, command, writer, errors),
+        Ok(disk) => {
+            let disk = LimitedDisk::new(disk, BTreeMap::new(rt.alloc()));
+            run_on(rt, Form::Text, path, disk, command, writer, errors)
+        }
         Err(fault) => {
             tell_fault(rt.alloc(), Form::Text, None, DirFault::from(fault), errors);
             1
@@ -66,10 +72,14 @@ pub fn run_folder<W: Write, E: Write>(
 /// Runs a command as `run_folder` does, with rows of a form of the caller's choice on both streams.
 /// A directory that cannot be opened is reported as `fault disk: PATH: REASON`, a failed call of
 /// the system with the file and the reason.
+///
+/// The logs end as asked. Bytes that are hidden are noted on the error stream, and so are durable
+/// bytes that are missing; these make the status of a check 1.
 pub fn run_folder_as<W: Write, E: Write>(
     rt: &HostRuntime,
     form: Form,
     path: &str,
+    ends: Ends,
     command: &FolderCommand<'_>,
     writer: &mut W,
     errors: &mut E,
@@ -77,7 +87,16 @@ pub fn run_folder_as<W: Write, E: Write>(
     ensures { result ≤ 1 }
 {
     match open_listed(rt, path, command) {
-        Ok(disk) => run_on(rt, form, path, disk, command, writer, errors),
+        Ok(disk) => {
+            let only = log_of(command);
+            let Ended { disk, is_doubted } = with_ends(rt, form, path, disk, ends, only, errors);
+            let status = run_on(rt, form, path, disk, command, writer, errors);
+            if is_doubted && is_check(command) {
+                1
+            } else {
+                status
+            }
+        }
         Err(fault) => {
             let _ = tell_folder(rt.alloc(), form, &fault, errors);
             1
@@ -91,7 +110,7 @@ fn open_listed(
     path: &str,
     command: &FolderCommand<'_>,
 ) -> Result<DirDisk, FolderFault> {
-    if is_of_one_log(command) {
+    if log_of(command).is_some() {
         return DirDisk::open_to_read(rt, path);
     }
     open_whole(rt, path)
@@ -106,12 +125,22 @@ fn open_whole(rt: &HostRuntime, path: &str) -> Result<DirDisk, FolderFault> {
     }
 }
 
-/// Whether a command looks at one log alone.
-fn is_of_one_log(command: &FolderCommand<'_>) -> bool {
+/// Returns the log of a command that looks at one alone.
+fn log_of(command: &FolderCommand<'_>) -> Option<u32> {
     match command {
-        FolderCommand::Dir(command) => command.log().is_some(),
-        FolderCommand::Stat(_) | FolderCommand::Export(..) => false,
+        FolderCommand::Dir(command) => command.log(),
+        FolderCommand::Stat(_) | FolderCommand::Export(..) => None,
     }
+}
+
+/// Returns whether a command checks the logs.
+fn is_check(command: &FolderCommand<'_>) -> bool {
+    matches!(
+        command,
+        FolderCommand::Dir(
+            DirCommand::Check | DirCommand::CheckDigests(_) | DirCommand::CheckLong(_)
+        )
+    )
 }
 
 /// Returns why the names in the directory at a path cannot be listed, for example if one is not
@@ -143,7 +172,7 @@ fn run_on<W: Write, E: Write>(
     rt: &HostRuntime,
     form: Form,
     path: &str,
-    disk: DirDisk,
+    disk: LimitedDisk<DirDisk>,
     command: &FolderCommand<'_>,
     writer: &mut W,
     errors: &mut E,
@@ -151,7 +180,7 @@ fn run_on<W: Write, E: Write>(
     ensures { result ≤ 1 }
 {
     let alloc = rt.alloc();
-    let watch = watch_of(alloc, &disk);
+    let watch = watch_of(alloc, disk.inner());
     let watch = watch.as_ref();
     let mut folder = Folder::new(rt, path, disk);
     let status = match command {
@@ -170,17 +199,19 @@ fn run_on<W: Write, E: Write>(
 }
 
 /// Takes in the logs of the directory at a path, as `visit_disk` those of a disk, then those that
-/// cannot be opened, which are reported too; the status is then 1. Returns `None` also if the
-/// directory cannot be opened or listed.
+/// cannot be opened, which are reported too; the status is then 1. The logs end as asked, with the
+/// notes of `run_folder_as`. Returns `None` also if the directory cannot be opened or listed.
 pub fn visit_folder<T: TakesLogs, E: Write>(
     rt: &HostRuntime,
     form: Form,
     path: &str,
+    ends: Ends,
     taking: &mut T,
     errors: &mut E,
 ) -> Option<u8> {
     let disk = open_or_tell(rt, form, path, errors)?;
     let watch = watch_of(rt.alloc(), &disk);
+    let Ended { disk, .. } = with_ends(rt, form, path, disk, ends, None, errors);
     let mut folder = Folder::new(rt, path, disk);
     let status = visit_watched(
         rt.alloc(),
@@ -233,19 +264,25 @@ fn open_or_tell<E: Write>(
     }
 }
 
-/// Opens the directory at a path as its one writer, to seal a log. Fails with `Refused`, which has
-/// the log's path, if its file has another name, under which its bytes would change too.
+/// Opens the directory at a path as its one writer, to seal a log. Fails as `check_one_name` too.
 pub(crate) fn open_to_seal(rt: &HostRuntime, path: &str, log: u32) -> Result<DirDisk, FolderFault> {
     let disk = DirDisk::open_to_write(rt, path)?;
+    check_one_name(rt, path, log)?;
+    Ok(disk)
+}
+
+/// Checks that the file of a log has one name. Fails with `Refused`, which has the log's path, if it
+/// has another one, under which its bytes would change too.
+pub fn check_one_name(rt: &HostRuntime, path: &str, log: u32) -> Result<(), FolderFault> {
     let path = log_path(rt.alloc(), path, log).map_err(|_| FolderFault::Memory)?;
     match fs::symlink_metadata(rt, path.as_str()) {
         Ok(found) if found.nlink() > 1 => Err(FolderFault::Refused {
             path,
             reason: io::Error::new(ErrorKind::InvalidInput, TWO_NAMES),
         }),
-        Ok(_) => Ok(disk),
+        Ok(_) => Ok(()),
         // The disk reports a file that is missing.
-        Err(reason) if reason.kind() == ErrorKind::NotFound => Ok(disk),
+        Err(reason) if reason.kind() == ErrorKind::NotFound => Ok(()),
         Err(reason) => Err(FolderFault::Refused { path, reason }),
     }
 }

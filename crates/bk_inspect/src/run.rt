@@ -14,6 +14,7 @@ use crate::header::show_header;
 use crate::ledgers::show_map;
 use crate::listing::show_logs;
 use crate::part::show_part;
+use crate::quick::show_quick;
 use crate::scan::show_scan;
 use crate::totals::show_totals;
 use crate::{DigestChoice, DirCommand, DirFault, Form};
@@ -136,6 +137,7 @@ fn show<D: LogDisk, W: Write, E: Write>(
         DirCommand::ScanPart(log, choice) => show_part(alloc, disk, log, choice, form, writer)?,
         DirCommand::Find(key) => return show_last(alloc, disk, key, form, writer, errors),
         DirCommand::Check => return show_check(alloc, disk, Detail::Word, form, writer),
+        DirCommand::CheckQuick => return show_quick(alloc, disk, form, writer),
         DirCommand::CheckDigests(choice) => {
             return show_digests(alloc, disk, choice, Detail::Word, form, writer);
         }

@@ -49,7 +49,7 @@ pub fn run_seal<D: LogDisk, W: Write, E: Write>(
 }
 
 /// The same, with a watch that has the reason if a call of the system fails.
-pub(crate) fn run_seal_watched<D: LogDisk, W: Write, E: Write>(
+pub fn run_seal_watched<D: LogDisk, W: Write, E: Write>(
     alloc: Global,
     form: Form,
     watch: Option<&FaultWatch>,

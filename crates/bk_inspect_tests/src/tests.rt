@@ -20,6 +20,7 @@ mod json_folder;
 mod leaving;
 mod long;
 mod maps;
+mod quick;
 mod recovery;
 mod rows;
 mod seal;

@@ -6,9 +6,8 @@ mod listed;
 mod once;
 mod recording;
 
-pub use directory::{
-    LEDGERS, Opened, Read, ReadFault, TORN, open_ledgers, read_file, read_ledgers,
-};
+pub use bk_manifest_disk::{Read, ReadFault, Torn, read_file};
+pub use directory::{LEDGERS, Opened, open_ledgers, read_ledgers};
 pub use listed::{Listed, ledgers_of};
 pub use once::{record_deletion, record_fence};
 pub use recording::{record, record_deletions, settle};

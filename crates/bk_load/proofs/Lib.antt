@@ -1,3 +1,4 @@
 pub mod Known
 pub mod Ledgers
 pub mod Looking
+pub mod Past

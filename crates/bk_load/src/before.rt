@@ -61,6 +61,22 @@ fn free_ledger(index: &Index) -> u64
     free
 }
 
+/// Returns the first ledger of a load that is past these ledgers too, each of which is below 2^63.
+/// Fails with `NoLedger` if too few follow.
+pub(crate) fn past_all(first: u64, ledgers: &[u64]) -> Result<u64, LoadFault>
+    ensures above { IfOk result (λ past. first ≤ past) }
+    ensures past { IfOk result (λ past. All (λ ledger. ledger < past) ledgers.now) }
+{
+    let mut first = first;
+    for ledger in ledgers {
+        if *ledger >= LAST_FIRST {
+            return Err(LoadFault::NoLedger);
+        }
+        first = past(first, *ledger);
+    }
+    Ok(first)
+}
+
 /// Returns what a disk with these logs and entries has.
 fn before_of(logs: u64, index: &Index) -> Before
     ensures { All (λ e. e.0.ledger < result.first) (map.entries index.now) }

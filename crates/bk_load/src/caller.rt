@@ -11,6 +11,7 @@ use crate::entries::{LONGEST, ROUNDS, doomed_ledger, is_doomed, ledger_of, mixed
 use crate::{Load, LoadFault, Until};
 use bk_bookie::{AddLedger, Bookie, CallFault, Pass};
 use bk_disk::{LogDisk, LogView};
+use bk_drive::{Recorder, Step};
 use bk_log::fetch;
 use bk_store::{AddFault, Added, Receipt, Taken};
 use sha2::{Digest, Sha256};
@@ -36,9 +37,11 @@ pub(crate) struct Shared {
 
 /// A caller and what it has done. It has a receipt for each add that its pass counts.
 #[derive(Drop)]
-pub(crate) struct Caller<L: AddLedger> {
+pub(crate) struct Caller<L: AddLedger, K: Recorder + Drop> {
     pub pass: Pass<L>,
     pub number: u64,
+    /// Where the caller that deletes records it.
+    pub recorder: Option<K>,
     pub done: Done,
     ghost counted: { vec_len done.receipts ≡ pass.adds },
 }
@@ -144,14 +147,15 @@ fn share_of(adds: u64, callers: u32, number: u64) -> u64 {
     (adds / callers).saturating_add(more)
 }
 
-impl<L: AddLedger> Caller<L> {
+impl<L: AddLedger, K: Recorder + Drop> Caller<L, K> {
     /// Returns a caller with a pass that counts no add.
-    pub fn new(alloc: Global, pass: Pass<L>, number: u64) -> Caller<L>
+    pub fn new(alloc: Global, pass: Pass<L>, number: u64, recorder: Option<K>) -> Caller<L, K>
         requires { pass.adds ≡ 0 }
     {
         Caller {
             pass,
             number,
+            recorder,
             done: Done::new(alloc),
         }
     }
@@ -266,7 +270,7 @@ impl<L: AddLedger> Caller<L> {
         self.done.count_take(is_right);
     }
 
-    /// Deletes a ledger.
+    /// Deletes a ledger, after the deletion is recorded.
     fn delete<R: Wait, D: LogDisk>(
         &mut self,
         rt: &R,
@@ -274,6 +278,11 @@ impl<L: AddLedger> Caller<L> {
         ledger: u64,
     ) -> Result<(), LoadFault> {
         self.done.dead.reserve(1).map_err(|_| LoadFault::Memory)?;
+        if let Some(recorder) = &mut self.recorder
+            && !recorder.record(&Step::Delete(ledger))
+        {
+            return Err(LoadFault::Unrecorded);
+        }
         if bookie.delete(rt, &mut self.pass, ledger).is_ok() {
             self.done.dead.push_reserved(ledger);
         }

@@ -15,4 +15,4 @@ mod serving;
 
 pub use latency::Latencies;
 pub use report::{Checked, Load, LoadFault, Logs, Report, Until};
-pub use running::run_load;
+pub use running::{Recorded, run_load};

@@ -166,6 +166,9 @@ pub enum LoadFault {
     /// An add failed with another fault than `Deleted` or `Full`.
     #[error("add {0:?}")]
     Add(CallFault<AddFault>),
+    /// The deletion of a ledger could not be recorded. The ledger is not deleted.
+    #[error("unrecorded")]
+    Unrecorded,
     /// The cache was full for a minute.
     #[error("stuck")]
     Stuck,

@@ -3,7 +3,7 @@
 ghost use Rattle.std.specs.Prelude.{◌≡◌, ◌+◌, ◌-◌, ◌<◌, ◌^◌, IfOk, min, vec_len};
 ghost use Rattle.bk_load.specs.Reported.{ReportsCallers, ReportsLogs};
 
-use crate::before::{Before, disk_of, logs_on, survey};
+use crate::before::{Before, disk_of, logs_on, past_all, survey};
 use crate::checking::check;
 use crate::done::Done;
 use crate::keeper::Keeper;
@@ -12,6 +12,7 @@ use crate::serving::{Served, serve};
 use crate::{Checked, Load, LoadFault, Logs, Report};
 use bk_bookie::WorkReport;
 use bk_disk::LogDisk;
+use bk_drive::Recorder;
 use bk_store::{Settings, Store};
 use std::alloc::Global;
 use std::io::Write;
@@ -107,30 +108,47 @@ fn report_on<D: LogDisk>(
     })
 }
 
+/// What is recorded of ledgers, and where a load records deletions.
+#[derive(Drop)]
+pub struct Recorded<K: Recorder + Drop> {
+    /// The ledgers, each below 2^63.
+    pub ledgers: Vec<u64>,
+    pub recorder: K,
+}
+
 /// Runs a load on a bookie over the logs of this disk.
 ///
 /// The callers add entries to shared ledgers, take some of them, and delete a ledger from time to
-/// time. Two workers flush, and a keeper compacts and removes logs. The ledgers follow the last one
-/// on the disk. With `Until::Adds(n)` the callers make n adds together. Progress is written to
+/// time, after the recorder was asked. Two workers flush, and a keeper compacts and removes logs. The
+/// ledgers follow the last one on the disk and those that are recorded. With `Until::Adds(n)` the callers make n adds together. Progress is written to
 /// `progress` once a second.
 ///
 /// # Errors
 ///
 /// See `LoadFault`. The disk is dropped with every error.
-pub fn run_load<D: LogDisk, R: Threads + Wait + Clock + Sync, W: Write + Send + Drop>(
+pub fn run_load<
+    D: LogDisk,
+    K: Recorder + Send + Drop,
+    R: Threads + Wait + Clock + Sync,
+    W: Write + Send + Drop,
+>(
     rt: &R,
     alloc: Global,
     disk: D,
     settings: Settings,
     load: Load,
+    recorded: Recorded<K>,
     progress: Option<W>,
 ) -> Result<Report, LoadFault>
     ensures counted { IfOk result (λ r. r.adds ≡ r.receipts) }
     ensures checked { IfOk result (λ r. r.checked.found + r.checked.deleted + r.checked.lost ≡ r.receipts) }
 {
-    let (disk, before) = survey(alloc, disk, settings)?;
+    let (disk, found) = survey(alloc, disk, settings)?;
+    let Recorded { ledgers, recorder } = recorded;
+    let first = past_all(found.first, &ledgers)?;
+    let before = Before { first, ..found };
     let blank = Blank::new(u64::from(load.callers) + 1);
-    let served = serve::<Brand, D, R, W>(
+    let served = serve::<Brand, K, D, R, W>(
         rt,
         alloc,
         blank,
@@ -138,6 +156,7 @@ pub fn run_load<D: LogDisk, R: Threads + Wait + Clock + Sync, W: Write + Send + 
         settings,
         load,
         before.first,
+        recorder,
         progress,
     )?;
     report_on(alloc, settings, before, served)

@@ -9,7 +9,7 @@ use crate::keeper::Keeper;
 use crate::{Load, LoadFault};
 use bk_bookie::{AddLedger, Bookie, Finished, Gate, Pass, WorkReport};
 use bk_disk::LogDisk;
-use bk_drive::Work;
+use bk_drive::{Recorder, Work};
 use bk_store::{Receipt, Settings, Store};
 use crossbeam_channel::{Sender, bounded};
 use std::alloc::{AllocError, Global};
@@ -39,34 +39,36 @@ impl Gate for OpenGate {
 
 /// A caller that has ended, and its fault if it ended early.
 #[derive(Drop)]
-struct Ended<L: AddLedger> {
-    caller: Caller<L>,
+struct Ended<L: AddLedger, K: Recorder + Drop> {
+    caller: Caller<L, K>,
     ran: Result<(), LoadFault>,
 }
 
 /// Runs one caller.
-fn run_caller<L: AddLedger, D: LogDisk, R: Wait + Clock>(
+fn run_caller<L: AddLedger, K: Recorder + Drop, D: LogDisk, R: Wait + Clock>(
     rt: &R,
     alloc: Global,
     bookie: &Bookie<L, D>,
     shared: &Shared,
-    mut caller: Caller<L>,
-) -> Ended<L> {
+    mut caller: Caller<L, K>,
+) -> Ended<L, K> {
     let ran = caller.run(rt, alloc, bookie, shared);
     Ended { caller, ran }
 }
 
-/// Returns the callers of a load, each with a pass.
-fn callers<L: AddLedger, D: LogDisk, R: Wait>(
+/// Returns the callers of a load, each with a pass. The first one, which deletes, has the recorder.
+fn callers<L: AddLedger, K: Recorder + Drop, D: LogDisk, R: Wait>(
     rt: &R,
     alloc: Global,
     bookie: &Bookie<L, D>,
     count: u32,
-) -> Result<Vec<Caller<L>>, LoadFault> {
+    recorder: K,
+) -> Result<Vec<Caller<L, K>>, LoadFault> {
+    let mut recorder = Some(recorder);
     let mut callers = Vec::new(alloc);
     for number in 0..count {
         let pass = bookie.pass(rt).map_err(|_| LoadFault::NoPass)?;
-        let caller = Caller::new(alloc, pass, u64::from(number));
+        let caller = Caller::new(alloc, pass, u64::from(number), recorder.take());
         callers.push(caller).map_err(|_| LoadFault::Memory)?;
     }
     Ok(callers)
@@ -74,19 +76,24 @@ fn callers<L: AddLedger, D: LogDisk, R: Wait>(
 
 /// Results of the callers and the keeper.
 #[derive(Drop)]
-struct Ran<L: AddLedger> {
-    ended: Vec<Ended<L>>,
+struct Ran<L: AddLedger, K: Recorder + Drop> {
+    ended: Vec<Ended<L, K>>,
     keeper: Keeper,
 }
 
 /// Runs all callers at once.
-fn run_callers<L: AddLedger + Send + Sync, D: LogDisk, R: Threads + Wait + Clock + Sync>(
+fn run_callers<
+    L: AddLedger + Send + Sync,
+    K: Recorder + Send + Drop,
+    D: LogDisk,
+    R: Threads + Wait + Clock + Sync,
+>(
     rt: &R,
     alloc: Global,
     bookie: &Bookie<L, D>,
     shared: &Shared,
-    waiting: Vec<Caller<L>>,
-) -> Result<Vec<Ended<L>>, LoadFault> {
+    waiting: Vec<Caller<L, K>>,
+) -> Result<Vec<Ended<L, K>>, LoadFault> {
     let ended = thread::map_vec(
         rt,
         waiting,
@@ -99,6 +106,7 @@ fn run_callers<L: AddLedger + Send + Sync, D: LogDisk, R: Threads + Wait + Clock
 /// Runs all callers and the keeper, then closes the channel of steps.
 fn run_all<
     L: AddLedger + Send + Sync,
+    K: Recorder + Send + Drop,
     D: LogDisk,
     R: Threads + Wait + Clock + Sync,
     W: Write + Send + Drop,
@@ -107,10 +115,10 @@ fn run_all<
     alloc: Global,
     bookie: &Bookie<L, D>,
     shared: &Shared,
-    waiting: Vec<Caller<L>>,
+    waiting: Vec<Caller<L, K>>,
     works: Sender<Work>,
     mut progress: Option<W>,
-) -> Result<Ran<L>, LoadFault> {
+) -> Result<Ran<L, K>, LoadFault> {
     let mut keeper = Keeper::new();
     let (ended, keeper) = thread::join(
         rt,
@@ -129,6 +137,7 @@ fn run_all<
 /// Runs the workers meanwhile.
 fn run_with_workers<
     L: AddLedger + Send + Sync,
+    K: Recorder + Send + Drop,
     D: LogDisk,
     R: Threads + Wait + Clock + Sync,
     W: Write + Send + Drop,
@@ -137,9 +146,10 @@ fn run_with_workers<
     alloc: Global,
     bookie: &Bookie<L, D>,
     shared: &Shared,
+    recorder: K,
     progress: Option<W>,
-) -> Result<(WorkReport, Ran<L>), LoadFault> {
-    let waiting = callers(rt, alloc, bookie, shared.load.callers)?;
+) -> Result<(WorkReport, Ran<L, K>), LoadFault> {
+    let waiting = callers(rt, alloc, bookie, shared.load.callers, recorder)?;
     let (sender, works) = bounded(alloc, WAITING).map_err(|_| LoadFault::Memory)?;
     let (report, ran) = thread::join(
         rt,
@@ -172,10 +182,11 @@ impl<L: AddLedger> Sums<L> {
     }
 
     /// Adds a caller. Fails only if out of memory.
-    fn take_in(&mut self, caller: Caller<L>) -> Result<(), AllocError> {
+    fn take_in<K: Recorder + Drop>(&mut self, caller: Caller<L, K>) -> Result<(), AllocError> {
         let Caller {
             pass,
             number: _,
+            recorder: _,
             done,
         } = caller;
         self.passes.reserve(1)?;
@@ -185,7 +196,10 @@ impl<L: AddLedger> Sums<L> {
     }
 
     /// Adds all callers. Returns the fault of the first that ended early.
-    fn take_in_all(&mut self, ended: Vec<Ended<L>>) -> Result<(), LoadFault> {
+    fn take_in_all<K: Recorder + Drop>(
+        &mut self,
+        ended: Vec<Ended<L, K>>,
+    ) -> Result<(), LoadFault> {
         for one in ended {
             let Ended { caller, ran } = one;
             ran?;
@@ -224,6 +238,7 @@ pub(crate) struct Served<D: LogDisk> {
 /// Opens a bookie over this ledger and runs a load on it, from the ledger `first` on.
 pub(crate) fn serve<
     L: AddLedger + Send + Sync,
+    K: Recorder + Send + Drop,
     D: LogDisk,
     R: Threads + Wait + Clock + Sync,
     W: Write + Send + Drop,
@@ -235,6 +250,7 @@ pub(crate) fn serve<
     settings: Settings,
     load: Load,
     first: u64,
+    recorder: K,
     progress: Option<W>,
 ) -> Result<Served<D>, LoadFault>
     requires name { blank.name ≡ L.name }
@@ -249,7 +265,7 @@ pub(crate) fn serve<
         Err(refused) => return Err(LoadFault::Open(refused.fault)),
     };
     let shared = Shared::new(rt, load, first)?;
-    let (works, ran) = run_with_workers(rt, alloc, &bookie, &shared, progress)?;
+    let (works, ran) = run_with_workers(rt, alloc, &bookie, &shared, recorder, progress)?;
     let milliseconds = shared.milliseconds(rt)?;
     let Ran { ended, mut keeper } = ran;
     keeper.flush_all(rt, &bookie);

@@ -2,7 +2,8 @@
 
 use bk_bookie::WorkReport;
 use bk_disk::{FaultDisk, MemDisk};
-use bk_load::{Checked, Latencies, Load, Logs, Report, Until, run_load};
+use bk_drive::{Recorder, RecordsNothing, Step};
+use bk_load::{Checked, Latencies, Load, LoadFault, Logs, Recorded, Report, Until, run_load};
 use bk_store::Settings;
 use std::alloc::Global;
 use std::process::Abort;
@@ -40,10 +41,27 @@ fn is_whole(report: &Report) -> bool {
         && report.adds.saturating_add(report.refused) == ADDS
 }
 
+/// Nothing is recorded of ledgers.
+fn unrecorded(alloc: Global) -> Recorded<RecordsNothing> {
+    Recorded {
+        ledgers: Vec::new(alloc),
+        recorder: RecordsNothing,
+    }
+}
+
 /// Runs the small load.
 fn report<R: Threads + Wait + Clock + Abort + Sync>(rt: &R, alloc: Global) -> Report {
     let progress: Option<Vec<u8>> = None;
-    match run_load(rt, alloc, MemDisk::new(alloc), SETTINGS, SMALL, progress) {
+    let disk = MemDisk::new(alloc);
+    match run_load(
+        rt,
+        alloc,
+        disk,
+        SETTINGS,
+        SMALL,
+        unrecorded(alloc),
+        progress,
+    ) {
         Ok(report) => report,
         Err(_) => panic!(rt; "no report"),
     }
@@ -65,7 +83,7 @@ const FEW: Load = Load {
 fn failing<R: Threads + Wait + Clock + Abort + Sync>(rt: &R, alloc: Global, call: u64) -> Report {
     let progress: Option<Vec<u8>> = None;
     let disk = FaultDisk::new(MemDisk::new(alloc), call, 7);
-    match run_load(rt, alloc, disk, SETTINGS, FEW, progress) {
+    match run_load(rt, alloc, disk, SETTINGS, FEW, unrecorded(alloc), progress) {
         Ok(report) => report,
         Err(_) => panic!(rt; "no report"),
     }
@@ -88,6 +106,58 @@ fn a_failed_step_is_reported(rt: HostRuntime) {
         let report = failing(&rt, rt.alloc(), call);
         assert!(rt; is_failed_alone(&report), "{call}: {report}");
     }
+}
+
+/// A recorder that allows some steps and refuses the next one. It takes deletions only.
+#[derive(Drop)]
+struct Refusing {
+    allowed: u32,
+}
+
+impl Recorder for Refusing {
+    fn record(&mut self, step: &Step) -> bool {
+        if self.allowed == 0 || !matches!(step, Step::Delete(_)) {
+            return false;
+        }
+        self.allowed -= 1;
+        true
+    }
+}
+
+/// Runs the small load with these ledgers recorded, and a recorder that refuses after some steps.
+fn recorded<R: Threads + Wait + Clock + Abort + Sync>(
+    rt: &R,
+    alloc: Global,
+    ledgers: &[u64],
+    allowed: u32,
+) -> Result<Report, LoadFault> {
+    let progress: Option<Vec<u8>> = None;
+    let Ok(ledgers) = Vec::from_slice(alloc, ledgers) else {
+        panic!(rt; "memory")
+    };
+    let recorded = Recorded {
+        ledgers,
+        recorder: Refusing { allowed },
+    };
+    let disk = MemDisk::new(alloc);
+    run_load(rt, alloc, disk, SETTINGS, SMALL, recorded, progress)
+}
+
+#[test]
+fn a_deletion_that_is_not_recorded_ends_the_load(rt: HostRuntime) {
+    let ended = recorded(&rt, rt.alloc(), &[], 1);
+    assert!(rt; matches!(ended, Err(LoadFault::Unrecorded)));
+    // The load makes two deletions.
+    match recorded(&rt, rt.alloc(), &[5, 3], 2) {
+        Ok(report) => assert!(rt; is_whole(&report), "{report}"),
+        Err(_) => panic!(rt; "no report"),
+    }
+}
+
+#[test]
+fn a_load_has_ledgers_past_those_recorded(rt: HostRuntime) {
+    let ended = recorded(&rt, rt.alloc(), &[1 << 62], 2);
+    assert!(rt; matches!(ended, Err(LoadFault::NoLedger)));
 }
 
 /// A report of three adds, one of them to a ledger deleted later, with four earlier entries.

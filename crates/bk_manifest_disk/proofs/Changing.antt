@@ -69,11 +69,11 @@ cuts_either old new log limit PastEnd turn = absurd turn
 cuts_either old new log limit TooLong turn = absurd turn
 
 module _ (limits : LogLimits) (old : Files) (log limit : ℕ) (limited : map.get limits log ≡ Some limit) where
-  uncut_same : (new : Files) → (new ≡ old) ⊎ IsCutTo old log limit new → shown_files limits new ≡ shown_files limits old
+  pub uncut_same : (new : Files) → (new ≡ old) ⊎ IsCutTo old log limit new → shown_files limits new ≡ shown_files limits old
   uncut_same new (inl same) = ap (shown_files limits) same
   uncut_same new (inr cut) = ap (shown_files limits) cut.2 ∙ shown_cut limits old log limit cut.0 limited cut.1
 
-  freed_same : (mid : Files) → IsCutTo old log limit mid → shown_files (map.remove limits log) mid ≡ shown_files limits old
+  pub freed_same : (mid : Files) → IsCutTo old log limit mid → shown_files (map.remove limits log) mid ≡ shown_files limits old
   freed_same mid cut = ap (shown_files (map.remove limits log)) cut.2 ∙ shown_freed limits old log limit cut.0 limited cut.1
 
   pub free_now : map.get (map.remove limits log) log ≡ None

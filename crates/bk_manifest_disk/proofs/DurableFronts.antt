@@ -94,7 +94,7 @@ front_there files R kept log front is = by_file (map.get kept log) refl where
 
 -- ---- calls
 
-front_more : (files files' : Files) (R R' : List Fact) (kept kept' : Files) (log : ℕ) (front : List ℕ) → ((file : List ℕ) → map.get kept log ≡ Some file → IsDurable kept' log file)
+pub front_more : (files files' : Files) (R R' : List Fact) (kept kept' : Files) (log : ℕ) (front : List ℕ) → ((file : List ℕ) → map.get kept log ≡ Some file → IsDurable kept' log file)
     → Rises (promise files R log) (promise files' R' log) → map.get (durable_fronts files R kept) log ≡ Some front → IsDurable (durable_fronts files' R' kept') log front
 front_more files files' R R' kept kept' log front more up is =
     let old = front_there files R kept log front is in

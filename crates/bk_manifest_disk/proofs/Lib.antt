@@ -5,8 +5,10 @@ pub mod Grown
 pub mod Shown
 pub mod Showing
 pub mod Changing
+pub mod Cutting
 pub mod Recorded
 pub mod DurableFronts
 pub mod Kept
+pub mod KeptCut
 pub mod Found
-pub mod OpenedLogs
+pub mod OpenedByManifest

@@ -128,7 +128,7 @@ module _ (files kept gone : Files) (R N : List Fact) (was : AreRecorded files ke
 
 -- ---- the disk below
 
-no_fewer : (file now : List ℕ) → IsLonger file now → length (drop header_length file) ≤ length (drop header_length now)
+pub no_fewer : (file now : List ℕ) → IsLonger file now → length (drop header_length file) ≤ length (drop header_length now)
 no_fewer file now longer = omega (arith, ap length longer.is, length-append (drop header_length file) longer.behind)
 
 pub still_durable : (kept kept' : Files) (log n : ℕ) → ((file : List ℕ) → map.get kept log ≡ Some file → IsDurable kept' log file) → IsDurableUpTo kept log n → IsDurableUpTo kept' log n

@@ -193,7 +193,7 @@ module _ (limits : LogLimits) (log limit : ℕ) (kept gone kept' gone' : Files) 
     back = front.back;
   }
 
-shown_durable : (limits : LogLimits) (kept : Files) (log : ℕ) (file : List ℕ) → IsDurable kept log file → IsDurable (shown_files limits kept) log (shown (map.get limits log) file)
+pub shown_durable : (limits : LogLimits) (kept : Files) (log : ℕ) (file : List ℕ) → IsDurable kept log file → IsDurable (shown_files limits kept) log (shown (map.get limits log) file)
 shown_durable limits kept log file has =
     (shown (map.get limits log) has.0, shown_is limits kept log has.0 has.1, longer_shown (map.get limits log) file has.0 has.2)
 

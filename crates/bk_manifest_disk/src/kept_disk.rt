@@ -2,8 +2,8 @@
 
 ghost use Rattle.std.specs.Prelude.{◌≡◌, IsTrue};
 
-use crate::recording::{durable_length, has_length, record};
-use bk_disk::{DiskFault, LogDisk};
+use crate::recording::{durable_length, has_length, record, shorten};
+use bk_disk::{CutDisk, DiskFault, LogDisk};
 use bk_manifest::{Manifest, ManifestFile, Record};
 use std::alloc::Global;
 use std::marker::Model;
@@ -185,5 +185,16 @@ impl<D: LogDisk, F: ManifestFile + Send> LogDisk for KeptDisk<D, F> {
             Record::RemovedLog { log, length },
         )?;
         self.inner.remove(alloc, log)
+    }
+}
+
+impl<D: CutDisk, F: ManifestFile + Send> CutDisk for KeptDisk<D, F> {
+    /// Records that no more bytes are durable, and truncates the log. If the record fails, the log is
+    /// as it was, but the file of the manifest may have the record until another one is written.
+    fn cut(&mut self, alloc: Global, log: u32, length: u64) -> Result<(), DiskFault> {
+        // There is such a log.
+        let _length = self.inner.length(alloc, log)?;
+        shorten(alloc, &mut self.manifest, log, length)?;
+        self.inner.cut(alloc, log, length)
     }
 }

@@ -2,6 +2,7 @@
 //! record what is.
 #![tactic(auto)]
 
+mod directory;
 mod fault;
 mod kept_disk;
 mod kept_file;
@@ -9,19 +10,22 @@ mod lack;
 mod limited_disk;
 mod limited_view;
 mod limits;
+mod logs;
 mod looking;
 mod opening;
 mod recording;
 mod report;
 mod table;
 
+pub use directory::{Read, ReadFault, Torn, copy_torn, file_of, read_file};
 pub use fault::Fault;
 pub use kept_disk::KeptDisk;
 pub use kept_file::KeptFile;
 pub use lack::{Lack, find_lack};
 pub use limited_disk::LimitedDisk;
 pub use limited_view::LimitedView;
-pub use looking::{Limited, limit_logs};
+pub use logs::{FolderLogs, LOGS, open_logs, read_logs};
+pub use looking::{Limited, limit_logs, report_of};
 pub use opening::{Opened, open};
 pub use report::{Cause, Report};
 pub use table::{Finding, finding_of};

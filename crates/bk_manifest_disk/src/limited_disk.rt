@@ -176,3 +176,19 @@ impl<D: CutDisk> LogDisk for LimitedDisk<D> {
         }
     }
 }
+
+impl<D: CutDisk> CutDisk for LimitedDisk<D> {
+    /// First truncates a limited log at its limit.
+    fn cut(&mut self, alloc: Global, log: u32, length: u64) -> Result<(), DiskFault> {
+        let Some(limit) = self.limits.get(log) else {
+            return self.inner.cut(alloc, log, length);
+        };
+        match self.inner.cut(alloc, log, limit) {
+            Ok(()) => {
+                self.limits.remove(log);
+                self.inner.cut(alloc, log, length)
+            }
+            Err(fault) => Err(fault),
+        }
+    }
+}

@@ -57,7 +57,7 @@ fn adopted_length(finding: Finding) -> Option<u64>
 }
 
 /// Returns what an opening reports of a log.
-fn reported(log: u32, finding: Finding) -> Option<Report>
+pub fn report_of(log: u32, finding: Finding) -> Option<Report>
     ensures { result ≡ reported log finding }
 {
     let (from, length, cause) = match finding {
@@ -98,7 +98,7 @@ impl Found {
         if let Some(from) = hidden_from(finding) {
             self.limits.insert(log, from)?;
         }
-        if let Some(report) = reported(log, finding) {
+        if let Some(report) = report_of(log, finding) {
             self.reports.push(report)?;
         }
         if let Some(durable) = adopted_length(finding) {

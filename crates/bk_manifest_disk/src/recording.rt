@@ -5,7 +5,8 @@ ghost use Rattle.bk_disk.specs.Disk.{FailsExactlyOnDiskFault};
 ghost use Rattle.bk_manifest.specs.Fact.{fact};
 ghost use Rattle.bk_manifest.specs.Keeping.{durable};
 ghost use Rattle.bk_manifest.specs.State.{said, the_log, log_state, length_of};
-ghost use Rattle.bk_manifest_disk.specs.Recording.{promised};
+ghost use Rattle.bk_manifest_disk.specs.Recording.{promised, shorter};
+ghost use Rattle.bk_manifest_disk.specs.Table.{recorded};
 
 use bk_disk::DiskFault;
 use bk_manifest::{LogState, Manifest, ManifestError, ManifestFile, Record, State};
@@ -60,4 +61,52 @@ pub(crate) fn has_length(state: &State, log: u32, length: u64) -> bool
         Some(durable) => durable == length,
         None => false,
     }
+}
+
+/// Returns the last record about a log, with at most this many durable bytes.
+fn shorter(state: &State, log: u32, length: u64) -> Record
+    ensures { fact result ≡ shorter (log_state (said state.now (the_log log))) log length }
+{
+    match state.log(log) {
+        Some(LogState::Durable { length: durable }) => Record::DurableLog {
+            log,
+            length: durable.min(length),
+        },
+        Some(LogState::Removed { length: durable }) => Record::RemovedLog {
+            log,
+            length: durable.min(length),
+        },
+        Some(LogState::Made) | None => Record::MadeLog(log),
+    }
+}
+
+/// Makes it durable that a log has at most this many durable bytes.
+///
+/// # Errors
+///
+/// The durable records are unchanged, and none is noted. The file may have the new one until another
+/// record is written over it.
+///
+/// - `Disk` if the device of the manifest failed.
+/// - `Memory` if an allocation is refused, or the manifest would be too long.
+pub(crate) fn shorten<F: ManifestFile>(
+    alloc: Global,
+    manifest: &mut Manifest<F>,
+    log: u32,
+    length: u64,
+) -> Result<(), DiskFault>
+    ensures honest { manifest.new.honest ≡ manifest.old.honest }
+    ensures cause { FailsExactlyOnDiskFault manifest.old.failures manifest.new.failures result }
+    ensures ok { IsTrue manifest.old.honest → OnOk result (durable manifest.new
+        ≡ durable manifest.old ++ (manifest.old.pending ++ shorter (recorded (durable manifest.old) log) log length ∷ [])) }
+    ensures err { IsTrue manifest.old.honest → OnErr result (durable manifest.new ≡ durable manifest.old) }
+    ensures none { manifest.new.pending ≡ [] }
+    ensures only { OnErr result (IsErrOf result DiskFault.Disk ⊎ IsErrOf result DiskFault.Memory) }
+{
+    let one = shorter(manifest.state(), log, length);
+    let answer = record(alloc, manifest, one);
+    if answer.is_err() {
+        manifest.forget_noted();
+    }
+    answer
 }

@@ -6,3 +6,4 @@ mod folder;
 mod kit;
 mod refused;
 mod table;
+mod truncated;

@@ -16,7 +16,7 @@ use crate::reading::{holds, read, read_back};
 use crate::sealing::{checkpoint, close, flush, seal};
 use bk_disk::{DirDisk, LogDisk};
 use bk_manifest::{Manifest, ManifestFile};
-use bk_manifest_disk::KeptFile;
+use bk_manifest_disk::{KeptDisk, KeptFile, LimitedDisk};
 use bk_serve_core::{EncodeError, Refusal, Reply, Request};
 use bk_serve_dispatch::Service;
 use bk_store::{AddKind, Store};
@@ -36,11 +36,13 @@ pub(crate) struct Host<D: LogDisk, F: ManifestFile> {
     pub(crate) notes: Manifest<F>,
 }
 
-impl Service for Host<DirDisk, KeptFile> {
-    ghost use Rattle.std.specs.Prelude.{[], false};
-    ghost use Rattle.bk_disk.specs.declared.dir_view.DirView.{DirView};
+/// The disk of the directory, with the manifest of its logs.
+pub(crate) type ServedDisk = KeptDisk<LimitedDisk<DirDisk>, KeptFile>;
 
-    ghost answers = { λ s request reply t. Answers {V = DirView} (λ _. []) (λ _. false) (λ _. false) s.store s.notes request reply t.store t.notes };
+impl Service for Host<ServedDisk, KeptFile> {
+    ghost use Rattle.bk_manifest_disk.specs.Limiting.{ShownView, shown};
+
+    ghost answers = { λ s request reply t. Answers {V = ShownView} (λ v. shown v.limit v.bytes) (λ v. v.honest) (λ v. v.sound) s.store s.notes request reply t.store t.notes };
 
     /// Carries out a request and appends its reply.
     fn call(

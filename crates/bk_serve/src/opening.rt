@@ -1,11 +1,11 @@
-//! Opening a directory: its logs, and the manifest of its ledgers.
+//! Opening a directory: its logs, and the manifests of its logs and ledgers.
 
 use crate::folder::open_folder;
-use crate::host::Host;
-use bk_disk::{DirDisk, FolderFault, LogDisk};
-use bk_ledgers::{ledgers_of, open_ledgers};
+use crate::host::{Host, ServedDisk};
+use bk_disk::{DiskFault, FolderFault, LogDisk};
+use bk_ledgers::{LEDGERS, Torn, ledgers_of, open_ledgers};
 use bk_manifest::{Manifest, ManifestError, ManifestFile};
-use bk_manifest_disk::KeptFile;
+use bk_manifest_disk::{Fault, KeptFile, LOGS, Lack, Report, open_logs};
 use bk_serve_core::Refusal;
 use bk_store::{FenceFault, Settings, Store};
 use std::alloc::{AllocError, AllocFailed, Global};
@@ -31,6 +31,15 @@ pub(crate) enum OpenFault {
     /// The manifest of the ledgers cannot be read or written.
     #[error("ledgers.manifest: {0}")]
     Notes(ManifestError),
+    /// Durable bytes of a log are missing.
+    #[error("{0}")]
+    Lack(Lack),
+    /// The manifest of the logs cannot be read or written.
+    #[error("logs.manifest: {0}")]
+    Logs(ManifestError),
+    /// A call on a log failed.
+    #[error("{0}")]
+    Disk(DiskFault),
     /// The store did not open.
     #[error("{0}")]
     Store(bk_store::OpenFault),
@@ -48,6 +57,17 @@ impl From<FolderFault> for OpenFault {
 impl From<ManifestError> for OpenFault {
     fn from(error: ManifestError) -> OpenFault {
         OpenFault::Notes(error)
+    }
+}
+
+impl From<Fault> for OpenFault {
+    fn from(fault: Fault) -> OpenFault {
+        match fault {
+            Fault::Lack(lack) => OpenFault::Lack(lack),
+            Fault::Manifest(error) => OpenFault::Logs(error),
+            Fault::Disk(DiskFault::Memory) => OpenFault::Memory,
+            Fault::Disk(fault) => OpenFault::Disk(fault),
+        }
     }
 }
 
@@ -70,7 +90,13 @@ impl OpenFault {
             OpenFault::Folder(FolderFault::InUse { .. }) => Refusal::InUse,
             OpenFault::Folder(FolderFault::Refused { .. }) => Refusal::Disk,
             OpenFault::Folder(FolderFault::Memory) | OpenFault::Memory => Refusal::Memory,
-            OpenFault::Notes(error) => of_notes(*error),
+            OpenFault::Lack(Lack::Shorter { log, .. } | Lack::Missing { log, .. }) => {
+                Refusal::BadLog {
+                    log: u64::from(*log),
+                }
+            }
+            OpenFault::Disk(_) => Refusal::Disk,
+            OpenFault::Notes(error) | OpenFault::Logs(error) => of_notes(*error),
             OpenFault::Store(fault) => of_store(*fault),
         }
     }
@@ -122,10 +148,38 @@ fn open_host<D: LogDisk, F: ManifestFile>(
     })
 }
 
+/// A file that ended torn.
+#[derive(Drop)]
+pub(crate) struct TornFile {
+    pub(crate) name: &'static str,
+    pub(crate) torn: Torn,
+}
+
+/// A directory that is served.
+#[derive(Drop)]
+pub(crate) struct Opening {
+    pub(crate) host: Host<ServedDisk, KeptFile>,
+    /// The manifests that ended torn.
+    pub(crate) torn: Vec<TornFile>,
+    /// What is hidden of the logs, in their order.
+    pub(crate) reports: Vec<Report>,
+}
+
 /// Opens the directory at a path.
-pub(crate) fn open(rt: &HostRuntime, path: &str) -> Result<Host<DirDisk, KeptFile>, OpenFault> {
+pub(crate) fn open(rt: &HostRuntime, path: &str) -> Result<Opening, OpenFault> {
     let alloc = rt.alloc();
     let mut disk = open_folder(rt, path)?;
-    let notes = open_ledgers(alloc, &mut disk)?.manifest;
-    open_host(alloc, disk, notes)
+    let ledgers = open_ledgers(alloc, &mut disk)?;
+    let logs = open_logs(alloc, disk)?;
+    let mut all = Vec::new(alloc);
+    for (name, torn) in [(LEDGERS, ledgers.torn), (LOGS, logs.torn)] {
+        if let Some(torn) = torn {
+            all.push(TornFile { name, torn })?;
+        }
+    }
+    Ok(Opening {
+        host: open_host(alloc, logs.disk, ledgers.manifest)?,
+        torn: all,
+        reports: logs.reports,
+    })
 }

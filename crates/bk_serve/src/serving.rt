@@ -1,7 +1,8 @@
 //! A session over standard input and output.
 
 use crate::listing::PAGE;
-use crate::opening::{OpenFault, open};
+use crate::opening::{OpenFault, Opening, TornFile, open};
+use bk_manifest_disk::Report;
 use bk_serve_core::{Done, LONGEST_FRAME, Reply, VERSION};
 use bk_serve_dispatch::{Buffers, End, Service, finish, greet, serve_requests, tell_end};
 use std::io::{BufReader, Read, Stderr, Write};
@@ -18,7 +19,7 @@ const WELCOME: Reply<'static> = Reply::Done(Done::Welcome {
 
 /// Opens the directory at a path and serves it. Returns the exit status: 0 if the session ended in
 /// order and everything was flushed, else 1. Writes why the directory did not open to the error
-/// stream too.
+/// stream too, which manifest ended torn, and what is ignored of the logs.
 pub(crate) fn serve(rt: &HostRuntime, path: &str, errors: &mut Stderr) -> u8 {
     let alloc = rt.alloc();
     let Ok(mut reader) = BufReader::with_capacity(alloc, 65_536, rt.stdin()) else {
@@ -28,12 +29,35 @@ pub(crate) fn serve(rt: &HostRuntime, path: &str, errors: &mut Stderr) -> u8 {
     let mut writer = rt.stdout();
     let mut buffers = Buffers::new(alloc);
     match open(rt, path) {
-        Ok(mut host) => serve_session(&mut host, &mut reader, &mut writer, &mut buffers),
+        Ok(
+            Opening {
+                mut host,
+                torn,
+                reports,
+            },
+        ) => {
+            tell_ignored(&torn, &reports, errors);
+            serve_session(&mut host, &mut reader, &mut writer, &mut buffers)
+        }
         Err(fault) => {
             let _ = writeln!(errors, "fault {fault}");
             refuse(&fault, &mut reader, &mut writer, &mut buffers);
             1
         }
+    }
+}
+
+/// Reports which manifests ended torn, and what is ignored of logs.
+fn tell_ignored(torn: &[TornFile], reports: &[Report], errors: &mut Stderr) {
+    for TornFile { name, torn } in torn {
+        let _ = writeln!(
+            errors,
+            "torn manifest: the last {} bytes of {name} are no record; {} is a copy",
+            torn.bytes, torn.copy
+        );
+    }
+    for report in reports {
+        let _ = writeln!(errors, "note {report}");
     }
 }
 

@@ -7,9 +7,10 @@ mod row;
 #[cfg(test)]
 mod tests;
 
-use bk_commands::{FailedCalls, open_or_make, tell};
+use bk_commands::{Book, FailedCalls, Opening, open_or_make, tell};
 use bk_disk::{LogDisk, MemDisk};
-use bk_load::{Load, Report, run_load};
+use bk_drive::{Recorder, RecordsNothing};
+use bk_load::{Load, Recorded, Report, run_load};
 use bk_store::Settings;
 use call::{LoadCall, load_call};
 use row::{LoadFault, tell_fault, write_report};
@@ -62,7 +63,7 @@ fn run_call<T: Threads + Wait + Clock + Sync, W: Write, E: Write>(
     ensures { result ≤ 1 }
 {
     let mut failed = None;
-    let loaded = load_and_show(rt, threads, call, &mut failed, writer);
+    let loaded = load_and_show(rt, threads, call, &mut failed, writer, errors);
     if let Err(fault) = &loaded {
         tell_end(rt, call, fault, errors);
     }
@@ -85,31 +86,52 @@ fn tell_end<E: Write>(rt: &HostRuntime, call: &LoadCall<'_>, fault: &LoadFault, 
 
 /// Runs a load, writes the report and flushes. Returns whether the load was good. Sets `failed` to
 /// the calls of the system that fail on the directory, if there is one.
-fn load_and_show<T: Threads + Wait + Clock + Sync, W: Write>(
+fn load_and_show<T: Threads + Wait + Clock + Sync, W: Write, E: Write>(
     rt: &HostRuntime,
     threads: &T,
     call: &LoadCall<'_>,
     failed: &mut Option<FailedCalls>,
     writer: &mut W,
+    errors: &mut E,
 ) -> Result<bool, LoadFault> {
     let report = match call.folder {
-        None => load_on(rt, threads, MemDisk::new(rt.alloc()), call.load)?,
+        None => {
+            let recorded = Recorded {
+                ledgers: Vec::new(rt.alloc()),
+                recorder: RecordsNothing,
+            };
+            load_on(rt, threads, MemDisk::new(rt.alloc()), call.load, recorded)?
+        }
         Some(path) => {
-            let disk = open_or_make(rt, path, call.marks)?;
+            let opened = open_or_make(rt, path, call.no_manifest)?;
+            opened.tell(call.form, errors);
+            let Opening { disk, book, .. } = opened;
             *failed = Some(disk.failed_calls()?);
-            load_on(rt, threads, disk, call.load)?
+            load_on(rt, threads, disk, call.load, recorded_in(book)?)?
         }
     };
     write_report(rt.alloc(), call.form, &report, writer)?;
     Ok(report.is_good())
 }
 
+/// Returns what the manifest of a directory records, and where the load records deletions.
+fn recorded_in(book: Book) -> Result<Recorded<Book>, LoadFault> {
+    let listed = book.ledgers()?;
+    let mut ledgers = listed.deleted;
+    ledgers.extend_from_slice(&listed.fenced)?;
+    Ok(Recorded {
+        ledgers,
+        recorder: book,
+    })
+}
+
 /// Loads a bookie on a disk. If the error stream is a terminal, a line there shows the progress.
-fn load_on<T: Threads + Wait + Clock + Sync, D: LogDisk>(
+fn load_on<T: Threads + Wait + Clock + Sync, D: LogDisk, K: Recorder + Send + Drop>(
     rt: &HostRuntime,
     threads: &T,
     disk: D,
     load: Load,
+    recorded: Recorded<K>,
 ) -> Result<Report, LoadFault> {
     let stream = rt.stderr();
     let progress = if stream.is_terminal() {
@@ -117,5 +139,14 @@ fn load_on<T: Threads + Wait + Clock + Sync, D: LogDisk>(
     } else {
         None
     };
-    run_load(threads, rt.alloc(), disk, SETTINGS, load, progress).map_err(LoadFault::Load)
+    run_load(
+        threads,
+        rt.alloc(),
+        disk,
+        SETTINGS,
+        load,
+        recorded,
+        progress,
+    )
+    .map_err(LoadFault::Load)
 }

@@ -3,7 +3,7 @@
 ghost use Rattle.std.specs.Prelude.{◌≤◌};
 
 use crate::survey::{PageAsk, Surveyed, Surveyor, tell_memory};
-use bk_inspect::{Form, visit_folder};
+use bk_inspect::{Ends, Form, visit_folder};
 use bk_report::{Thresholds, write_page};
 use httpdate::{HttpDate, fmt_http_date};
 use std::alloc::AllocError;
@@ -27,6 +27,7 @@ pub fn report_folder<W: Write, E: Write>(
     rt: &HostRuntime,
     form: Form,
     path: &str,
+    ends: Ends,
     dead: &[u64],
     thresholds: Thresholds,
     writer: &mut W,
@@ -44,7 +45,7 @@ pub fn report_folder<W: Write, E: Write>(
         dead,
         thresholds,
     };
-    match survey_folder(rt, form, &ask, errors) {
+    match survey_folder(rt, form, &ask, ends, errors) {
         Some(surveyed) => show(&surveyed, writer, errors),
         None => 1,
     }
@@ -55,13 +56,14 @@ fn survey_folder<E: Write>(
     rt: &HostRuntime,
     form: Form,
     ask: &PageAsk<'_>,
+    ends: Ends,
     errors: &mut E,
 ) -> Option<Surveyed> {
     let Ok(mut surveyor) = Surveyor::new(rt.alloc(), ask.dead) else {
         tell_memory(errors);
         return None;
     };
-    let status = visit_folder(rt, form, ask.folder, &mut surveyor, errors)?;
+    let status = visit_folder(rt, form, ask.folder, ends, &mut surveyor, errors)?;
     surveyor.finish(status, ask, errors)
 }
 

@@ -2,7 +2,8 @@
 
 use crate::row::CommandRow;
 use crate::words::{
-    DATA, DEAD, DEAD_FILE, DIGEST, ENTRY, FIRST, FROM, HEX, LAST, LEDGER, LOG, LONG, OF_LEDGER, RAW,
+    DATA, DIGEST, ENTRY, FIRST, FROM, HEX, LAST, LEDGER, LOG, LONG, NO_MANIFEST, OF_LEDGER, QUICK,
+    RAW,
 };
 
 /// In the order of the help.
@@ -10,7 +11,7 @@ pub static READING: &[CommandRow] = &[
     CommandRow {
         name: "check",
         operands: &[],
-        options: &[DIGEST, LONG],
+        options: &[DIGEST, LONG, QUICK, NO_MANIFEST],
         summary: "Check that each log is whole",
         help: "\
 Prints one line per log, by rising id, as soon as the log is read: `ID WORD`. WORD is the first of
@@ -26,6 +27,15 @@ these that applies:
 With --long the line of an unsealed log is `ID unsealed torn N`: N bytes at its end are no whole record.
 With --json it has the member `torn`.
 
+With --quick only the header and the map of each log are read. WORD is
+  short        the file is shorter than a header
+  fault TEXT   the header or the map is invalid, with the texts above
+  unsealed     the header names no ledgers map
+  sealed       the map lies within the file, up to its end, and each of its parts has the length of its
+               count, no ledger is repeated, and there are as many as the header says
+It does not see the entries: an invalid record, a map that is not that of the entries, or the torn end
+of an unsealed log.
+
 A log has no checksum of its entries, so a changed byte in an entry's data is not detected without
 --digest. BookKeeper clients put a digest into each payload, after the first 32 bytes. With --digest
 each entry that does not fit its digest, or has no room for one, is printed before its log's line,
@@ -36,8 +46,12 @@ each entry that does not fit its digest, or has no room for one, is printed befo
           printed: the number of ledgers whose first entry fits neither. Such a ledger has no
           digests, or digests with a password, or a damaged first entry. Its entries are not checked
 
-Exit status: 0, or 1 if a line says `fault`, `map differs` or `digest`, or on a fault; 2 if the
-command line is wrong. `unknown` does not change it.
+Each log is read up to its durable bytes, as `logs.manifest` of DIR records them; what follows them is
+noted on the error stream, `note log LOG: ..`. So are missing ones: `note durable bytes missing: ..`.
+
+Exit status: 0, or 1 if a line says `fault`, `map differs` or `digest`, if durable bytes are missing or
+`logs.manifest` cannot be read, or on a fault; 2 if the command line is wrong. `unknown` does not change
+it.
 
 Examples:
   $ ./bookie check /var/bookie/current
@@ -48,12 +62,15 @@ Examples:
   0 ok
   3 unsealed
   unknown 0
+  $ ./bookie check --quick /var/bookie/current
+  0 sealed
+  3 unsealed
 ",
     },
     CommandRow {
         name: "logs",
         operands: &[],
-        options: &[],
+        options: &[NO_MANIFEST],
         summary: "List the logs: id, length and state",
         help: "\
 Prints one line per log, by rising id: `ID LENGTH STATE`. STATE is
@@ -71,61 +88,9 @@ Example:
 ",
     },
     CommandRow {
-        name: "stat",
-        operands: &[],
-        options: &[DEAD, DEAD_FILE],
-        summary: "Show the entries and live bytes of each log",
-        help: "\
-Prints one line per log, by rising id: `ID LENGTH ENTRIES BYTES LIVE SHARE STATE`. ENTRIES is the
-number of entries, BYTES the size of their records, LIVE the part of BYTES that belongs to ledgers
-that neither --dead nor --dead-file names. SHARE is LIVE in thousandths of BYTES, rounded down, or `-` if there are no
-bytes. STATE is that of `logs`. The last line has the sums: `logs N length N entries N bytes N live N
-share SHARE`. A log is compacted if its share is below a threshold; a bookie's are 200 and 800 by
-default.
-
-If a log cannot be read to its end, `fault log ID: TEXT` goes to the error stream, and the log is
-counted up to there.
-
-Exit status: 0, 1 on a fault, 2 if the command line is wrong.
-
-Example:
-  $ ./bookie stat --dead 2 /var/bookie/current
-  0 1089 1 25 25 1000 sealed
-  3 1087 3 63 41 650 open
-  logs 2 length 2176 entries 4 bytes 88 live 66 share 750
-",
-    },
-    CommandRow {
-        name: "report",
-        operands: &[],
-        options: &[DEAD, DEAD_FILE],
-        summary: "Write a page on the logs, for a browser",
-        help: "\
-Writes one HTML page to the standard output, which loads nothing and runs no script. It shows
-  faults     each log that is at fault by `check`, and each that cannot be opened
-  logs       for each log the bytes of live and of dead entries, of foreign records, the torn bytes at
-             its end, and the bytes from a bad length on. Dead are the entries of ledgers that --dead or
-             --dead-file names
-  freed      how many bytes a compaction would free, by its threshold
-  ledgers    the 20 largest ledgers
-  sizes      how many entries have which size
-The numbers of a log are those of `stat`, those of a ledger the ones of `ledgers`. An entry with two
-records counts twice.
-
-Each fault also goes to the error stream, `fault log ID: TEXT`. The page is written when all logs are
-read; a log that cannot be read to its end is counted up to there.
-
-Exit status: 0; 1 if a log is at fault, or on a fault, `fault TEXT` on the error stream; 2 if the command
-line is wrong.
-
-Example:
-  $ ./bookie report --dead-file dead /var/bookie/current > report.html
-",
-    },
-    CommandRow {
         name: "ledgers",
         operands: &[],
-        options: &[],
+        options: &[NO_MANIFEST],
         summary: "List the ledgers with their records and bytes",
         help: "\
 Prints one line per ledger, rising: `LEDGER RECORDS BYTES FIRST LAST LOGS`. RECORDS is the number of
@@ -146,7 +111,7 @@ Example:
     CommandRow {
         name: "entries",
         operands: &[LEDGER, FIRST, LAST],
-        options: &[],
+        options: &[NO_MANIFEST],
         summary: "List the entries of a ledger with their locations",
         help: "\
 Prints one line per entry of the ledger, rising: `ENTRY LOG AT SIZE`. LOG is the log of its last
@@ -169,7 +134,7 @@ Examples:
     CommandRow {
         name: "export",
         operands: &[LEDGER, FIRST, LAST],
-        options: &[HEX, RAW],
+        options: &[HEX, RAW, NO_MANIFEST],
         summary: "Write the entries of a ledger with their data",
         help: "\
 Writes the entries of the ledger, rising: of each the last record, by log id, then position. By default
@@ -194,7 +159,7 @@ Examples:
     CommandRow {
         name: "find",
         operands: &[LEDGER, ENTRY],
-        options: &[],
+        options: &[NO_MANIFEST],
         summary: "Find the last record of an entry",
         help: "\
 Prints `LOG AT DATA`, or `not found`. LOG is the log of the entry's last record, AT the position of
@@ -214,7 +179,7 @@ Example:
     CommandRow {
         name: "scan",
         operands: &[LOG],
-        options: &[OF_LEDGER, FROM, DATA],
+        options: &[OF_LEDGER, FROM, DATA, NO_MANIFEST],
         summary: "List the entries of a log",
         help: "\
 Prints one line per entry, in file order: `AT LEDGER ENTRY SIZE`. AT is the position of the payload,
@@ -241,7 +206,7 @@ Examples:
     CommandRow {
         name: "header",
         operands: &[LOG],
-        options: &[],
+        options: &[NO_MANIFEST],
         summary: "Show the header of a log",
         help: "\
 Prints `version V map OFFSET count COUNT`, or `short` if the file is shorter than a header. OFFSET is
@@ -257,7 +222,7 @@ Example:
     CommandRow {
         name: "map",
         operands: &[LOG],
-        options: &[],
+        options: &[NO_MANIFEST],
         summary: "Show the ledgers map of a log",
         help: "\
 Prints one line per ledger, rising: `LEDGER SIZE`. SIZE is the size of its records in this log, with

@@ -2,8 +2,8 @@
 
 use crate::row::CommandRow;
 use crate::words::{
-    ALL_UNSEALED, BELOW, CUT_TORN, DEAD, DEAD_FILE, DRY_RUN, FILE, INDEX_IS_REBUILT, MAJOR, MINOR,
-    SEALED_LOG,
+    ALL_UNSEALED, BELOW, CHECK, CUT_TORN, DEAD, DEAD_FILE, DRY_RUN, FILE, INDEX_IS_REBUILT,
+    LIVE_FILE, LIVE_NONE, MAJOR, MINOR, NO_MANIFEST, REBUILD, SEALED_LOG,
 };
 
 /// In the order of the help.
@@ -17,6 +17,9 @@ pub static WRITING: &[CommandRow] = &[
             BELOW,
             DEAD,
             DEAD_FILE,
+            LIVE_FILE,
+            LIVE_NONE,
+            NO_MANIFEST,
             DRY_RUN,
             INDEX_IS_REBUILT,
         ],
@@ -24,15 +27,19 @@ pub static WRITING: &[CommandRow] = &[
         help: "\
 Opens a store on the logs of DIR and removes each log that no index entry points into. Then it
 compacts one log after another, the one with the smallest live share first, until no log has a live
-share below the threshold. The live bytes of a log are the records of ledgers that neither --dead nor
---dead-file names. Live entries are copied to a new log; the old log is removed after the new one is
+share below the threshold. The live bytes of a log are the records of ledgers that are not deleted.
+Live entries are copied to a new log; the old log is removed after the new one is
 sealed and synced. The last line is `before N after N freed BYTES moved ENTRIES`: the number of logs
 before and after, the number of bytes by which the files are shorter (`-BYTES` if they are longer),
 and the number of entries copied.
 
-A directory does not record which ledgers are deleted: without --dead every ledger is live. The
-entries of a ledger that is named are lost for good when their log is removed. A FILE has one ledger
-per line, in plain digits; empty lines are ignored.
+Deleted are the ledgers that the directory's manifest records, those that --dead and --dead-file
+name, and with --live-file or --live-none each ledger of DIR that no such file lists. The deletion of
+those that are named is recorded, durably, before anything is removed: they stay deleted. With
+--no-manifest nothing is recorded, and what is recorded does not count. The entries of a deleted ledger
+are lost for good when their log is removed. A FILE has one ledger per line, in plain digits; empty
+lines are ignored. A FILE of live ledgers may also have lines as `ledgerID: 12`; one that lists none is
+refused, unless --live-none says that none is live.
 
 A stock bookie has an index of its own, which points into logs that a compaction removes. If DIR has
 `VERSION`, `lastMark`, `locations` or `ledgers`, the command is refused without --index-is-rebuilt. With
@@ -43,9 +50,9 @@ A file with a log's name that is shorter than a header (1024 bytes) and not empt
 on the error stream, unless its copy FILE.torn has the same bytes: it may be what a crash left of a log.
 
 With --dry-run the directory is only read. One line per log to be taken is printed, by rising id:
-`ID LENGTH remove` or `ID LENGTH compact ENTRIES`. Then one per ledger that is named, rising: `ledger
-LEDGER entries N bytes N`, the records that it has in all logs; 0 if no log has one. The last line is the one that the compaction would
-print. If there are not enough free ids or slots for all copies, the logs to be removed are printed, and
+`ID LENGTH remove` or `ID LENGTH compact ENTRIES`. Then one per ledger that is named, or not listed as
+live, rising: `ledger LEDGER entries N bytes N`, the records that it has in all logs; 0 if no log has
+one. The last line is the one that the compaction would print. If there are not enough free ids or slots for all copies, the logs to be removed are printed, and
 then the fault. With --json a log has `log`, `length`, `fate` and `entries`, a ledger
 `ledger`, `entries` and `bytes`, and the last line `before`, `after`, `freed` and `moved`.
 
@@ -70,7 +77,7 @@ Examples:
     CommandRow {
         name: "import",
         operands: &[FILE],
-        options: &[DEAD, DEAD_FILE],
+        options: &[DEAD, DEAD_FILE, NO_MANIFEST],
         summary: "Add the entries of a file of records",
         help: "\
 Opens a store on the logs of DIR, which is created if it does not exist, and adds the entries of FILE, as
@@ -78,7 +85,8 @@ Opens a store on the logs of DIR, which is created if it does not exist, and add
 N held N`: the number of entries added, and of those whose key an entry in DIR has; that entry is
 unchanged, and its data is not compared. FILE is read once, in pieces.
 
-A ledger that --dead or --dead-file names is deleted in DIR: its entries are refused. A record that is
+A ledger that --dead or --dead-file names, or that the directory's manifest records, is deleted in DIR:
+its entries are refused. The manifest records those that are named. A record that is
 none ends the command: `bad record at N` has its first byte.
 
 One program at a time writes to a directory. If another one does, the command is refused and names
@@ -94,9 +102,57 @@ Example:
 ",
     },
     CommandRow {
+        name: "manifest",
+        operands: &[],
+        options: &[CHECK, REBUILD],
+        summary: "Show what the directory's manifests record of its ledgers and logs",
+        help: "\
+Prints a line for each manifest of DIR, the files `ledgers.manifest` and `logs.manifest`, and one for
+each record that stands: the last one about its subject.
+  FILE generation N records N standing N torn N
+  deleted LEDGER
+  fenced LEDGER
+  attribute LEDGER kind KIND length BYTES
+  made LOG                       no byte of the log is durable
+  durable LOG length BYTES       its first bytes are durable, so many
+  removed LOG length BYTES       these were when it was removed
+The torn bytes are what an interrupted write left at the end; they are no records, and the next write
+replaces them. Without such a file `no manifest in DIR` goes to the error stream, with status 0.
+
+A damaged manifest is a fault with the position of the damage: `fault damaged manifest AT in FILE`. No
+command that writes opens such a directory, since deleted ledgers would come back, or bytes be read
+that are not durable. Nor does one if durable bytes of a log are missing. With --check the records are
+not printed, and the logs are compared with theirs: `note log LOG: ..` tells what a log has behind its
+durable bytes, `note durable bytes missing: ..` what is missing.
+
+With --rebuild a damaged manifest is copied to `FILE.damaged`, durably, and then replaced. The new
+`ledgers.manifest` has the records before the damage. Prints `rebuilt FILE records N unread N kept
+COPY`; N bytes after the damage were not read, so name the ledgers that were deleted since with
+--dead-file of `compact`. The new `logs.manifest` takes each log as it is, after a sync: all its bytes
+count as durable. It is also made if durable bytes are missing. Each log of which the old records had
+another length is printed, `taken LOG length BYTES durable BYTES`, and each that has no file, `missing
+LOG durable BYTES`. A manifest that needs none of this stays: `whole FILE`. If the copy is there and
+has other bytes, nothing is changed, `fault copy exists: COPY`: move it away.
+
+Reading takes no lock. With --rebuild, one program at a time writes to a directory: if another one
+does, the command is refused and names its process.
+
+Exit status: 0 if the manifests were shown or rebuilt, or are not there; 1 on a fault, `fault TEXT` on
+the error stream, or if --check finds that durable bytes are missing; 2 if the command line is wrong.
+
+Example:
+  $ ./bookie manifest /var/bookie/current
+  ledgers.manifest generation 0 records 2 standing 2 torn 0
+  deleted 2
+  fenced 5
+  logs.manifest generation 0 records 2 standing 1 torn 0
+  durable 0 length 1049
+",
+    },
+    CommandRow {
         name: "seal",
         operands: &[SEALED_LOG],
-        options: &[ALL_UNSEALED, CUT_TORN],
+        options: &[ALL_UNSEALED, CUT_TORN, NO_MANIFEST],
         summary: "Write the ledgers map of a log that has none",
         help: "\
 Appends the ledgers map of the log's entries, syncs it, then writes its position into the header and
@@ -126,6 +182,10 @@ away and call it again. Lines before the last:
   cleared LOG map OFFSET count COUNT copy FILE  the header named this map
 A log of version 0, and one whose map is there after the cut, is cut only. A log with nothing to cut
 or to clear is sealed only, and not copied.
+
+What a log has behind its durable bytes, as `logs.manifest` of DIR records them, is not read: `note log
+LOG: ..`. It is copied to a file beside the log, such as 1f.log.cut.0, before the map takes its place.
+If durable bytes of a log are missing, nothing is done.
 
 With --all-unsealed each log is taken whose header is of version 1 and names no map, by rising id. One that
 is left has its fault, and the next one is taken.

@@ -1,6 +1,7 @@
 //! What a call of `compact` asks for.
 
-use bk_cli::words::{BELOW, DEAD, DEAD_FILE, DRY_RUN, INDEX_IS_REBUILT, MINOR};
+use crate::deleted::DeletedAsk;
+use bk_cli::words::{BELOW, DRY_RUN, INDEX_IS_REBUILT, MINOR};
 use bk_cli::{DEFAULTS, FolderCall};
 use std::alloc::{AllocError, Global};
 
@@ -9,10 +10,8 @@ use std::alloc::{AllocError, Global};
 pub struct CompactAsk<'a> {
     /// Below how many thousandths of live bytes a log is compacted: 0 to 1000.
     pub below: u32,
-    /// The deleted ledgers that the call names, each 0 to 9223372036854775807.
-    pub dead: Vec<u64>,
-    /// The paths of files of deleted ledgers, one per line.
-    pub dead_files: Vec<&'a str>,
+    /// Which ledgers are deleted.
+    pub deleted: DeletedAsk<'a>,
     /// Whether the effect is shown only.
     pub is_dry: bool,
     /// Whether the operator rebuilds a bookie's index that is in the directory.
@@ -29,8 +28,7 @@ impl<'a> CompactAsk<'a> {
         };
         Ok(CompactAsk {
             below,
-            dead: call.numbers(alloc, &DEAD)?,
-            dead_files: call.texts(alloc, &DEAD_FILE)?,
+            deleted: DeletedAsk::of(alloc, call)?,
             is_dry: call.has(&DRY_RUN),
             index_is_rebuilt: call.has(&INDEX_IS_REBUILT),
         })

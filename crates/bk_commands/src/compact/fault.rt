@@ -1,12 +1,17 @@
 //! Why a compaction ends early, and its report.
 
 use super::rows::write_object;
+use crate::book::BookFault;
 use crate::dead::{DeadFault, LineEnd};
+use crate::logs_fault::LogsFault;
 use crate::way_on::WayOn;
 use bk_collect::CollectFault;
 use bk_disk::{DiskFault, FaultWatch, FileFault, FolderFault};
 use bk_drive::OpenFault;
 use bk_inspect::Form;
+use bk_ledgers::ReadFault;
+use bk_manifest::ManifestError;
+use bk_manifest_disk as manifest;
 use bk_offline_gc::SweepFault;
 use bk_store::StepFault;
 use serde::Serialize;
@@ -21,12 +26,21 @@ pub(crate) enum CompactFault {
     /// The directory is not opened.
     #[error("{0}")]
     Folder(FolderFault),
-    /// The logs of the directory cannot be listed, or not be cut to their watermarks.
+    /// The logs of the directory cannot be listed.
     #[error("{0}")]
     Disk(DiskFault),
-    /// A file does not name deleted ledgers.
+    /// The logs cannot be opened by their manifest.
+    #[error("{0}")]
+    Logs(LogsFault),
+    /// The manifest of the logs cannot be read.
+    #[error("{0}")]
+    Unread(ReadFault),
+    /// It is not known which ledgers are deleted.
     #[error("{0}")]
     Dead(DeadFault),
+    /// The manifest of the ledgers cannot be opened or written.
+    #[error("{0}")]
+    Book(BookFault),
     /// The system does not tell whether a file is at this path, or what it has.
     #[error("disk: {path}: {reason}")]
     Name { path: String, reason: io::Error },
@@ -62,6 +76,24 @@ impl From<DiskFault> for CompactFault {
 impl From<DeadFault> for CompactFault {
     fn from(fault: DeadFault) -> CompactFault {
         CompactFault::Dead(fault)
+    }
+}
+
+impl From<manifest::Fault> for CompactFault {
+    fn from(fault: manifest::Fault) -> CompactFault {
+        CompactFault::Logs(LogsFault::from(fault))
+    }
+}
+
+impl From<ReadFault> for CompactFault {
+    fn from(fault: ReadFault) -> CompactFault {
+        CompactFault::Unread(fault)
+    }
+}
+
+impl From<BookFault> for CompactFault {
+    fn from(fault: BookFault) -> CompactFault {
+        CompactFault::Book(fault)
     }
 }
 
@@ -122,8 +154,16 @@ fn way_on(fault: &CompactFault) -> Option<WayOn> {
     match fault {
         CompactFault::Sweep(SweepFault::Open(fault)) => WayOn::behind(fault),
         CompactFault::Index(_) => Some(WayOn::RebuildIndex),
+        CompactFault::Book(fault) => WayOn::behind_book(fault.error),
+        CompactFault::Logs(fault) => WayOn::behind_logs(*fault),
+        CompactFault::Unread(ReadFault::Bad { .. }) => Some(WayOn::RebuildLogs),
+        CompactFault::Dead(DeadFault::NoneLive) => Some(WayOn::SayNoneLive),
+        CompactFault::Dead(DeadFault::Manifest(ReadFault::Bad { .. })) => {
+            Some(WayOn::RebuildManifest)
+        }
         CompactFault::Folder(_)
         | CompactFault::Disk(_)
+        | CompactFault::Unread(_)
         | CompactFault::Dead(_)
         | CompactFault::Name { .. }
         | CompactFault::Sweep(_)
@@ -136,7 +176,7 @@ fn way_on(fault: &CompactFault) -> Option<WayOn> {
 /// Returns the call of the system on a directory that is the reason of a fault: the last one that
 /// failed, if the fault is one of the disk. `None` if there is none, or memory for its path is
 /// refused.
-pub(super) fn reason_of(
+pub(crate) fn reason_of(
     alloc: Global,
     fault: &CompactFault,
     watch: &Option<FaultWatch>,
@@ -151,6 +191,8 @@ pub(super) fn reason_of(
 fn is_of_disk(fault: &CompactFault) -> bool {
     match fault {
         CompactFault::Disk(fault) => *fault != DiskFault::Memory,
+        CompactFault::Book(fault) => fault.error == ManifestError::Disk,
+        CompactFault::Logs(fault) => fault.is_of_disk(),
         CompactFault::Sweep(fault) => is_swept_disk(*fault),
         _ => false,
     }
@@ -259,6 +301,14 @@ fn row_of<'f>(
             help: Some(WayOn::TooLong.to_string(alloc)?),
             ..named("log too long")
         }),
+        CompactFault::Book(_) | CompactFault::Logs(_) | CompactFault::Unread(_) => Ok(FaultRow {
+            reason: Some(String::from_str(alloc, text)?),
+            help: match way_on(fault) {
+                Some(way_on) => Some(way_on.to_string(alloc)?),
+                None => None,
+            },
+            ..named("manifest")
+        }),
         CompactFault::Disk(_)
         | CompactFault::Sweep(_)
         | CompactFault::Reported
@@ -299,6 +349,15 @@ fn dead_row(alloc: Global, fault: &DeadFault) -> Result<FaultRow<'_>, AllocError
                 LineEnd::Return => Some(LineEnd::Return.to_string(alloc)?),
             },
             ..named("bad line")
+        },
+        DeadFault::NoneLive => FaultRow {
+            help: Some(WayOn::SayNoneLive.to_string(alloc)?),
+            ..named("no live ledger is named")
+        },
+        DeadFault::Logs => named("ledgers of the logs unread"),
+        DeadFault::Manifest(fault) => FaultRow {
+            reason: Some(fault.to_string(alloc)?),
+            ..named("manifest")
         },
         DeadFault::Memory => named("memory"),
     })

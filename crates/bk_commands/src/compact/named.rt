@@ -2,7 +2,7 @@
 
 use super::fault::CompactFault;
 use super::rows::{LedgerRow, write_row};
-use bk_inspect::{Form, LogEnd, LogFault, TakesEntries, TakesLogs, visit_folder};
+use bk_inspect::{Ends, Form, LogEnd, LogFault, TakesEntries, TakesLogs, visit_folder};
 use bk_log::Found;
 use std::alloc::{AllocError, Global};
 use std::collections::BTreeMap;
@@ -70,6 +70,7 @@ pub(super) fn show_named<W: Write, E: Write>(
     rt: &HostRuntime,
     form: Form,
     path: &str,
+    ends: Ends,
     dead: &[u64],
     writer: &mut W,
     errors: &mut E,
@@ -80,7 +81,7 @@ pub(super) fn show_named<W: Write, E: Write>(
     let mut named = Named::new(rt.alloc(), dead)?;
     // What is wrong with a map does not matter here.
     let mut notes = Vec::new(rt.alloc());
-    if visit_folder(rt, form, path, &mut named, &mut notes).is_none() {
+    if visit_folder(rt, form, path, ends, &mut named, &mut notes).is_none() {
         let _ = errors.write_all(&notes);
         return Err(CompactFault::Reported);
     }

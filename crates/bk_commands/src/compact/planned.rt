@@ -4,8 +4,11 @@ use super::ask::CompactAsk;
 use super::fault::CompactFault;
 use super::rows::{PlannedRow, Size, Summary, write_row};
 use super::{settings_below, size_of};
+use crate::folder_disk::FolderDisk;
 use crate::opening::OpeningDisk;
-use bk_inspect::Form;
+use bk_disk::DirDisk;
+use bk_inspect::{Ends, Form, tell_ignored};
+use bk_manifest_disk::{Limited, limit_logs, read_logs};
 use bk_offline_gc::{Fate, Kind, Planned, Store, SweepFault, plan};
 use bk_record::LAST_LOG;
 use bk_store::StepFault;
@@ -25,6 +28,26 @@ pub(super) struct Look<'a> {
     pub(super) kept: &'a [u32],
     pub(super) ask: &'a CompactAsk<'a>,
     pub(super) dead: &'a [u64],
+}
+
+/// Returns the disk of a directory that is only read, up to what its manifest records as durable.
+/// Notes what is hidden.
+pub(super) fn read_only<E: Write>(
+    rt: &HostRuntime,
+    form: Form,
+    path: &str,
+    disk: DirDisk,
+    ask: &CompactAsk<'_>,
+    errors: &mut E,
+) -> Result<FolderDisk, CompactFault> {
+    let alloc = rt.alloc();
+    if ask.deleted.ends() == Ends::Files {
+        return Ok(FolderDisk::plain(alloc, disk));
+    }
+    let state = read_logs(rt, path)?;
+    let Limited { disk, reports, .. } = limit_logs(alloc, disk, &state)?;
+    tell_ignored(alloc, form, &reports, errors);
+    Ok(FolderDisk::Plain(disk))
 }
 
 /// Writes a line for each log that a compaction would take.

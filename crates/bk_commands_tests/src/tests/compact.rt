@@ -109,6 +109,7 @@ const PLANS: [Row<'static>; 12] = [
     Row {
         words: &["bk_shell", "find", "bk_shell_compact", "2", "0"],
         output: "not found\n",
+        errors: "note ledger 2 is deleted\n",
         ..DONE
     },
     Row {
@@ -166,6 +167,8 @@ fn bytes_of_logs(rt: &HostRuntime) -> Result<Vec<u8>, Fail> {
 fn a_dry_run_writes_nothing(rt: HostRuntime) -> Result<(), Fail> {
     fill(&rt, "bk_shell_dry")?;
     fs::remove_file(&rt, "bk_shell_dry/writer.lock")?;
+    fs::remove_file(&rt, "bk_shell_dry/ledgers.manifest")?;
+    fs::remove_file(&rt, "bk_shell_dry/logs.manifest")?;
     let before = bytes_of_logs(&rt)?;
     check(&rt, &rt, &DRY);
     let after = bytes_of_logs(&rt)?;

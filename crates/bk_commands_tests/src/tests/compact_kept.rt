@@ -160,7 +160,17 @@ fn long_path(rt: &HostRuntime) -> Result<String, Fail> {
 fn an_index_that_cannot_be_looked_for_is_not_taken_for_absent(rt: HostRuntime) -> Result<(), Fail> {
     fill(&rt, "bk_shell_long")?;
     let path = long_path(&rt)?;
-    let shown = run(&rt, &["bk_shell", "compact", "--dead=2", path.as_str()], "");
+    let shown = run(
+        &rt,
+        &[
+            "bk_shell",
+            "compact",
+            "--no-manifest",
+            "--dead=2",
+            path.as_str(),
+        ],
+        "",
+    );
     assert!(rt; shown.status == 1 && shown.output.is_empty());
     assert!(rt; shown.errors.starts_with(b"fault disk: bk_shell_long/."));
     assert!(rt;
@@ -205,6 +215,7 @@ fn no_copy_is_planned_without_an_id(rt: HostRuntime) -> Result<(), Fail> {
     anew(&rt, folder)?;
     fill(&rt, folder)?;
     fs::rename(&rt, "bk_shell_ids/2.log", "bk_shell_ids/7fffffff.log")?;
+    fs::remove_file(&rt, "bk_shell_ids/logs.manifest")?;
     check(&rt, &rt, &NO_IDS);
     fs::remove_dir_all(&rt, folder)?;
     Ok(())

@@ -116,15 +116,14 @@ const DAMAGES: [&[u8]; 3] = [
 /// What reads of an entry that was published and of the one in that record show.
 const IN_FRONT: &[u8] = b"leased 1028\nbytes 68656c6c6f\nnot held\n";
 
-/// Publishes entries with marks, has a device leave something behind them, and comes back without a word of marks: what was
-/// published is found, and nothing else.
+/// Publishes entries, has a device leave something behind them, and comes back: what was published is found, and nothing else.
 fn is_found_in_front(rt: &HostRuntime, damage: &[u8]) -> Result<bool, Fail> {
-    let over: &[&str] = &["--folder", "bk_shell_marks"];
-    let _ = fs::remove_dir_all(rt, "bk_shell_marks");
-    let made = shown(rt, &["--marks"], over, first_lines(COMPACTED, 10));
+    let over: &[&str] = &["--folder", "bk_shell_damaged"];
+    let _ = fs::remove_dir_all(rt, "bk_shell_damaged");
+    let made = shown(rt, &[], over, first_lines(COMPACTED, 10));
     let mut log = OpenOptions::new()
         .append(true)
-        .open(rt, "bk_shell_marks/0.log")?;
+        .open(rt, "bk_shell_damaged/0.log")?;
     log.write_all(damage)?;
     let read = shown(rt, &[], over, "take 0 1 0\nfetch 0\ntake 1 77 1\n");
     Ok(
@@ -134,11 +133,11 @@ fn is_found_in_front(rt: &HostRuntime, damage: &[u8]) -> Result<bool, Fail> {
 }
 
 #[test]
-fn what_stands_behind_a_mark_is_gone(rt: HostRuntime) -> Result<(), Fail> {
+fn what_stands_behind_the_durable_bytes_is_not_read(rt: HostRuntime) -> Result<(), Fail> {
     for damage in DAMAGES.iter() {
         assert!(rt; is_found_in_front(&rt, damage)?, "{damage:?}");
     }
-    fs::remove_dir_all(&rt, "bk_shell_marks")?;
+    fs::remove_dir_all(&rt, "bk_shell_damaged")?;
     Ok(())
 }
 

@@ -118,6 +118,8 @@ fn put_zeros(rt: &HostRuntime) -> Result<(), Fail> {
     log.extend_from_slice(&[0; 4000])?;
     fs::write(rt, "bk_shell_zeros/0.log", log.as_slice())?;
     fs::write(rt, "bk_shell_zeros/1.log", [0; 4096].as_slice())?;
+    // The next call takes the logs as they are.
+    fs::remove_file(rt, "bk_shell_zeros/logs.manifest")?;
     Ok(())
 }
 
@@ -131,6 +133,8 @@ fn the_way_on_behind_a_refused_opening_leads_on(rt: HostRuntime) -> Result<(), F
     assert!(rt; run(&rt, &cut, "").status == 0);
     assert!(rt; is_left(&rt, &HAS_NO_HEADER));
     fs::remove_file(&rt, "bk_shell_zeros/1.log")?;
+    let rebuild = ["bk_shell", "manifest", "--rebuild", "bk_shell_zeros"];
+    assert!(rt; run(&rt, &rebuild, "").status == 0);
     assert!(rt; is_left(&rt, &MENDED));
     fs::remove_dir_all(&rt, "bk_shell_zeros")?;
     Ok(())

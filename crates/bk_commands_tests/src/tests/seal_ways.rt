@@ -9,11 +9,11 @@ use std::test::Fail;
 /// A script that leaves log 0 with one entry, which is not sealed.
 const ADD: &str = "add 1 0 hello\nswap\nwrite\npublish\n";
 
-/// Makes a folder with that log. Returns whether it is there.
+/// Makes a folder with that log, of which no manifest is there yet. Returns whether it is there.
 fn has_open_log(rt: &HostRuntime, folder: &str) -> Result<bool, Fail> {
     anew(rt, folder)?;
-    let shown = run(rt, &["bk_shell", "script", "--folder", folder], ADD);
-    Ok(shown.status == 0)
+    let words = ["bk_shell", "script", "--no-manifest", "--folder", folder];
+    Ok(run(rt, &words, ADD).status == 0)
 }
 
 /// Appends bytes to log 0 of a folder.
@@ -156,6 +156,8 @@ fn a_log_that_is_too_long_is_moved_away(rt: HostRuntime) -> Result<(), Fail> {
     check(&rt, &rt, &LONG);
     assert!(rt; fs::metadata(&rt, "bk_seal_long/1.log")?.len() == 4_294_967_296);
     fs::rename(&rt, "bk_seal_long/1.log", "bk_seal_long/1.log.long")?;
+    let rebuild = ["bk_shell", "manifest", "--rebuild", "bk_seal_long"];
+    assert!(rt; run(&rt, &rebuild, "").status == 0);
     let read = run(
         &rt,
         &["bk_shell", "script", "--folder", "bk_seal_long"],

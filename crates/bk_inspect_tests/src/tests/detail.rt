@@ -1,5 +1,6 @@
 //! The torn bytes of unsealed logs, and the logs that can be sealed by their headers.
 
+use super::json::check_json;
 use super::{File, HELLO, OPEN, SEALED_LOG, check, disk_of, done};
 use bk_disk::MemDisk;
 use bk_inspect::{DigestChoice, DirCommand, Form, find_unsealed};
@@ -57,6 +58,22 @@ fn the_torn_bytes_of_unsealed_logs(rt: HostRuntime) -> Result<(), Fail> {
     let files = [SEALED_LOG, OPEN_LOG, TORN_LOG, SHORT_LOG];
     let mut disk = disk_of(rt.alloc(), &files)?;
     check(&rt, rt.alloc(), &mut disk, &rows, "unsealed logs");
+    Ok(())
+}
+
+#[test]
+fn the_torn_bytes_of_unsealed_logs_as_json(rt: HostRuntime) -> Result<(), Fail> {
+    let shown = "{\"log\":0,\"health\":\"ok\"}\n\
+{\"log\":3,\"health\":\"unsealed\",\"torn\":0}\n\
+{\"log\":5,\"health\":\"unsealed\",\"torn\":18}\n\
+{\"log\":6,\"health\":\"short\"}\n";
+    let rows = [
+        done(DirCommand::Check, shown),
+        done(DirCommand::CheckLong(None), shown),
+    ];
+    let files = [SEALED_LOG, OPEN_LOG, TORN_LOG, SHORT_LOG];
+    let mut disk = disk_of(rt.alloc(), &files)?;
+    check_json(&rt, rt.alloc(), &mut disk, &rows);
     Ok(())
 }
 

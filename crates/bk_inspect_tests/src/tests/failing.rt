@@ -24,7 +24,7 @@ const FIRST: EntryRange = EntryRange {
 };
 
 /// How many calls each command makes on a disk with one sealed log.
-fn calls(rt: &impl Abort) -> [(DirCommand, u8); 9] {
+fn calls(rt: &impl Abort) -> [(DirCommand, u8); 10] {
     [
         (DirCommand::Logs, 3),
         (DirCommand::Header(0), 2),
@@ -32,6 +32,7 @@ fn calls(rt: &impl Abort) -> [(DirCommand, u8); 9] {
         (DirCommand::Scan(0), 1),
         (find(rt, 1, 0), 4),
         (DirCommand::Check, 4),
+        (DirCommand::CheckQuick, 4),
         (DirCommand::ScanPart(0, ALL), 1),
         (DirCommand::Ledgers, 4),
         (DirCommand::Entries(FIRST), 4),
@@ -107,13 +108,14 @@ fn run_narrow(
 
 #[test]
 fn an_output_that_is_full_ends_a_command(rt: HostRuntime) -> Result<(), Fail> {
-    let lengths: [(DirCommand, usize); 9] = [
+    let lengths: [(DirCommand, usize); 10] = [
         (DirCommand::Logs, 14),
         (DirCommand::Header(0), 27),
         (DirCommand::Map(0), 5),
         (DirCommand::Scan(0), 39),
         (find(&rt, 1, 0), 18),
         (DirCommand::Check, 5),
+        (DirCommand::CheckQuick, 9),
         (DirCommand::ScanPart(0, ALL), 39),
         (DirCommand::Ledgers, 13),
         (DirCommand::Entries(FIRST), 12),

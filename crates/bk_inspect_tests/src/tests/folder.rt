@@ -3,7 +3,7 @@
 use super::{HELLO_AND_MAP, Row, SEALED, check, done, find};
 use bk_disk::DirDisk;
 use bk_inspect::{
-    DataForm, DirCommand, EntryRange, FolderCommand, Form, run_folder, run_folder_as,
+    DataForm, DirCommand, Ends, EntryRange, FolderCommand, Form, run_folder, run_folder_as,
 };
 use std::fs;
 use std::os::unix::fs::symlink;
@@ -67,7 +67,15 @@ fn scan_as_json(rt: &HostRuntime, path: &str, log: u32) -> (u8, Vec<u8>) {
     let mut output = Vec::new(rt.alloc());
     let mut errors = Vec::new(rt.alloc());
     let command = FolderCommand::Dir(DirCommand::Scan(log));
-    let status = run_folder_as(rt, Form::Json, path, &command, &mut output, &mut errors);
+    let status = run_folder_as(
+        rt,
+        Form::Json,
+        path,
+        Ends::Durable,
+        &command,
+        &mut output,
+        &mut errors,
+    );
     (status, errors)
 }
 

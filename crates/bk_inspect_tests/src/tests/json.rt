@@ -43,7 +43,7 @@ const TOLD: &str = "{\"fault\":\"bad length\",\"at\":1049,\"length\":7,\"log\":3
 const WHOLE: usize = 1089;
 
 /// Runs each command of a table as JSON, and compares what it shows.
-fn check_json(rt: &impl Abort, alloc: Global, disk: &mut MemDisk, rows: &[Row<'_>]) {
+pub(super) fn check_json(rt: &impl Abort, alloc: Global, disk: &mut MemDisk, rows: &[Row<'_>]) {
     for row in rows {
         let mut output = Vec::new(alloc);
         let mut errors = Vec::new(alloc);

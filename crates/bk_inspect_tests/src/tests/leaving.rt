@@ -171,12 +171,13 @@ const ENTRY: EntryRange = EntryRange {
 };
 
 /// What each command shows of the log, once it is in log 5: it was moved to log 4 and from there to log 5.
-fn moved(rt: &impl Abort) -> [Row<'static>; 5] {
+fn moved(rt: &impl Abort) -> [Row<'static>; 6] {
     [
         done(find(rt, 1, 0), "5 1028 68656c6c6f\n"),
         done(DirCommand::Entries(ENTRY), "0 5 1028 25\n"),
         done(DirCommand::Ledgers, "1 1 25 0 0 1\n"),
         done(DirCommand::Check, "5 ok\n"),
+        done(DirCommand::CheckQuick, "5 sealed\n"),
         Row {
             command: DirCommand::CheckDigests(DigestChoice::One(Digest::Crc32)),
             status: 1,

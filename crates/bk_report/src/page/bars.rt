@@ -9,6 +9,17 @@ use std::io::Write;
 /// The length of the longest bar.
 pub(super) const FULL: u64 = 1000;
 
+/// The least length of a piece of torn or doubtful bytes in a bar, so that it can be seen.
+const LEAST: u64 = 12;
+
+/// Returns the least length of the piece of a part, which is `least` for torn and doubtful bytes.
+pub(super) fn least_of(part: Part, bytes: u64, least: u64) -> u64 {
+    match part {
+        Part::Torn | Part::Doubtful if bytes > 0 => least,
+        _ => 0,
+    }
+}
+
 /// Returns the name of a part, which is its class in the style too.
 pub(super) fn name_of(part: Part) -> &'static str {
     match part {
@@ -29,9 +40,11 @@ pub(super) fn write_log_bar<W: Write>(row: &LogRow, most: u64, out: &mut W) -> i
     write_title(row, out)?;
     let mut before = 0u64;
     for part in Part::ALL {
-        let after = before.saturating_add(part.bytes(row));
-        let from = scaled(before, most, FULL);
+        let bytes = part.bytes(row);
+        let after = before.saturating_add(bytes);
         let to = scaled(after, most, FULL);
+        let least = to.saturating_sub(least_of(part, bytes, LEAST));
+        let from = scaled(before, most, FULL).min(least);
         if from < to {
             write_span(name_of(part), from, to - from, out)?;
         }

@@ -1,6 +1,6 @@
 //! Compact bars of many logs: a column for each, in strips.
 
-use super::bars::{name_of, write_title};
+use super::bars::{least_of, name_of, write_title};
 use crate::number::write_number;
 use crate::scale::scaled;
 use crate::{LogRow, Part};
@@ -15,6 +15,9 @@ const WIDTH: u64 = 1200;
 
 /// The height of the column of the largest log.
 const HEIGHT: u64 = 60;
+
+/// The least height of a piece of torn or doubtful bytes.
+const LEAST: u64 = 3;
 
 /// The height of the mark of a fault, which is above all columns.
 const MARK: u64 = 5;
@@ -61,9 +64,11 @@ fn write_column<W: Write>(row: &LogRow, most: u64, left: u64, out: &mut W) -> io
     }
     let mut before = 0u64;
     for part in Part::ALL {
-        let after = before.saturating_add(part.bytes(row));
-        let from = scaled(before, most, HEIGHT);
+        let bytes = part.bytes(row);
+        let after = before.saturating_add(bytes);
         let to = scaled(after, most, HEIGHT);
+        let least = to.saturating_sub(least_of(part, bytes, LEAST));
+        let from = scaled(before, most, HEIGHT).min(least);
         if from < to {
             write_piece(name_of(part), left, HEIGHT - to, to - from, out)?;
         }

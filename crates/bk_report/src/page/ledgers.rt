@@ -19,7 +19,7 @@ pub(super) fn write_section<W: Write>(report: &Report, out: &mut W) -> io::Resul
     out.write_all(b" of ")?;
     write_number(out, report.ledger_count)?;
     out.write_all(
-        b" ledgers, by the bytes of their entries in all logs.</p>\n<div class=\"scroll\"><table>\n<thead><tr><th class=\"id\">Ledger</th><th class=\"text\">Bytes</th><th></th><th>Entries</th><th>Logs</th><th class=\"text\">State</th></tr></thead>\n<tbody>\n",
+        b" ledgers, by the bytes of their entries in all logs.</p>\n<div class=\"scroll\"><table>\n<thead><tr><th class=\"id\">Ledger</th><th class=\"text\" colspan=\"2\">Bytes</th><th>Entries</th><th>Logs</th><th class=\"text\">State</th></tr></thead>\n<tbody>\n",
     )?;
     for row in ledgers {
         write_row(row, most, out)?;

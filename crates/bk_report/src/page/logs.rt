@@ -1,4 +1,5 @@
-//! The logs: a bar for each, and a table of their numbers.
+//! The logs: a bar for each, and a table of their numbers. Of many logs that table is folded, and
+//! those with the most dead bytes have one of their own.
 
 use super::bars::write_log_bar;
 use super::columns::write_columns;
@@ -13,6 +14,9 @@ use std::io::Write;
 /// The greatest number of logs of which each has a bar in the table.
 const MOST_BARS: usize = 100;
 
+/// The number of logs that are listed by their dead bytes if there are more.
+const MOST_LISTED: usize = 20;
+
 /// Writes the section of the logs. The file of the largest has `most` bytes.
 pub(super) fn write_section<W: Write>(logs: &[LogRow], most: u64, out: &mut W) -> io::Result<()> {
     out.write_all(b"<section>\n<h2>Logs</h2>\n")?;
@@ -24,6 +28,7 @@ pub(super) fn write_section<W: Write>(logs: &[LogRow], most: u64, out: &mut W) -
         write_table(logs, Some(most), out)?;
     } else {
         write_columns(logs, most, out)?;
+        write_most_dead(logs, most, out)?;
         out.write_all(
             b"<details>\n<summary>All logs with their numbers (a folded table is not printed)</summary>\n",
         )?;
@@ -33,18 +38,68 @@ pub(super) fn write_section<W: Write>(logs: &[LogRow], most: u64, out: &mut W) -
     out.write_all(b"</section>\n")
 }
 
+/// Writes a table of the logs with the most dead bytes, with bars.
+fn write_most_dead<W: Write>(logs: &[LogRow], most: u64, out: &mut W) -> io::Result<()> {
+    out.write_all(b"<p>The logs with the most dead bytes:</p>\n")?;
+    write_table_head(true, out)?;
+    let mut last = None;
+    for _ in 0..MOST_LISTED {
+        let Some(row) = next_by_dead(logs, last) else {
+            break;
+        };
+        write_row(row, Some(most), out)?;
+        last = Some(row);
+    }
+    write_table_foot(out)
+}
+
+/// Returns the log that follows another one, of those with dead bytes; the first of them without
+/// another one.
+fn next_by_dead<'a>(logs: &'a [LogRow], last: Option<&LogRow>) -> Option<&'a LogRow> {
+    let mut next: Option<&LogRow> = None;
+    for row in logs {
+        let is_left = match last {
+            Some(last) => has_more_dead(last, row),
+            None => row.dead > 0,
+        };
+        let is_next = match next {
+            Some(next) => has_more_dead(row, next),
+            None => true,
+        };
+        if row.dead > 0 && is_left && is_next {
+            next = Some(row);
+        }
+    }
+    next
+}
+
+/// Returns whether a log has more dead bytes than another one, or as many and the lower id.
+fn has_more_dead(row: &LogRow, other: &LogRow) -> bool {
+    row.dead > other.dead || row.dead == other.dead && row.log < other.log
+}
+
 /// Writes the table of the logs, with bars if `most` is the size of the largest.
 fn write_table<W: Write>(logs: &[LogRow], most: Option<u64>, out: &mut W) -> io::Result<()> {
+    write_table_head(most.is_some(), out)?;
+    for row in logs {
+        write_row(row, most, out)?;
+    }
+    write_table_foot(out)
+}
+
+/// Begins a table of logs, with a column for bars or without.
+fn write_table_head<W: Write>(has_bars: bool, out: &mut W) -> io::Result<()> {
     out.write_all(b"<div class=\"scroll\"><table>\n<thead><tr><th class=\"id\">Log</th>")?;
-    if most.is_some() {
+    if has_bars {
         out.write_all(b"<th class=\"text\">Bytes by kind</th>")?;
     }
     out.write_all(
         b"<th>File</th><th>Live share</th><th>Live</th><th>Dead</th><th>Foreign</th><th>Torn</th><th>Doubtful</th><th>Entries</th><th class=\"text\">State</th></tr></thead>\n<tbody>\n",
-    )?;
-    for row in logs {
-        write_row(row, most, out)?;
-    }
+    )
+}
+
+/// Ends a table of logs.
+fn write_table_foot<W: Write>(out: &mut W) -> io::Result<()> {
     out.write_all(b"</tbody>\n</table></div>\n")
 }
 

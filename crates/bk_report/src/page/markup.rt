@@ -17,13 +17,13 @@ each log are, and what a compaction would free.</p>
 ";
 
 pub(super) static NONE_DELETED: &str =
-    "<p>A directory does not record which ledgers were deleted. None was named when this page was made, so
+    "<p>No deleted ledger was named or read from the manifest of the directory when this page was made, so
 every entry counts as live.</p>
 ";
 
 pub(super) static SOME_DELETED: &str =
-    "<p>A directory does not record which ledgers were deleted. Dead are the entries of the ledgers that
-were named as deleted when this page was made; all others count as live.</p>
+    "<p>Dead are the entries of the ledgers that were deleted when this page was made: by the manifest of
+the directory, by name, or since no list of live ledgers has them. All others count as live.</p>
 ";
 
 pub(super) static FOOT: &str = "</main>

@@ -16,7 +16,7 @@ pub(super) fn write_section<W: Write>(sizes: &Histogram, out: &mut W) -> io::Res
         return Ok(());
     }
     out.write_all(
-        b"<section>\n<h2>Sizes of entries</h2>\n<p>The size of an entry is that of its record, with the length field and the two ids.</p>\n<div class=\"scroll\"><table class=\"narrow\">\n<thead><tr><th class=\"text\">From</th><th class=\"text\">Below</th><th class=\"text\">Entries</th><th></th><th>Share</th></tr></thead>\n<tbody>\n",
+        b"<section>\n<h2>Sizes of entries</h2>\n<p>The size of an entry is that of its record, with the length field and the two ids.</p>\n<div class=\"scroll\"><table class=\"narrow\">\n<thead><tr><th class=\"text\">From</th><th class=\"text\">Below</th><th class=\"text\" colspan=\"2\">Entries</th><th>Share</th></tr></thead>\n<tbody>\n",
     )?;
     write_rows(sizes, end, out)?;
     out.write_all(b"</tbody>\n</table></div>\n</section>\n")

@@ -4,13 +4,13 @@ pub(super) static PIECES: [&str; 5] = [
     "
 :root {
   --paper: #fff; --ink: #1c2430; --quiet: #5c6675; --line: #d9dee5; --panel: #f5f7f9;
-  --live: #0072b2; --dead: #e69f00; --foreign: #8a63b3; --torn: #b3a400; --doubtful: #c8371b;
+  --live: #0072b2; --dead: #e69f00; --foreign: #8a63b3; --torn: #303a47; --doubtful: #c8371b;
   --rest: #b4bcc6; --good: #0a7d4f; --track: #e9edf1;
 }
 @media screen and (prefers-color-scheme: dark) {
   :root {
     --paper: #14181d; --ink: #e4e8ed; --quiet: #9aa5b3; --line: #333b45; --panel: #1c2229;
-    --live: #4fa8dc; --dead: #f0b13c; --foreign: #b493d6; --torn: #d8cb45; --doubtful: #f2694b;
+    --live: #4fa8dc; --dead: #f0b13c; --foreign: #b493d6; --torn: #e9eef4; --doubtful: #f2694b;
     --rest: #5a6572; --good: #4cc38a; --track: #262d36;
   }
 }
@@ -52,6 +52,7 @@ th, td { padding: .25rem .42rem; text-align: right; border-bottom: 1px solid var
 th { font-weight: 600; color: var(--quiet); }
 th:first-child, td:first-child { padding-left: 0; }
 td.text, th.text { text-align: left; white-space: normal; overflow-wrap: break-word; min-width: 6.2rem; }
+th.text { white-space: nowrap; }
 th.id, td.id { text-align: left; width: 1%; padding-right: 1.2rem; }
 td.chart { width: 30%; min-width: 7rem; }
 table.narrow { max-width: 52rem; }
@@ -75,8 +76,10 @@ summary { cursor: pointer; color: var(--quiet); margin: .6rem 0; }
 @media (max-width: 40rem) { body { padding: .8rem; } }
 @media print {
   body { max-width: none; padding: 0; font-size: 10pt; }
-  h2 { break-after: avoid; }
-  tr, .strip, .tiles li, svg { break-inside: avoid; }
+  h2, section > p { break-after: avoid; }
+  tr, .strip, .tiles li, svg, table.narrow { break-inside: avoid; }
+  .tiles { grid-template-columns: repeat(6, 1fr); }
+  .legend { grid-template-columns: repeat(2, 1fr); break-after: avoid; }
   thead { display: table-header-group; }
   .scroll { overflow: visible; }
 }

@@ -23,7 +23,7 @@ pub(super) fn write_section<W: Write>(
     write_intro(report.dead_count, out)
 }
 
-/// Writes what the page is about, and what it counts as dead if so many ledgers were named.
+/// Writes what the page is about, and what it counts as dead if so many ledgers are deleted.
 fn write_intro<W: Write>(dead_count: u64, out: &mut W) -> io::Result<()> {
     out.write_all(markup::INTRO.as_bytes())?;
     let deleted = if dead_count == 0 {
@@ -62,7 +62,7 @@ fn write_ledgers<W: Write>(report: &Report, out: &mut W) -> io::Result<()> {
     write_number(out, report.ledger_count)?;
     out.write_all(b"</b>")?;
     write_number(out, report.dead_count)?;
-    out.write_all(b" named as deleted</li>\n")
+    out.write_all(b" known as deleted</li>\n")
 }
 
 /// Writes the tile of the faults.

@@ -1,7 +1,7 @@
 //! Pages: each part is shown, no text is markup, and a write that fails is reported.
 
 use super::{ESCAPED, faulty, log, page_of, report};
-use bk_report::{Report, write_page};
+use bk_report::{LogRow, Report, write_page};
 use std::alloc::Global;
 use std::io;
 use std::io::{ErrorKind, Write};
@@ -27,7 +27,7 @@ static PARTS: [&str; 14] = [
     "Deleted ledgers: 2 (12, 13).",
     "Fenced ledgers: 0.",
     "<span title=\"373 bytes\">373 B</span></td><td>3</td><td>1</td><td class=\"text\">dead</td>",
-    "were named as deleted when this page was made",
+    "that were deleted when this page was made: by the manifest",
     "<span title=\"32 bytes\">32 B</span></td><td class=\"text\"><span title=\"64 bytes\">64 B</span>",
     "<td>2</td><td>66.6 %</td>",
 ];
@@ -54,14 +54,15 @@ fn page_without_deleted_ledgers_says_so(rt: HostRuntime) -> Result<(), Fail> {
         ..report(rt.alloc(), Vec::new(rt.alloc()))?
     };
     let page = page_of(rt.alloc(), &report)?;
-    assert!(rt; page.contains("None was named when this page was made"));
+    assert!(rt; page.contains("No deleted ledger was named or read from the manifest"));
     assert!(rt; page.contains("The directory has no log."));
     assert!(rt; !page.contains("Manifest"));
     assert!(rt; !page.contains("What a compaction would free"));
     Ok(())
 }
 
-/// Checks that a page on so many logs has so many strips, a row for each log, and this title.
+/// Checks that a page on so many logs has so many strips, a row for each log, and this title; with
+/// strips, also a row for each of the 20 logs with the most dead bytes.
 fn check_rows(
     rt: &impl Abort,
     alloc: Global,
@@ -78,10 +79,9 @@ fn check_rows(
     let found = page.matches("<div class=\"strip\">").count();
     let titles = page.matches("<title>log ").count();
     let rows = page.matches(".log</small></td>").count();
-    assert_eq!(rt;
-        (found, titles, rows),
-        (strips, count as usize, count as usize)
-    );
+    let listed = if strips == 0 { 0 } else { 20 };
+    let all = count as usize + listed;
+    assert_eq!(rt; (found, titles, rows), (strips, all, all));
     assert_eq!(rt; page.matches(title).count(), 1);
     Ok(())
 }
@@ -102,6 +102,49 @@ fn each_log_has_a_row_or_a_column(rt: HostRuntime) -> Result<(), Fail> {
         2,
         "<title>log 300 (12c.log): 1,130 bytes",
     )
+}
+
+/// The place of the first row of a log in a page, from its end; none if it has no row.
+fn row_of(page: &str, log: &str) -> Option<usize> {
+    page.find(log).map(|place| page.len().saturating_sub(place))
+}
+
+#[test]
+fn of_many_logs_those_with_the_most_dead_bytes_come_first(rt: HostRuntime) -> Result<(), Fail> {
+    let mut logs = Vec::new(rt.alloc());
+    for id in 0..101 {
+        let (live, dead) = match id {
+            70 => (100, 900),
+            0..60 => (500, 500),
+            _ => (1000, 0),
+        };
+        logs.push(log(id, live, dead))?;
+    }
+    let report = report(rt.alloc(), logs)?;
+    let page = page_of(rt.alloc(), &report)?;
+    let most = row_of(&page, "<td class=\"id\">70 <small");
+    let first = row_of(&page, "<td class=\"id\">0 <small");
+    let last = row_of(&page, "<td class=\"id\">18 <small");
+    let folded = row_of(&page, "<details>");
+    assert!(rt; most > first && first > last && last > folded);
+    assert!(rt; row_of(&page, "<td class=\"id\">19 <small") < folded);
+    Ok(())
+}
+
+#[test]
+fn few_torn_bytes_of_a_large_log_are_visible(rt: HostRuntime) -> Result<(), Fail> {
+    let mut logs = Vec::new(rt.alloc());
+    let large = log(0, 1_000_000, 0);
+    let torn = 10;
+    logs.push(LogRow {
+        bytes: large.bytes + torn,
+        torn,
+        ..large
+    })?;
+    let report = report(rt.alloc(), logs)?;
+    let page = page_of(rt.alloc(), &report)?;
+    assert!(rt; page.contains("<rect class=\"torn\" x=\"987\" width=\"12\" height=\"10\"/>"));
+    Ok(())
 }
 
 /// A writer with room for so many bytes.

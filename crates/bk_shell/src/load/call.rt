@@ -43,8 +43,9 @@ Output:
                                                    met a fault, and all earlier entries are there
 
 With --folder the directory is created if it does not exist. The ledgers are those after the last one
-with an entry, and the entries stay. A directory does not record which ledgers are deleted: the next
-call takes them as live, unless they were compacted away. One program at a time writes to a directory.
+with an entry, deleted or fenced, and the entries stay. Each deletion is recorded in `ledgers.manifest`
+of DIR before it takes effect, and how much of each log is durable in `logs.manifest`. One program at a
+time writes to a directory.
 With --json the numbers are one object.
 
 Exit status: 0 if and only if the load was good; 1 if it was bad, ended early, with `fault TEXT` on
@@ -86,8 +87,8 @@ pub(super) struct LoadCall<'a> {
     pub load: Load,
     /// The path of the directory; `None` for a new disk in memory.
     pub folder: Option<&'a str>,
-    /// Whether its logs get durability watermarks.
-    pub marks: bool,
+    /// Whether its manifests are neither read nor written.
+    pub no_manifest: bool,
 }
 
 /// A value that is not a number in its range.
@@ -122,7 +123,7 @@ pub(super) fn load_call<'a, S: AsStr>(
             form: form_of(found),
             load,
             folder: found.get_str("folder"),
-            marks: found.get_flag("marks"),
+            no_manifest: found.get_flag("no-manifest"),
         }),
         Err(bad) => Err(bad_value(alloc, &bad)?),
     }
@@ -180,12 +181,10 @@ fn load_command<'a>(alloc: Global) -> Result<Command<'a>, AllocError> {
                 ),
         )?
         .arg(
-            Arg::new(alloc, "marks")
-                .long("marks")
+            Arg::new(alloc, "no-manifest")
+                .long("no-manifest")
                 .action(ArgAction::SetTrue)
-                .help(
-                    "Write durability watermarks, which tell after a crash how far each log is valid",
-                ),
+                .help("Neither read nor write the manifests of the directory"),
         )
 }
 

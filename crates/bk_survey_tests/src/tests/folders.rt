@@ -1,7 +1,7 @@
 //! Pages on directories of the system. Each test makes its directory and removes it.
 
 use super::{THRESHOLDS, damaged, sealed};
-use bk_inspect::Form;
+use bk_inspect::{Ends, Form};
 use bk_survey::report_folder;
 use std::io::{ErrorKind, Write};
 use std::os::unix::fs::symlink;
@@ -20,7 +20,16 @@ struct Shown {
 fn report(rt: &HostRuntime, form: Form, path: &str) -> Shown {
     let mut output = Vec::new(rt.alloc());
     let mut errors = Vec::new(rt.alloc());
-    let status = report_folder(rt, form, path, &[], THRESHOLDS, &mut output, &mut errors);
+    let status = report_folder(
+        rt,
+        form,
+        path,
+        Ends::Durable,
+        &[],
+        THRESHOLDS,
+        &mut output,
+        &mut errors,
+    );
     Shown {
         status,
         output,
@@ -114,6 +123,7 @@ fn a_page_that_can_not_be_written(rt: HostRuntime) -> Result<(), Fail> {
             &rt,
             Form::Text,
             "bk_survey_full",
+            Ends::Durable,
             &[],
             THRESHOLDS,
             &mut writer,

@@ -3,7 +3,7 @@ use Rattle.std.proofs.lemmas.Bool.{false≢true}
 use Rattle.clap.specs.Matches.{found_of}
 use Rattle.clap.specs.Simple.{app_of}
 use Rattle.clap.specs.Walk.{rows_of}
-use Rattle.bk_cli.proofs.CommandLines.{taken, rows_met, pair_in, name_in, asked_by, marks_by, refused_by, refused_by_parse, refused_for_memory}
+use Rattle.bk_cli.proofs.CommandLines.{taken, rows_met, pair_in, name_in, asked_by, unrecorded_by, refused_by, refused_by_parse, refused_for_memory}
 use Rattle.bk_cli.proofs.script.script_call.Goals as goal
 
 pub returns-in_err-matches-clause-refused : goal.returns-in_err-matches-clause-refused
@@ -30,13 +30,13 @@ returns-clause-asked g c =
     asked_by words rows called (taken app words c.in_ok-command.ensures c.in_ok-matches.ensures.kinds) c.read_script.result
     c.read_script.ensures.asked c.read_script.ensures.over c.read_script.ensures.ledgers
 
-pub returns-clause-marked : goal.returns-clause-marked
-returns-clause-marked g c =
+pub returns-clause-unrecorded : goal.returns-clause-unrecorded
+returns-clause-unrecorded g c =
     let words = map g.S.AsStr.text c.args.words.now in
     let rows = rows_of (found_of c.in-Some.script.now) in
     let met = rows_met (app_of c.in_ok-command.command) words c.in_ok-matches.matches c.in_ok-command.ensures c.in_ok-matches.ensures.ok.2 in
     let called = sym met ∙ pair_in _ (codes "script") rows (c.in-Some.ensures.found.0 (search rules)) c.in-Some.ensures.rows in
-    marks_by words rows called c.read_script.result c.read_script.ensures.marked
+    unrecorded_by words rows called c.read_script.result c.read_script.ensures.unrecorded
 
 pub returns-clause-refused : goal.returns-clause-refused
 returns-clause-refused g c =

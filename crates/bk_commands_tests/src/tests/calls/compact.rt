@@ -33,8 +33,8 @@ fn is_asked(alloc: Global, words: &[&str], below: u32, dead: &[u64], is_dry: boo
                 call.path == "logs"
                     && call.name() == "compact"
                     && ask.below == below
-                    && ask.dead.as_slice() == dead
-                    && ask.dead_files.is_empty()
+                    && ask.deleted.dead.as_slice() == dead
+                    && ask.deleted.dead_files.is_empty()
                     && ask.is_dry == is_dry
             }
             Err(_) => false,

@@ -4,7 +4,8 @@ use super::super::folder::anew;
 use super::super::{holds, run};
 use bk_commands::words::{CUT_TORN, DEAD};
 use bk_commands::{
-    CommandRow, READING, WRITING, dir_command, folder_call, is_folder_call, text_of,
+    CommandRow, counting_rows, dir_command, folder_call, is_folder_call, reading_rows, text_of,
+    writing_rows,
 };
 use bk_inspect::{Digest, DigestChoice, DirCommand, EntryRange, Form, ScanChoice};
 use std::alloc::Global;
@@ -282,7 +283,11 @@ fn is_served(rt: &HostRuntime, list: &[u8], row: &CommandRow) -> Result<bool, Fa
 fn each_row_is_listed_and_has_a_function(rt: HostRuntime) -> Result<(), Fail> {
     let list = run(&rt, &["bk_shell", "help"], "").output;
     anew(&rt, "bk_shell_rows_of")?;
-    for row in READING.iter().chain(WRITING) {
+    for row in reading_rows()
+        .iter()
+        .chain(counting_rows())
+        .chain(writing_rows())
+    {
         assert!(rt; is_served(&rt, &list, row)?, "{}", row.name);
     }
     fs::remove_dir_all(&rt, "bk_shell_rows_of")?;

@@ -4,7 +4,7 @@ use Rattle.std.proofs.lemmas.Grind.{common_steps}
 use Rattle.std.proofs.lemmas.List.{nil_from_length}
 use Rattle.bk_manifest.specs.File.{content_of}
 use Rattle.bk_manifest.specs.Keeping.{facts_found}
-use Rattle.bk_manifest_disk.proofs.OpenedLogs.{nothing_found}
+use Rattle.bk_manifest_disk.proofs.OpenedByManifest.{nothing_found}
 use Rattle.bk_manifest_disk.proofs.opening.manifest_of.Goals as goal
 
 pub returns-then-is_empty-clause-found : goal.returns-then-is_empty-clause-found

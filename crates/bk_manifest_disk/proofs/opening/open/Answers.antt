@@ -9,7 +9,7 @@ use Rattle.bk_manifest_disk.specs.Table.{recorded}
 use Rattle.bk_manifest_disk.specs.Limiting.{shown_files}
 use Rattle.bk_manifest_disk.specs.Recording.{AreRecorded}
 use Rattle.bk_manifest_disk.specs.Opening.{AreOpened, AreSynced, LacksBy, as_records, reports_by}
-use Rattle.bk_manifest_disk.proofs.OpenedLogs.{opened_shows, opened_reports, opened_recorded, lacks_by, same_recorded, told_lack}
+use Rattle.bk_manifest_disk.proofs.OpenedByManifest.{opened_shows, opened_reports, opened_recorded, lacks_by, same_recorded, told_lack}
 use Rattle.bk_manifest_disk.proofs.opening.open.Goals as goal
 
 pub new-requires-clause-recorded : goal.new-requires-clause-recorded

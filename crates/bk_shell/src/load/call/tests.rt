@@ -25,7 +25,7 @@ const CALLS: [(&[&str], u32, Until, Option<&str>); 6] = [
         Some("logs"),
     ),
     (
-        &["load", "--marks", "--folder", "logs"],
+        &["load", "--no-manifest", "--folder", "logs"],
         8,
         Until::Adds(100_000),
         Some("logs"),
@@ -44,8 +44,8 @@ fn a_call_of_load(rt: HostRuntime) -> Result<(), Fail> {
         words.extend_from_slice(behind)?;
         let is_right = match load_call(rt.alloc(), &words) {
             Ok(call) => {
-                let marks = behind.contains(&"--marks");
-                is_asked(&call, *threads, *until, *folder) && call.marks == marks
+                let no_manifest = behind.contains(&"--no-manifest");
+                is_asked(&call, *threads, *until, *folder) && call.no_manifest == no_manifest
             }
             Err(_) => false,
         };

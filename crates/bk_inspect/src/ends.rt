@@ -1,0 +1,184 @@
+//! Up to where the logs of a directory are read.
+
+ghost use Rattle.std.specs.Prelude.{IsTrue};
+
+use crate::Form;
+use crate::ignored::{tell_ignored, tell_lack, tell_unread_manifest};
+use bk_disk::{DirDisk, DiskFault, LogDisk};
+use bk_manifest::{LogState, Record, State};
+use bk_manifest_disk::{
+    Finding, Lack, LimitedDisk, ReadFault, Report, finding_of, read_logs, report_of,
+};
+use std::alloc::{AllocError, Global};
+use std::collections::BTreeMap;
+use std::io::Write;
+
+/// Up to where the logs of a directory are read.
+#[derive(Clone, Copy, Debug, PartialEq, Eq)]
+pub enum Ends {
+    /// Each to the end of the durable bytes that the directory's `logs.manifest` has of it.
+    Durable,
+    /// Each to the end of its file.
+    Files,
+}
+
+/// The disk of a directory that is read.
+#[derive(Drop)]
+pub(crate) struct Ended {
+    pub(crate) disk: LimitedDisk<DirDisk>,
+    /// Whether durable bytes are missing, or the manifest cannot be read.
+    pub(crate) is_doubted: bool,
+}
+
+/// What the manifest says of the logs.
+#[derive(Drop)]
+struct Look {
+    limits: BTreeMap<u32, u64>,
+    reports: Vec<Report>,
+    lacks: Vec<Lack>,
+}
+
+impl Look {
+    /// Returns what a manifest without records says.
+    fn new(alloc: Global) -> Look {
+        Look {
+            limits: BTreeMap::new(alloc),
+            reports: Vec::new(alloc),
+            lacks: Vec::new(alloc),
+        }
+    }
+
+    /// Notes on the error stream what is hidden and what is missing.
+    fn tell<E: Write>(&self, alloc: Global, form: Form, errors: &mut E) {
+        tell_ignored(alloc, form, &self.reports, errors);
+        for lack in &self.lacks {
+            tell_lack(alloc, form, *lack, errors);
+        }
+    }
+
+    /// Adds what is found of a log, by the last record about it and the length of its file.
+    fn add(
+        &mut self,
+        log: u32,
+        recorded: Option<LogState>,
+        length: Option<u64>,
+    ) -> Result<(), AllocError> {
+        let finding = finding_of(recorded, length);
+        if let Some(report) = report_of(log, finding) {
+            let _ = self.limits.insert(log, report.from)?;
+            self.reports.push(report)?;
+        }
+        match finding {
+            Finding::Shorter { durable, length } => self.lacks.push(Lack::Shorter {
+                log,
+                durable,
+                length,
+            })?,
+            Finding::Missing { durable } => self.lacks.push(Lack::Missing { log, durable })?,
+            _ => {}
+        }
+        Ok(())
+    }
+}
+
+/// Returns the log that a record is about.
+fn log_in(one: &Record) -> Option<u32> {
+    match one {
+        Record::MadeLog(log) | Record::DurableLog { log, .. } | Record::RemovedLog { log, .. } =>
+            Some(*log),
+        _ => None,
+    }
+}
+
+/// Compares the records of a manifest with the logs of a directory, or with one of them. A log of
+/// which the system does not tell the length is left out.
+fn compared(
+    alloc: Global,
+    disk: &mut DirDisk,
+    state: &State,
+    only: Option<u32>,
+) -> Result<Look, AllocError> {
+    let mut look = Look::new(alloc);
+    for one in &state.records(alloc)? {
+        let Some(log) = log_in(one) else {
+            continue;
+        };
+        if only.is_some_and(|wanted| wanted != log) {
+            continue;
+        }
+        match disk.length(alloc, log) {
+            Ok(length) => look.add(log, state.log(log), Some(length))?,
+            Err(DiskFault::NoLog) => look.add(log, state.log(log), None)?,
+            Err(_) => {}
+        }
+    }
+    Ok(look)
+}
+
+/// Reads the manifest of a directory and compares it with the logs. If durable bytes are missing, does
+/// so once more, since a program that works there may have recorded that it removes the log.
+fn look_up(
+    rt: &HostRuntime,
+    path: &str,
+    disk: &mut DirDisk,
+    only: Option<u32>,
+) -> Result<Look, ReadFault> {
+    let state = read_logs(rt, path)?;
+    let look = compared(rt.alloc(), disk, &state, only)?;
+    if look.lacks.is_empty() {
+        return Ok(look);
+    }
+    let state = read_logs(rt, path)?;
+    Ok(compared(rt.alloc(), disk, &state, only)?)
+}
+
+/// Returns the disk of the directory at a path, whose logs end as asked. Reports bytes that are
+/// hidden, durable bytes that are missing, and a manifest that cannot be read; if `only` has a log,
+/// nothing of others. Then the logs in question are read to the ends of their files.
+pub(crate) fn with_ends<E: Write>(
+    rt: &HostRuntime,
+    form: Form,
+    path: &str,
+    disk: DirDisk,
+    ends: Ends,
+    only: Option<u32>,
+    errors: &mut E,
+) -> Ended {
+    let alloc = rt.alloc();
+    let mut disk = disk;
+    let looked = match ends {
+        Ends::Durable => look_up(rt, path, &mut disk, only),
+        Ends::Files => Ok(Look::new(alloc)),
+    };
+    let look = match looked {
+        Ok(look) => look,
+        Err(fault) => {
+            tell_unread_manifest(alloc, form, &fault, errors);
+            return Ended {
+                disk: LimitedDisk::new(disk, BTreeMap::new(alloc)),
+                is_doubted: true,
+            };
+        }
+    };
+    look.tell(alloc, form, errors);
+    Ended {
+        is_doubted: !look.lacks.is_empty(),
+        disk: LimitedDisk::new(disk, look.limits),
+    }
+}
+
+/// Returns whether each log of the directory at a path has the durable bytes that `logs.manifest` has
+/// of it. Notes missing ones on the error stream, and bytes that are ignored. True if no directory can
+/// be read there, or the manifest.
+pub fn are_ends_whole<E: Write>(rt: &HostRuntime, form: Form, path: &str, errors: &mut E) -> bool {
+    let Ok(mut disk) = DirDisk::open_to_read(rt, path) else {
+        return true;
+    };
+    match look_up(rt, path, &mut disk, None) {
+        Ok(look) => {
+            look.tell(rt.alloc(), form, errors);
+            look.lacks.is_empty()
+        }
+        Err(_) => true,
+    }
+}
