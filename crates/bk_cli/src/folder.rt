@@ -178,26 +178,49 @@ pub fn command_of<'a, S: AsStr>(words: &'a [S]) -> Option<&'a str> {
 /// - `DisplayHelp`: help was requested.
 /// - any other kind: the command line is invalid.
 pub fn folder_call<'a, S: AsStr>(alloc: Global, words: &'a [S]) -> Result<FolderCall<'a>, Error> {
-    let mut commands = folder_commands(alloc)?;
-    let mut matches = commands.try_get_matches_from_mut(words)?;
-    let Some((name, found)) = matches.remove_subcommand() else {
-        return Err(commands.error(ErrorKind::MissingSubcommand, "a command is asked for")?);
-    };
-    let Some(row) = row_of(name) else {
-        return Err(commands.error(ErrorKind::InvalidSubcommand, "no command on a directory")?);
-    };
-    if let Some(bad) = bad_word_in(row, &found) {
-        return Err(bad_word(alloc, row, &bad)?);
-    }
-    if let Some(missing) = missing_in(row, &found) {
-        return Err(missing_word(alloc, row, &missing)?);
-    }
+    let Matched { row, found } = matched(alloc, words)?;
+    check_values(alloc, row, &found)?;
     Ok(FolderCall {
         form: form_of(&found),
         path: found.get_str("DIR").unwrap_or(""),
         row,
         found,
     })
+}
+
+/// A command that was called, and the values of its operands and options.
+#[derive(Drop)]
+struct Matched<'a> {
+    row: &'static CommandRow,
+    found: ArgMatches<'a>,
+}
+
+/// Parses words to a command and its values, whatever these are.
+fn matched<'a, S: AsStr>(alloc: Global, words: &'a [S]) -> Result<Matched<'a>, Error> {
+    let mut commands = folder_commands(alloc)?;
+    let mut matches = commands.try_get_matches_from_mut(words)?;
+    let Some((name, found)) = matches.remove_subcommand() else {
+        return Err(commands.error(ErrorKind::MissingSubcommand, "a command is asked for")?);
+    };
+    match row_of(name) {
+        Some(row) => Ok(Matched { row, found }),
+        None => Err(commands.error(ErrorKind::InvalidSubcommand, "no command on a directory")?),
+    }
+}
+
+/// Checks that each value is in its range and that no operand is missing.
+fn check_values(
+    alloc: Global,
+    row: &'static CommandRow,
+    found: &ArgMatches<'_>,
+) -> Result<(), Error> {
+    if let Some(bad) = bad_word_in(row, found) {
+        return Err(bad_word(alloc, row, &bad)?);
+    }
+    if let Some(missing) = missing_in(row, found) {
+        return Err(missing_word(alloc, row, &missing)?);
+    }
+    Ok(())
 }
 
 /// An operand that is not given, and the flag that could be given in its place.

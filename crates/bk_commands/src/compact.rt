@@ -16,7 +16,7 @@ mod rows;
 
 use crate::book::Book;
 use crate::dead::DeadFault;
-use crate::deleted::{Deleted, deleted_in};
+use crate::deleted::deleted_in;
 use crate::failed_calls::FailedCalls;
 use crate::folder_disk::FolderDisk;
 use crate::ignored::Ignored;
@@ -32,8 +32,7 @@ use fault::tell;
 pub(crate) use fault::{CompactFault, reason_of};
 use index::index_in;
 use kept::{kept_logs, tell_kept};
-use named::show_named;
-use planned::{Look, read_only, show_plan};
+use planned::show_dry;
 pub(crate) use rows::{write_object, write_row};
 use rows::{EmptyRow, Size, Summary, write_summary};
 use std::alloc::Global;
@@ -220,36 +219,6 @@ fn open_work(
         book,
         ignored,
     })
-}
-
-/// Shows what a compaction of a directory would do, and flushes.
-fn show_dry<'x, W: Write, E: Write>(
-    rt: &HostRuntime,
-    form: Form,
-    path: &str,
-    disk: DirDisk,
-    ask: &'x CompactAsk<'x>,
-    deleted: &'x Deleted,
-    writer: &mut W,
-    errors: &mut E,
-) -> Result<(), CompactFault> {
-    let alloc = rt.alloc();
-    let failed = FailedCalls::on(alloc, &disk)?;
-    let mut disk = read_only(rt, form, path, disk, ask, errors)?;
-    let lengths = lengths_of(alloc, &mut disk)?;
-    let kept = kept_logs(rt, path, &lengths)?;
-    tell_kept(alloc, form, &kept, &lengths, errors)?;
-    let look = Look {
-        lengths: &lengths,
-        kept: &kept,
-        ask,
-        dead: &deleted.all,
-    };
-    let disk = OpeningDisk::new(rt, disk, failed);
-    let summary = show_plan(alloc, form, disk, &look, writer)?;
-    let ends = ask.deleted.ends();
-    show_named(rt, form, path, ends, &deleted.named, writer, errors)?;
-    write_summary(alloc, form, &summary, writer)
 }
 
 /// Returns the directory, opened to be read, and whether it has no log. Sets `watch` to the watch of

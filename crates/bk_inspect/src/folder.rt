@@ -13,13 +13,14 @@ use crate::folder_disk::Folder;
 use crate::form::write_object;
 use crate::run::run_dir_watched;
 use crate::stat::run_stat_watched;
+use crate::survey::Unread;
 use crate::unsealed::find_watched;
 use crate::visit::{TakesLogs, visit_watched};
 use crate::{DataForm, DirCommand, DirFault, Ends, EntryRange, Form};
 use bk_disk::{DirDisk, FaultWatch, FolderFault};
 use bk_manifest_disk::LimitedDisk;
 use serde::Serialize;
-use std::alloc::Global;
+use std::alloc::{AllocError, Global};
 use std::collections::BTreeMap;
 use std::fs;
 use std::io::{self, ErrorKind, Write};
@@ -222,13 +223,19 @@ pub fn visit_folder<T: TakesLogs, E: Write>(
         errors,
     )?;
     let is_partial = folder.tell(form, errors);
-    for unread in folder.unread.as_slice() {
-        if taking.miss(unread.log, &unread.reason).is_err() {
-            tell_fault(rt.alloc(), form, None, DirFault::Memory, errors);
-            return None;
-        }
+    if miss_all(taking, folder.unread.as_slice()).is_err() {
+        tell_fault(rt.alloc(), form, None, DirFault::Memory, errors);
+        return None;
     }
     Some(if is_partial { 1 } else { status })
+}
+
+/// Takes in the logs that cannot be opened.
+fn miss_all<T: TakesLogs>(taking: &mut T, unread: &[Unread]) -> Result<(), AllocError> {
+    for one in unread {
+        taking.miss(one.log, &one.reason)?;
+    }
+    Ok(())
 }
 
 /// Returns the logs of the directory at a path that `find_unsealed` finds, and whether no log was

@@ -120,8 +120,8 @@ pub struct Recorded<K: Recorder + Drop> {
 ///
 /// The callers add entries to shared ledgers, take some of them, and delete a ledger from time to
 /// time, after the recorder was asked. Two workers flush, and a keeper compacts and removes logs. The
-/// ledgers follow the last one on the disk and those that are recorded. With `Until::Adds(n)` the callers make n adds together. Progress is written to
-/// `progress` once a second.
+/// ledgers follow the last one on the disk and those that are recorded. With `Until::Adds(n)` the
+/// callers make n adds together. Progress is written to `progress` once a second.
 ///
 /// # Errors
 ///

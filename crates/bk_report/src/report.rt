@@ -72,7 +72,6 @@ pub struct ManifestRow {
 /// What the manifest says.
 #[derive(Drop)]
 pub struct ManifestTable {
-    pub generation: u64,
     /// The logs, by rising id.
     pub logs: Vec<ManifestRow>,
     /// The deleted ledgers.

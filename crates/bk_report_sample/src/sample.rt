@@ -165,7 +165,6 @@ fn manifest_of(alloc: Global, logs: &[LogRow]) -> Result<ManifestTable, AllocErr
         })?;
     }
     Ok(ManifestTable {
-        generation: 12,
         logs: rows,
         deleted: vec![in alloc; 12, 19, 40, 41, 77]?,
         fenced: vec![in alloc; 102]?,

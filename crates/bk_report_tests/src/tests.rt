@@ -105,7 +105,6 @@ fn manifest(alloc: Global) -> Result<ManifestTable, AllocError> {
         promise: Promise::Durable { length: 1_234_567 },
     };
     Ok(ManifestTable {
-        generation: 4,
         logs: vec![in alloc; row]?,
         deleted: vec![in alloc; 12, 13]?,
         fenced: Vec::new(alloc),

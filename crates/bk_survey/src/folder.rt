@@ -2,11 +2,14 @@
 
 ghost use Rattle.std.specs.Prelude.{◌≤◌};
 
+use crate::manifest::manifests_of;
 use crate::survey::{PageAsk, Surveyed, Surveyor, tell_memory};
 use bk_inspect::{Ends, Form, visit_folder};
-use bk_report::{Thresholds, write_page};
+use bk_manifest_disk::ReadFault;
+use bk_report::{ManifestTable, Thresholds, write_page};
 use httpdate::{HttpDate, fmt_http_date};
-use std::alloc::AllocError;
+use serde::Serialize;
+use std::alloc::{AllocError, Global};
 use std::io;
 use std::io::{ErrorKind, Write};
 use std::time::{SystemTime, UNIX_EPOCH};
@@ -15,7 +18,9 @@ use std::time::{SystemTime, UNIX_EPOCH};
 /// directory is only read. Returns the program's status: 0 or 1.
 ///
 /// A log that cannot be opened or read to its end, or whose map is not that of its entries, is named
-/// on the page and on the error stream, in this form; the status is then 1.
+/// on the page and on the error stream, in this form; the status is then 1. Unless the logs end as
+/// their files do, the page shows what the manifests record. One that cannot be read is named in the
+/// same way, with status 1.
 ///
 /// # Errors
 ///
@@ -51,7 +56,8 @@ pub fn report_folder<W: Write, E: Write>(
     }
 }
 
-/// Returns the report on the directory that is asked for.
+/// Returns the report on the directory that is asked for. Reads the manifests before the logs: another
+/// program may sync further bytes meanwhile, and none that were durable before are missing then.
 fn survey_folder<E: Write>(
     rt: &HostRuntime,
     form: Form,
@@ -63,8 +69,88 @@ fn survey_folder<E: Write>(
         tell_memory(errors);
         return None;
     };
+    let found = asked_manifests(rt, ask.folder, ends);
     let status = visit_folder(rt, form, ask.folder, ends, &mut surveyor, errors)?;
-    surveyor.finish(status, ask, errors)
+    let surveyed = surveyor.finish(status, ask, errors)?;
+    with_manifests(rt.alloc(), form, surveyed, found, errors)
+}
+
+/// Returns what the manifests of the directory record, unless the logs end as their files do.
+fn asked_manifests(
+    rt: &HostRuntime,
+    path: &str,
+    ends: Ends,
+) -> Result<Option<ManifestTable>, ReadFault> {
+    match ends {
+        Ends::Durable => manifests_of(rt, path),
+        Ends::Files => Ok(None),
+    }
+}
+
+/// Returns the report with what the manifests record, or with the fault of one that cannot be read,
+/// which is reported. Reports refused memory.
+fn with_manifests<E: Write>(
+    alloc: Global,
+    form: Form,
+    surveyed: Surveyed,
+    found: Result<Option<ManifestTable>, ReadFault>,
+    errors: &mut E,
+) -> Option<Surveyed> {
+    let mut surveyed = surveyed;
+    match found {
+        Ok(manifest) => surveyed.report.manifest = manifest,
+        Err(fault) => {
+            if add_fault(alloc, &fault, &mut surveyed).is_err() {
+                tell_memory(errors);
+                return None;
+            }
+            tell_manifest(alloc, form, &fault, errors);
+        }
+    }
+    Some(surveyed)
+}
+
+/// Adds the fault of a manifest to the report, whose status is then 1. Fails for refused memory, also
+/// if that is the fault.
+fn add_fault(alloc: Global, fault: &ReadFault, surveyed: &mut Surveyed) -> Result<(), AllocError> {
+    if let ReadFault::Memory = fault {
+        return Err(AllocError);
+    }
+    let line = format!(in alloc; "manifest: {fault}")?;
+    surveyed.report.faults.push(line)?;
+    surveyed.status = 1;
+    Ok(())
+}
+
+/// The object of a manifest that cannot be read.
+#[derive(Drop, Serialize)]
+struct ManifestRow {
+    fault: &'static str,
+    reason: String,
+}
+
+/// Reports the fault of a manifest. A failed write is ignored.
+fn tell_manifest<E: Write>(alloc: Global, form: Form, fault: &ReadFault, errors: &mut E) {
+    match form {
+        Form::Text => {
+            let _ = writeln!(errors, "fault manifest: {fault}");
+        }
+        Form::Json => match object_of(alloc, fault) {
+            Some(object) => {
+                let _ = writeln!(errors, "{object}");
+            }
+            None => tell_memory(errors),
+        },
+    }
+}
+
+/// Returns the object of such a fault; `None` if memory is refused.
+fn object_of(alloc: Global, fault: &ReadFault) -> Option<String> {
+    let row = ManifestRow {
+        fault: "manifest",
+        reason: fault.to_string(alloc).ok()?,
+    };
+    serde_json::to_string(alloc, &row).ok()
 }
 
 /// Writes the page. Returns the status.

@@ -2,6 +2,7 @@
 #![tactic(auto)]
 
 mod folder;
+mod manifest;
 mod survey;
 
 pub use bk_report::Thresholds;

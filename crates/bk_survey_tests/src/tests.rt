@@ -1,6 +1,7 @@
 //! Surveys of logs that are written by hand, beside `stat` and `ledgers` on the same files.
 
 mod folders;
+mod manifests;
 mod numbers;
 mod pages;
 

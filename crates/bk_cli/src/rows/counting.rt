@@ -47,11 +47,14 @@ Writes one HTML page to the standard output, which loads nothing and runs no scr
   freed      how many bytes a compaction would free, by its threshold
   ledgers    the 20 largest ledgers
   sizes      how many entries have which size
+  manifest   what the manifests of the directory record: the durable bytes of each log, beside those
+             that could be read, the deleted ledgers, and the fenced ones. A manifest that cannot be
+             read is named with the faults
 The numbers of a log are those of `stat`, those of a ledger the ones of `ledgers`. An entry with two
 records counts twice.
 
-Each fault also goes to the error stream, `fault log ID: TEXT`. The page is written when all logs are
-read; a log that cannot be read to its end is counted up to there.
+Each fault also goes to the error stream, `fault log ID: TEXT` or `fault manifest: TEXT`. The page is
+written when all logs are read; a log that cannot be read to its end is counted up to there.
 
 Exit status: 0; 1 if a log is at fault, or on a fault, `fault TEXT` on the error stream; 2 if the command
 line is wrong.

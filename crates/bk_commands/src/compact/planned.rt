@@ -2,8 +2,12 @@
 
 use super::ask::CompactAsk;
 use super::fault::CompactFault;
-use super::rows::{PlannedRow, Size, Summary, write_row};
-use super::{settings_below, size_of};
+use super::kept::{kept_logs, tell_kept};
+use super::named::show_named;
+use super::rows::{PlannedRow, Summary, write_row, write_summary};
+use super::{lengths_of, settings_below, size_of};
+use crate::deleted::Deleted;
+use crate::failed_calls::FailedCalls;
 use crate::folder_disk::FolderDisk;
 use crate::opening::OpeningDisk;
 use bk_disk::DirDisk;
@@ -19,20 +23,38 @@ use std::io::Write;
 /// The number of logs that a store of a compaction holds at once.
 const SLOTS: u64 = 65_536;
 
-/// A directory of which is shown what a compaction would do.
-#[derive(Clone, Copy)]
-pub(super) struct Look<'a> {
-    /// The lengths of its logs.
-    pub(super) lengths: &'a BTreeMap<u32, u64>,
-    /// The logs that are kept whatever they have.
-    pub(super) kept: &'a [u32],
-    pub(super) ask: &'a CompactAsk<'a>,
-    pub(super) dead: &'a [u64],
+/// Shows what a compaction of a directory would do, and flushes.
+pub(super) fn show_dry<W: Write, E: Write>(
+    rt: &HostRuntime,
+    form: Form,
+    path: &str,
+    disk: DirDisk,
+    ask: &CompactAsk<'_>,
+    deleted: &Deleted,
+    writer: &mut W,
+    errors: &mut E,
+) -> Result<(), CompactFault> {
+    let failed = FailedCalls::on(rt.alloc(), &disk)?;
+    let disk = read_only(rt, form, path, disk, ask, errors)?;
+    let disk = OpeningDisk::new(rt, disk, failed);
+    let summary = show_logs(
+        rt,
+        form,
+        path,
+        disk,
+        ask.below,
+        &deleted.all,
+        writer,
+        errors,
+    )?;
+    let ends = ask.deleted.ends();
+    show_named(rt, form, path, ends, &deleted.named, writer, errors)?;
+    write_summary(rt.alloc(), form, &summary, writer)
 }
 
 /// Returns the disk of a directory that is only read, up to what its manifest records as durable.
 /// Notes what is hidden.
-pub(super) fn read_only<E: Write>(
+fn read_only<E: Write>(
     rt: &HostRuntime,
     form: Form,
     path: &str,
@@ -50,6 +72,43 @@ pub(super) fn read_only<E: Write>(
     Ok(FolderDisk::Plain(disk))
 }
 
+/// Writes a line for each log that a compaction would take, and reports those that it would keep
+/// whatever they have. Returns what it would come to.
+fn show_logs<W: Write, E: Write>(
+    rt: &HostRuntime,
+    form: Form,
+    path: &str,
+    disk: OpeningDisk,
+    below: u32,
+    dead: &[u64],
+    writer: &mut W,
+    errors: &mut E,
+) -> Result<Summary, CompactFault> {
+    let mut disk = disk;
+    let lengths = lengths_of(rt.alloc(), &mut disk)?;
+    let kept = kept_logs(rt, path, &lengths)?;
+    tell_kept(rt.alloc(), form, &kept, &lengths, errors)?;
+    let look = Look {
+        lengths: &lengths,
+        kept: &kept,
+        below,
+        dead,
+    };
+    show_plan(rt.alloc(), form, disk, &look, writer)
+}
+
+/// A directory of which is shown what a compaction would do.
+#[derive(Clone, Copy)]
+struct Look<'a> {
+    /// The lengths of its logs.
+    lengths: &'a BTreeMap<u32, u64>,
+    /// The logs that are kept whatever they have.
+    kept: &'a [u32],
+    /// The live share below which a log is compacted, in thousandths.
+    below: u32,
+    dead: &'a [u64],
+}
+
 /// Writes a line for each log that a compaction would take.
 ///
 /// # Errors
@@ -57,14 +116,14 @@ pub(super) fn read_only<E: Write>(
 /// - Those of opening a store and of reading logs.
 /// - `LogsFull`, `NoMoreIds`: the compaction would end so, since no log can be created for each copy. The logs
 ///   that it would remove before are shown.
-pub(super) fn show_plan<W: Write>(
+fn show_plan<W: Write>(
     alloc: Global,
     form: Form,
     disk: OpeningDisk,
     look: &Look<'_>,
     writer: &mut W,
 ) -> Result<Summary, CompactFault> {
-    let planned = plan_on(alloc, disk, look.ask.below, look.dead)?;
+    let planned = plan_on(alloc, disk, look.below, look.dead)?;
     let before = size_of(look.lengths);
     let fault = copies_fault(&planned, look);
     let mut summary = Summary {

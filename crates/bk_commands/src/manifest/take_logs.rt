@@ -4,7 +4,7 @@ use super::fault::ManifestFault;
 use super::rebuild::{Done, front_of, keep, of_call, show};
 use super::rows::{MissingRow, TakenRow};
 use crate::compact::write_row;
-use bk_disk::{DirDisk, DiskFault, LogDisk};
+use bk_disk::{DirDisk, DiskFault, FolderFile, LogDisk};
 use bk_inspect::Form;
 use bk_manifest::{HEADER, ReadError, Record, State, read_manifest, rewritten};
 use bk_manifest_disk::{LOGS, find_lack};
@@ -45,6 +45,33 @@ pub(super) fn take_logs<W: Write>(
     }
 }
 
+/// A manifest as it was found.
+#[derive(Drop)]
+struct Old {
+    bytes: Vec<u8>,
+    front: Front,
+}
+
+impl Old {
+    /// Reads the manifest; `None` if there is none.
+    fn read(alloc: Global, file: &mut FolderFile) -> Result<Option<Old>, ManifestFault> {
+        let bytes = file.read(alloc)?;
+        if bytes.is_empty() {
+            return Ok(None);
+        }
+        let front = read_front(alloc, &bytes)?;
+        Ok(Some(Old { bytes, front }))
+    }
+
+    /// Returns whether it is not damaged and logs of these lengths have all its durable bytes.
+    fn fits(&self, alloc: Global, lengths: &BTreeMap<u32, u64>) -> Result<bool, ManifestFault> {
+        if self.front.unread != 0 {
+            return Ok(false);
+        }
+        Ok(find_lack(alloc, &self.front.state, lengths)?.is_none())
+    }
+}
+
 /// Makes the manifest anew, if it does not fit the logs.
 fn replace_by_logs<W: Write>(
     alloc: Global,
@@ -53,26 +80,36 @@ fn replace_by_logs<W: Write>(
     writer: &mut W,
 ) -> Result<Done, ManifestFault> {
     let mut file = disk.file(alloc, LOGS)?;
-    let bytes = file.read(alloc)?;
-    if bytes.is_empty() {
+    let Some(old) = Old::read(alloc, &mut file)? else {
         return Ok(Done::Nothing);
-    }
-    let front = read_front(alloc, &bytes)?;
+    };
     let lengths = synced_lengths(alloc, disk)?;
-    if front.unread == 0 && find_lack(alloc, &front.state, &lengths)?.is_none() {
+    if old.fits(alloc, &lengths)? {
         return Ok(Done::Whole);
     }
     let kept = format!(in alloc; "{LOGS}.damaged")?;
-    keep(alloc, disk, &kept, &bytes)?;
-    let state = state_of(alloc, &lengths)?;
-    let whole = rewritten(alloc, front.generation.wrapping_add(1), &state)?;
-    file.replace(&whole)?;
-    show_differing(alloc, form, &front.state, &lengths, writer)?;
+    keep(alloc, disk, &kept, &old.bytes)?;
+    let records = write_anew(alloc, &mut file, old.front.generation, &lengths)?;
+    show_differing(alloc, form, &old.front.state, &lengths, writer)?;
     Ok(Done::Rebuilt {
-        records: state.live() as u64,
-        unread: front.unread,
+        records,
+        unread: old.front.unread,
         kept,
     })
+}
+
+/// Writes a manifest of a later generation, by which all bytes of logs of these lengths are durable.
+/// Returns the number of its records.
+fn write_anew(
+    alloc: Global,
+    file: &mut FolderFile,
+    generation: u64,
+    lengths: &BTreeMap<u32, u64>,
+) -> Result<u64, ManifestFault> {
+    let state = state_of(alloc, lengths)?;
+    let whole = rewritten(alloc, generation.wrapping_add(1), &state)?;
+    file.replace(&whole)?;
+    Ok(state.live() as u64)
 }
 
 /// Returns what the bytes of a manifest have before the damage, if there is one.

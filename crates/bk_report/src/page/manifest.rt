@@ -28,10 +28,8 @@ fn write_manifest<W: Write>(
     logs: &[LogRow],
     out: &mut W,
 ) -> io::Result<()> {
-    out.write_all(b"<p>Generation ")?;
-    write_number(out, manifest.generation)?;
     out.write_all(
-        b". What the manifest calls durable was synced; a log that is shorter has lost bytes.</p>\n",
+        b"<p>What the manifest calls durable was synced. A log of which fewer bytes could be read has lost some.</p>\n",
     )?;
     write_ledgers("Deleted ledgers", &manifest.deleted, out)?;
     write_ledgers("Fenced ledgers", &manifest.fenced, out)?;
@@ -74,16 +72,16 @@ fn write_ids<W: Write>(ledgers: &[u64], out: &mut W) -> io::Result<()> {
 /// Writes the table of the logs of a manifest.
 fn write_table<W: Write>(rows: &[ManifestRow], logs: &[LogRow], out: &mut W) -> io::Result<()> {
     out.write_all(
-        b"<div class=\"scroll\"><table class=\"narrow\">\n<thead><tr><th class=\"id\">Log</th><th class=\"text\">The manifest says</th><th>Durable</th><th>File</th></tr></thead>\n<tbody>\n",
+        b"<div class=\"scroll\"><table class=\"narrow\">\n<thead><tr><th class=\"id\">Log</th><th class=\"text\">The manifest says</th><th>Durable</th><th>Read</th></tr></thead>\n<tbody>\n",
     )?;
     for row in rows {
-        write_row(row, file_of(row.log, logs), out)?;
+        write_row(row, read_of(row.log, logs), out)?;
     }
     out.write_all(b"</tbody>\n</table></div>\n")
 }
 
-/// Returns the bytes of the file of a log, if there is one.
-fn file_of(log: u32, logs: &[LogRow]) -> Option<u64> {
+/// Returns how many bytes of a log could be read, if it was found.
+fn read_of(log: u32, logs: &[LogRow]) -> Option<u64> {
     for row in logs {
         if row.log == log {
             return Some(row.bytes);
@@ -92,8 +90,8 @@ fn file_of(log: u32, logs: &[LogRow]) -> Option<u64> {
     None
 }
 
-/// Writes the row of a log, whose file has so many bytes if there is one.
-fn write_row<W: Write>(row: &ManifestRow, file: Option<u64>, out: &mut W) -> io::Result<()> {
+/// Writes the row of a log, of which so many bytes could be read if it was found.
+fn write_row<W: Write>(row: &ManifestRow, read: Option<u64>, out: &mut W) -> io::Result<()> {
     write!(out, "<tr><td class=\"id\">{}</td>", row.log)?;
     match row.promise {
         Promise::Made => out.write_all(b"<td class=\"text\">made</td><td></td>")?,
@@ -104,22 +102,22 @@ fn write_row<W: Write>(row: &ManifestRow, file: Option<u64>, out: &mut W) -> io:
             out.write_all(b"</td>")?;
         }
     }
-    write_file(row.promise, file, out)?;
+    write_read(row.promise, read, out)?;
     out.write_all(b"</tr>\n")
 }
 
-/// Writes the cell of the file, marked if it lacks bytes that are to be durable.
-fn write_file<W: Write>(promise: Promise, file: Option<u64>, out: &mut W) -> io::Result<()> {
+/// Writes the cell of the bytes that could be read, marked if durable ones are missing.
+fn write_read<W: Write>(promise: Promise, read: Option<u64>, out: &mut W) -> io::Result<()> {
     let durable = match promise {
         Promise::Durable { length } => length,
         Promise::Made | Promise::Removed => 0,
     };
-    if file.unwrap_or(0) < durable {
+    if read.unwrap_or(0) < durable {
         out.write_all(b"<td class=\"bad\">")?;
     } else {
         out.write_all(b"<td>")?;
     }
-    match file {
+    match read {
         Some(bytes) => write_titled_size(out, bytes)?,
         None => out.write_all(b"no file")?,
     }

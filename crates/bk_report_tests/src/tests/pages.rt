@@ -9,7 +9,7 @@ use std::process::Abort;
 use std::test::Fail;
 
 /// What a page shows of `mixed` with a fault.
-static PARTS: [&str; 14] = [
+static PARTS: [&str; 15] = [
     "<rect class=\"live\" x=\"0\" width=\"500\" height=\"10\"/>\
     <rect class=\"dead\" x=\"500\" width=\"250\" height=\"10\"/>\
     <rect class=\"foreign\" x=\"750\" width=\"50\" height=\"10\"/>\
@@ -23,6 +23,7 @@ static PARTS: [&str; 14] = [
     "<td><span title=\"1,000 bytes\">1,000 B</span></td><td><span title=\"500 bytes\">500 B</span></td>",
     "Logs with a fault, which are left out here: 1.",
     "threshold of 20.0 %, would free <strong><span title=\"0 bytes\">0 B</span></strong>, 0.0 % of",
+    "A log of which fewer bytes could be read has lost some.</p>\n",
     "<span title=\"1,234,567 bytes\">1.1 MiB</span></td><td class=\"bad\">no file</td>",
     "Deleted ledgers: 2 (12, 13).",
     "Fenced ledgers: 0.",

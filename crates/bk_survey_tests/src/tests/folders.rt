@@ -10,14 +10,14 @@ use std::{fs, io};
 
 /// What a call leaves.
 #[derive(Drop)]
-struct Shown {
-    status: u8,
-    output: Vec<u8>,
-    errors: Vec<u8>,
+pub(super) struct Shown {
+    pub(super) status: u8,
+    pub(super) output: Vec<u8>,
+    pub(super) errors: Vec<u8>,
 }
 
 /// Writes the page on a directory.
-fn report(rt: &HostRuntime, form: Form, path: &str) -> Shown {
+pub(super) fn report(rt: &HostRuntime, form: Form, path: &str) -> Shown {
     let mut output = Vec::new(rt.alloc());
     let mut errors = Vec::new(rt.alloc());
     let status = report_folder(
@@ -38,7 +38,7 @@ fn report(rt: &HostRuntime, form: Form, path: &str) -> Shown {
 }
 
 /// Makes a directory with one sealed log.
-fn anew(rt: &HostRuntime, folder: &str) -> Result<(), Fail> {
+pub(super) fn anew(rt: &HostRuntime, folder: &str) -> Result<(), Fail> {
     let _ = fs::remove_dir_all(rt, folder);
     fs::create_dir(rt, folder)?;
     let log = sealed(rt.alloc())?;

@@ -19,3 +19,6 @@ returns c = record {
   allowed = λ honest. absurd (false≢true honest);
   unfailing = λ never. c.in_ok-ran.ensures.unfailing never.0 never.1;
 }
+
+pub returns-in_err-ran : goal.returns-in_err-ran
+returns-in_err-ran c = λ never sound. c.in_err-ran.ensures.unfailing_opening never sound
