@@ -178,7 +178,7 @@ pub fn command_of<'a, S: AsStr>(words: &'a [S]) -> Option<&'a str> {
 /// - `DisplayHelp`: help was requested.
 /// - any other kind: the command line is invalid.
 pub fn folder_call<'a, S: AsStr>(alloc: Global, words: &'a [S]) -> Result<FolderCall<'a>, Error> {
-    let Matched { row, found } = matched(alloc, words)?;
+    let Matched { row, found } = find_command(alloc, words)?;
     check_values(alloc, row, &found)?;
     Ok(FolderCall {
         form: form_of(&found),
@@ -196,7 +196,7 @@ struct Matched<'a> {
 }
 
 /// Parses words to a command and its values, whatever these are.
-fn matched<'a, S: AsStr>(alloc: Global, words: &'a [S]) -> Result<Matched<'a>, Error> {
+fn find_command<'a, S: AsStr>(alloc: Global, words: &'a [S]) -> Result<Matched<'a>, Error> {
     let mut commands = folder_commands(alloc)?;
     let mut matches = commands.try_get_matches_from_mut(words)?;
     let Some((name, found)) = matches.remove_subcommand() else {
