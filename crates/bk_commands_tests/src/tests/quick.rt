@@ -20,28 +20,36 @@ const WHOLE: [Row<'static>; 2] = [
     },
 ];
 
-/// Checks of a folder with damaged files. With `--quick` neither the invalid record of log 0 is seen
-/// nor the torn end of log 2.
+/// Checks of damaged files as they are. With `--quick` neither the invalid record of log 0 is seen nor
+/// the torn end of log 2.
 const DAMAGED: [Row<'static>; 3] = [
     Row {
-        words: &["bk_shell", "check", "--quick", "bk_shell_quick"],
+        words: &["bk_shell", "check", "--quick", "--no-manifest", "bk_shell_quick"],
         status: 1,
         output: "0 sealed\n1 fault not a map 1045\n2 unsealed\n3 short\n4 fault bad magic\n",
         ..DONE
     },
     Row {
-        words: &["bk_shell", "--json", "check", "--quick", "bk_shell_quick"],
+        words: &["bk_shell", "--json", "check", "--quick", "--no-manifest", "bk_shell_quick"],
         status: 1,
         output: "{\"log\":0,\"health\":\"sealed\"}\n{\"log\":1,\"health\":\"fault\",\"fault\":\"not a map\",\"at\":1045}\n{\"log\":2,\"health\":\"unsealed\"}\n{\"log\":3,\"health\":\"short\"}\n{\"log\":4,\"health\":\"fault\",\"fault\":\"bad magic\"}\n",
         ..DONE
     },
     Row {
-        words: &["bk_shell", "--json", "check", "bk_shell_quick"],
+        words: &["bk_shell", "--json", "check", "--no-manifest", "bk_shell_quick"],
         status: 1,
         output: "{\"log\":0,\"health\":\"fault\",\"fault\":\"bad length\",\"at\":1024,\"length\":7}\n{\"log\":1,\"health\":\"fault\",\"fault\":\"not a map\",\"at\":1045}\n{\"log\":2,\"health\":\"unsealed\",\"torn\":3}\n{\"log\":3,\"health\":\"short\"}\n{\"log\":4,\"health\":\"fault\",\"fault\":\"bad magic\"}\n",
         ..DONE
     },
 ];
+
+/// The same files by their manifest.
+const BY_MANIFEST: [Row<'static>; 1] = [Row {
+    words: &["bk_shell", "check", "--quick", "bk_shell_quick"],
+    status: 1,
+    output: "0 sealed\n1 fault not a map 1045\n2 unsealed\n3 short\n4 fault bad magic\n",
+    errors: "note log 2: 3 bytes ignored from position 1048: not durable\nnote durable bytes missing: log 1 has 1084 of 1085 durable bytes\n",
+}];
 
 /// Damages the files of the folder: a record, a map, and the end of the unsealed log. Then adds a
 /// file that is short and one with an invalid header.
@@ -66,6 +74,7 @@ fn headers_and_maps_of_a_folder_are_checked(rt: HostRuntime) -> Result<(), Fail>
     check(&rt, &rt, &WHOLE);
     damage(&rt)?;
     check(&rt, &rt, &DAMAGED);
+    check(&rt, &rt, &BY_MANIFEST);
     fs::remove_dir_all(&rt, "bk_shell_quick")?;
     Ok(())
 }
