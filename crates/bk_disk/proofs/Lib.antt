@@ -8,6 +8,5 @@ pub mod Bounds
 pub mod Causes
 pub mod Digits
 pub mod DurableGrows
-pub mod Marks
 mod Doubts
 pub mod Cutting

@@ -1,8 +1,8 @@
 -- Durability: the bytes of each log that a crash leaves at least (`kept`), and the removed files
 -- that may be back after a crash (`gone`). Read `SyncDurability` and `IsDroppedFromDurable` first.
-use Rattle.std.specs.Prelude.{◌≡◌, ◌≢◌, ◌⊎◌, ℕ, List, Some, None, Result, Ok, Err}
+use Rattle.std.specs.Prelude.{◌≡◌, ◌≢◌, ◌⊎◌, ℕ, ◌+◌, ◌≤◌, List, length, drop, Some, None, Result, Ok, Err}
 use Rattle.std.specs.FinMap as map
-use Rattle.bk_record.specs.Files.{Files, file_of}
+use Rattle.bk_record.specs.Files.{Files, file_of, header_length}
 use Rattle.bk_record.specs.Longer.{IsLonger}
 use Rattle.bk_disk.specs.declared.fault.DiskFault.{DiskFault}
 use Rattle.bk_disk.specs.declared.fault.DiskFault.TheVariants.{Disk, Exists, NoLog, PastEnd, TooLong, Memory}
@@ -11,6 +11,10 @@ use Rattle.bk_disk.specs.declared.fault.DiskFault.TheVariants.{Disk, Exists, NoL
 -- them (`IsLonger`).
 abbrev pub IsDurable : Files → ℕ → List ℕ → Type 0
 IsDurable kept log file = (now : List ℕ) × (map.get kept log ≡ Some now) × IsLonger file now
+
+-- the first `end` bytes of the log are durable; the header counts as durable
+abbrev pub IsDurableUpTo : Files → ℕ → ℕ → Type 0
+IsDurableUpTo kept log end = (file : List ℕ) × (map.get kept log ≡ Some file) × (end ≤ header_length + length (drop header_length file))
 
 -- the durable part of each log does not shrink, and no further removed file may be back
 pub record DurableGrows (kept gone kept' gone' : Files) : Type 0 where

@@ -4,6 +4,5 @@ pub mod Logs
 pub mod Failing
 pub mod Names
 pub mod Durable
-pub mod Watermarks
 pub mod Doubts
 pub mod Cutting

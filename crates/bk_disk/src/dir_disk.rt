@@ -6,10 +6,7 @@ ghost use Rattle.std.specs.FinMap as map;
 ghost use Rattle.bk_disk.specs.Disk.{FailsExactlyOnDiskFault};
 
 use crate::folder::{Folder, fault_of};
-use crate::{
-    CutDisk, DirView, DiskFault, FaultWatch, FileFault, FolderFault, FolderFile, LogDisk,
-    WatermarkDisk,
-};
+use crate::{CutDisk, DirView, DiskFault, FaultWatch, FileFault, FolderFault, FolderFile, LogDisk};
 use std::alloc::{AllocError, Global};
 
 /// A directory of entry logs, each a file with the name of `name_of`. Files of other names are
@@ -145,13 +142,6 @@ impl DirDisk {
             Err(refusal) => Err(refusal.folder_fault(alloc)),
         }
     }
-
-    /// Returns whether a log of the directory has a watermark. Fails with `Disk`, `Memory`, or with
-    /// `NoLog` if a log is removed meanwhile.
-    pub fn has_marks(&mut self, alloc: Global) -> Result<bool, DiskFault> {
-        let answer = self.folder.has_marks(alloc);
-        counted(&mut self.failures, answer)
-    }
 }
 
 // Counts a result that is `Disk`. If there is no further number, it becomes `Memory`.
@@ -248,25 +238,6 @@ impl LogDisk for DirDisk {
 impl CutDisk for DirDisk {
     fn cut(&mut self, alloc: Global, log: u32, length: u64) -> Result<(), DiskFault> {
         let answer = self.folder.cut(alloc, log, length);
-        counted(&mut self.failures, answer)
-    }
-}
-
-/// The watermark of a log is in its header at 20 to 32: the letters `mark`, and a length of eight
-/// bytes, big-endian (this project's rule; a bookie has zeros there and ignores them). Other bytes
-/// there are left alone, and the log is read to its end. The header of a file that is shorter, or
-/// begins with 32 zeros, was not written. The patch of a header also writes the watermark of a log
-/// that has one.
-impl WatermarkDisk for DirDisk {
-    ghost marks = { λ _. map.empty };
-
-    fn truncate_to_watermarks(&mut self, alloc: Global) -> Result<(), DiskFault> {
-        let answer = self.folder.truncate_to_watermarks(alloc);
-        counted(&mut self.failures, answer)
-    }
-
-    fn write_watermark(&mut self, alloc: Global, log: u32, mark: u64) -> Result<(), DiskFault> {
-        let answer = self.folder.write_watermark(alloc, log, mark);
         counted(&mut self.failures, answer)
     }
 }

@@ -7,7 +7,7 @@
 
 mod aside;
 mod cutting;
-mod marks;
+mod patching;
 mod writing;
 
 use crate::dir_view::DirView;
@@ -43,8 +43,6 @@ pub(crate) struct Folder {
     watch: FaultWatch,
     /// The number of views that may keep their file open.
     most_open: u64,
-    /// Whether a log that is made gets a watermark.
-    has_marks: bool,
     /// Whether the last sync of the directory failed, so that a removal may not be durable.
     has_unsynced_names: bool,
 }
@@ -73,7 +71,6 @@ impl Folder {
                 troubles: Troubles::new(rt.alloc()),
                 watch,
                 most_open: most_open_views(rt),
-                has_marks: false,
                 has_unsynced_names: false,
             }),
             Err(reason) => Err(FolderFault::Refused { path, reason }),

@@ -6,10 +6,9 @@ ghost use Rattle.std.specs.Prelude.{◌≡◌, true, IsTrue, IfOk};
 ghost use Rattle.std.specs.FinMap as map;
 ghost use Rattle.bk_disk.specs.Durable.{IsAllDurable};
 ghost use Rattle.bk_disk.specs.Logs.{listed, IsListing};
-ghost use Rattle.bk_disk.specs.Watermarks.{full_watermarks};
 
 use crate::blocks::Blocks;
-use crate::{CutDisk, DiskFault, LogDisk, MemView, WatermarkDisk};
+use crate::{CutDisk, DiskFault, LogDisk, MemView};
 use bk_record::MAX_LOG_LENGTH;
 use std::alloc::{AllocError, Global};
 use std::collections::BTreeMap;
@@ -188,18 +187,5 @@ impl CutDisk for MemDisk {
         }
         file.truncate(alloc, length as usize)
             .map_err(|_| DiskFault::Memory)
-    }
-}
-
-/// A crash takes nothing from a disk in memory, so the watermark of each log is its length.
-impl WatermarkDisk for MemDisk {
-    ghost marks = { λ disk. full_watermarks disk };
-
-    fn truncate_to_watermarks(&mut self, _alloc: Global) -> Result<(), DiskFault> {
-        Ok(())
-    }
-
-    fn write_watermark(&mut self, alloc: Global, log: u32, _mark: u64) -> Result<(), DiskFault> {
-        self.sync(alloc, log)
     }
 }

@@ -15,7 +15,7 @@ use Rattle.bk_disk.specs.declared.fault.DiskFault.{DiskFault}
 use Rattle.bk_disk.specs.declared.fault.DiskFault.TheVariants.{Disk, Exists, NoLog, PastEnd, TooLong, Memory}
 use Rattle.bk_disk.specs.Disk.{Measures}
 use Rattle.bk_disk.specs.Cutting.{IsCutTo, Cuts, KeepsFrontDurable}
-use Rattle.bk_disk.specs.Watermarks.{IsDurableUpTo}
+use Rattle.bk_disk.specs.Durable.{IsDurableUpTo}
 use Rattle.bk_manifest.specs.declared.state.LogState.{LogState}
 use Rattle.bk_manifest.specs.declared.state.LogState.TheVariants.{Made, Durable, Removed}
 use Rattle.bk_manifest.specs.Fact.{Fact}

@@ -11,8 +11,7 @@ use Rattle.std.specs.FinMap.{nat_cmp-IsAntisymmetric}
 use Rattle.bk_record.specs.Files.{Files, header_length}
 use Rattle.bk_record.specs.Longer.{IsLonger}
 use Rattle.bk_record.proofs.Maps.{key_cases}
-use Rattle.bk_disk.specs.Durable.{IsDurable, DurableGrows}
-use Rattle.bk_disk.specs.Watermarks.{IsDurableUpTo}
+use Rattle.bk_disk.specs.Durable.{IsDurable, DurableGrows, IsDurableUpTo}
 use Rattle.bk_manifest.specs.declared.state.LogState.{LogState}
 use Rattle.bk_manifest.specs.declared.state.LogState.TheVariants.{Made, Durable, Removed}
 use Rattle.bk_manifest.specs.declared.subject.Subject.{Subject}

@@ -6,7 +6,7 @@ use Rattle.std.specs.Option.{option_map_or}
 use Rattle.std.specs.Coded.{Coded, code_by, coded×, coded_ℕ, coded_bool, coded_list}
 use Rattle.std.specs.FinMap as map
 use Rattle.bk_record.specs.Files.{Files}
-use Rattle.bk_disk.specs.Watermarks.{IsDurableUpTo}
+use Rattle.bk_disk.specs.Durable.{IsDurableUpTo}
 use Rattle.bk_manifest.specs.declared.state.LogState.{LogState}
 use Rattle.bk_manifest.specs.declared.state.LogState.TheVariants.{Made, Durable, Removed}
 use Rattle.bk_manifest.specs.Fact.{Fact, made_log, durable_log, removed_log}

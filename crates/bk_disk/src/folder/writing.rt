@@ -1,14 +1,12 @@
 //! Calls that make, write, sync and remove the file of a log.
 
-ghost use Rattle.std.specs.Prelude.{◌≡◌, ◌≤◌, false, length, is_ok, IsSome};
+ghost use Rattle.std.specs.Prelude.{◌≡◌, false, is_ok, IsSome};
 ghost use Rattle.bk_disk.specs.Doubts.{trouble_of};
 
 use super::{Folder, Opened};
 use crate::DiskFault;
-use crate::disk::HEADER;
 use crate::file_fault::{Failed, Operation};
 use crate::kept::KeptLog;
-use crate::mark::{MARK_END, mark_bytes};
 use crate::trouble::State;
 use std::alloc::Global;
 use std::fs::{self, File, OpenOptions};
@@ -91,12 +89,7 @@ impl Folder {
             return Err(DiskFault::TooLong);
         }
         let is_unwritten = kept.is_unwritten();
-        let appended = if self.has_marks && kept.is_empty() && bytes.len() >= MARK_END {
-            kept.append(&marked(alloc, bytes)?)
-        } else {
-            kept.append(bytes)
-        };
-        match appended {
+        match kept.append(bytes) {
             Ok(()) => Ok(()),
             Err(failed) => Err(self.fail_append(alloc, log, is_unwritten, failed)),
         }
@@ -234,13 +227,4 @@ fn sync_directory(rt: &HostRuntime, path: &str) -> io::Result<()> {
 fn sync_file(file: &File) -> Result<(), Failed> {
     file.sync_all()
         .map_err(|reason| Failed::new(Operation::Sync, reason))
-}
-
-// Returns the header of a new log with a watermark at its end.
-fn marked(alloc: Global, header: &[u8]) -> Result<Vec<u8>, DiskFault>
-    requires { 32 ≤ length header.now }
-{
-    let mut bytes = Vec::from_slice(alloc, header).map_err(|_| DiskFault::Memory)?;
-    bytes[20..32].copy_from_slice(&mark_bytes(HEADER));
-    Ok(bytes)
 }

@@ -3,7 +3,7 @@
 use super::change::{Change, do_change};
 use super::sight::{Sight, inode_of, is_seen};
 use super::table::{Answer, Row, Want, check, is_wanted};
-use bk_disk::{CutDisk, DirDisk, DirView, FolderFault, LogDisk, LogView, WatermarkDisk};
+use bk_disk::{CutDisk, DirDisk, DirView, FolderFault, LogDisk, LogView};
 use std::alloc::Global;
 use std::fs;
 use std::process::{self, Abort};
@@ -47,12 +47,6 @@ pub(super) enum Act {
     Reads(usize, u64, u64, Want<'static>),
     /// Where a view that is kept ends: its index, the position.
     Ends(usize, u64),
-    /// Cuts the logs to their watermarks.
-    Truncate,
-    /// Writes a watermark: log, length.
-    Watermark(u16, u64),
-    /// Whether a log has a watermark.
-    HasMarks(bool),
     /// Cuts a log to a length.
     Cut(u16, u64),
     /// Whether the bytes of a log are lost: log, answer.
@@ -157,9 +151,6 @@ impl Stage {
                 true
             }
             Act::View(log) => keep_view(alloc, disk, &mut self.views, log),
-            Act::Truncate => disk.truncate_to_watermarks(alloc).is_ok(),
-            Act::Watermark(log, mark) => disk.write_watermark(alloc, u32::from(log), mark).is_ok(),
-            Act::HasMarks(has) => disk.has_marks(alloc) == Ok(has),
             Act::Cut(log, length) => disk.cut(alloc, u32::from(log), length).is_ok(),
             Act::IsLost(log, is) => disk.is_lost(u32::from(log)) == is,
             Act::IsKept(log, is) => disk.is_kept(u32::from(log)) == is,
