@@ -16,6 +16,8 @@ LARGE = (10_240, 2_000, 48, 100_000_000)
 # The folder of many keys.
 KEYS = (100, 20_000, 50, 1_073_741_824)
 NO_LIMIT = 1_073_741_824
+# Publishes with and without the manifest of the logs: the entries of a flush, how many flushes.
+PUBLISHES = [(100, 200), (1_000, 100), (20_000, 10)]
 RUNS = 5
 
 
@@ -182,6 +184,25 @@ def show_fill(programs, folders, length, batch, publishes):
     row("syncs a publish", shown[0], shown[1], "", shown[2], "", shown[3])
 
 
+def show_publishes(programs, folders):
+    """Publishes of several sizes, with and without the manifest of the logs."""
+    print(f"\npublishes of entries of 100 bytes on a directory: microseconds a publish, least of {RUNS} runs")
+    row("", "publish", "recorded", "ratio", "flush", "recorded", "ratio")
+    for batch, publishes in PUBLISHES:
+        least = {}
+        for _ in range(RUNS):
+            for word in ("fill", "record"):
+                stages, _ = run(programs.store, word, folders.fresh(word), 100, batch, publishes, NO_LIMIT)
+                for name, parts in (("publish", ("publish",)), ("flush", ("add", "write", "publish"))):
+                    took = sum(stages[it][1] for it in parts) / publishes / 1000
+                    least[name, word] = min(took, least.get((name, word), took))
+        shown = []
+        for name in ("publish", "flush"):
+            alone, recorded = least[name, "fill"], least[name, "record"]
+            shown += [f"{alone:,.0f}", f"{recorded:,.0f}", ratio(recorded, alone)]
+        row(f"{batch:,} entries", *shown)
+
+
 def forget(folder):
     """Has the system forget what it keeps of the files, so that the next reading is from the device."""
     for path in logs_of(folder):
@@ -254,6 +275,8 @@ def measure(work, store):
     programs, folders = Programs(work, store), Folders(work)
     for length, batch, publishes in FILLS:
         show_fill(programs, folders, length, batch, publishes)
+    if programs.store:
+        show_publishes(programs, folders)
     large = folders.fresh("large")
     run(programs.plain, "fill", large, *LARGE)
     show_opening(programs, large)
