@@ -138,7 +138,7 @@ fn few_torn_bytes_of_a_large_log_are_visible(rt: HostRuntime) -> Result<(), Fail
     let large = log(0, 1_000_000, 0);
     let torn = 10;
     logs.push(LogRow {
-        bytes: large.bytes + torn,
+        bytes: large.bytes.saturating_add(torn),
         torn,
         ..large
     })?;
