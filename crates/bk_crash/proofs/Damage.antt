@@ -1,19 +1,11 @@
--- The part of a damaged file before its watermark is a cut of the file; the same for all files.
-use Rattle.std.proofs.Common.{◌≡◌, ◌⊎◌, inl, inr, ℕ, ◌+◌, ◌-◌, ◌≤◌, List, [], ◌++◌, length, take, drop, Option, Some, None, option_map, unwrap_or}
-use Rattle.std.proofs.Common.{refl, sym, ap, ◌∙◌, subst, arith, length-append, length-drop, length-take}
+-- The first bytes of a damaged file are a cut of the file.
+use Rattle.std.proofs.Common.{◌≡◌, ◌⊎◌, inl, inr, ℕ, ◌+◌, ◌-◌, ◌≤◌, List, ◌++◌, length, take, drop}
+use Rattle.std.proofs.Common.{sym, ap, ◌∙◌, subst, arith, length-append, length-drop, length-take}
 use Rattle.std.proofs.Math.Decide.{dec_le}
 use Rattle.std.proofs.lemmas.List.{drop-take, take-append-drop, take-append-le, length-take-le, take_all, take-take, nil_from_length, drop-append-le}
-use Rattle.std.proofs.lemmas.Option.{same_Some, none-some}
-use Rattle.std.specs.FinMap as map
-use Rattle.bk_record.specs.Files.{Files, file_of, header_length}
-use Rattle.bk_record.specs.Longer.{IsLonger}
-use Rattle.bk_disk.specs.Watermarks.{Watermarks, durable_prefix, AreTruncated}
-use Rattle.bk_watermark.specs.Marking.{Written, AreCovered, sure_fronts}
-use Rattle.bk_watermark.proofs.Fronts.{IsFront, front_there, longer_fronts}
-use Rattle.bk_crash.specs.Damage.{IsDamaged, MayBeMark, IsLeftMarked, MayDamage}
-use Rattle.bk_store.specs.Crash.{IsCut, IsLeft, MayLeave}
-
--- ---- one file
+use Rattle.bk_record.specs.Files.{header_length}
+use Rattle.bk_crash.specs.Damage.{IsDamaged}
+use Rattle.bk_store.specs.Crash.{IsCut}
 
 -- Equal bytes after position 20 of a prefix.
 drop_part : (n m : ℕ) (a b : List ℕ) → drop 20 a ≡ drop 20 (take n b) → m ≤ n → drop 20 (take m a) ≡ drop 20 (take m b)
@@ -71,7 +63,7 @@ in_two n k l order =
     sym (take-append-drop n (take (n + k) l)) ∙ (λ i. take-take n (n + k) l (omega arith) i ++ drop-take n k l i)
 
 module _ (kept file left : List ℕ) (damaged : IsDamaged kept file left) (mark : ℕ) (covers : mark ≤ header_length + length (drop header_length kept)) where
-  -- A watermark at or after the end of the header.
+  -- A position at or after the end of the header.
   behind_header : header_length ≤ mark → (mark ≡ header_length) ⊎ (header_length + 1 ≤ mark) → IsCut file (take mark left)
   behind_header headed (inl it) =
       subst (λ n. IsCut file (take n left)) (sym it) (cut_of_front header_length file (take header_length left) damaged.headed)
@@ -103,46 +95,9 @@ module _ (kept file left : List ℕ) (damaged : IsDamaged kept file left) (mark 
             ∙ sym (cut_in file long-file) ∙ ap (λ n. drop 20 (take n file)) (sym size);
       }
 
-  pub marked_cut : IsCut file (take mark left)
-  marked_cut = elim (dec_le mark header_length) [
+  pub front_cut : IsCut file (take mark left)
+  front_cut = elim (dec_le mark header_length) [
     | yes before ↦ cut_of_front header_length file (take mark left)
         (subst (IsCut (take header_length file)) (take-take mark header_length left before) (cut_take mark (take header_length file) (take header_length left) damaged.headed))
     | no behind ↦ behind_header (omega (arith, behind)) (inr (omega (arith, behind)))
   ]
-
--- ---- all files
-
-module _ {files gone kept left seen : Files} {marks : Written} {found : Watermarks} (covered : AreCovered kept marks)
-    (damage : MayDamage files gone kept marks left found) (cut : AreTruncated left found seen) where
-  seen_is : (log : ℕ) (now : List ℕ) (at : ℕ) → map.get left log ≡ Some now → map.get found log ≡ Some at → map.get seen log ≡ Some (take at now)
-  seen_is log now at there mark =
-      cut.each log ∙ ap (option_map (durable_prefix (map.get found log))) there ∙ ap (λ (m : Option ℕ). Some (durable_prefix m now)) mark
-
-  covers_mark : (log at : ℕ) → MayBeMark marks log at → at ≤ header_length + length (drop header_length (file_of kept log))
-  covers_mark log at (inl one) =
-      let held = covered.covers log one.0 one.1 in
-      let same : file_of kept log ≡ held.0 = ap (λ (o : Option (List ℕ)). unwrap_or o []) held.1 in
-      omega (arith, one.3, held.2, ap (λ (f : List ℕ). length (drop header_length f)) same)
-  covers_mark log at (inr none) = omega (arith, none.1)
-
-  left_seen : (log : ℕ) (file : List ℕ) → map.get seen log ≡ Some file → (o : Option (List ℕ)) → map.get left log ≡ o → IsLeft files gone log file
-  left_seen log file is None gone_is = absurd (none-some file (sym (cut.each log ∙ ap (option_map (durable_prefix (map.get found log))) gone_is) ∙ is))
-  left_seen log file is (Some now) there =
-      let one = damage.each log now there in
-      let same : take one.0 now ≡ file = same_Some _ _ (sym (seen_is log now one.0 there one.1) ∙ is) in
-      elim one.2 [
-        | inl held ↦ inl (held.0, held.1, subst (IsCut held.0) same (marked_cut (file_of kept log) held.0 now held.3 one.0 (covers_mark log one.0 held.2)))
-        | inr back ↦ inr (back.0, back.1, back.2, subst (IsCut back.0) same back.3)
-      ]
-
-  pub marked_leaves : MayLeave files gone (sure_fronts kept marks) seen
-  marked_leaves = record {
-    stands = λ log front is.
-        let old = front_there kept marks log front is in
-        let now = damage.stands log old.file old.mark old.there old.marked in (
-          take now.1 now.0,
-          seen_is log now.0 now.1 now.2 now.3,
-          subst (λ (f : List ℕ). IsLonger f (take now.1 now.0)) (sym old.is) (longer_fronts old.mark.sure now.1 old.file now.0 now.4 now.5),
-        );
-    each = λ log file is. left_seen log file is (map.get left log) refl;
-  }

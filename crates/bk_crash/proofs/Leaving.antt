@@ -1,11 +1,11 @@
 -- What is left of the logs one after another, and of the removed files.
-use Rattle.std.proofs.Common.{◌≡◌, ◌⊎◌, inl, inr, ℕ, ◌+◌, ◌<◌, ◌≤◌, Bool, true, false, cond, suc, List, [], ◌∷◌, ◌++◌, map, length, take, drop, get_or, Option, Some, None, option_map, IsSome, Vec, Global}
-use Rattle.std.proofs.Common.{refl, sym, ap, ◌∙◌, subst, append_assoc, arith, length-append, length-drop, length-take, leb, le-leb, leb-true}
+use Rattle.std.proofs.Common.{◌≡◌, inl, inr, ℕ, ◌<◌, ◌≤◌, Bool, true, false, cond, suc, List, [], ◌∷◌, ◌++◌, map, length, take, drop, get_or, Option, Some, None, option_map, IsSome, Vec, Global}
+use Rattle.std.proofs.Common.{refl, sym, ap, ◌∙◌, subst, append_assoc, arith, length-append, length-drop, length-take, leb, leb-true}
 use Rattle.std.proofs.Math.Decide.{dec_le}
 use Rattle.std.proofs.Math.Seq.{take-append_seam, get_or-append_seam}
 use Rattle.std.specs.Vec.{with_items}
 use Rattle.std.proofs.lemmas.List.{with_items_is, take_all, take-take, length-take-le, take-append-le, length-map, get_or-map, get_or-take, map-append, append-nil}
-use Rattle.std.proofs.lemmas.Option.{same_Some, none-some}
+use Rattle.std.proofs.lemmas.Option.{none-some}
 use Rattle.std.proofs.lemmas.Bool.{false≢true}
 use Rattle.std.proofs.lemmas.Map.Views.{tells_apart}
 use Rattle.std.proofs.lemmas.Map.Keys.{below_from_sorted}
@@ -27,15 +27,12 @@ use Rattle.bk_record.proofs.Longer.{longer_same, longer_append, longer_trans}
 use Rattle.bk_disk.specs.Disk.{patched_file}
 use Rattle.bk_disk.specs.Logs.{listed}
 use Rattle.bk_log.proofs.Gains.{longer_patch}
-use Rattle.bk_watermark.specs.Marking as marking
-use Rattle.bk_watermark.specs.Marking.{AreCovered, sure_fronts}
-use Rattle.bk_watermark.specs.declared.marks.Mark.{Mark}
-use Rattle.bk_watermark.proofs.Fronts.{front_there, longer_fronts}
+use Rattle.bk_manifest_disk.proofs.Fronts.{longer_fronts}
 use Rattle.bk_store.specs.Crash.{IsCut, IsLeft, MayLeave}
-use Rattle.bk_crash.proofs.Damage.{cut_take, marked_cut}
+use Rattle.bk_crash.proofs.Damage.{cut_take}
 use Rattle.bk_crash.specs.Damage.{IsDamaged}
-use Rattle.bk_crash.specs.Leaving.{HasSynced, IsLeftOf, IsInFront, IsBefore, IsBackOf, IsBack, IsSpoiled, IsPutBack, by_id}
-use Rattle.bk_crash.specs.AllLogs.{logs_of, files_of, gone_of, AreSynced, AreMarked, HasMarkOf, ArePutBack}
+use Rattle.bk_crash.specs.Leaving.{HasSynced, IsLeftOf, IsBackOf, IsBack, IsSpoiled, IsBegun, IsPutBack, by_id}
+use Rattle.bk_crash.specs.AllLogs.{logs_of, files_of, gone_of, AreSynced, ArePutBack}
 use Rattle.bk_crash.specs.declared.written.Written.{Written}
 use Rattle.bk_crash.specs.Noting.{NotedLog}
 
@@ -110,6 +107,11 @@ log_spoiled log left now (inr other) of =
       kept None _ = tt
       kept (Some synced) has = longer_patched log.bytes left other.0 other.1 (take synced log.bytes) has
 
+-- A prefix of a log with all synced bytes, and maybe other bytes in its header, is left of it.
+pub begun_left : (log : NotedLog) (least : ℕ) (left : List ℕ) → HasSynced log.synced log.bytes (take least log.bytes) → IsBegun log least left
+    → IsLeftOf log (Some left)
+begun_left log least left has begun = log_spoiled log (take begun.0 log.bytes) left begun.2 (log_left log least begun.0 has begun.1)
+
 -- ---- damage
 
 longer_of_take : (n : ℕ) (file : List ℕ) → IsLonger (take n file) file
@@ -159,39 +161,20 @@ length_patched file bytes twelve = elim (leb 20 (length file)) as (λ b. leb 20 
   | false ↦ λ _. refl
 ] refl
 
-length_spoiled : (file now : List ℕ) → IsSpoiled file now → length now ≡ length file
+pub length_spoiled : (file now : List ℕ) → IsSpoiled file now → length now ≡ length file
 length_spoiled file now (inl same) = ap length same
 length_spoiled file now (inr other) = ap length other.2 ∙ length_patched file other.0 other.1
 
--- A log with other bytes in its patched header.
-pub spoiled_in_place : (log : NotedLog) (bytes : Vec ℕ Global) (now : List ℕ) → IsSpoiled bytes.items now → IsLeftOf log (Some bytes.items)
-    → IsLeftOf log (Some (with_items bytes now).items)
-spoiled_in_place log bytes now spoiled of =
-    let size = length_spoiled bytes.items now spoiled in
-    subst (λ l. IsLeftOf log (Some l)) (sym (with_items_is bytes now (omega (arith, size, bytes.ok.0)))) (log_spoiled log bytes.items now spoiled of)
-
--- What is left before a watermark.
-module _ (log : NotedLog) (mark : ℕ) (which : (mark ≡ log.sure) ⊎ (mark ≡ log.last)) (left now : List ℕ) (of : IsLeftOf log (Some left)) where
-  in_front : (o : Option ℕ) → log.synced ≡ o → IsBefore o log.bytes mark now → IsInFront log (Some now)
-  in_front o is before = (mark, which, subst (λ s. IsBefore s log.bytes mark now) (sym is) before)
-
-  -- For a log without synced bytes.
-  pub before_nothing : log.synced ≡ None → now ≡ take mark left → IsInFront log (Some now)
-  before_nothing none front = in_front None none (subst (IsCut log.bytes) (sym front) (cut_take mark log.bytes left of.0))
-
-  -- For a synced log without other bytes after its end.
-  pub before_cut : (synced : ℕ) → log.synced ≡ Some synced → now ≡ take mark left → IsInFront log (Some now)
-  before_cut synced is front = in_front (Some synced) is
-      (left, front, as_it_is log.bytes left synced of.0 (subst (λ s. HasSynced s log.bytes left) is of.1))
-
-  -- For a synced log with other bytes after its end.
-  pub before_damage : (synced n : ℕ) (more : List ℕ) → log.synced ≡ Some synced → synced ≤ n → header_length ≤ n → header_length ≤ length left
-      → now ≡ take mark (take n left ++ more) → IsInFront log (Some now)
-  before_damage synced n more is enough headed long front = in_front (Some synced) is (
-    take n left ++ more,
-    front,
-    damaged_behind log.bytes left synced of.0 (subst (λ s. HasSynced s log.bytes left) is of.1) n more enough headed long,
-  )
+-- A prefix of a log with other bytes in its patched header.
+pub spoiled_in_place : (log : NotedLog) (least count : ℕ) (bytes : Vec ℕ Global) (now : List ℕ) → least ≤ count → bytes.items ≡ take count log.bytes
+    → IsSpoiled bytes.items now → IsBegun log least (with_items bytes now).items
+spoiled_in_place log least count bytes now order same spoiled =
+    let size = length_spoiled bytes.items now spoiled in (
+      count,
+      order,
+      subst (λ l. IsSpoiled (take count log.bytes) l) (sym (with_items_is bytes now (omega (arith, size, bytes.ok.0))))
+          (subst (λ file. IsSpoiled file now) same spoiled),
+    )
 
 -- ---- look-up in a list that grows
 
@@ -286,35 +269,37 @@ find_before front behind e rising =
 
 -- ---- logs one after another
 
--- The relation holds of each log and what is left of it.
-module _ (IsOf : NotedLog → Option (List ℕ) → Type 0) where
+-- The relation holds of each log with this id and what is left of it.
+module _ (IsOf : ℕ → NotedLog → Option (List ℕ) → Type 0) where
   -- What is left at an id after these logs.
-  abbrev pub IsLeftSoFar : Option NotedLog → Option (List ℕ) → Type 0
-  IsLeftSoFar None left = left ≡ None
-  IsLeftSoFar (Some log) left = IsOf log left
+  abbrev pub IsLeftSoFar : ℕ → Option NotedLog → Option (List ℕ) → Type 0
+  IsLeftSoFar id None left = left ≡ None
+  IsLeftSoFar id (Some log) left = IsOf id log left
 
-  one_more : (front : Option NotedLog) (left : Option (List ℕ)) (tied : Bool) (log : NotedLog) (o : Option (List ℕ)) → (tied ≡ true → front ≡ None)
-      → IsLeftSoFar front left → IsOf log o → IsLeftSoFar (or_else front (cond tied (Some log) None)) (or_else left (cond tied o None))
-  one_more (Some w) left true log o apart is of = absurd (none-some w (sym (apart refl)))
-  one_more (Some w) left false log o apart is of = subst (IsOf w) (sym (or_none left)) is
-  one_more None left true log o apart is of = subst (λ l. IsOf log (or_else l o)) (sym is) of
-  one_more None left false log o apart is of = or_none left ∙ is
+  one_more : (id : ℕ) (front : Option NotedLog) (left : Option (List ℕ)) (tied : Bool) (log : NotedLog) (o : Option (List ℕ)) → (tied ≡ true → front ≡ None)
+      → IsLeftSoFar id front left → (tied ≡ true → IsOf id log o) → IsLeftSoFar id (or_else front (cond tied (Some log) None)) (or_else left (cond tied o None))
+  one_more id (Some w) left true log o apart is of = absurd (none-some w (sym (apart refl)))
+  one_more id (Some w) left false log o apart is of = subst (IsOf id w) (sym (or_none left)) is
+  one_more id None left true log o apart is of = subst (λ l. IsOf id log (or_else l o)) (sym is) (of refl)
+  one_more id None left false log o apart is of = or_none left ∙ is
 
   abbrev pub AreLeftSoFar : List (ℕ × NotedLog) → List (ℕ × List ℕ) → Type 0
-  AreLeftSoFar logs left = (id : ℕ) → IsLeftSoFar (find nat_cmp id logs) (find nat_cmp id left)
+  AreLeftSoFar logs left = (id : ℕ) → IsLeftSoFar id (find nat_cmp id logs) (find nat_cmp id left)
 
   pub none_left : AreLeftSoFar [] []
   none_left id = refl
 
   log_more : (front behind : List (ℕ × NotedLog)) (log : ℕ × NotedLog) (left : List (ℕ × List ℕ)) (o : Option (List ℕ))
-      → IsStrictlySortedBy nat_cmp (keys_of (front ++ log ∷ behind)) → IsOf log.1 o → AreLeftSoFar front left
+      → IsStrictlySortedBy nat_cmp (keys_of (front ++ log ∷ behind)) → IsOf log.0 log.1 o → AreLeftSoFar front left
       → AreLeftSoFar (front ++ log ∷ []) (pushed left log.0 o)
   log_more front behind log left o rising of so_far id =
       let apart : eq_by_cmp nat_cmp id log.0 ≡ true → find nat_cmp id front ≡ None = λ tied.
       ap (λ q. find nat_cmp q front) (tells_apart finite.nat_cmp-IsAntisymmetric id log.0 tied) ∙ find_before front behind log rising in
-      subst (λ f. IsLeftSoFar f (find nat_cmp id (pushed left log.0 o))) (sym (find-push front log.0 log.1 id))
-      (subst (IsLeftSoFar (or_else (find nat_cmp id front) (cond (eq_by_cmp nat_cmp id log.0) (Some log.1) None))) (sym (find-pushed left log.0 o id))
-      (one_more (find nat_cmp id front) (find nat_cmp id left) (eq_by_cmp nat_cmp id log.0) log.1 o apart (so_far id) of))
+      let own : eq_by_cmp nat_cmp id log.0 ≡ true → IsOf id log.1 o = λ tied.
+      subst (λ q. IsOf q log.1 o) (sym (tells_apart finite.nat_cmp-IsAntisymmetric id log.0 tied)) of in
+      subst (λ f. IsLeftSoFar id f (find nat_cmp id (pushed left log.0 o))) (sym (find-push front log.0 log.1 id))
+      (subst (IsLeftSoFar id (or_else (find nat_cmp id front) (cond (eq_by_cmp nat_cmp id log.0) (Some log.1) None))) (sym (find-pushed left log.0 o id))
+      (one_more id (find nat_cmp id front) (find nat_cmp id left) (eq_by_cmp nat_cmp id log.0) log.1 o apart (so_far id) own))
 
   -- Loop invariant: some of the logs are done, the rest are not.
   pub record Came (rest all : List (ℕ × NotedLog)) (left : List (ℕ × Vec ℕ Global)) : Type 0 where
@@ -326,7 +311,7 @@ module _ (IsOf : NotedLog → Option (List ℕ) → Type 0) where
   none_came all = record { front = []; whole = refl; so_far = none_left }
 
   came_on : (rest behind all : List (ℕ × NotedLog)) (log : ℕ × NotedLog) (left now : List (ℕ × Vec ℕ Global)) (o : Option (List ℕ))
-      → IsStrictlySortedBy nat_cmp (keys_of all) → rest ≡ log ∷ behind → Came rest all left → IsOf log.1 o → listed now ≡ pushed (listed left) log.0 o
+      → IsStrictlySortedBy nat_cmp (keys_of all) → rest ≡ log ∷ behind → Came rest all left → IsOf log.0 log.1 o → listed now ≡ pushed (listed left) log.0 o
       → Came behind all now
   came_on rest behind all log left now o rising is came of more =
       let whole : all ≡ came.front ++ log ∷ behind = came.whole ∙ ap (λ (r : List (ℕ × NotedLog)). came.front ++ r) is in
@@ -339,14 +324,14 @@ module _ (IsOf : NotedLog → Option (List ℕ) → Type 0) where
 
   -- The next log leaves a file.
   pub came_with : (rest behind all : List (ℕ × NotedLog)) (log : ℕ × NotedLog) (left now : List (ℕ × Vec ℕ Global)) (file : Vec ℕ Global)
-      → IsStrictlySortedBy nat_cmp (keys_of all) → rest ≡ log ∷ behind → Came rest all left → IsOf log.1 (Some file.items)
+      → IsStrictlySortedBy nat_cmp (keys_of all) → rest ≡ log ∷ behind → Came rest all left → IsOf log.0 log.1 (Some file.items)
       → now ≡ left ++ (log.0, file) ∷ [] → Came behind all now
   came_with rest behind all log left now file rising is came of more =
       came_on rest behind all log left now (Some file.items) rising is came of (listed_more left now log.0 file more)
 
   -- The next log leaves no file.
   pub came_without : (rest behind all : List (ℕ × NotedLog)) (log : ℕ × NotedLog) (left : List (ℕ × Vec ℕ Global))
-      → IsStrictlySortedBy nat_cmp (keys_of all) → rest ≡ log ∷ behind → Came rest all left → IsOf log.1 None → Came behind all left
+      → IsStrictlySortedBy nat_cmp (keys_of all) → rest ≡ log ∷ behind → Came rest all left → IsOf log.0 log.1 None → Came behind all left
   came_without rest behind all log left rising is came of = came_on rest behind all log left left None rising is came of refl
 
   -- All logs are done if none remain.
@@ -357,99 +342,102 @@ module _ (IsOf : NotedLog → Option (List ℕ) → Type 0) where
 
 -- ---- removed files one after another
 
-back_more : (log : Option NotedLog) (removed before left : Option (List ℕ)) (tied : Bool) (file : List ℕ) (o : Option (List ℕ))
-    → (tied ≡ true → log ≡ None) → (tied ≡ true → removed ≡ None) → IsPutBack log removed before left → IsBackOf file o
-    → IsPutBack log (or_else removed (cond tied (Some file) None)) before (or_else left (cond tied o None))
-back_more (Some w) removed before left true file o free apart is of = absurd (none-some w (sym (free refl)))
-back_more (Some w) removed before left false file o free apart is of = or_none left ∙ is
-back_more None removed before left true file o free apart is of = λ none.
-    subst (λ g. IsBack (or_else g (Some file)) (or_else left o)) (sym (apart refl))
-    (subst (λ l. IsBackOf file (or_else l o)) (sym (subst (λ g. IsBack g left) (apart refl) (is none))) of)
-back_more None removed before left false file o free apart is of = λ none.
-    subst (λ g. IsBack g (or_else left None)) (sym (or_none removed)) (subst (IsBack removed) (sym (or_none left)) (is none))
+module _ (IsOf : List ℕ → Option (List ℕ) → Type 0) where
+  back_more : (log : Option NotedLog) (removed before left : Option (List ℕ)) (tied : Bool) (file : List ℕ) (o : Option (List ℕ))
+      → (tied ≡ true → log ≡ None) → (tied ≡ true → removed ≡ None) → IsPutBack IsOf log removed before left → (tied ≡ true → IsOf file o)
+      → IsPutBack IsOf log (or_else removed (cond tied (Some file) None)) before (or_else left (cond tied o None))
+  back_more (Some w) removed before left true file o free apart is of = absurd (none-some w (sym (free refl)))
+  back_more (Some w) removed before left false file o free apart is of = or_none left ∙ is
+  back_more None removed before left true file o free apart is of = λ none.
+      subst (λ g. IsBack IsOf (or_else g (Some file)) (or_else left o)) (sym (apart refl))
+      (subst (λ l. IsOf file (or_else l o)) (sym (subst (λ g. IsBack IsOf g left) (apart refl) (is none))) (of refl))
+  back_more None removed before left false file o free apart is of = λ none.
+      subst (λ g. IsBack IsOf g (or_else left None)) (sym (or_none removed)) (subst (IsBack IsOf removed) (sym (or_none left)) (is none))
 
-back_past : (log : Option NotedLog) (removed before left : Option (List ℕ)) (tied : Bool) (file : List ℕ) → (tied ≡ true → IsSome log)
-    → IsPutBack log removed before left → IsPutBack log (or_else removed (cond tied (Some file) None)) before left
-back_past (Some w) removed before left tied file held is = is
-back_past None removed before left true file held is = absurd (false≢true (held refl))
-back_past None removed before left false file held is = λ none. subst (λ g. IsBack g left) (sym (or_none removed)) (is none)
+  back_past : (log : Option NotedLog) (removed before left : Option (List ℕ)) (tied : Bool) (file : List ℕ) → (tied ≡ true → IsSome log)
+      → IsPutBack IsOf log removed before left → IsPutBack IsOf log (or_else removed (cond tied (Some file) None)) before left
+  back_past (Some w) removed before left tied file held is = is
+  back_past None removed before left true file held is = absurd (false≢true (held refl))
+  back_past None removed before left false file held is = λ none. subst (λ g. IsBack IsOf g left) (sym (or_none removed)) (is none)
 
-abbrev pub AreBackSoFar : List (ℕ × NotedLog) → List (ℕ × List ℕ) → List (ℕ × List ℕ) → List (ℕ × List ℕ) → Type 0
-AreBackSoFar logs gone before left = (id : ℕ) → IsPutBack (find nat_cmp id logs) (find nat_cmp id gone) (find nat_cmp id before) (find nat_cmp id left)
+-- The relation holds of each removed file with this id and what is back of it.
+module _ (IsOf : ℕ → List ℕ → Option (List ℕ) → Type 0) where
+  abbrev pub AreBackSoFar : List (ℕ × NotedLog) → List (ℕ × List ℕ) → List (ℕ × List ℕ) → List (ℕ × List ℕ) → Type 0
+  AreBackSoFar logs gone before left = (id : ℕ) → IsPutBack (IsOf id) (find nat_cmp id logs) (find nat_cmp id gone) (find nat_cmp id before) (find nat_cmp id left)
 
-pub none_back : (logs : List (ℕ × NotedLog)) (before : List (ℕ × List ℕ)) → AreBackSoFar logs [] before before
-none_back logs before id = start (find nat_cmp id logs) where
-  start : (log : Option NotedLog) → IsPutBack log None (find nat_cmp id before) (find nat_cmp id before)
-  start None = λ none. none
-  start (Some w) = refl
+  pub none_back : (logs : List (ℕ × NotedLog)) (before : List (ℕ × List ℕ)) → AreBackSoFar logs [] before before
+  none_back logs before id = start (find nat_cmp id logs) where
+    start : (log : Option NotedLog) → IsPutBack (IsOf id) log None (find nat_cmp id before) (find nat_cmp id before)
+    start None = λ none. none
+    start (Some w) = refl
 
--- Loop invariant: some of the removed files are done, the rest are not.
-pub record CameBack (logs : List (ℕ × NotedLog)) (rest all : List (ℕ × Vec ℕ Global)) (before left : List (ℕ × Vec ℕ Global)) : Type 0 where
-  pub front : List (ℕ × Vec ℕ Global)
-  pub whole : all ≡ front ++ rest
-  pub so_far : AreBackSoFar logs (listed front) (listed before) (listed left)
+  -- Loop invariant: some of the removed files are done, the rest are not.
+  pub record CameBack (logs : List (ℕ × NotedLog)) (rest all : List (ℕ × Vec ℕ Global)) (before left : List (ℕ × Vec ℕ Global)) : Type 0 where
+    pub front : List (ℕ × Vec ℕ Global)
+    pub whole : all ≡ front ++ rest
+    pub so_far : AreBackSoFar logs (listed front) (listed before) (listed left)
 
-pub none_came_back : (logs : List (ℕ × NotedLog)) (all before : List (ℕ × Vec ℕ Global)) → CameBack logs all all before before
-none_came_back logs all before = record { front = []; whole = refl; so_far = none_back logs (listed before) }
+  pub none_came_back : (logs : List (ℕ × NotedLog)) (all before : List (ℕ × Vec ℕ Global)) → CameBack logs all all before before
+  none_came_back logs all before = record { front = []; whole = refl; so_far = none_back logs (listed before) }
 
-module _ (logs : List (ℕ × NotedLog)) (rest behind all : List (ℕ × Vec ℕ Global)) (file : ℕ × Vec ℕ Global) (before left : List (ℕ × Vec ℕ Global))
-    (rising : IsStrictlySortedBy nat_cmp (keys_of all)) (is : rest ≡ file ∷ behind) (came : CameBack logs rest all before left) where
-  whole_is : all ≡ came.front ++ file ∷ behind
-  whole_is = came.whole ∙ ap (λ (r : List (ℕ × Vec ℕ Global)). came.front ++ r) is
+  module _ (logs : List (ℕ × NotedLog)) (rest behind all : List (ℕ × Vec ℕ Global)) (file : ℕ × Vec ℕ Global) (before left : List (ℕ × Vec ℕ Global))
+      (rising : IsStrictlySortedBy nat_cmp (keys_of all)) (is : rest ≡ file ∷ behind) (came : CameBack logs rest all before left) where
+    whole_is : all ≡ came.front ++ file ∷ behind
+    whole_is = came.whole ∙ ap (λ (r : List (ℕ × Vec ℕ Global)). came.front ++ r) is
 
-  gone_more : (id : ℕ) → find nat_cmp id (listed (came.front ++ file ∷ []))
-      ≡ or_else (find nat_cmp id (listed came.front)) (cond (eq_by_cmp nat_cmp id file.0) (Some file.1.items) None)
-  gone_more id = ap (find nat_cmp id) (listed_more came.front (came.front ++ file ∷ []) file.0 file.1 refl) ∙ find-push (listed came.front) file.0 file.1.items id
+    gone_more : (id : ℕ) → find nat_cmp id (listed (came.front ++ file ∷ []))
+        ≡ or_else (find nat_cmp id (listed came.front)) (cond (eq_by_cmp nat_cmp id file.0) (Some file.1.items) None)
+    gone_more id = ap (find nat_cmp id) (listed_more came.front (came.front ++ file ∷ []) file.0 file.1 refl) ∙ find-push (listed came.front) file.0 file.1.items id
 
-  same_id : (id : ℕ) → eq_by_cmp nat_cmp id file.0 ≡ true → id ≡ file.0
-  same_id id tied = tells_apart finite.nat_cmp-IsAntisymmetric id file.0 tied
+    same_id : (id : ℕ) → eq_by_cmp nat_cmp id file.0 ≡ true → id ≡ file.0
+    same_id id tied = tells_apart finite.nat_cmp-IsAntisymmetric id file.0 tied
 
-  first_here : find nat_cmp file.0 (listed came.front) ≡ None
-  first_here = find-map (λ v. v.items) came.front file.0
-      ∙ ap (option_map (λ v. v.items)) (find_before came.front behind file (subst (λ l. IsStrictlySortedBy nat_cmp (keys_of l)) whole_is rising))
+    first_here : find nat_cmp file.0 (listed came.front) ≡ None
+    first_here = find-map (λ v. v.items) came.front file.0
+        ∙ ap (option_map (λ v. v.items)) (find_before came.front behind file (subst (λ l. IsStrictlySortedBy nat_cmp (keys_of l)) whole_is rising))
 
-  back_on : (now : List (ℕ × Vec ℕ Global)) (o : Option (List ℕ)) → find nat_cmp file.0 logs ≡ None → IsBackOf file.1.items o
-      → listed now ≡ pushed (listed left) file.0 o → CameBack logs behind all before now
-  back_on now o free of more = record {
-    front = came.front ++ file ∷ [];
-    whole = whole_is ∙ sym (append_assoc came.front (file ∷ []) behind);
-    so_far = λ id.
-        subst (λ g. IsPutBack (find nat_cmp id logs) g (find nat_cmp id (listed before)) (find nat_cmp id (listed now))) (sym (gone_more id))
-        (subst (IsPutBack (find nat_cmp id logs) (or_else (find nat_cmp id (listed came.front)) (cond (eq_by_cmp nat_cmp id file.0) (Some file.1.items) None))
-        (find nat_cmp id (listed before))) (sym (ap (find nat_cmp id) more ∙ find-pushed (listed left) file.0 o id))
-        (back_more (find nat_cmp id logs) (find nat_cmp id (listed came.front)) (find nat_cmp id (listed before)) (find nat_cmp id (listed left))
-        (eq_by_cmp nat_cmp id file.0) file.1.items o
-        (λ tied. ap (λ q. find nat_cmp q logs) (same_id id tied) ∙ free)
-        (λ tied. ap (λ q. find nat_cmp q (listed came.front)) (same_id id tied) ∙ first_here)
-        (came.so_far id) of));
-  }
+    back_on : (now : List (ℕ × Vec ℕ Global)) (o : Option (List ℕ)) → find nat_cmp file.0 logs ≡ None → IsOf file.0 file.1.items o
+        → listed now ≡ pushed (listed left) file.0 o → CameBack logs behind all before now
+    back_on now o free of more = record {
+      front = came.front ++ file ∷ [];
+      whole = whole_is ∙ sym (append_assoc came.front (file ∷ []) behind);
+      so_far = λ id.
+          subst (λ g. IsPutBack (IsOf id) (find nat_cmp id logs) g (find nat_cmp id (listed before)) (find nat_cmp id (listed now))) (sym (gone_more id))
+          (subst (IsPutBack (IsOf id) (find nat_cmp id logs) (or_else (find nat_cmp id (listed came.front)) (cond (eq_by_cmp nat_cmp id file.0) (Some file.1.items) None))
+          (find nat_cmp id (listed before))) (sym (ap (find nat_cmp id) more ∙ find-pushed (listed left) file.0 o id))
+          (back_more (IsOf id) (find nat_cmp id logs) (find nat_cmp id (listed came.front)) (find nat_cmp id (listed before)) (find nat_cmp id (listed left))
+          (eq_by_cmp nat_cmp id file.0) file.1.items o
+          (λ tied. ap (λ q. find nat_cmp q logs) (same_id id tied) ∙ free)
+          (λ tied. ap (λ q. find nat_cmp q (listed came.front)) (same_id id tied) ∙ first_here)
+          (came.so_far id) (λ tied. subst (λ q. IsOf q file.1.items o) (sym (same_id id tied)) of)));
+    }
 
-  -- The file is back.
-  pub back_with : (now : List (ℕ × Vec ℕ Global)) (bytes : Vec ℕ Global) → find nat_cmp file.0 logs ≡ None → IsBackOf file.1.items (Some bytes.items)
-      → now ≡ left ++ (file.0, bytes) ∷ [] → CameBack logs behind all before now
-  back_with now bytes free of more = back_on now (Some bytes.items) free of (listed_more left now file.0 bytes more)
+    -- The file is back.
+    pub back_with : (now : List (ℕ × Vec ℕ Global)) (bytes : Vec ℕ Global) → find nat_cmp file.0 logs ≡ None → IsOf file.0 file.1.items (Some bytes.items)
+        → now ≡ left ++ (file.0, bytes) ∷ [] → CameBack logs behind all before now
+    back_with now bytes free of more = back_on now (Some bytes.items) free of (listed_more left now file.0 bytes more)
 
-  -- The file is not back.
-  pub back_without : find nat_cmp file.0 logs ≡ None → CameBack logs behind all before left
-  back_without free = back_on left None free tt refl
+    -- The file is not back.
+    pub back_without : find nat_cmp file.0 logs ≡ None → IsOf file.0 file.1.items None → CameBack logs behind all before left
+    back_without free of = back_on left None free of refl
 
-  -- There is a log with its id, so it is not back.
-  pub back_beside : IsSome (find nat_cmp file.0 logs) → CameBack logs behind all before left
-  back_beside held = record {
-    front = came.front ++ file ∷ [];
-    whole = whole_is ∙ sym (append_assoc came.front (file ∷ []) behind);
-    so_far = λ id.
-        subst (λ g. IsPutBack (find nat_cmp id logs) g (find nat_cmp id (listed before)) (find nat_cmp id (listed left))) (sym (gone_more id))
-        (back_past (find nat_cmp id logs) (find nat_cmp id (listed came.front)) (find nat_cmp id (listed before)) (find nat_cmp id (listed left))
-        (eq_by_cmp nat_cmp id file.0) file.1.items
-        (λ tied. subst (λ q. IsSome (find nat_cmp q logs)) (sym (same_id id tied)) held) (came.so_far id));
-  }
+    -- There is a log with its id, so it is not back.
+    pub back_beside : IsSome (find nat_cmp file.0 logs) → CameBack logs behind all before left
+    back_beside held = record {
+      front = came.front ++ file ∷ [];
+      whole = whole_is ∙ sym (append_assoc came.front (file ∷ []) behind);
+      so_far = λ id.
+          subst (λ g. IsPutBack (IsOf id) (find nat_cmp id logs) g (find nat_cmp id (listed before)) (find nat_cmp id (listed left))) (sym (gone_more id))
+          (back_past (IsOf id) (find nat_cmp id logs) (find nat_cmp id (listed came.front)) (find nat_cmp id (listed before)) (find nat_cmp id (listed left))
+          (eq_by_cmp nat_cmp id file.0) file.1.items
+          (λ tied. subst (λ q. IsSome (find nat_cmp q logs)) (sym (same_id id tied)) held) (came.so_far id));
+    }
 
-pub all_came_back : (logs : List (ℕ × NotedLog)) (rest all before left : List (ℕ × Vec ℕ Global)) → rest ≡ [] → CameBack logs rest all before left
-    → AreBackSoFar logs (listed all) (listed before) (listed left)
-all_came_back logs rest all before left none came =
-    let whole : all ≡ came.front = came.whole ∙ ap (λ (r : List (ℕ × Vec ℕ Global)). came.front ++ r) none ∙ append-nil came.front in
-    subst (λ l. AreBackSoFar logs (listed l) (listed before) (listed left)) (sym whole) came.so_far
+  pub all_came_back : (logs : List (ℕ × NotedLog)) (rest all before left : List (ℕ × Vec ℕ Global)) → rest ≡ [] → CameBack logs rest all before left
+      → AreBackSoFar logs (listed all) (listed before) (listed left)
+  all_came_back logs rest all before left none came =
+      let whole : all ≡ came.front = came.whole ∙ ap (λ (r : List (ℕ × Vec ℕ Global)). came.front ++ r) none ∙ append-nil came.front in
+      subst (λ l. AreBackSoFar logs (listed l) (listed before) (listed left)) (sym whole) came.so_far
 
 -- ---- all of it
 
@@ -468,48 +456,29 @@ module _ (written : Written) where
   abbrev pub gone : List (ℕ × List ℕ)
   gone = map (λ e. (e.0, e.1.items)) written.gone.entries
 
-  pub all_back : (before left : List (ℕ × Vec ℕ Global)) → AreBackSoFar logs gone (listed before) (listed left) → ArePutBack written before left
-  all_back before left back id =
+  pub all_back : (IsOf : ℕ → List ℕ → Option (List ℕ) → Type 0) (before left : List (ℕ × Vec ℕ Global)) → AreBackSoFar IsOf logs gone (listed before) (listed left)
+      → ArePutBack IsOf written before left
+  all_back IsOf before left back id =
       rw (at logs id) (rw (at gone id) (rw (at (listed before) id) (rw (at (listed left) id) (back id))))
 
-  file_at : (id : ℕ) → finite.get (files_of written) id ≡ option_map (λ log. log.bytes) (finite.get (logs_of written) id)
+  pub file_at : (id : ℕ) → finite.get (files_of written) id ≡ option_map (λ log. log.bytes) (finite.get (logs_of written) id)
   file_at id = get-mapped (λ log. log.bytes) logs id
 
-  -- What is left at an id at the end, for this relation on logs.
-  abbrev pub IsLeftAt : (NotedLog → Option (List ℕ) → Type 0) → Option NotedLog → Option (List ℕ) → Option (List ℕ) → Type 0
-  IsLeftAt IsOf (Some log) removed now = IsOf log now
-  IsLeftAt IsOf None removed now = IsBack removed now
+  -- What is left at an id at the end, for a relation on logs and one on removed files.
+  module _ (IsOf : ℕ → NotedLog → Option (List ℕ) → Type 0) (IsBackFrom : ℕ → List ℕ → Option (List ℕ) → Type 0) where
+    abbrev pub IsLeftAt : ℕ → Option NotedLog → Option (List ℕ) → Option (List ℕ) → Type 0
+    IsLeftAt id (Some log) removed now = IsOf id log now
+    IsLeftAt id None removed now = IsBack (IsBackFrom id) removed now
 
-  module _ (IsOf : NotedLog → Option (List ℕ) → Type 0) (before left : List (ℕ × Vec ℕ Global)) (so_far : AreLeftSoFar IsOf logs (listed before))
-      (back : ArePutBack written before left) where
-    ends : (log : Option NotedLog) (removed old now : Option (List ℕ)) → IsLeftSoFar IsOf log old → IsPutBack log removed old now
-        → IsLeftAt IsOf log removed now
-    ends (Some log) removed old now is put = subst (IsOf log) (sym put) is
-    ends None removed old now is put = put is
+    module _ (before left : List (ℕ × Vec ℕ Global)) (so_far : AreLeftSoFar IsOf logs (listed before)) (back : ArePutBack IsBackFrom written before left) where
+      ends : (id : ℕ) (log : Option NotedLog) (removed old now : Option (List ℕ)) → IsLeftSoFar IsOf id log old → IsPutBack (IsBackFrom id) log removed old now
+          → IsLeftAt id log removed now
+      ends id (Some log) removed old now is put = subst (IsOf id log) (sym put) is
+      ends id None removed old now is put = put is
 
-    pub left_at : (id : ℕ) → IsLeftAt IsOf (finite.get (logs_of written) id) (finite.get (gone_of written) id) (finite.get (by_id left) id)
-    left_at id = ends (finite.get (logs_of written) id) (finite.get (gone_of written) id) (finite.get (by_id before) id) (finite.get (by_id left) id)
-        (rw (at logs id) (rw (at (listed before) id) (so_far id))) (back id)
-
-    -- If the relation allows what is left of each log, it allows each file that is left.
-    pub each_left : ((id : ℕ) (log : NotedLog) (file : List ℕ) → finite.get (logs_of written) id ≡ Some log → IsOf log (Some file) → IsCut log.bytes file)
-        → (id : ℕ) (file : List ℕ) → finite.get (by_id left) id ≡ Some file → IsLeft (files_of written) (gone_of written) id file
-    each_left cuts id file is =
-        each_of (finite.get (logs_of written) id) (finite.get (gone_of written) id) (finite.get (by_id left) id) refl refl is (left_at id) where
-          each_of : (log : Option NotedLog) (removed now : Option (List ℕ)) → finite.get (logs_of written) id ≡ log
-              → finite.get (gone_of written) id ≡ removed → now ≡ Some file → IsLeftAt IsOf log removed now → IsLeft (files_of written) (gone_of written) id file
-          each_of (Some log) removed now there was is of = inl (
-            log.bytes,
-            file_at id ∙ ap (option_map (λ log. log.bytes)) there,
-            cuts id log file there (subst (IsOf log) is of),
-          )
-          each_of None (Some old) now there was is of = inr (
-            old,
-            file_at id ∙ ap (option_map (λ log. log.bytes)) there,
-            was,
-            subst (IsBackOf old) is of,
-          )
-          each_of None None now there was is of = absurd (none-some file (sym of ∙ is))
+      pub left_at : (id : ℕ) → IsLeftAt id (finite.get (logs_of written) id) (finite.get (gone_of written) id) (finite.get (by_id left) id)
+      left_at id = ends id (finite.get (logs_of written) id) (finite.get (gone_of written) id) (finite.get (by_id before) id) (finite.get (by_id left) id)
+          (rw (at logs id) (rw (at (listed before) id) (so_far id))) (back id)
 
   -- ---- what is left if bytes are kept as written
 
@@ -519,89 +488,32 @@ module _ (written : Written) where
   stands_of log synced None is none = absurd (none-some synced (sym none ∙ is))
   stands_of log synced (Some file) is of = (file, refl, subst (λ o. HasSynced o log.bytes file) is of.1)
 
-  pub all_left : (before left : List (ℕ × Vec ℕ Global)) → AreLeftSoFar IsLeftOf logs (listed before) → ArePutBack written before left
-      → (kept : Files) → AreSynced written kept → MayLeave (files_of written) (gone_of written) kept (by_id left)
-  all_left before left so_far back kept synced = record {
-    stands = λ id file is.
-        let one = synced.each id file is in
-        let of = subst (λ o. IsLeftAt IsLeftOf o (finite.get (gone_of written) id) (finite.get (by_id left) id)) one.2 (left_at IsLeftOf before left so_far back id) in
-        let now = stands_of one.0 one.1 (finite.get (by_id left) id) one.3 of in
-        (now.0, now.1, longer_trans file (take one.1 one.0.bytes) now.0 one.4 now.2);
-    each = each_left IsLeftOf before left so_far back (λ id log file there of. of.0);
-  }
+  module _ (before left : List (ℕ × Vec ℕ Global)) (so_far : AreLeftSoFar (λ id. IsLeftOf) logs (listed before)) (back : ArePutBack (λ id. IsBackOf) written before left) where
+    each_left : (id : ℕ) (file : List ℕ) (log : Option NotedLog) (removed now : Option (List ℕ)) → finite.get (logs_of written) id ≡ log
+        → finite.get (gone_of written) id ≡ removed → now ≡ Some file → IsLeftAt (λ id. IsLeftOf) (λ id. IsBackOf) id log removed now
+        → IsLeft (files_of written) (gone_of written) id file
+    each_left id file (Some log) removed now there was is of = inl (
+      log.bytes,
+      file_at id ∙ ap (option_map (λ log. log.bytes)) there,
+      (subst (IsLeftOf log) is of).0,
+    )
+    each_left id file None (Some old) now there was is of = inr (
+      old,
+      file_at id ∙ ap (option_map (λ log. log.bytes)) there,
+      was,
+      subst (IsBackOf old) is of,
+    )
+    each_left id file None None now there was is of = absurd (none-some file (sym of ∙ is))
 
-  -- ---- what is left before watermarks
-
-  module _ (kept : Files) (marks : marking.Written) (synced : AreSynced written kept) (marked : AreMarked written marks) (covered : AreCovered kept marks) where
-    -- The durable part of a log, and its watermark.
-    record Known (id : ℕ) (log : NotedLog) : Type 0 where
-      pub mark : Mark
-      pub there : finite.get marks id ≡ Some mark
-      pub sure : mark.sure ≡ log.sure
-      pub last : mark.last ≡ log.last
-
-    known : (id : ℕ) (log : NotedLog) (n : ℕ) → finite.get (logs_of written) id ≡ Some log → log.synced ≡ Some n → Known id log
-    known id log n there is = by_mark (finite.get marks id) refl (marked.each id log there) where
-      by_mark : (o : Option Mark) → finite.get marks id ≡ o → HasMarkOf o log → Known id log
-      by_mark None none of = absurd (none-some n (sym of ∙ is))
-      by_mark (Some mark) here of = record { mark = mark; there = here; sure = of.0; last = of.1 }
-
-    -- The watermarks of a log do not exceed its synced length.
-    within : (id : ℕ) (log : NotedLog) (n at : ℕ) → finite.get (logs_of written) id ≡ Some log → log.synced ≡ Some n
-        → (at ≡ log.sure) ⊎ (at ≡ log.last) → at ≤ header_length + length (drop header_length (take n log.bytes))
-    within id log n at there is which =
-        let one = known id log n there is in
-        let held = covered.covers id one.mark one.there in
-        let own = synced.each id held.0 held.1 in
-        let same : own.0 ≡ log = same_Some _ _ (sym own.2 ∙ there) in
-        let count : own.1 ≡ n = same_Some _ _ (sym own.3 ∙ ap (λ (l : NotedLog). l.synced) same ∙ is) in
-        let part : IsLonger held.0 (take n log.bytes) =
-        subst (λ k. IsLonger held.0 (take k log.bytes)) count (subst (λ l. IsLonger held.0 (take own.1 l.bytes)) same own.4) in
-        let least : at ≤ one.mark.last = elim which [
-          | inl sure ↦ omega (arith, sure, one.sure, covered.order id one.mark one.there)
-          | inr last ↦ omega (arith, last, one.last)
-        ] in
-        omega (arith, least, held.2, ap length part.is, length-append (drop header_length held.0) part.behind)
-
-    cut_in_front : (id : ℕ) (log : NotedLog) (file : List ℕ) → finite.get (logs_of written) id ≡ Some log → IsInFront log (Some file)
-        → IsCut log.bytes file
-    cut_in_front id log file there of = by_synced log.synced refl of.2 where
-      by_synced : (o : Option ℕ) → log.synced ≡ o → IsBefore o log.bytes of.0 file → IsCut log.bytes file
-      by_synced None none cut = cut
-      by_synced (Some n) is one = subst (IsCut log.bytes) (sym one.1)
-          (marked_cut (take n log.bytes) log.bytes one.0 one.2 of.0 (within id log n of.0 there is of.1))
-
-    stands_in_front : (id : ℕ) (log : NotedLog) (n : ℕ) (now : Option (List ℕ)) → finite.get (logs_of written) id ≡ Some log
-        → log.synced ≡ Some n → IsInFront log now → (mark : Mark) → finite.get marks id ≡ Some mark
-        → (file : List ℕ) × (now ≡ Some file) × IsLonger (take mark.sure (take n log.bytes)) file
-    stands_in_front id log n None there is none mark here = absurd (none-some n (sym none ∙ is))
-    stands_in_front id log n (Some file) there is of mark here =
-        let one = known id log n there is in
-        let same : one.mark ≡ mark = same_Some _ _ (sym one.there ∙ here) in
-        let sure : mark.sure ≡ log.sure = ap (λ (m : Mark). m.sure) (sym same) ∙ one.sure in
-        let order : mark.sure ≤ of.0 = elim of.1 [
-          | inl at ↦ omega (arith, at, sure)
-          | inr at ↦ omega (arith, at, one.last, ap (λ (m : Mark). m.last) same, covered.order id mark here)
-        ] in
-        let before : IsBefore (Some n) log.bytes of.0 file = subst (λ o. IsBefore o log.bytes of.0 file) is of.2 in (
-          file,
-          refl,
-          subst (IsLonger (take mark.sure (take n log.bytes))) (sym before.1)
-              (longer_fronts mark.sure of.0 (take n log.bytes) before.0 order before.2.stands),
-        )
-
-    pub all_in_front : (before left : List (ℕ × Vec ℕ Global)) → AreLeftSoFar IsInFront logs (listed before) → ArePutBack written before left
-        → MayLeave (files_of written) (gone_of written) (sure_fronts kept marks) (by_id left)
-    all_in_front before left so_far back = record {
-      stands = λ id front is.
-          let old = front_there kept marks id front is in
-          let own = synced.each id old.file old.there in
-          let of = subst (λ o. IsLeftAt IsInFront o (finite.get (gone_of written) id) (finite.get (by_id left) id)) own.2
-          (left_at IsInFront before left so_far back id) in
-          let now = stands_in_front id own.0 own.1 (finite.get (by_id left) id) own.2 own.3 of old.mark old.marked in
-          let longer : IsLonger front (take old.mark.sure (take own.1 own.0.bytes)) =
-          subst (λ f. IsLonger f (take old.mark.sure (take own.1 own.0.bytes))) (sym old.is)
-          (longer_fronts old.mark.sure old.mark.sure old.file (take own.1 own.0.bytes) (omega arith) own.4) in
-          (now.0, now.1, longer_trans front (take old.mark.sure (take own.1 own.0.bytes)) now.0 longer now.2);
-      each = each_left IsInFront before left so_far back cut_in_front;
+    pub all_left : (kept : Files) → AreSynced written kept → MayLeave (files_of written) (gone_of written) kept (by_id left)
+    all_left kept synced = record {
+      stands = λ id file is.
+          let one = synced.each id file is in
+          let of = subst (λ o. IsLeftAt (λ id. IsLeftOf) (λ id. IsBackOf) id o (finite.get (gone_of written) id) (finite.get (by_id left) id)) one.2
+          (left_at (λ id. IsLeftOf) (λ id. IsBackOf) before left so_far back id) in
+          let now = stands_of one.0 one.1 (finite.get (by_id left) id) one.3 of in
+          (now.0, now.1, longer_trans file (take one.1 one.0.bytes) now.0 one.4 now.2);
+      each = λ id file is.
+          each_left id file (finite.get (logs_of written) id) (finite.get (gone_of written) id) (finite.get (by_id left) id) refl refl is
+          (left_at (λ id. IsLeftOf) (λ id. IsBackOf) before left so_far back id);
     }

@@ -6,4 +6,5 @@ pub mod Leaving
 pub mod Notes
 pub mod PublishedEntries
 pub mod Remaining
+pub mod RemainingLogs
 pub mod Twice

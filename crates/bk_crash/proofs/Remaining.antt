@@ -1,5 +1,5 @@
 -- What an opening by the manifest shows of a damaged disk is what a crash may leave.
-use Rattle.std.proofs.Common.{◌≡◌, ◌⊎◌, inl, inr, ℕ, ◌+◌, ◌≤◌, ◌<◌, List, [], ◌++◌, length, take, drop, Option, Some, None, IsSome, option_map, unwrap_or}
+use Rattle.std.proofs.Common.{◌≡◌, inl, inr, ℕ, ◌+◌, ◌≤◌, List, [], ◌++◌, length, take, drop, Option, Some, None, IsSome, option_map, unwrap_or}
 use Rattle.std.proofs.Common.{refl, sym, ap, ◌∙◌, subst, arith, length-drop, length-take}
 use Rattle.std.proofs.lemmas.List.{take-take}
 use Rattle.std.proofs.lemmas.Option.{same_Some, none-some}
@@ -23,7 +23,7 @@ use Rattle.bk_manifest_disk.proofs.Recorded.{rises_some}
 use Rattle.bk_manifest_disk.proofs.DurableFronts.{front_there}
 use Rattle.bk_store.specs.Crash.{IsCut, IsLeft, MayLeave}
 use Rattle.bk_crash.specs.Remaining.{IsDamagedBy, IsBackBy, MayRemain}
-use Rattle.bk_crash.proofs.Damage.{marked_cut}
+use Rattle.bk_crash.proofs.Damage.{front_cut}
 
 -- ---- one file
 
@@ -79,7 +79,7 @@ module _ (files gone kept left : Files) (limits : LogLimits) (records noted : Li
   held_cut log None file now fits damaged = absurd fits
   held_cut log (Some Made) file now fits damaged = empty_cut (shown (map.get limits log) file)
   held_cut log (Some (Durable n)) file now fits damaged =
-      cut_in_front (map.get limits log) file (take n now) (marked_cut (file_of kept log) file now damaged n (covers log n fits.1.0 fits.1.1 fits.1.2))
+      cut_in_front (map.get limits log) file (take n now) (front_cut (file_of kept log) file now damaged n (covers log n fits.1.0 fits.1.1 fits.1.2))
       (omega (arith, fits.0, length-take n now))
   held_cut log (Some (Removed n)) file now fits damaged = cut_in_front (map.get limits log) file (take n now) damaged (omega (arith, fits, length-take n now))
 

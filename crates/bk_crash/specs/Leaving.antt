@@ -1,5 +1,5 @@
 -- What a loss of power may leave of a log, and of a removed file.
-use Rattle.std.specs.Prelude.{◌≡◌, ◌⊎◌, ℕ, List, take, length, Option, None, Some, Vec}
+use Rattle.std.specs.Prelude.{◌≡◌, ◌⊎◌, ℕ, ◌≤◌, List, ◌++◌, take, length, Option, None, Some, Vec}
 use Rattle.std.specs.Global.{Global}
 use Rattle.std.specs.FinMap as finite
 use Rattle.bk_record.specs.Files.{Files}
@@ -7,7 +7,6 @@ use Rattle.bk_record.specs.Longer.{IsLonger}
 use Rattle.bk_disk.specs.Disk.{patched_file}
 use Rattle.bk_disk.specs.Logs.{listed}
 use Rattle.bk_store.specs.Crash.{IsCut}
-use Rattle.bk_crash.specs.Damage.{IsDamaged}
 use Rattle.bk_crash.specs.Noting.{NotedLog}
 
 -- ---- what is left
@@ -31,29 +30,28 @@ IsBackOf file (Some left) = IsCut file left
 abbrev pub IsSpoiled : List ℕ → List ℕ → Type 0
 IsSpoiled file now = (now ≡ file) ⊎ ((bytes : List ℕ) × (length bytes ≡ 12) × (now ≡ patched_file file bytes))
 
--- What is back of a removed file. Nothing if there was no such file.
-abbrev pub IsBack : Option (List ℕ) → Option (List ℕ) → Type 0
-IsBack None left = left ≡ None
-IsBack (Some file) left = IsBackOf file left
+-- A prefix of a log of at least that many bytes, possibly with other bytes in its patched header.
+abbrev pub IsBegun : NotedLog → ℕ → List ℕ → Type 0
+IsBegun log least left = (count : ℕ) × (least ≤ count) × IsSpoiled (take count log.bytes) left
+
+-- What is back of a removed file, by a relation. Nothing if there was no such file.
+abbrev pub IsBack : (List ℕ → Option (List ℕ) → Type 0) → Option (List ℕ) → Option (List ℕ) → Type 0
+IsBack IsOf None left = left ≡ None
+IsBack IsOf (Some file) left = IsOf file left
 
 -- A log that is left is unchanged. If there is no log, a removed file may be back.
-abbrev pub IsPutBack : Option NotedLog → Option (List ℕ) → Option (List ℕ) → Option (List ℕ) → Type 0
-IsPutBack (Some log) removed before left = left ≡ before
-IsPutBack None removed before left = before ≡ None → IsBack removed left
+abbrev pub IsPutBack : (List ℕ → Option (List ℕ) → Type 0) → Option NotedLog → Option (List ℕ) → Option (List ℕ) → Option (List ℕ) → Type 0
+IsPutBack IsOf (Some log) removed before left = left ≡ before
+IsPutBack IsOf None removed before left = before ≡ None → IsBack IsOf removed left
 
 -- The files of a list, by id.
 abbrev pub by_id : List (ℕ × Vec ℕ Global) → Files
 by_id files = finite.from_entries (listed files)
 
--- ---- what is left before a watermark
+-- ---- damage
 
--- The part before a watermark: a cut if nothing was synced, otherwise that part of a damaged file.
-abbrev pub IsBefore : Option ℕ → List ℕ → ℕ → List ℕ → Type 0
-IsBefore None bytes mark now = IsCut bytes now
-IsBefore (Some synced) bytes mark now = (left : List ℕ) × (now ≡ take mark left) × IsDamaged (take synced bytes) bytes left
-
--- What is left of a log before its durable watermark or the last one written. No file only if
--- nothing was synced.
-abbrev pub IsInFront : NotedLog → Option (List ℕ) → Type 0
-IsInFront log None = log.synced ≡ None
-IsInFront log (Some now) = (mark : ℕ) × ((mark ≡ log.sure) ⊎ (mark ≡ log.last)) × IsBefore log.synced log.bytes mark now
+-- A file that is at least this long, with any bytes from there or from a later position on; or the
+-- file as it was.
+abbrev pub IsDamagedFrom : ℕ → List ℕ → List ℕ → Type 0
+IsDamagedFrom end file now = (now ≡ file)
+    ⊎ ((end ≤ length file) × (n : ℕ) × (end ≤ n) × (more : List ℕ) × (now ≡ take n file ++ more))

@@ -1,27 +1,24 @@
--- The record of the calls on a test disk: of each log its bytes, its synced length and its
--- watermarks; and the removed files.
-use Rattle.std.specs.Prelude.{◌≡◌, ◌⊎◌, ℕ, Bool, true, false, List, [], ◌++◌, length, Option, None, Some, Result, Ok, Err, refl}
+-- The record of the calls on a test disk: of each log its bytes and its synced length; and the
+-- removed files.
+use Rattle.std.specs.Prelude.{◌≡◌, ◌⊎◌, ℕ, Bool, true, false, min, List, [], ◌++◌, length, take, Option, None, Some, option_map, Result, Ok, Err, refl}
 use Rattle.std.specs.Ordering.{nat_cmp}
 use Rattle.std.specs.Option.{option_map_or}
 use Rattle.std.specs.Coded.{Coded, code_by, coded×, coded_ℕ, coded_bool, coded_list, coded_option}
 use Rattle.std.specs.FinMap as finite
-use Rattle.bk_record.specs.Files.{Files, header_length}
+use Rattle.bk_record.specs.Files.{Files}
 use Rattle.bk_disk.specs.Disk.{patched_file}
 use Rattle.bk_disk.specs.declared.fault.DiskFault.{DiskFault}
 
 -- The record of a log: its bytes; the number of its durable bytes, or `None` if the file itself is
--- not durable. Also whether its header was patched since, its durable watermark, and the last one
--- written.
+-- not durable; and whether its header was patched since.
 pub record NotedLog : Type 0 where
   pub bytes : List ℕ
   pub synced : Option ℕ
   pub patched : Bool
-  pub sure : ℕ
-  pub last : ℕ
 
 abbrev pub log_code : Coded NotedLog
-log_code = code_by (List ℕ × (Option ℕ × (Bool × (ℕ × ℕ)))) (coded× (coded_list coded_ℕ) (coded× (coded_option coded_ℕ) (coded× coded_bool (coded× coded_ℕ coded_ℕ))))
-    (λ l. (l.bytes, (l.synced, (l.patched, (l.sure, l.last))))) (λ p. record { bytes = p.0; synced = p.1.0; patched = p.1.1.0; sure = p.1.1.1.0; last = p.1.1.1.1 }) (λ _. refl)
+log_code = code_by (List ℕ × (Option ℕ × Bool)) (coded× (coded_list coded_ℕ) (coded× (coded_option coded_ℕ) coded_bool))
+    (λ l. (l.bytes, (l.synced, l.patched))) (λ p. record { bytes = p.0; synced = p.1.0; patched = p.1.1 }) (λ _. refl)
 
 abbrev pub NotedLogs : Type 0
 NotedLogs = finite.FinMap nat_cmp NotedLog
@@ -30,11 +27,11 @@ NotedLogs = finite.FinMap nat_cmp NotedLog
 
 -- A log that is durable with all its bytes.
 abbrev pub found_log : List ℕ → NotedLog
-found_log bytes = record { bytes = bytes; synced = Some (length bytes); patched = false; sure = length bytes; last = length bytes }
+found_log bytes = record { bytes = bytes; synced = Some (length bytes); patched = false }
 
 -- A log that was created.
 abbrev pub made_log : NotedLog
-made_log = record { bytes = []; synced = None; patched = false; sure = header_length; last = header_length }
+made_log = record { bytes = []; synced = None; patched = false }
 
 -- With more bytes at its end.
 abbrev pub longer_log : List ℕ → NotedLog → NotedLog
@@ -44,13 +41,13 @@ longer_log more log = record log { bytes = log.bytes ++ more }
 abbrev pub patched_log : List ℕ → NotedLog → NotedLog
 patched_log bytes log = record log { bytes = patched_file log.bytes bytes; patched = true }
 
--- Durable as it is, with the last watermark written.
+-- Durable as it is.
 abbrev pub synced_log : NotedLog → NotedLog
-synced_log log = record log { synced = Some (length log.bytes); patched = false; sure = log.last }
+synced_log log = record log { synced = Some (length log.bytes); patched = false }
 
--- With another watermark written.
-abbrev pub marked_log : ℕ → NotedLog → NotedLog
-marked_log mark log = record log { last = mark }
+-- Truncated. No byte that is cut off stays durable.
+abbrev pub cut_log : ℕ → NotedLog → NotedLog
+cut_log n log = record log { bytes = take n log.bytes; synced = option_map (λ synced. min synced n) log.synced }
 
 -- ---- all logs
 
@@ -74,9 +71,3 @@ IsNoted (Err _) before now after = now ≡ before
 abbrev pub IsNotedInPart : {T X : Type 0} → Result T DiskFault → X → X → (ℕ → X) → X → Type 0
 IsNotedInPart (Ok _) before now part after = now ≡ after
 IsNotedInPart (Err _) before now part after = (now ≡ before) ⊎ ((n : ℕ) × (now ≡ part n))
-
--- A watermark that was written is recorded, and its log as synced. If writing fails, the watermark
--- may be recorded.
-abbrev pub IsMarkNoted : {T : Type 0} → Result T DiskFault → NotedLogs → NotedLogs → NotedLogs → ℕ → Type 0
-IsMarkNoted (Ok _) before now marked log = now ≡ noted synced_log marked log
-IsMarkNoted (Err _) before now marked log = (now ≡ before) ⊎ (now ≡ marked)

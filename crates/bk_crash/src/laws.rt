@@ -4,9 +4,6 @@ ghost use Rattle.std.specs.Prelude.{◌≡◌, ◌++◌, ℕ, List, take, true};
 ghost use Rattle.std.specs.FinMap as map;
 ghost use Rattle.bk_record.specs.Files.{Files, file_of};
 ghost use Rattle.bk_record.specs.Scan.{Payloads};
-ghost use Rattle.bk_disk.specs.Watermarks.{Watermarks, AreTruncated};
-ghost use Rattle.bk_watermark.specs.Marking.{Written, AreCovered, sure_fronts};
-ghost use Rattle.bk_crash.specs.Damage.{MayDamage};
 ghost use Rattle.bk_crash.specs.Remaining.{MayRemain};
 ghost use Rattle.bk_manifest.specs.Fact.{Fact};
 ghost use Rattle.bk_manifest_disk.specs.declared.lack.Lack.{Lack};
@@ -47,14 +44,6 @@ pub fn a_crash_loses_nothing()
 pub fn a_second_crash_leaves_no_more()
     ensures { (files gone kept left again : Files)
         → MayLeave files gone kept left → MayLeave left map.empty kept again → MayLeave files gone kept again }
-{}
-
-/// On a device that may leave any bytes after the synced ones, truncating each log at its watermark
-/// gives files that a crash may leave. So crash safety holds on such a device too.
-pub fn a_mark_makes_a_cut()
-    ensures { (files gone kept left seen : Files) (marks : Written) (found : Watermarks)
-        → AreCovered kept marks → MayDamage files gone kept marks left found → AreTruncated left found seen
-        → MayLeave files gone (sure_fronts kept marks) seen }
 {}
 
 /// On a device that may leave any bytes after the synced ones, opening the logs of a `KeptDisk` by

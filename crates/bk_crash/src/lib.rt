@@ -10,8 +10,7 @@ mod written_log;
 
 pub use interrupted::interrupt;
 pub use laws::{
-    a_crash_loses_nothing, a_cut_opens, a_manifest_makes_a_cut, a_mark_makes_a_cut,
-    a_second_crash_leaves_no_more,
+    a_crash_loses_nothing, a_cut_opens, a_manifest_makes_a_cut, a_second_crash_leaves_no_more,
 };
 pub use power_disk::PowerDisk;
 pub use written::{Choices, File, Written};

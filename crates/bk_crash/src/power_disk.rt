@@ -1,19 +1,18 @@
 //! A disk whose power fails: it passes on N calls; each later call fails and changes nothing, but
 //! an append during which the power fails may write a prefix of its bytes.
 
-ghost use Rattle.std.specs.Prelude.{◌≡◌, ◌↔◌, ◌+◌, ◌<◌, ◌≤◌, ◌^◌, false, length, take, IsTrue, OnOk, OnErr};
+ghost use Rattle.std.specs.Prelude.{◌≡◌, ◌↔◌, ◌+◌, ◌<◌, ◌^◌, false, length, take, IsTrue, OnErr};
 ghost use Rattle.std.specs.Bool.{OnTrue, OnFalse};
 ghost use Rattle.std.specs.FinMap as map;
 ghost use Rattle.bk_disk.specs.Disk.{FailsExactlyOnDiskFault, Lists, Measures, Creates, Appends, Patches, Syncs, Reads, Views, Removes};
-ghost use Rattle.bk_record.specs.Files.{file_of};
-ghost use Rattle.bk_disk.specs.Watermarks.{IsDurableUpTo, HasWatermark, TruncatesToWatermarks};
+ghost use Rattle.bk_disk.specs.Cutting.{Cuts, KeepsFrontDurable};
 ghost use Rattle.bk_disk.specs.Durable.{DurableGrows, ListDurability, SyncDurability, RemoveDurability};
-ghost use Rattle.bk_crash.specs.Noting.{IsNoted, IsNotedInPart, IsMarkNoted, noted, made_log, longer_log, patched_log, synced_log, marked_log, with_removed};
+ghost use Rattle.bk_crash.specs.Noting.{IsNoted, IsNotedInPart, noted, made_log, longer_log, patched_log, synced_log, cut_log, with_removed};
 ghost use Rattle.bk_crash.specs.AllLogs.{logs_of, gone_of};
 ghost use Rattle.bk_crash.specs.Power.{IsOff, WritesFront};
 
 use crate::Written;
-use bk_disk::{DiskFault, LogDisk, WatermarkDisk};
+use bk_disk::{CutDisk, DiskFault, LogDisk};
 use std::alloc::Global;
 
 /// A disk that passes on N calls and records them, to compute what a loss of power may leave.
@@ -304,47 +303,25 @@ impl<D: LogDisk> LogDisk for PowerDisk<D> {
     }
 }
 
-impl<D: WatermarkDisk> WatermarkDisk for PowerDisk<D> {
-    ghost marks = { λ disk. D.marks disk.inner };
-
-    fn truncate_to_watermarks(&mut self, alloc: Global) -> Result<(), DiskFault>
-        ensures honest { D.honest self.new.inner ≡ D.honest self.old.inner }
-        ensures cause { FailsExactlyOnDiskFault (D.failures self.old.inner + self.old.power.refused) (D.failures self.new.inner + self.new.power.refused) result }
-        ensures transition { IsTrue (D.honest self.old.inner)
-            → TruncatesToWatermarks (D.files self.old.inner) (D.marks self.old.inner) result (D.files self.new.inner) }
-        ensures dead { IsOff self.old.power.refused → (self.new.inner ≡ self.old.inner) × (self.new.written ≡ self.old.written) }
-    {
-        if self.power.fails() {
-            return Err(DiskFault::Disk);
-        }
-        self.inner.truncate_to_watermarks(alloc)
-    }
-
-    fn write_watermark(&mut self, alloc: Global, log: u32, mark: u64) -> Result<(), DiskFault>
-        requires within { IsTrue (D.honest self.old.inner) → mark ≤ length (file_of (D.files self.old.inner) log) }
-        requires durable { IsTrue (D.honest self.old.inner) → IsDurableUpTo (D.synced self.old.inner) log mark }
+#[tactic(auto, using(bk_disk::proofs::Cutting::uncut_keeps))]
+impl<D: CutDisk> CutDisk for PowerDisk<D> {
+    fn cut(&mut self, alloc: Global, log: u32, length: u64) -> Result<(), DiskFault>
         ensures honest { D.honest self.new.inner ≡ D.honest self.old.inner }
         ensures durable { IsTrue (D.honest self.old.inner)
-            → DurableGrows (D.synced self.old.inner) (D.gone self.old.inner) (D.synced self.new.inner) (D.gone self.new.inner) }
+            → KeepsFrontDurable log length (D.synced self.old.inner) (D.gone self.old.inner) (D.synced self.new.inner) (D.gone self.new.inner) }
         ensures cause { FailsExactlyOnDiskFault (D.failures self.old.inner + self.old.power.refused) (D.failures self.new.inner + self.new.power.refused) result }
-        ensures transition { IsTrue (D.honest self.old.inner) → Syncs (D.files self.old.inner) log result (D.files self.new.inner) }
-        ensures marked { IsTrue (D.honest self.old.inner) → OnOk result (HasWatermark (D.marks self.new.inner) log mark) }
-        ensures noted { IsMarkNoted result (logs_of self.old.written) (logs_of self.new.written) (noted (marked_log mark) (logs_of self.old.written) log) log }
+        ensures transition { IsTrue (D.honest self.old.inner) → Cuts (D.files self.old.inner) log length result (D.files self.new.inner) }
+        ensures noted { IsNoted result (logs_of self.old.written) (logs_of self.new.written) (noted (cut_log length) (logs_of self.old.written) log) }
         ensures gone { gone_of self.new.written ≡ gone_of self.old.written }
         ensures dead { IsOff self.old.power.refused → (self.new.inner ≡ self.old.inner) × (self.new.written ≡ self.old.written) }
     {
-        let was_refused = self.power.refused > 0;
         if self.power.fails() {
-            if !was_refused {
-                self.written.mark(log, mark);
-            }
             return Err(DiskFault::Disk);
         }
-        let kept = self.inner.write_watermark(alloc, log, mark);
-        if kept.is_ok() {
-            self.written.mark(log, mark);
-            self.written.sync(log);
+        let cut = self.inner.cut(alloc, log, length);
+        if cut.is_ok() {
+            self.written.cut(log, length);
         }
-        kept
+        cut
     }
 }

@@ -1,17 +1,19 @@
 //! The record of a disk: the bytes of each log, its durable length, and the removed files. It
 //! determines what a loss of power may leave.
 
-ghost use Rattle.std.specs.Prelude.{◌≡◌, ℕ, ◌≤◌, false, option_map, IfOk, OnOk};
+ghost use Rattle.std.specs.Prelude.{◌≡◌, ℕ, ◌≤◌, List, Option, false, option_map, IfOk, OnOk};
 ghost use Rattle.std.specs.FinMap as map;
 ghost use Rattle.bk_record.specs.Files.{Files};
-ghost use Rattle.bk_watermark.specs.Marking as marking;
-ghost use Rattle.bk_watermark.specs.Marking.{AreCovered, sure_fronts};
+ghost use Rattle.bk_manifest.specs.Fact.{Fact};
+ghost use Rattle.bk_manifest.specs.State.{IsStateOf, said, the_log, log_state};
 ghost use Rattle.bk_store.specs.Crash.{MayLeave};
-ghost use Rattle.bk_crash.specs.Noting.{noted, found_log, made_log, longer_log, patched_log, synced_log, marked_log, with_removed};
+ghost use Rattle.bk_crash.specs.Noting.{noted, found_log, made_log, longer_log, patched_log, synced_log, cut_log, with_removed};
 ghost use Rattle.bk_crash.specs.Leaving.{by_id, IsBackOf};
-ghost use Rattle.bk_crash.specs.AllLogs.{logs_of, files_of, gone_of, AreSynced, AreMarked, ArePutBack};
+ghost use Rattle.bk_crash.specs.AllLogs.{logs_of, files_of, gone_of, AreSynced, ArePutBack};
+ghost use Rattle.bk_crash.specs.Remaining.{AreWritten, MayRemain, IsBackOfBy};
 
-use crate::written_log::{WrittenLog, beginning};
+use crate::written_log::{WrittenLog, beginning, damage, durable_length};
+use bk_manifest::{LogState, State};
 use std::alloc::{AllocError, Global};
 use std::collections::BTreeMap;
 
@@ -152,13 +154,12 @@ impl Written {
         }
     }
 
-    /// Records a watermark. It may be durable or not until the log is synced.
-    pub(crate) fn mark(&mut self, log: u32, mark: u64)
-        ensures logs { logs_of self.new ≡ noted (marked_log mark) (logs_of self.old) log }
+    pub(crate) fn cut(&mut self, log: u32, length: u64)
+        ensures logs { logs_of self.new ≡ noted (cut_log length) (logs_of self.old) log }
         ensures gone { gone_of self.new ≡ gone_of self.old }
     {
         if let Some(written) = self.logs.get_mut(&log) {
-            written.mark(mark);
+            written.cut(length);
         }
     }
 
@@ -204,7 +205,7 @@ impl Written {
         choices: &mut C,
         left: &mut Vec<File>,
     ) -> Result<(), AllocError>
-        ensures { OnOk result (ArePutBack self.now left.old.items left.new.items) }
+        ensures { OnOk result (ArePutBack (λ id. IsBackOf) self.now left.old.items left.new.items) }
     {
         for (log, bytes) in self.gone.iter() {
             if self.logs.contains_key(log) {
@@ -218,27 +219,62 @@ impl Written {
     }
 
     /// Returns files that a loss of power may leave on a device that leaves any bytes after the
-    /// synced ones. Each is truncated at the watermark found in it.
+    /// synced ones, if the manifest of the logs means this state then.
+    ///
+    /// A log of which the state has durable bytes remains, with these and with its synced bytes. Any
+    /// other log with its synced bytes, or it is missing. A removed file may be back, with its
+    /// durable bytes if the state has it as removed.
     ///
     /// # Errors
     ///
     /// - `AllocError` if an allocation fails.
-    pub fn damaged<C: Choices>(
+    pub fn remaining<C: Choices>(
         &self,
         alloc: Global,
+        state: &State,
         choices: &mut C,
     ) -> Result<Vec<File>, AllocError>
-        ensures { (kept : Files) (marks : marking.Written) → AreSynced self.now kept → AreMarked self.now marks → AreCovered kept marks
-            → IfOk result (λ left. MayLeave (files_of self.now) (gone_of self.now) (sure_fronts kept marks) (by_id left.items)) }
+        ensures { (kept : Files) (records : List Fact) → AreSynced self.now kept → IsStateOf records state.now → AreWritten (files_of self.now) records
+            → IfOk result (λ left. MayRemain (files_of self.now) (gone_of self.now) kept records (by_id left.items)) }
     {
         let mut left = Vec::new(alloc);
         for (log, written) in self.logs.iter() {
-            if let Some(bytes) = written.damaged(alloc, choices)? {
+            let other = self.other();
+            if let Some(bytes) = written.remaining(alloc, state.log(*log), other, choices)? {
                 left.push((*log, bytes))?;
             }
         }
-        self.put_back(alloc, choices, &mut left)?;
+        self.put_back_by(alloc, state, choices, &mut left)?;
         Ok(left)
+    }
+
+    /// Returns bytes of a log, which a device may leave in any other.
+    fn other(&self) -> &[u8] {
+        match self.logs.iter().next() {
+            Some((_, log)) => log.bytes(),
+            None => &[],
+        }
+    }
+
+    /// Appends the removed files that are back, by a state.
+    fn put_back_by<C: Choices>(
+        &self,
+        alloc: Global,
+        state: &State,
+        choices: &mut C,
+        left: &mut Vec<File>,
+    ) -> Result<(), AllocError>
+        ensures { OnOk result (ArePutBack (λ id. IsBackOfBy (log_state (said state.now (the_log id)))) self.now left.old.items left.new.items) }
+    {
+        for (log, bytes) in self.gone.iter() {
+            if self.logs.contains_key(log) {
+                continue;
+            }
+            if let Some(bytes) = back_by(alloc, state.log(*log), bytes, choices)? {
+                left.push((*log, bytes))?;
+            }
+        }
+        Ok(())
     }
 }
 
@@ -255,4 +291,22 @@ fn back<C: Choices>(
     } else {
         Ok(None)
     }
+}
+
+/// Returns a removed file, if it is back: any bytes, after those that its removal has as durable.
+fn back_by<C: Choices>(
+    alloc: Global,
+    state: Option<LogState>,
+    file: &[u8],
+    choices: &mut C,
+) -> Result<Option<Vec<u8>>, AllocError>
+    ensures { IfOk result (λ back. IsBackOfBy state file.now (option_map (λ bytes. bytes.items) back)) }
+{
+    if choices.up_to(1) == 1 {
+        return Ok(None);
+    }
+    let least = durable_length(state).unwrap_or(0) as usize;
+    let mut bytes = beginning(alloc, file, least, choices)?;
+    damage(alloc, &mut bytes, file, least, choices)?;
+    Ok(Some(bytes))
 }

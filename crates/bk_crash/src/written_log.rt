@@ -1,11 +1,14 @@
 //! The record of one log, and what a loss of power may leave of it.
 
-ghost use Rattle.std.specs.Prelude.{◌≡◌, ℕ, ◌≤◌, List, ◌++◌, Some, None, length, take, option_map, IfOk, OnOk, OnErr};
+ghost use Rattle.std.specs.Prelude.{◌≡◌, ℕ, ◌≤◌, List, ◌++◌, take, option_map, IfOk, OnOk, OnErr};
 ghost use Rattle.bk_disk.specs.Disk.{patched_file};
-ghost use Rattle.bk_crash.specs.Noting.{found_log, made_log, longer_log, patched_log, synced_log, marked_log};
-ghost use Rattle.bk_crash.specs.Leaving.{IsLeftOf, IsSpoiled, IsInFront};
+ghost use Rattle.bk_crash.specs.Noting.{found_log, made_log, longer_log, patched_log, synced_log, cut_log};
+ghost use Rattle.bk_crash.specs.Leaving.{IsLeftOf, IsSpoiled, IsBegun, IsDamagedFrom};
+ghost use Rattle.bk_crash.specs.Remaining.{RemainsOf};
+ghost use Rattle.bk_manifest_disk.specs.Recording.{promised};
 
 use crate::Choices;
+use bk_manifest::LogState;
 use bk_record::HEADER_LENGTH;
 use std::alloc::{AllocError, Global};
 use std::marker::Model;
@@ -21,14 +24,6 @@ pub(crate) struct WrittenLog {
     synced: Option<usize>,
     /// Whether the header was patched since.
     is_patched: bool,
-    mark: Mark,
-}
-
-/// The durable watermark, and the last one written.
-#[derive(Clone, Copy)]
-struct Mark {
-    sure: usize,
-    last: usize,
 }
 
 impl Model for WrittenLog {
@@ -38,7 +33,7 @@ impl Model for WrittenLog {
 
     ghost coded = { log_code };
 
-    ghost view = { λ log. record { bytes = log.bytes.items; synced = log.synced; patched = log.is_patched; sure = log.mark.sure; last = log.mark.last } };
+    ghost view = { λ log. record { bytes = log.bytes.items; synced = log.synced; patched = log.is_patched } };
 }
 
 impl Clone for WrittenLog {
@@ -49,19 +44,7 @@ impl Clone for WrittenLog {
             bytes: self.bytes.clone()?,
             synced: self.synced,
             is_patched: self.is_patched,
-            mark: self.mark,
         })
-    }
-}
-
-/// Returns the watermark of a log that has none: the given length.
-fn unmarked(length: usize) -> Mark
-    ensures sure { result.sure ≡ length }
-    ensures last { result.last ≡ length }
-{
-    Mark {
-        sure: length,
-        last: length,
     }
 }
 
@@ -75,7 +58,6 @@ impl WrittenLog {
             bytes,
             synced: Some(length),
             is_patched: false,
-            mark: unmarked(length),
         }
     }
 
@@ -87,7 +69,6 @@ impl WrittenLog {
             bytes: Vec::new(alloc),
             synced: None,
             is_patched: false,
-            mark: unmarked(HEADER_LENGTH),
         }
     }
 
@@ -127,18 +108,36 @@ impl WrittenLog {
     {
         self.synced = Some(self.bytes.len());
         self.is_patched = false;
-        self.mark.sure = self.mark.last;
     }
 
-    /// Records a watermark. It may be durable or not until the log is synced.
-    pub fn mark(&mut self, mark: u64)
-        ensures { self.new ≡ marked_log mark self.old }
+    /// Records that the log is truncated to `length` bytes.
+    pub fn cut(&mut self, length: u64)
+        ensures { self.new ≡ cut_log length self.old }
     {
-        self.mark.last = mark as usize;
+        let length = length as usize;
+        self.bytes.truncate(length);
+        self.synced = self.synced.map(|synced| synced.min(length));
     }
 }
 
 impl WrittenLog {
+    /// Returns a prefix of the log of at least `least` bytes, possibly with other bytes in its
+    /// patched header.
+    fn begun<C: Choices>(
+        &self,
+        alloc: Global,
+        least: usize,
+        choices: &mut C,
+    ) -> Result<Vec<u8>, AllocError>
+        ensures { IfOk result (λ bytes. IsBegun self.now least bytes.items) }
+    {
+        let mut bytes = beginning(alloc, &self.bytes, least, choices)?;
+        if self.is_patched {
+            spoil(&mut bytes, choices);
+        }
+        Ok(bytes)
+    }
+
     /// Returns what a loss of power leaves of the log, or `None` for no file, if nothing was
     /// synced.
     pub fn left<C: Choices>(
@@ -153,37 +152,39 @@ impl WrittenLog {
             None if choices.up_to(3) == 0 => return Ok(None),
             None => 0,
         };
-        let mut bytes = beginning(alloc, &self.bytes, least, choices)?;
-        if self.is_patched {
-            spoil(&mut bytes, choices);
-        }
-        Ok(Some(bytes))
+        Ok(Some(self.begun(alloc, least, choices)?))
     }
 
-    /// Returns what a loss of power leaves of the log before its watermark, with any bytes after
-    /// the synced ones, or `None` for no file.
-    pub fn damaged<C: Choices>(
+    /// Returns what a loss of power leaves of the log, by the last record about it, on a device that
+    /// leaves any bytes after the synced ones; `None` for no file, if nothing was synced or the
+    /// record has no durable bytes. `other` may be left after the synced bytes.
+    pub fn remaining<C: Choices>(
         &self,
         alloc: Global,
+        state: Option<LogState>,
+        other: &[u8],
         choices: &mut C,
     ) -> Result<Option<Vec<u8>>, AllocError>
-        ensures { IfOk result (λ left. IsInFront self.now (option_map (λ bytes. bytes.items) left)) }
+        ensures { IfOk result (λ left. RemainsOf state self.now (option_map (λ bytes. bytes.items) left)) }
     {
-        let mark = match choices.up_to(1) {
-            0 => self.mark.sure,
-            _ => self.mark.last,
-        };
-        let Some(mut bytes) = self.left(alloc, choices)? else {
+        let durable = durable_length(state);
+        if (self.synced.is_none() || durable.is_none()) && choices.up_to(3) == 0 {
             return Ok(None);
-        };
-        if let Some(synced) = self.synced {
-            if bytes.len() >= HEADER_LENGTH {
-                bytes.truncate(synced.max(HEADER_LENGTH));
-                add_damage(alloc, &mut bytes, &self.bytes, choices)?;
-            }
         }
-        bytes.truncate(mark);
+        let least = self.synced.unwrap_or(0).max(durable.unwrap_or(0) as usize);
+        let mut bytes = self.begun(alloc, least, choices)?;
+        damage(alloc, &mut bytes, other, least.max(HEADER_LENGTH), choices)?;
         Ok(Some(bytes))
+    }
+}
+
+/// Returns how many bytes of a log its last record has as durable.
+pub(crate) fn durable_length(state: Option<LogState>) -> Option<u64>
+    ensures { result ≡ promised state }
+{
+    match state {
+        Some(LogState::Durable { length } | LogState::Removed { length }) => Some(length),
+        Some(LogState::Made) | None => None,
     }
 }
 
@@ -191,24 +192,39 @@ impl WrittenLog {
 const RECORD: [u8; 28] =
     *b"\x00\x00\x00\x18\x00\x00\x00\x00\x00\x00\x00\x4d\x00\x00\x00\x00\x00\x00\x00\x01mmmmmmmm";
 
-/// Appends what a device may leave after the synced bytes: nothing, zeros, old bytes, the bytes
-/// written there, or a record that was never written.
+/// Leaves any bytes in a file of at least `end` bytes, from there or from a later position on.
+pub(crate) fn damage<C: Choices>(
+    alloc: Global,
+    bytes: &mut Vec<u8>,
+    other: &[u8],
+    end: usize,
+    choices: &mut C,
+) -> Result<(), AllocError>
+    ensures { OnOk result (IsDamagedFrom end bytes.old.items bytes.new.items) }
+{
+    if bytes.len() < end {
+        return Ok(());
+    }
+    bytes.truncate(end.saturating_add(choices.up_to(40)));
+    add_damage(alloc, bytes, other, choices)
+}
+
+/// Appends what a device may leave: nothing, zeros, ones, another log from its header on or without
+/// it, or a record that was never written.
 fn add_damage<C: Choices>(
     alloc: Global,
     bytes: &mut Vec<u8>,
-    file: &[u8],
+    other: &[u8],
     choices: &mut C,
 ) -> Result<(), AllocError>
     ensures { OnOk result ((more : List ℕ) × (bytes.new.items ≡ bytes.old.items ++ more)) }
 {
-    match choices.up_to(4) {
+    match choices.up_to(5) {
         0 => Ok(()),
         1 => add_all(bytes, &vec![in alloc; 0u8; choices.up_to(100)]?),
-        2 => add_all(bytes, &vec![in alloc; 0xa5u8; choices.up_to(100)]?),
-        3 => {
-            let from = bytes.len().min(file.len());
-            add_all(bytes, &file[from..])
-        }
+        2 => add_all(bytes, &vec![in alloc; 0xffu8; choices.up_to(100)]?),
+        3 => add_all(bytes, other),
+        4 => add_all(bytes, &other[HEADER_LENGTH.min(other.len())..]),
         _ => add_all(bytes, &RECORD),
     }
 }

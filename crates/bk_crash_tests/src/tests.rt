@@ -9,4 +9,5 @@ mod powered;
 mod random;
 mod steps;
 mod stop;
+mod test_file;
 mod worked;

@@ -1,9 +1,9 @@
 //! Compares what a store finds after a crash with what it must keep.
 
+use super::chance::Chance;
 use super::owed::{Entry, Owed, judged, push};
-use super::powered::{Powered, disk_of, opened};
+use super::powered::{ALL, Left, Powered, device_of, opened};
 use super::stop::{Stop, not_opened};
-use bk_crash::File;
 use bk_disk::LogDisk;
 use bk_drive::{OpenFault, Store};
 use bk_log::fetch;
@@ -11,18 +11,22 @@ use bk_record::Key;
 use bk_store::Taken;
 use std::alloc::Global;
 
-/// Opens a store on what a crash left and compares: each published entry has its bytes, and nothing
-/// is found that was not added. What is found must be kept from then on.
+/// Opens a store on what a crash left, possibly after an opening that was interrupted, and compares:
+/// each published entry has its bytes, and nothing is found that was not added. What is found must
+/// be kept from then on. Returns what was left.
 pub(super) fn compare<D: LogDisk, P: Powered<D>>(
     alloc: Global,
     owed: &mut Owed,
-    files: &[File],
-) -> Result<(), Stop> {
-    let disk = disk_of(alloc, files, u64::MAX, 0)?;
-    let Some(mut store) = opened::<D, P>(alloc, disk, &owed.dead)? else {
+    left: Left,
+    chance: &mut Chance,
+) -> Result<Left, Stop> {
+    let left = P::interrupted(alloc, left, chance)?;
+    let device = device_of(alloc, &left, ALL, chance)?;
+    let Some(mut store) = opened::<D, P>(alloc, device, &owed.dead)? else {
         return Err(not_opened(OpenFault::Disk));
     };
-    find_all(alloc, &mut store, owed)
+    find_all(alloc, &mut store, owed)?;
+    Ok(left)
 }
 
 /// Compares what a store has after opening.

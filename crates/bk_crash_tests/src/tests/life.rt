@@ -4,81 +4,98 @@
 use super::chance::Chance;
 use super::finding::find_all;
 use super::owed::{Owed, Stage};
-use super::powered::{Powered, disk_of, is_dead, next_disk, opened};
+use super::powered::{
+    Calls, Ended, Left, Powered, device_of, has_failed, is_dead, next_device, nothing, opened,
+    written_by,
+};
 use super::stop::{Stop, not_opened};
-use bk_crash::{Choices, File, PowerDisk, Written};
-use bk_disk::{LogDisk, MemDisk};
+use super::test_file::{Failing, Saved};
+use bk_crash::{Choices, Written};
+use bk_disk::LogDisk;
 use bk_drive::{Answer, OpenFault, PublishAnswer, Step, Store, SwapAnswer, Work, apply};
 use bk_store::Added;
-use std::alloc::{AllocError, Global};
+use std::alloc::Global;
 
-/// Performs steps on files, with power for N calls. Returns the files left and whether the power
-/// failed before the steps ended. If it fails while the store opens, the files are unchanged.
+/// Performs steps on what a loss of power left, where calls fail. Returns what the next one leaves,
+/// and whether a call failed before the steps ended. If one fails while the store opens, nothing
+/// changes.
 pub(super) fn live<D: LogDisk, P: Powered<D>>(
     alloc: Global,
     owed: &mut Owed,
-    files: Vec<File>,
+    left: Left,
     steps: &[Step],
-    calls: u64,
+    calls: Calls,
     chance: &mut Chance,
-) -> Result<(Vec<File>, bool), Stop> {
-    let disk = disk_of(alloc, &files, calls, chance.up_to(60))?;
-    let Some(mut store) = opened::<D, P>(alloc, disk, &owed.dead)? else {
-        return Ok((files, true));
+) -> Result<(Left, bool), Stop> {
+    let device = device_of(alloc, &left, calls, chance)?;
+    let Some(mut store) = opened::<D, P>(alloc, device, &owed.dead)? else {
+        return Ok((left, true));
     };
     take_all::<D, P>(alloc, &mut store, owed, steps)?;
-    left_by::<D, P>(alloc, &store, chance)
+    let left = left_by::<D, P>(alloc, &store, chance)?;
+    Ok((left, has_failed::<D, P>(&store)))
 }
 
 /// Performs steps on a new disk until N calls are made, where the process ends. The next process
 /// opens a store on all files, then the power fails. What the second store found must be kept.
-/// Returns the files left and whether the first process ended before its steps.
+/// Returns what is left and whether the first process ended before its steps.
 pub(super) fn live_twice<D: LogDisk, P: Powered<D>>(
     alloc: Global,
     owed: &mut Owed,
     steps: &[Step],
     calls: u64,
     chance: &mut Chance,
-) -> Result<(Vec<File>, bool), Stop> {
-    let disk = disk_of(alloc, &[], calls, chance.up_to(60))?;
-    let (written, is_ended) = written_by::<D, P>(alloc, owed, disk, steps)?;
-    let left = left_behind::<D, P>(alloc, owed, &written, chance)?;
+) -> Result<(Left, bool), Stop> {
+    let (ended, is_ended) = ended_by::<D, P>(alloc, owed, steps, calls, chance)?;
+    let left = left_behind::<D, P>(alloc, owed, &ended, chance)?;
     Ok((left, is_ended))
 }
 
 /// Returns what a process wrote until N calls were made, and whether it ended before its steps.
-fn written_by<D: LogDisk, P: Powered<D>>(
+fn ended_by<D: LogDisk, P: Powered<D>>(
     alloc: Global,
     owed: &mut Owed,
-    disk: PowerDisk<MemDisk>,
     steps: &[Step],
-) -> Result<(Written, bool), Stop> {
-    let Some(mut store) = opened::<D, P>(alloc, disk, &owed.dead)? else {
-        return Ok((Written::new(alloc), true));
+    calls: u64,
+    chance: &mut Chance,
+) -> Result<(Ended, bool), Stop> {
+    let calls = Calls {
+        disk: calls,
+        file: Failing::Power(u64::MAX),
+    };
+    let device = device_of(alloc, &nothing(alloc), calls, chance)?;
+    let Some(mut store) = opened::<D, P>(alloc, device, &owed.dead)? else {
+        return Ok((nothing_written(alloc), true));
     };
     take_all::<D, P>(alloc, &mut store, owed, steps)?;
-    Ok((copy_of::<D, P>(&store)?, is_dead::<D, P>(&store)))
+    Ok((written_by::<D, P>(alloc, &store)?, is_dead::<D, P>(&store)))
 }
 
-/// Returns what was written to the files of a store.
-fn copy_of<D: LogDisk, P: Powered<D>>(store: &Store<D>) -> Result<Written, AllocError> {
-    P::power(store.disk()).written().copy()
+/// Returns what a process has written that wrote nothing.
+fn nothing_written(alloc: Global) -> Ended {
+    Ended {
+        written: Written::new(alloc),
+        saved: Saved::empty(alloc),
+    }
 }
 
-/// Opens a store on what a process wrote. Returns the files that a loss of power leaves then.
+/// Opens a store on what a process wrote. Returns what a loss of power leaves then, or while it
+/// opens.
 fn left_behind<D: LogDisk, P: Powered<D>>(
     alloc: Global,
     owed: &mut Owed,
-    written: &Written,
+    ended: &Ended,
     chance: &mut Chance,
-) -> Result<Vec<File>, Stop> {
-    let disk = next_disk(alloc, written)?;
-    let Some(mut store) = opened::<D, P>(alloc, disk, &owed.dead)? else {
+) -> Result<Left, Stop> {
+    if chance.up_to(3) == 0 {
+        return P::left(alloc, ended, chance);
+    }
+    let device = next_device(alloc, ended)?;
+    let Some(mut store) = opened::<D, P>(alloc, device, &owed.dead)? else {
         return Err(not_opened(OpenFault::Disk));
     };
     find_all(alloc, &mut store, owed)?;
-    let (left, _) = left_by::<D, P>(alloc, &store, chance)?;
-    Ok(left)
+    left_by::<D, P>(alloc, &store, chance)
 }
 
 /// Performs steps until the power fails.
@@ -97,18 +114,17 @@ fn take_all<D: LogDisk, P: Powered<D>>(
     Ok(())
 }
 
-/// Returns what a loss of power leaves of a store's files, and whether the power failed.
+/// Returns what a loss of power leaves of what a store wrote.
 fn left_by<D: LogDisk, P: Powered<D>>(
     alloc: Global,
     store: &Store<D>,
     chance: &mut Chance,
-) -> Result<(Vec<File>, bool), Stop> {
-    let written = P::power(store.disk()).written();
-    if written.is_lost() {
+) -> Result<Left, Stop> {
+    let ended = written_by::<D, P>(alloc, store)?;
+    if ended.written.is_lost() {
         return Err(Stop::new("no memory", 0, 0));
     }
-    let left = P::left(written, alloc, chance)?;
-    Ok((left, is_dead::<D, P>(store)))
+    P::left(alloc, &ended, chance)
 }
 
 /// Performs a step and records what must be kept. Steps of a reader are skipped.

@@ -74,6 +74,16 @@ impl Owed {
         Ok(())
     }
 
+    /// Returns whether each entry is published.
+    pub(super) fn is_published(&self) -> bool {
+        for entry in self.entries.iter() {
+            if !matches!(entry.stage, Stage::Published) {
+                return false;
+            }
+        }
+        true
+    }
+
     /// Moves all entries of one stage to another.
     pub(super) fn go_on(&mut self, from: Stage, to: Stage) {
         for entry in self.entries.iter_mut() {

@@ -5,13 +5,13 @@ use super::chance::Chance;
 use super::finding::compare;
 use super::life::live;
 use super::owed::Owed;
-use super::powered::{Bare, Marked, Powered};
+use super::powered::{Bare, Calls, Kept, KeptLogs, Left, Powered, nothing};
 use super::steps::{add_of, push_step};
 use super::stop::Stop;
-use bk_crash::{Choices, File, PowerDisk};
+use super::test_file::Failing;
+use bk_crash::{Choices, PowerDisk};
 use bk_disk::{LogDisk, MemDisk};
 use bk_drive::{Kind, Step, Work};
-use bk_watermark::WatermarkedDisk;
 use std::alloc::{AllocError, Global};
 use std::process::Abort;
 
@@ -61,27 +61,47 @@ fn steps_of(alloc: Global, chance: &mut Chance) -> Result<Vec<Step>, AllocError>
     Ok(steps)
 }
 
-/// Runs a life on these files. Returns what its crash left.
+/// Returns when calls fail in a life: the power of the logs, or that of their manifest, or a call on
+/// the manifest is refused before the power of the logs fails.
+fn calls_of(chance: &mut Chance) -> Calls {
+    let disk = chance.up_to(120) as u64;
+    let file = chance.up_to(40) as u64;
+    match chance.up_to(3) {
+        0 => Calls {
+            disk: u64::MAX,
+            file: Failing::Power(file),
+        },
+        1 => Calls {
+            disk,
+            file: Failing::Once(file),
+        },
+        _ => Calls {
+            disk,
+            file: Failing::Power(u64::MAX),
+        },
+    }
+}
+
+/// Runs a life on what a crash left. Returns what its own crash left.
 fn life<D: LogDisk, P: Powered<D>>(
     alloc: Global,
     owed: &mut Owed,
-    files: Vec<File>,
+    left: Left,
     chance: &mut Chance,
-) -> Result<Vec<File>, Stop> {
+) -> Result<Left, Stop> {
     let steps = steps_of(alloc, chance)?;
-    let calls = chance.up_to(120) as u64;
-    let (left, _) = live::<D, P>(alloc, owed, files, &steps, calls, chance)?;
-    compare::<D, P>(alloc, owed, &left)?;
-    Ok(left)
+    let calls = calls_of(chance);
+    let (left, _) = live::<D, P>(alloc, owed, left, &steps, calls, chance)?;
+    compare::<D, P>(alloc, owed, left, chance)
 }
 
 /// Runs N lives of one store, each on what the crash before it left.
 fn lives<D: LogDisk, P: Powered<D>>(alloc: Global, seed: u64, count: u32) -> Result<(), Stop> {
     let mut chance = Chance::new(seed);
     let mut owed = Owed::new(alloc);
-    let mut files = Vec::new(alloc);
+    let mut left = nothing(alloc);
     for _ in 0..count {
-        files = life::<D, P>(alloc, &mut owed, files, &mut chance)?;
+        left = life::<D, P>(alloc, &mut owed, left, &mut chance)?;
     }
     Ok(())
 }
@@ -105,6 +125,6 @@ fn a_store_lives_on_through_many_crashes(rt: HostRuntime) {
 }
 
 #[test]
-fn a_store_with_marks_lives_on_through_crashes_that_leave_damage(rt: HostRuntime) {
-    all_live::<WatermarkedDisk<PowerDisk<MemDisk>>, Marked>(&rt, rt.alloc());
+fn a_store_with_a_manifest_lives_on_through_crashes_that_leave_damage(rt: HostRuntime) {
+    all_live::<KeptLogs, Kept>(&rt, rt.alloc());
 }

@@ -5,13 +5,13 @@ use super::chance::Chance;
 use super::finding::compare;
 use super::life::{live, live_twice};
 use super::owed::Owed;
-use super::powered::{Bare, Marked, Powered};
+use super::powered::{ALL, Bare, Calls, Kept, KeptLogs, Powered, nothing};
 use super::steps::{add_of, push_step};
 use super::stop::Stop;
+use super::test_file::Failing;
 use bk_crash::PowerDisk;
 use bk_disk::{LogDisk, MemDisk};
 use bk_drive::{Kind, Step, Work};
-use bk_watermark::WatermarkedDisk;
 use std::alloc::{AllocError, Global};
 use std::process::Abort;
 
@@ -176,6 +176,29 @@ const DELETIONS: &[Plan] = &[
     Do(Work::Rebuild),
 ];
 
+/// Flushes whose writes and publishes are repeated, for a call that is refused once.
+const REFUSALS: &[Plan] = &[
+    Add(1, 0, 5),
+    Add(2, 0, 480),
+    SWAP,
+    WRITE,
+    WRITE,
+    PUBLISH,
+    WRITE,
+    WRITE,
+    PUBLISH,
+    ROLL,
+    ROLL,
+    Add(3, 0, 9),
+    SWAP,
+    WRITE,
+    PUBLISH,
+    WRITE,
+    PUBLISH,
+    WRITE,
+    PUBLISH,
+];
+
 fn steps_of(alloc: Global, plans: &[Plan]) -> Result<Vec<Step>, AllocError> {
     let mut steps = Vec::new(alloc);
     for plan in plans {
@@ -197,12 +220,31 @@ const TIMES: u64 = 24;
 enum End {
     /// The power fails.
     Power,
+    /// The power fails at a call on the file of the manifest.
+    File,
+    /// A call on the file of the manifest is refused, and the power fails after the steps.
+    Refused,
     /// It is killed. A store opens on its files, then the power fails.
     Kill,
 }
 
+/// Returns which calls fail of a process that ends so after N calls.
+fn calls_of(end: End, calls: u64) -> Calls {
+    match end {
+        End::Power | End::Kill => Calls { disk: calls, ..ALL },
+        End::File => Calls {
+            file: Failing::Power(calls),
+            ..ALL
+        },
+        End::Refused => Calls {
+            file: Failing::Once(calls),
+            ..ALL
+        },
+    }
+}
+
 /// Performs steps until N calls are made, and compares what is left, with other choices each time.
-/// Returns whether the process ended before its steps.
+/// Returns whether a call failed.
 fn is_cut<D: LogDisk, P: Powered<D>>(
     alloc: Global,
     steps: &[Step],
@@ -212,12 +254,17 @@ fn is_cut<D: LogDisk, P: Powered<D>>(
 ) -> Result<bool, Stop> {
     let mut chance = Chance::new(calls.wrapping_mul(1000).wrapping_add(time));
     let mut owed = Owed::new(alloc);
-    let files = Vec::new(alloc);
     let (left, cut) = match end {
-        End::Power => live::<D, P>(alloc, &mut owed, files, steps, calls, &mut chance)?,
         End::Kill => live_twice::<D, P>(alloc, &mut owed, steps, calls, &mut chance)?,
+        _ => {
+            let calls = calls_of(end, calls);
+            live::<D, P>(alloc, &mut owed, nothing(alloc), steps, calls, &mut chance)?
+        }
     };
-    compare::<D, P>(alloc, &mut owed, &left)?;
+    if matches!(end, End::Refused) && !owed.is_published() {
+        return Err(Stop::new("not published", calls, time));
+    }
+    compare::<D, P>(alloc, &mut owed, left, &mut chance)?;
     Ok(cut)
 }
 
@@ -274,10 +321,10 @@ fn all_crashes<D: LogDisk, P: Powered<D>>(
     Ok(count)
 }
 
-/// Checks that many crashes were compared and nothing was lost.
-fn is_kept<D: LogDisk, P: Powered<D>>(rt: &impl Abort, alloc: Global, end: End) {
+/// Checks that this many crashes at each time were compared and nothing was lost.
+fn is_kept<D: LogDisk, P: Powered<D>>(rt: &impl Abort, alloc: Global, end: End, least: u64) {
     match all_crashes::<D, P>(alloc, end) {
-        Ok(count) => assert!(rt; count > 100 * TIMES, "{count} crashes"),
+        Ok(count) => assert!(rt; count > least * TIMES, "{count} crashes"),
         Err((name, stop)) => assert!(rt;
             false,
             "{name}: {} {} {}",
@@ -288,15 +335,33 @@ fn is_kept<D: LogDisk, P: Powered<D>>(rt: &impl Abort, alloc: Global, end: End) 
 
 #[test]
 fn a_worked_run_loses_nothing(rt: HostRuntime) {
-    is_kept::<PowerDisk<MemDisk>, Bare>(&rt, rt.alloc(), End::Power);
+    is_kept::<PowerDisk<MemDisk>, Bare>(&rt, rt.alloc(), End::Power, 100);
 }
 
 #[test]
 fn what_a_killed_run_left_outlives_a_loss_of_power_once_it_is_opened(rt: HostRuntime) {
-    is_kept::<PowerDisk<MemDisk>, Bare>(&rt, rt.alloc(), End::Kill);
+    is_kept::<PowerDisk<MemDisk>, Bare>(&rt, rt.alloc(), End::Kill, 100);
 }
 
 #[test]
-fn a_worked_run_with_marks_loses_nothing_to_damage(rt: HostRuntime) {
-    is_kept::<WatermarkedDisk<PowerDisk<MemDisk>>, Marked>(&rt, rt.alloc(), End::Power);
+fn a_worked_run_with_a_manifest_loses_nothing_to_damage(rt: HostRuntime) {
+    is_kept::<KeptLogs, Kept>(&rt, rt.alloc(), End::Power, 100);
+}
+
+#[test]
+fn nothing_is_lost_if_the_power_fails_at_a_call_on_the_manifest(rt: HostRuntime) {
+    is_kept::<KeptLogs, Kept>(&rt, rt.alloc(), End::File, 50);
+}
+
+#[test]
+fn what_a_killed_run_with_a_manifest_left_outlives_damage(rt: HostRuntime) {
+    is_kept::<KeptLogs, Kept>(&rt, rt.alloc(), End::Kill, 100);
+}
+
+#[test]
+fn what_is_published_after_a_refused_record_is_kept(rt: HostRuntime) {
+    match crashes::<KeptLogs, Kept>(rt.alloc(), REFUSALS, End::Refused) {
+        Ok(count) => assert!(rt; count > 10 * TIMES, "{count} crashes"),
+        Err(stop) => assert!(rt; false, "{} {} {}", stop.what, stop.ledger, stop.number),
+    }
 }

@@ -1,4 +1,4 @@
-use Rattle.bk_crash.proofs.Copies.{cloned_bytes, listed_on, all_listed}
+use Rattle.bk_crash.proofs.Copies.{cloned_bytes, listed_on}
 use Rattle.bk_crash.proofs.written.Written.files.Goals as goal
 
 pub loop-log-preserved : goal.loop-log-preserved

@@ -1,7 +1,6 @@
 use Rattle.std.proofs.Common.{sym, ap, ◌∙◌}
 use Rattle.std.specs.FinMap as map
 use Rattle.bk_record.proofs.NumberMaps.{get-entries}
-use Rattle.bk_crash.specs.Noting.{with_removed}
 use Rattle.bk_crash.specs.AllLogs.{logs_of, gone_of}
 use Rattle.bk_crash.proofs.Notes.{put_file, removed_at, with_it, without_it}
 use Rattle.bk_crash.proofs.written.Written.remove.Goals as goal
