@@ -205,7 +205,12 @@ pub(crate) fn damage<C: Choices>(
     if bytes.len() < end {
         return Ok(());
     }
-    bytes.truncate(end.saturating_add(choices.up_to(40)));
+    let more = match choices.up_to(2) {
+        0 => 0,
+        1 => choices.up_to(40),
+        _ => bytes.len(),
+    };
+    bytes.truncate(end.saturating_add(more));
     add_damage(alloc, bytes, other, choices)
 }
 

@@ -2,8 +2,9 @@
 
 use super::chance::Chance;
 use super::owed::{Entry, Owed, judged, push};
-use super::powered::{ALL, Left, Powered, device_of, opened};
+use super::powered::{ALL, Left, Powered, again, device_of, opened};
 use super::stop::{Stop, not_opened};
+use bk_crash::Choices;
 use bk_disk::LogDisk;
 use bk_drive::{OpenFault, Store};
 use bk_log::fetch;
@@ -11,16 +12,19 @@ use bk_record::Key;
 use bk_store::Taken;
 use std::alloc::Global;
 
-/// Opens a store on what a crash left, possibly after an opening that was interrupted, and compares:
-/// each published entry has its bytes, and nothing is found that was not added. What is found must
-/// be kept from then on. Returns what was left.
+/// Opens a store on what a crash left, and maybe a second one during an opening, and compares: each
+/// published entry has its bytes, and nothing is found that was not added. What is found must be
+/// kept from then on. Returns what was left.
 pub(super) fn compare<D: LogDisk, P: Powered<D>>(
     alloc: Global,
     owed: &mut Owed,
     left: Left,
     chance: &mut Chance,
 ) -> Result<Left, Stop> {
-    let left = P::interrupted(alloc, left, chance)?;
+    let left = match chance.up_to(2) {
+        0 => again::<D, P>(alloc, P::interrupted(alloc, left, chance)?, chance)?,
+        _ => left,
+    };
     let device = device_of(alloc, &left, ALL, chance)?;
     let Some(mut store) = opened::<D, P>(alloc, device, &owed.dead)? else {
         return Err(not_opened(OpenFault::Disk));

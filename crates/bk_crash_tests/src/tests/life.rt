@@ -5,20 +5,19 @@ use super::chance::Chance;
 use super::finding::find_all;
 use super::owed::{Owed, Stage};
 use super::powered::{
-    Calls, Ended, Left, Powered, device_of, has_failed, is_dead, next_device, nothing, opened,
-    written_by,
+    Calls, Ended, Left, Powered, again, device_of, has_failed, is_dead, next_device, nothing,
+    opened, written_by,
 };
 use super::stop::{Stop, not_opened};
 use super::test_file::{Failing, Saved};
-use bk_crash::{Choices, Written};
+use bk_crash::Written;
 use bk_disk::LogDisk;
 use bk_drive::{Answer, OpenFault, PublishAnswer, Step, Store, SwapAnswer, Work, apply};
 use bk_store::Added;
 use std::alloc::Global;
 
 /// Performs steps on what a loss of power left, where calls fail. Returns what the next one leaves,
-/// and whether a call failed before the steps ended. If one fails while the store opens, nothing
-/// changes.
+/// and whether a call failed before the steps ended.
 pub(super) fn live<D: LogDisk, P: Powered<D>>(
     alloc: Global,
     owed: &mut Owed,
@@ -29,7 +28,7 @@ pub(super) fn live<D: LogDisk, P: Powered<D>>(
 ) -> Result<(Left, bool), Stop> {
     let device = device_of(alloc, &left, calls, chance)?;
     let Some(mut store) = opened::<D, P>(alloc, device, &owed.dead)? else {
-        return Ok((left, true));
+        return Ok((again::<D, P>(alloc, left, chance)?, true));
     };
     take_all::<D, P>(alloc, &mut store, owed, steps)?;
     let left = left_by::<D, P>(alloc, &store, chance)?;
@@ -49,6 +48,18 @@ pub(super) fn live_twice<D: LogDisk, P: Powered<D>>(
     let (ended, is_ended) = ended_by::<D, P>(alloc, owed, steps, calls, chance)?;
     let left = left_behind::<D, P>(alloc, owed, &ended, chance)?;
     Ok((left, is_ended))
+}
+
+/// The same if the power fails while the second store opens.
+pub(super) fn live_once<D: LogDisk, P: Powered<D>>(
+    alloc: Global,
+    owed: &mut Owed,
+    steps: &[Step],
+    calls: u64,
+    chance: &mut Chance,
+) -> Result<(Left, bool), Stop> {
+    let (ended, is_ended) = ended_by::<D, P>(alloc, owed, steps, calls, chance)?;
+    Ok((P::left(alloc, &ended, chance)?, is_ended))
 }
 
 /// Returns what a process wrote until N calls were made, and whether it ended before its steps.
@@ -79,17 +90,13 @@ fn nothing_written(alloc: Global) -> Ended {
     }
 }
 
-/// Opens a store on what a process wrote. Returns what a loss of power leaves then, or while it
-/// opens.
+/// Opens a store on what a process wrote. Returns what a loss of power leaves then.
 fn left_behind<D: LogDisk, P: Powered<D>>(
     alloc: Global,
     owed: &mut Owed,
     ended: &Ended,
     chance: &mut Chance,
 ) -> Result<Left, Stop> {
-    if chance.up_to(3) == 0 {
-        return P::left(alloc, ended, chance);
-    }
     let device = next_device(alloc, ended)?;
     let Some(mut store) = opened::<D, P>(alloc, device, &owed.dead)? else {
         return Err(not_opened(OpenFault::Disk));

@@ -64,6 +64,15 @@ fn memory_of(alloc: Global, files: &[File]) -> Result<MemDisk, Stop> {
     Ok(disk)
 }
 
+/// Returns the record of these durable files.
+fn found(alloc: Global, files: &[File]) -> Result<Written, AllocError> {
+    let mut written = Written::new(alloc);
+    for (log, bytes) in files {
+        written.find(*log, bytes.clone()?);
+    }
+    Ok(written)
+}
+
 /// Returns a disk with these durable files and power for N calls.
 fn disk_of(
     alloc: Global,
@@ -72,10 +81,7 @@ fn disk_of(
     kept: usize,
 ) -> Result<PowerDisk<MemDisk>, Stop> {
     let disk = memory_of(alloc, files)?;
-    let mut written = Written::new(alloc);
-    for (log, bytes) in files {
-        written.find(*log, bytes.clone()?);
-    }
+    let written = found(alloc, files)?;
     Ok(PowerDisk::new(disk, written, calls, kept))
 }
 
@@ -138,7 +144,7 @@ pub(super) trait Powered<D> {
     /// Returns what a loss of power leaves.
     fn left(alloc: Global, ended: &Ended, chance: &mut Chance) -> Result<Left, Stop>;
 
-    /// Returns what a loss of power leaves during an opening, or before it.
+    /// Returns what is left with the manifest as it is when the power fails during an opening.
     fn interrupted(alloc: Global, left: Left, chance: &mut Chance) -> Result<Left, Stop>;
 }
 
@@ -222,9 +228,6 @@ impl Powered<KeptLogs> for Kept {
     }
 
     fn interrupted(alloc: Global, left: Left, chance: &mut Chance) -> Result<Left, Stop> {
-        if chance.up_to(2) > 0 {
-            return Ok(left);
-        }
         let device = device_of(alloc, &left, ALL, chance)?;
         let Some(disk) = Self::over(alloc, device)? else {
             return Err(not_opened(OpenFault::Disk));
@@ -235,6 +238,17 @@ impl Powered<KeptLogs> for Kept {
             files: left.files,
         })
     }
+}
+
+/// Returns what a loss of power leaves during an opening, which writes no log.
+pub(super) fn again<D: LogDisk, P: Powered<D>>(
+    alloc: Global,
+    left: Left,
+    chance: &mut Chance,
+) -> Result<Left, Stop> {
+    let written = found(alloc, &left.files)?;
+    let saved = Saved::of(alloc, &left.manifest)?;
+    P::left(alloc, &Ended { written, saved }, chance)
 }
 
 /// Opens a store on a device, or returns `None` if the power failed meanwhile.

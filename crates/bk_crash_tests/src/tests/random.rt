@@ -61,25 +61,17 @@ fn steps_of(alloc: Global, chance: &mut Chance) -> Result<Vec<Step>, AllocError>
     Ok(steps)
 }
 
-/// Returns when calls fail in a life: the power of the logs, or that of their manifest, or a call on
-/// the manifest is refused before the power of the logs fails.
+/// Returns when calls fail in a life: those on the logs, and maybe those on their manifest, or one
+/// of these.
 fn calls_of(chance: &mut Chance) -> Calls {
     let disk = chance.up_to(120) as u64;
-    let file = chance.up_to(40) as u64;
-    match chance.up_to(3) {
-        0 => Calls {
-            disk: u64::MAX,
-            file: Failing::Power(file),
-        },
-        1 => Calls {
-            disk,
-            file: Failing::Once(file),
-        },
-        _ => Calls {
-            disk,
-            file: Failing::Power(u64::MAX),
-        },
-    }
+    let calls = chance.up_to(40) as u64;
+    let file = match chance.up_to(2) {
+        0 => Failing::Power(calls),
+        1 => Failing::Once(calls),
+        _ => Failing::Power(u64::MAX),
+    };
+    Calls { disk, file }
 }
 
 /// Runs a life on what a crash left. Returns what its own crash left.

@@ -136,22 +136,22 @@ impl TestFile {
     fn fails(&mut self) -> bool
         ensures { FailsExactlyIf self.old.failures self.new.failures (IsTrue result) }
     {
-        let left = match self.failing {
-            Failing::Power(0) => 0,
-            Failing::Once(0) if self.failures == 0 => 0,
+        match self.failing {
+            Failing::Once(0) if self.failures > 0 => return false,
+            Failing::Power(0) | Failing::Once(0) => {}
             Failing::Power(calls) => {
-                self.failing = Failing::Power(calls - 1);
+                self.failing = Failing::Power(calls.saturating_sub(1));
                 return false;
             }
             Failing::Once(calls) => {
                 self.failing = Failing::Once(calls.saturating_sub(1));
                 return false;
             }
-        };
+        }
         match self.failures.checked_add(1) {
             Some(more) => {
                 self.failures = more;
-                left == 0
+                true
             }
             None => false,
         }

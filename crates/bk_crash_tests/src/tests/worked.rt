@@ -3,7 +3,7 @@
 
 use super::chance::Chance;
 use super::finding::compare;
-use super::life::{live, live_twice};
+use super::life::{live, live_once, live_twice};
 use super::owed::Owed;
 use super::powered::{ALL, Bare, Calls, Kept, KeptLogs, Powered, nothing};
 use super::steps::{add_of, push_step};
@@ -226,12 +226,14 @@ enum End {
     Refused,
     /// It is killed. A store opens on its files, then the power fails.
     Kill,
+    /// It is killed. The power fails while a store opens on its files.
+    Opening,
 }
 
 /// Returns which calls fail of a process that ends so after N calls.
 fn calls_of(end: End, calls: u64) -> Calls {
     match end {
-        End::Power | End::Kill => Calls { disk: calls, ..ALL },
+        End::Power | End::Kill | End::Opening => Calls { disk: calls, ..ALL },
         End::File => Calls {
             file: Failing::Power(calls),
             ..ALL
@@ -256,6 +258,7 @@ fn is_cut<D: LogDisk, P: Powered<D>>(
     let mut owed = Owed::new(alloc);
     let (left, cut) = match end {
         End::Kill => live_twice::<D, P>(alloc, &mut owed, steps, calls, &mut chance)?,
+        End::Opening => live_once::<D, P>(alloc, &mut owed, steps, calls, &mut chance)?,
         _ => {
             let calls = calls_of(end, calls);
             live::<D, P>(alloc, &mut owed, nothing(alloc), steps, calls, &mut chance)?
@@ -324,7 +327,7 @@ fn all_crashes<D: LogDisk, P: Powered<D>>(
 /// Checks that this many crashes at each time were compared and nothing was lost.
 fn is_kept<D: LogDisk, P: Powered<D>>(rt: &impl Abort, alloc: Global, end: End, least: u64) {
     match all_crashes::<D, P>(alloc, end) {
-        Ok(count) => assert!(rt; count > least * TIMES, "{count} crashes"),
+        Ok(count) => assert!(rt; count / TIMES > least, "{count} crashes"),
         Err((name, stop)) => assert!(rt;
             false,
             "{name}: {} {} {}",
@@ -356,6 +359,11 @@ fn nothing_is_lost_if_the_power_fails_at_a_call_on_the_manifest(rt: HostRuntime)
 #[test]
 fn what_a_killed_run_with_a_manifest_left_outlives_damage(rt: HostRuntime) {
     is_kept::<KeptLogs, Kept>(&rt, rt.alloc(), End::Kill, 100);
+}
+
+#[test]
+fn what_a_killed_run_published_outlives_damage_while_it_is_opened(rt: HostRuntime) {
+    is_kept::<KeptLogs, Kept>(&rt, rt.alloc(), End::Opening, 100);
 }
 
 #[test]
