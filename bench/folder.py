@@ -19,6 +19,8 @@ NO_LIMIT = 1_073_741_824
 # Publishes with and without the manifest of the logs: the entries of a flush, how many flushes.
 PUBLISHES = [(100, 200), (1_000, 100), (20_000, 10)]
 RUNS = 5
+# Runs of a filling whose time is mostly that of syncs, which vary.
+SYNC_RUNS = 20
 
 
 def row(name, *values):
@@ -186,11 +188,11 @@ def show_fill(programs, folders, length, batch, publishes):
 
 def show_publishes(programs, folders):
     """Publishes of several sizes, with and without the manifest of the logs."""
-    print(f"\npublishes of entries of 100 bytes on a directory: microseconds a publish, least of {RUNS} runs")
+    print(f"\npublishes of entries of 100 bytes on a directory: microseconds a publish, least of {SYNC_RUNS} runs")
     row("", "publish", "recorded", "ratio", "flush", "recorded", "ratio")
     for batch, publishes in PUBLISHES:
         least = {}
-        for _ in range(RUNS):
+        for _ in range(SYNC_RUNS):
             for word in ("fill", "record"):
                 stages, _ = run(programs.store, word, folders.fresh(word), 100, batch, publishes, NO_LIMIT)
                 for name, parts in (("publish", ("publish",)), ("flush", ("add", "write", "publish"))):
