@@ -1,5 +1,7 @@
 use denote.Param.Send.{sendable}
+use Rattle.std.proofs.Common.{Err, ap, ◌∙◌}
 use Rattle.std.proofs.lemmas.Bool.{false≢true}
+use Rattle.std.proofs.lemmas.Result.{err_from_is_err_and}
 use Rattle.bk_commands.proofs.opening.OpeningDisk.TheSendSync.{the_send}
 use Rattle.bk_commands.proofs.opening_view.OpeningView.TheSendSync as of_view
 use Rattle.bk_commands.proofs.opening.OpeningDiskScriptDisk.answers.Goals as goal
@@ -21,4 +23,6 @@ returns c = record {
 }
 
 pub returns-in_err-ran : goal.returns-in_err-ran
-returns-in_err-ran c = λ never sound. c.in_err-ran.ensures.unfailing_opening never sound
+returns-in_err-ran c =
+    let told = err_from_is_err_and c.from_residual.result c.from_residual.ensures.1 in
+    rw (told.1 ∙ ap Err told.2) (λ never sound is. c.in_err-ran.ensures.unfailing_opening never sound (cc))
