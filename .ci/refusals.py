@@ -48,11 +48,13 @@ class Refusing:
                 return False
 
     def count(self):
-        """Returns how many allocations the last run asked for that ended by itself."""
-        return int((self.room / "count").read_text())
+        """Returns how many allocations the last run asked for that ended by itself; 0 if none told."""
+        told = self.room / "count"
+        return int(told.read_text()) if told.is_file() else 0
 
     def failing(self, program, test):
         """Returns the allocations whose refusal a test does not survive, and how many were refused."""
+        (self.room / "count").unlink(missing_ok=True)
         if not self.ends_well(program, test, 0):
             return [0], 0
         count = self.count()
