@@ -5,6 +5,7 @@ use super::folder::{DONE, Row, TOLD, anew, check};
 use super::run;
 use std::fs::{self, OpenOptions};
 use std::io::{self, Write};
+use std::os::unix::fs::FileExt;
 use std::test::Fail;
 
 /// An entry of 5 bytes in log 0, which is 1049 bytes long then, all durable.
@@ -34,6 +35,21 @@ pub(super) fn grow(rt: &HostRuntime, path: &str, bytes: &[u8]) -> io::Result<()>
         .append(true)
         .open(rt, path)?
         .write_all(bytes)
+}
+
+/// Flips bits of the byte at a position.
+pub(super) fn flip(bytes: &mut [u8], at: usize, bits: u8) {
+    if let Some(byte) = bytes.get_mut(at) {
+        *byte ^= bits;
+    }
+}
+
+/// Writes bytes over those of a file from a position on.
+pub(super) fn put(rt: &HostRuntime, path: &str, at: u64, bytes: &[u8]) -> io::Result<()> {
+    OpenOptions::new()
+        .write(true)
+        .open(rt, path)?
+        .write_all_at(bytes, at)
 }
 
 /// Commands on a log with 25 bytes behind its durable ones, which are a whole record.
@@ -348,9 +364,12 @@ const MARKED: [Row<'static>; 3] = [
 fn a_watermark_of_an_earlier_release_is_ignored_and_told(rt: HostRuntime) -> Result<(), Fail> {
     let folder = "bk_shell_marked";
     fill(&rt, folder, FIRST)?;
-    let mut log = fs::read(&rt, "bk_shell_marked/0.log")?;
-    log[20..32].copy_from_slice(b"mark\0\0\0\0\0\0\x04\x04");
-    fs::write(&rt, "bk_shell_marked/0.log", &log)?;
+    put(
+        &rt,
+        "bk_shell_marked/0.log",
+        20,
+        b"mark\0\0\0\0\0\0\x04\x04",
+    )?;
     check(&rt, &rt, &MARKED);
     fs::remove_dir_all(&rt, folder)?;
     Ok(())

@@ -1,6 +1,6 @@
 //! A manifest of the logs of a directory that they do not fit, or that is damaged, and the ways on.
 
-use super::durable::{FIRST, TWO, fill, grow};
+use super::durable::{FIRST, TWO, fill, flip, grow};
 use super::folder::{DONE, Row, TOLD, anew, check};
 use super::run;
 use std::fs::{self, OpenOptions};
@@ -206,7 +206,10 @@ fn no_cut_manifest_loses_a_log_in_silence(rt: HostRuntime) -> Result<(), Fail> {
     let folder = "bk_shell_logs_cut";
     let files = Files::of(&rt, folder)?;
     for length in 0..files.manifest.len() {
-        let is = files.loses_nothing_in_silence(&rt, folder, &files.manifest[..length])?;
+        let Some(front) = files.manifest.get(..length) else {
+            return Err(Fail::new("no such front"));
+        };
+        let is = files.loses_nothing_in_silence(&rt, folder, front)?;
         assert!(rt; is, "cut at {length}");
     }
     fs::remove_dir_all(&rt, folder)?;
@@ -219,7 +222,7 @@ fn no_flipped_manifest_loses_a_log_in_silence(rt: HostRuntime) -> Result<(), Fai
     let files = Files::of(&rt, folder)?;
     for at in 0..files.manifest.len() {
         let mut bytes = Vec::from_slice(rt.alloc(), &files.manifest)?;
-        bytes[at] ^= 1 << (at % 8);
+        flip(&mut bytes, at, if at % 2 == 0 { 1 } else { 128 });
         let is = files.loses_nothing_in_silence(&rt, folder, &bytes)?;
         assert!(rt; is, "byte {at}");
     }
@@ -263,7 +266,7 @@ fn a_damaged_manifest_of_logs_is_refused_and_made_anew(rt: HostRuntime) -> Resul
     let folder = "bk_shell_logs_hurt";
     fill(&rt, folder, FIRST)?;
     let mut bytes = fs::read(&rt, "bk_shell_logs_hurt/logs.manifest")?;
-    bytes[30] ^= 1;
+    flip(&mut bytes, 30, 1);
     fs::write(&rt, "bk_shell_logs_hurt/logs.manifest", &bytes)?;
     check(&rt, &rt, &DAMAGED);
     fs::remove_dir_all(&rt, folder)?;

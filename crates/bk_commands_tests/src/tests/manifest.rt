@@ -1,5 +1,6 @@
 //! The manifest of a directory: deletions and fences that survive, lists of live ledgers, damage.
 
+use super::durable::flip;
 use super::folder::{DONE, Row, TOLD, anew, check};
 use super::run;
 use std::fs;
@@ -277,7 +278,7 @@ fn a_damaged_manifest_is_refused_and_made_anew(rt: HostRuntime) -> Result<(), Fa
     fill(&rt, folder)?;
     anew(&rt, "bk_shell_hurt_none")?;
     let mut bytes = fs::read(&rt, "bk_shell_hurt/ledgers.manifest")?;
-    bytes[30] ^= 1;
+    flip(&mut bytes, 30, 1);
     fs::write(&rt, "bk_shell_hurt/ledgers.manifest", &bytes)?;
     check(&rt, &rt, &DAMAGED);
     let kept = fs::read(&rt, "bk_shell_hurt/ledgers.manifest.damaged")?;
@@ -294,8 +295,8 @@ fn a_torn_manifest_is_told_and_copied(rt: HostRuntime) -> Result<(), Fail> {
     let path = "bk_shell_torn/ledgers.manifest";
     let bytes = fs::read(&rt, path)?;
     // The fence is the last batch of 21 bytes.
-    let cut = bytes.len() - 1;
-    fs::write(&rt, path, &bytes[..cut])?;
+    let front = front_of(&bytes)?;
+    fs::write(&rt, path, front)?;
     let shown = run(
         &rt,
         &["bk_shell", "script", "--folder", folder],
@@ -310,7 +311,7 @@ fn a_torn_manifest_is_told_and_copied(rt: HostRuntime) -> Result<(), Fail> {
         b"torn manifest: the last 20 bytes of ledgers.manifest are no record; ledgers.manifest.torn is a copy\n".as_slice()
     );
     let copy = fs::read(&rt, "bk_shell_torn/ledgers.manifest.torn")?;
-    assert!(rt; copy.as_slice() == &bytes[..cut]);
+    assert!(rt; copy.as_slice() == front);
     tear_again(&rt, &rt, folder)?;
     let first = fs::read(&rt, "bk_shell_torn/ledgers.manifest.torn")?;
     assert!(rt; first == copy);
@@ -318,12 +319,20 @@ fn a_torn_manifest_is_told_and_copied(rt: HostRuntime) -> Result<(), Fail> {
     Ok(())
 }
 
+/// Returns all but the last of these bytes.
+fn front_of(bytes: &[u8]) -> Result<&[u8], Fail> {
+    match bytes.get(..bytes.len().saturating_sub(1)) {
+        Some(front) => Ok(front),
+        None => Err(Fail::new("no bytes")),
+    }
+}
+
 /// Cuts the last byte of the manifest of a directory again, and runs a script there twice: the second
 /// copy has another name, and is made once.
 fn tear_again(rt: &HostRuntime, aborting: &impl Abort, folder: &str) -> Result<(), Fail> {
     let path = "bk_shell_torn/ledgers.manifest";
     let bytes = fs::read(rt, path)?;
-    let torn = &bytes[..bytes.len() - 1];
+    let torn = front_of(&bytes)?;
     for _ in 0..2u8 {
         fs::write(rt, path, torn)?;
         let shown = run(rt, &["bk_shell", "script", "--folder", folder], "");
@@ -378,7 +387,7 @@ fn no_flipped_bit_brings_a_ledger_back_in_silence(rt: HostRuntime) -> Result<(),
     let words = ["bk_shell", "script", "--folder", folder];
     for at in 0..whole.len() {
         let mut bytes = Vec::from_slice(rt.alloc(), &whole)?;
-        bytes[at] ^= 16;
+        flip(&mut bytes, at, 16);
         fs::write(&rt, path, &bytes)?;
         let shown = run(&rt, &words, "take 0 2 0\n");
         let is_refused = shown.status == 1 && shown.output.is_empty();

@@ -1,6 +1,7 @@
 //! `check --quick` on a real folder, and the options that it excludes.
 
 use super::compact::fill;
+use super::durable::put;
 use super::folder::{DONE, Row, check};
 use super::{holds, run};
 use std::fs;
@@ -24,19 +25,38 @@ const WHOLE: [Row<'static>; 2] = [
 /// the torn end of log 2.
 const DAMAGED: [Row<'static>; 3] = [
     Row {
-        words: &["bk_shell", "check", "--quick", "--no-manifest", "bk_shell_quick"],
+        words: &[
+            "bk_shell",
+            "check",
+            "--quick",
+            "--no-manifest",
+            "bk_shell_quick",
+        ],
         status: 1,
         output: "0 sealed\n1 fault not a map 1045\n2 unsealed\n3 short\n4 fault bad magic\n",
         ..DONE
     },
     Row {
-        words: &["bk_shell", "--json", "check", "--quick", "--no-manifest", "bk_shell_quick"],
+        words: &[
+            "bk_shell",
+            "--json",
+            "check",
+            "--quick",
+            "--no-manifest",
+            "bk_shell_quick",
+        ],
         status: 1,
         output: "{\"log\":0,\"health\":\"sealed\"}\n{\"log\":1,\"health\":\"fault\",\"fault\":\"not a map\",\"at\":1045}\n{\"log\":2,\"health\":\"unsealed\"}\n{\"log\":3,\"health\":\"short\"}\n{\"log\":4,\"health\":\"fault\",\"fault\":\"bad magic\"}\n",
         ..DONE
     },
     Row {
-        words: &["bk_shell", "--json", "check", "--no-manifest", "bk_shell_quick"],
+        words: &[
+            "bk_shell",
+            "--json",
+            "check",
+            "--no-manifest",
+            "bk_shell_quick",
+        ],
         status: 1,
         output: "{\"log\":0,\"health\":\"fault\",\"fault\":\"bad length\",\"at\":1024,\"length\":7}\n{\"log\":1,\"health\":\"fault\",\"fault\":\"not a map\",\"at\":1045}\n{\"log\":2,\"health\":\"unsealed\",\"torn\":3}\n{\"log\":3,\"health\":\"short\"}\n{\"log\":4,\"health\":\"fault\",\"fault\":\"bad magic\"}\n",
         ..DONE
@@ -54,9 +74,7 @@ const BY_MANIFEST: [Row<'static>; 1] = [Row {
 /// Damages the files of the folder: a record, a map, and the end of the unsealed log. Then adds a
 /// file that is short and one with an invalid header.
 fn damage(rt: &HostRuntime) -> Result<(), Fail> {
-    let mut first = fs::read(rt, "bk_shell_quick/0.log")?;
-    first[1024..1028].copy_from_slice(&[0, 0, 0, 7]);
-    fs::write(rt, "bk_shell_quick/0.log", first.as_slice())?;
+    put(rt, "bk_shell_quick/0.log", 1024, &[0, 0, 0, 7])?;
     let mut second = fs::read(rt, "bk_shell_quick/1.log")?;
     second.truncate(1084);
     fs::write(rt, "bk_shell_quick/1.log", second.as_slice())?;
