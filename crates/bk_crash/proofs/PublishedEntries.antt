@@ -32,6 +32,7 @@ use Rattle.bk_store.specs.declared.answer.Fence.{Fence}
 use Rattle.bk_store.specs.declared.answer.Fence.TheVariants as fences
 use Rattle.bk_store.specs.declared.answer.FenceFault.{FenceFault}
 use Rattle.bk_store.specs.declared.answer.FenceFault.TheVariants as fence_faults
+use Rattle.bk_store.proofs.EntryIds.{published_id}
 use Rattle.bk_store.proofs.KeyMaps.{same_key, get-insert_other, inserted_cases, left_cases, left_same, still_lives}
 use Rattle.bk_flush.specs.declared.answer.PublishAnswer.TheVariants.{Published}
 use Rattle.bk_drive.specs.Abstract.{abstract_after_work}
@@ -191,22 +192,22 @@ keeps_added s t map step kind payload (Ok (Accepted receipt)) adds lives kept ho
 -- ---- the crash
 
 -- Crash safety after a step, in terms of the store before it.
-pub survives_step : (synced gone : Files) (s t : State) (step : Step) (map : Payloads) → IsContents map s → KeepsPublished s step t → SurvivesCrash synced gone t
-    → SurvivesStep t.files gone synced s step
-survives_step synced gone s t step map means keeps safe = (
+pub survives_step : (synced gone : Files) (s t : State) (step : Step) (map : Payloads) → SatisfiesInvariant s → IsTrue s.honest → IsContents map s
+    → KeepsPublished s step t → SurvivesCrash synced gone t → SurvivesStep t.files gone synced s step
+survives_step synced gone s t step map kept honest means keeps safe = (
   map,
   means,
   λ left settings dead opened leaves opens stay.
-      let still : StayDead t.ledgers.dead opened.ledgers.dead = λ ledger live. keeps.lives ledger (stay ledger live) in
+      let still : StayDead t.ledgers.dead opened.ledgers.dead = λ ledger is_id live. keeps.lives ledger (stay ledger is_id live) in
       let done = safe.2 left settings dead opened leaves opens still in (
         done.0,
         (
           done.1.0,
           record {
             published = λ key there live.
-                let kept = keeps.published key there (still key.ledger live) in
-                let has = done.1.1.published key kept.0 live in
-                (has.0, means key ∙ sym kept.1 ∙ sym (safe.1 key) ∙ has.1, has.2);
+                let stays = keeps.published key there (still key.ledger (published_id s kept honest key there) live) in
+                let has = done.1.1.published key stays.0 live in
+                (has.0, means key ∙ sym stays.1 ∙ sym (safe.1 key) ∙ has.1, has.2);
             accepted = λ key payload is. elim (keeps.accepted key payload (sym (safe.1 key) ∙ done.1.1.accepted key payload is)) [
               | inl before ↦ inl (means key ∙ before)
               | inr added ↦ inr added

@@ -28,6 +28,7 @@ pub fn interrupt<'a, D: LogDisk>(
         → SurvivesStep (D.files result.now.inner) (D.gone result.now.inner) (D.synced result.now.inner) store.old step.now }
 {
     store.survives_crash();
+    store.reveal_invariant();
     perform(store, step);
     store.survives_crash()
 }

@@ -85,6 +85,7 @@ pub mod Choosing
 pub mod InvariantRemoveLog
 pub mod LongerRecords
 pub mod Cuts
+pub mod EntryIds
 pub mod Recovered
 pub mod CrashOpened
 pub mod RemovedFiles

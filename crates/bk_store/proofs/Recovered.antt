@@ -13,6 +13,7 @@ use Rattle.bk_store.specs.Published.{IndexIsPublished}
 use Rattle.bk_store.specs.Crash.{RemovedFilesAreHarmless, Survives, StayDead, IsBetween}
 use Rattle.bk_store.proofs.Cases.{some_or_none, some_value}
 use Rattle.bk_store.proofs.OneEntry.{one_payload}
+use Rattle.bk_store.proofs.EntryIds.{entry_id}
 
 module _ {bytes gone parts read : Bytes} {index index' : Places} {cached : Cached} {dead later : Ledgers} {map found : Payloads}
     (carries : Represents bytes index cached dead map) (shows : IndexIsPublished bytes parts index) (harmless : RemovedFilesAreHarmless gone index cached dead map)
@@ -22,7 +23,7 @@ module _ {bytes gone parts read : Bytes} {index index' : Places} {cached : Cache
   read_entry : (place : Place) (key : EntryKey) (payload : List ℕ) → HasEntry read place key payload → set.contains later key.ledger ≡ false
       → (finite.get map key ≡ Some payload) ⊎ IsStale index cached key place
   read_entry place key payload entry lives =
-      let alive = stay key.ledger lives in
+      let alive = stay key.ledger (entry_id entry) lives in
       elim (survives.only place key payload entry) [
         | inl stood ↦ carries.recorded place key payload stood alive
         | inr back ↦ harmless.recorded place key payload back alive

@@ -1,6 +1,6 @@
 -- What a crash may leave of the logs of a disk, and which facts make a store survive it. Read
 -- `MayLeave` and `IsBetween` first.
-use Rattle.std.specs.Prelude.{◌≡◌, ◌⊎◌, ℕ, ◌≤◌, false, List, [], length, take, drop, Some, None, IsSome}
+use Rattle.std.specs.Prelude.{◌≡◌, ◌⊎◌, ℕ, ◌<◌, ◌≤◌, ◌^◌, false, List, [], length, take, drop, Some, None, IsSome}
 use Rattle.std.specs.FinMap as finite
 use Rattle.std.specs.FinSet as set
 use Rattle.bk_record.specs.Key.{EntryKey}
@@ -54,9 +54,9 @@ pub record Survives (bytes gone parts read : Bytes) : Type 0 where
   pub only : (place : Place) (key : EntryKey) (payload : List ℕ) → HasEntry read place key payload
       → HasEntry bytes place key payload ⊎ HasEntry gone place key payload
 
--- deleted ledgers stay deleted
+-- Deleted ledgers stay deleted. A number that is no ledger id has no entry, and need not stay so.
 abbrev pub StayDead : Ledgers → Ledgers → Type 0
-StayDead dead later = (ledger : ℕ) → set.contains later ledger ≡ false → set.contains dead ledger ≡ false
+StayDead dead later = (ledger : ℕ) → ledger < 2 ^ 63 → set.contains later ledger ≡ false → set.contains dead ledger ≡ false
 
 -- The result lies between what was published and what was accepted: it has each indexed pair of a
 -- live ledger, and only pairs of the map.

@@ -12,6 +12,7 @@ returns g c = record {
       let contents = c.survives_crash.ensures.survives_crash honest in
       subst (λ (files : Files). SurvivesStep files (g.D.LogDisk.gone disk) (g.D.LogDisk.synced disk) c.args.store.now c.args.step.now)
       (sym c.survives_crash-2.ensures.files)
-      (survives_step (g.D.LogDisk.synced disk) (g.D.LogDisk.gone disk) c.args.store.now c.perform.new.store c.args.step.now contents.0 contents.1
+      (survives_step (g.D.LogDisk.synced disk) (g.D.LogDisk.gone disk) c.args.store.now c.perform.new.store c.args.step.now contents.0
+      c.reveal_invariant.ensures honest contents.1
       (c.perform.ensures.published honest) (c.survives_crash-2.ensures.survives_crash (subst (λ b. IsTrue b) (sym c.perform.ensures.honest) honest)));
 }
