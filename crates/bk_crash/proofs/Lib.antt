@@ -8,3 +8,4 @@ pub mod PublishedEntries
 pub mod Remaining
 pub mod RemainingLogs
 pub mod Twice
+pub mod Reopened

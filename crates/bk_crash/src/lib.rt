@@ -5,6 +5,7 @@
 mod interrupted;
 mod laws;
 mod power_disk;
+mod recovered;
 mod written;
 mod written_log;
 
@@ -13,4 +14,5 @@ pub use laws::{
     a_crash_loses_nothing, a_cut_opens, a_manifest_makes_a_cut, a_second_crash_leaves_no_more,
 };
 pub use power_disk::PowerDisk;
+pub use recovered::{survives_damage, survives_with_ledgers};
 pub use written::{Choices, File, Written};

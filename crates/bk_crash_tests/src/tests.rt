@@ -3,6 +3,7 @@
 
 mod chance;
 mod finding;
+mod ledgers;
 mod life;
 mod owed;
 mod powered;

@@ -1,0 +1,3 @@
+pub mod Ledgers
+pub mod Recording
+pub mod Opening
