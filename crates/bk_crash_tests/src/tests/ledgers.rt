@@ -53,6 +53,16 @@ fn recorder_of(
     }
 }
 
+/// Returns whether a step was not recorded.
+fn has_unrecorded(answers: &[Answer]) -> bool {
+    for answer in answers {
+        if matches!(answer, Answer::Unrecorded) {
+            return true;
+        }
+    }
+    false
+}
+
 /// Performs steps on what is left, where calls on the file of the ledgers fail. Returns `None` if the
 /// manifest did not open.
 fn live_with(
@@ -74,6 +84,9 @@ fn live_with(
         Ok(ran) => ran,
         Err(fault) => return Err(not_opened(fault)),
     };
+    if has_unrecorded(&ran.answers) != (recorder.refused == Some(ManifestError::Disk)) {
+        return Err(Stop::new("no reason", 0, 0));
+    }
     let ended = written_by::<_, Kept>(alloc, &ran.store)?;
     let saved = recorder.manifest.file().saved()?;
     Ok(Some(Lived {
