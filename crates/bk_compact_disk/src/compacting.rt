@@ -12,7 +12,7 @@ use bk_cli::DEFAULTS;
 use bk_disk::{DiskFault, LogDisk};
 use bk_inspect::Form;
 use bk_messages::{CommandFault, end_early};
-use bk_offline_gc::{Done, Kind, Settings, SweepFault, sweep_disk};
+use bk_offline_gc::{Done, Kind, Planned, Settings, Store, SweepFault, plan, sweep_disk};
 use std::alloc::Global;
 use std::collections::BTreeMap;
 use std::io::Write;
@@ -48,7 +48,7 @@ pub fn compact_disk<D: LogDisk, W: Write, E: Write>(
 }
 
 /// Returns the settings of a store that compacts logs below this share, in thousandths.
-pub fn settings_below(below: u32) -> Settings
+fn settings_below(below: u32) -> Settings
     ensures { result.major ≡ below }
 {
     Settings {
@@ -152,5 +152,19 @@ fn sweep_on<D: LogDisk>(
         Ok(disk) => Ok((disk, swept.moved)),
         // No lease was given.
         Err(_) => Err(CommandFault::Sweep(SweepFault::Odd)),
+    }
+}
+
+/// Returns the logs of a disk that a compaction with this share would take. The disk is dropped with
+/// the store, and its line on a terminal with it.
+pub fn plan_disk<D: LogDisk>(
+    alloc: Global,
+    disk: D,
+    below: u32,
+    dead: &[u64],
+) -> Result<Vec<Planned>, CommandFault> {
+    match Store::open(alloc, disk, settings_below(below), dead) {
+        Ok(store) => Ok(plan(&store, Kind::Major)?),
+        Err(fault) => Err(CommandFault::Sweep(SweepFault::Open(fault))),
     }
 }

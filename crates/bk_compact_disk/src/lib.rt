@@ -5,5 +5,5 @@ mod compacting;
 mod progress;
 mod summary;
 
-pub use compacting::{compact_and_show, compact_disk, lengths_of, settings_below, size_of};
+pub use compacting::{compact_and_show, compact_disk, lengths_of, plan_disk, size_of};
 pub use summary::{Size, Summary, write_summary};

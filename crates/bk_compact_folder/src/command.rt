@@ -8,7 +8,7 @@ use crate::kept::{kept_logs, tell_kept};
 use crate::planned::show_dry;
 use crate::rows::EmptyRow;
 use bk_compact_disk::{Size, Summary, compact_and_show, lengths_of, write_summary};
-use bk_deleted::deleted_in;
+use bk_deleted::{Deleted, deleted_in};
 use bk_disk::{DirDisk, FaultWatch};
 use bk_folder::{Book, FolderDisk, Ignored, OpeningDisk};
 use bk_inspect::{Form, unlisted};
@@ -77,35 +77,73 @@ fn find_work<W: Write, E: Write>(
     errors: &mut E,
 ) -> Result<Option<Work>, CommandFault> {
     let deleted = deleted_in(rt, form, path, &ask.deleted, errors)?;
+    if !is_to_be_done(rt, form, path, ask, &deleted, watch, writer, errors)? {
+        return Ok(None);
+    }
+    refuse_index(rt, path, ask)?;
+    let opened = open_work(rt, path, ask, watch)?;
+    Ok(Some(work_of(rt, form, path, opened, &deleted.named, errors)?))
+}
+
+/// Returns whether a directory is to be compacted: false if it has no log, or if only the effect is to
+/// be shown; then that is shown. Sets `watch` to the watch of its disk, which is only read.
+fn is_to_be_done<W: Write, E: Write>(
+    rt: &HostRuntime,
+    form: Form,
+    path: &str,
+    ask: &CompactAsk<'_>,
+    deleted: &Deleted,
+    watch: &mut Option<FaultWatch>,
+    writer: &mut W,
+    errors: &mut E,
+) -> Result<bool, CommandFault> {
     let (disk, is_empty) = find_logs(rt, path, watch)?;
     if is_empty {
         show_empty(rt.alloc(), form, path, writer, errors)?;
-        return Ok(None);
+        return Ok(false);
     }
     if ask.is_dry {
-        show_dry(rt, form, path, disk, ask, &deleted, writer, errors)?;
-        return Ok(None);
+        show_dry(rt, form, path, disk, ask, deleted, writer, errors)?;
+        return Ok(false);
     }
-    drop(disk);
-    if !ask.index_is_rebuilt
-        && let Some(file) = index_in(rt, path)?
-    {
-        return Err(CommandFault::Index(file));
+    Ok(true)
+}
+
+/// Refuses a directory with a bookie's index, unless the operator rebuilds it.
+fn refuse_index(rt: &HostRuntime, path: &str, ask: &CompactAsk<'_>) -> Result<(), CommandFault> {
+    if ask.index_is_rebuilt {
+        return Ok(());
     }
+    match index_in(rt, path)? {
+        Some(file) => Err(CommandFault::Index(file)),
+        None => Ok(()),
+    }
+}
+
+/// Records the deletion of these ledgers in a directory that is open, and notes what is ignored and
+/// which logs are kept.
+fn work_of<E: Write>(
+    rt: &HostRuntime,
+    form: Form,
+    path: &str,
+    opened: Opened,
+    named: &[u64],
+    errors: &mut E,
+) -> Result<Work, CommandFault> {
     let Opened {
         disk,
         failed,
-        lengths: logs,
+        lengths,
         mut book,
         ignored,
-    } = open_work(rt, path, ask, watch)?;
+    } = opened;
     book.tell_torn(form, errors);
     ignored.tell(form, errors);
-    let dead = book.delete_all(&deleted.named)?.deleted;
-    let kept = kept_logs(rt, path, &logs)?;
-    tell_kept(rt.alloc(), form, &kept, &logs, errors)?;
+    let dead = book.delete_all(named)?.deleted;
+    let kept = kept_logs(rt, path, &lengths)?;
+    tell_kept(rt.alloc(), form, &kept, &lengths, errors)?;
     let disk = OpeningDisk::keeping(rt, disk, failed, kept);
-    Ok(Some(Work { disk, dead }))
+    Ok(Work { disk, dead })
 }
 
 /// A directory that is open to be compacted.
@@ -127,23 +165,38 @@ fn open_work(
     watch: &mut Option<FaultWatch>,
 ) -> Result<Opened, CommandFault> {
     let alloc = rt.alloc();
-    let mut disk = DirDisk::open_to_write(rt, path)?;
+    let disk = DirDisk::open_to_write(rt, path)?;
     *watch = Some(disk.fault_watch(alloc)?);
     let failed = FailedCalls::on(alloc, &disk)?;
-    let (book, mut disk, ignored) = if ask.deleted.no_manifest {
-        let disk = FolderDisk::plain(alloc, disk);
-        (Book::closed(alloc), disk, Ignored::none(alloc))
-    } else {
-        let book = Book::open(alloc, &mut disk, &failed)?;
-        let (disk, ignored) = FolderDisk::kept(alloc, disk)?;
-        (book, disk, ignored)
-    };
+    if ask.deleted.no_manifest {
+        return plain_work(alloc, disk, failed);
+    }
+    kept_work(alloc, disk, failed)
+}
+
+/// Opens a directory with its manifests.
+fn kept_work(alloc: Global, disk: DirDisk, failed: FailedCalls) -> Result<Opened, CommandFault> {
+    let mut disk = disk;
+    let book = Book::open(alloc, &mut disk, &failed)?;
+    let (mut disk, ignored) = FolderDisk::kept(alloc, disk)?;
     Ok(Opened {
         lengths: lengths_of(alloc, &mut disk)?,
         disk,
         failed,
         book,
         ignored,
+    })
+}
+
+/// Opens a directory whose manifests are left alone.
+fn plain_work(alloc: Global, disk: DirDisk, failed: FailedCalls) -> Result<Opened, CommandFault> {
+    let mut disk = FolderDisk::plain(alloc, disk);
+    Ok(Opened {
+        lengths: lengths_of(alloc, &mut disk)?,
+        disk,
+        failed,
+        book: Book::closed(alloc),
+        ignored: Ignored::none(alloc),
     })
 }
 

@@ -4,14 +4,14 @@ use crate::ask::CompactAsk;
 use crate::kept::{kept_logs, tell_kept};
 use crate::named::show_named;
 use crate::rows::PlannedRow;
-use bk_compact_disk::{Summary, lengths_of, settings_below, size_of, write_summary};
+use bk_compact_disk::{Summary, lengths_of, plan_disk, size_of, write_summary};
 use bk_deleted::Deleted;
-use bk_disk::DirDisk;
+use bk_disk::{DirDisk, LogDisk};
 use bk_folder::{FolderDisk, OpeningDisk};
 use bk_inspect::{Ends, Form, tell_ignored};
 use bk_manifest_disk::{Limited, limit_logs, read_logs};
 use bk_messages::{CommandFault, FailedCalls, write_row};
-use bk_offline_gc::{Fate, Kind, Planned, Store, SweepFault, plan};
+use bk_offline_gc::{Fate, Planned, SweepFault};
 use bk_record::LAST_LOG;
 use bk_store::StepFault;
 use std::alloc::Global;
@@ -83,16 +83,36 @@ fn show_logs<W: Write, E: Write>(
     errors: &mut E,
 ) -> Result<Summary, CommandFault> {
     let mut disk = disk;
-    let lengths = lengths_of(rt.alloc(), &mut disk)?;
-    let kept = kept_logs(rt, path, &lengths)?;
-    tell_kept(rt.alloc(), form, &kept, &lengths, errors)?;
+    let logs = logs_of(rt, form, path, &mut disk, errors)?;
     let look = Look {
-        lengths: &lengths,
-        kept: &kept,
+        lengths: &logs.lengths,
+        kept: &logs.kept,
         below,
         dead,
     };
     show_plan(rt.alloc(), form, disk, &look, writer)
+}
+
+/// The logs of a directory.
+#[derive(Drop)]
+struct Logs {
+    lengths: BTreeMap<u32, u64>,
+    /// Those that are kept whatever they have.
+    kept: Vec<u32>,
+}
+
+/// Returns the logs of the directory of a disk, and reports those that are kept.
+fn logs_of<D: LogDisk, E: Write>(
+    rt: &HostRuntime,
+    form: Form,
+    path: &str,
+    disk: &mut D,
+    errors: &mut E,
+) -> Result<Logs, CommandFault> {
+    let lengths = lengths_of(rt.alloc(), disk)?;
+    let kept = kept_logs(rt, path, &lengths)?;
+    tell_kept(rt.alloc(), form, &kept, &lengths, errors)?;
+    Ok(Logs { lengths, kept })
 }
 
 /// A directory of which is shown what a compaction would do.
@@ -121,7 +141,7 @@ fn show_plan<W: Write>(
     look: &Look<'_>,
     writer: &mut W,
 ) -> Result<Summary, CommandFault> {
-    let planned = plan_on(alloc, disk, look.below, look.dead)?;
+    let planned = plan_disk(alloc, disk, look.below, look.dead)?;
     let before = size_of(look.lengths);
     let fault = copies_fault(&planned, look);
     let mut summary = Summary {
@@ -170,19 +190,6 @@ fn copies_fault(planned: &[Planned], look: &Look<'_>) -> Option<StepFault> {
         Some(StepFault::NoMoreIds)
     } else {
         None
-    }
-}
-
-/// Returns the logs of a disk that a compaction would take. The line on the terminal goes with the store.
-fn plan_on(
-    alloc: Global,
-    disk: OpeningDisk,
-    below: u32,
-    dead: &[u64],
-) -> Result<Vec<Planned>, CommandFault> {
-    match Store::open(alloc, disk, settings_below(below), dead) {
-        Ok(store) => Ok(plan(&store, Kind::Major)?),
-        Err(fault) => Err(CommandFault::Sweep(SweepFault::Open(fault))),
     }
 }
 

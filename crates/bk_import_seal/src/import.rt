@@ -4,8 +4,8 @@ ghost use Rattle.std.specs.Prelude.{◌≤◌};
 
 use bk_cli::DEFAULTS;
 use bk_deleted::Deleted;
-use bk_disk::FolderFault;
-use bk_folder::{Opening, OpeningFault, open_or_make};
+use bk_disk::{FolderFault, LogDisk};
+use bk_folder::{Opening, OpeningDisk, OpeningFault, open_or_make};
 use bk_import::{ImportFault, Imported, Settings, import};
 use bk_inspect::Form;
 use bk_messages::{CommandFault, RowFault, WayOn, end_early, write_object, write_row};
@@ -13,7 +13,7 @@ use serde::Serialize;
 use std::alloc::{AllocError, Global};
 use std::fmt::{Display, Formatter};
 use std::fs::File;
-use std::io::{BufReader, Write};
+use std::io::{BufReader, Read, Write};
 use std::{fmt, io};
 use thiserror::Error;
 
@@ -112,6 +112,21 @@ fn import_file<E: Write>(
     no_manifest: bool,
     errors: &mut E,
 ) -> Result<Imported, Fault> {
+    let mut reader = reader_of(rt, file)?;
+    let opened = open_or_make(rt, path, no_manifest)?;
+    opened.tell(form, errors);
+    import_all(
+        rt.alloc(),
+        form,
+        opened,
+        &deleted.named,
+        &mut reader,
+        errors,
+    )
+}
+
+/// Opens the file at a path.
+fn reader_of(rt: &HostRuntime, file: &str) -> Result<BufReader<File>, Fault> {
     let alloc = rt.alloc();
     let opened = match File::open(rt, file) {
         Ok(opened) => opened,
@@ -120,22 +135,48 @@ fn import_file<E: Write>(
             return Err(Fault::File { path, reason });
         }
     };
-    let Ok(mut reader) = BufReader::new(alloc, opened) else {
-        return Err(Fault::Memory);
-    };
-    let opened = open_or_make(rt, path, no_manifest)?;
-    opened.tell(form, errors);
-    let Opening { disk, mut book, .. } = opened;
-    let failed = disk.failed_calls()?;
-    let dead = match book.delete_all(&deleted.named) {
-        Ok(listed) => listed.deleted,
-        Err(fault) => return Err(Fault::Opening(OpeningFault::Book(fault))),
-    };
-    let done = import(alloc, disk, SETTINGS, &dead, &mut reader);
+    match BufReader::new(alloc, opened) {
+        Ok(reader) => Ok(reader),
+        Err(_) => Err(Fault::Memory),
+    }
+}
+
+/// Adds the entries of a reader to a directory that is open, after the deletion of these ledgers.
+fn import_all<R: Read, E: Write>(
+    alloc: Global,
+    form: Form,
+    opened: Opening,
+    named: &[u64],
+    reader: &mut R,
+    errors: &mut E,
+) -> Result<Imported, Fault> {
+    let failed = opened.disk.failed_calls()?;
+    let (disk, dead) = recorded_disk(opened, named)?;
+    let done = import_on(alloc, disk, &dead, reader);
     failed.tell(form, errors);
-    match done {
+    done
+}
+
+/// Adds the entries of a reader to the logs of a disk, of which these ledgers are deleted.
+fn import_on<D: LogDisk, R: Read>(
+    alloc: Global,
+    disk: D,
+    dead: &[u64],
+    reader: &mut R,
+) -> Result<Imported, Fault> {
+    match import(alloc, disk, SETTINGS, dead, reader) {
         Ok(done) => Ok(done.imported),
         Err(fault) => Err(Fault::Import(fault)),
+    }
+}
+
+/// Returns the disk of an import, and all deleted ledgers: these, whose deletion is durable now, and
+/// those recorded earlier.
+fn recorded_disk(opened: Opening, named: &[u64]) -> Result<(OpeningDisk, Vec<u64>), Fault> {
+    let Opening { disk, mut book, .. } = opened;
+    match book.delete_all(named) {
+        Ok(listed) => Ok((disk, listed.deleted)),
+        Err(fault) => Err(Fault::Opening(OpeningFault::Book(fault))),
     }
 }
 
