@@ -1,2 +1,1 @@
-pub mod Compacted
 pub mod Folder

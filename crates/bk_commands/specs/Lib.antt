@@ -1,3 +1,1 @@
-pub mod Compacted
-pub mod Failures
 pub mod Folder

@@ -2,22 +2,20 @@
 
 ghost use Rattle.std.specs.Prelude.{◌≤◌};
 
-use crate::compact::{CompactAsk, run_compact, tell_dead};
-use crate::dead::DeadFault;
-use crate::deleted::{Deleted, DeletedAsk, deleted_in};
-use crate::import::run_import;
-use crate::manifest::run_manifest;
-use crate::noted::note_deleted;
-use crate::program::StartFault;
-use crate::seal::run_seal;
+use crate::program::{StartFault, tell_fault};
 use bk_cli::words::{
     DATA, DIGEST, ENTRY, FILE, FIRST, FROM, LAST, LEDGER, LONG, NO_MANIFEST, OF_LEDGER, QUICK, RAW,
 };
 use bk_cli::{DEFAULTS, FolderCall};
+use bk_compact_folder::{CompactAsk, run_compact};
+use bk_deleted::{Deleted, DeletedAsk, deleted_in, note_deleted};
+use bk_import_seal::{run_import, run_seal};
 use bk_inspect::{
     DataForm, Digest, DigestChoice, DirCommand, Ends, EntryRange, FolderCommand, ScanChoice,
     run_folder_as,
 };
+use bk_manifest_command::run_manifest;
+use bk_messages::{DeadFault, tell_dead};
 use bk_record::{Key, LAST_ID};
 use bk_survey::{Thresholds, report_folder};
 use std::io::Write;
@@ -261,7 +259,7 @@ fn deleted_by<E: Write>(
 fn without_memory<E: Write>(errors: &mut E) -> u8
     ensures { result ≤ 1 }
 {
-    crate::program::tell_fault(StartFault::Memory, errors);
+    tell_fault(StartFault::Memory, errors);
     1
 }
 

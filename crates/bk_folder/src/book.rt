@@ -1,0 +1,176 @@
+//! The manifest of the ledgers of a directory that is written.
+
+use bk_disk::{DirDisk, DiskFault};
+use bk_drive::{Recorder, Step};
+use bk_inspect::Form;
+use bk_ledgers::{
+    LEDGERS, Listed, Torn, ledgers_of, open_ledgers, record_deletion, record_deletions,
+    record_fence,
+};
+use bk_manifest::{Manifest, ManifestError};
+use bk_manifest_disk::KeptFile;
+use bk_messages::{BookFault, FailedCalls, write_row};
+use bk_record::LAST_ID;
+use serde::Serialize;
+use std::alloc::{AllocError, Global};
+use std::fmt;
+use std::fmt::{Display, Formatter};
+use std::io::Write;
+
+/// The manifest of the ledgers of a directory that is written: deletions and fences are durable in it
+/// before they take effect. With `--no-manifest` it records nothing.
+#[derive(Drop)]
+pub struct Book {
+    alloc: Global,
+    manifest: Option<Manifest<KeptFile>>,
+    /// The manifest's end that is no records.
+    torn: Option<Torn>,
+    /// The calls that failed on the disk.
+    failed: Option<FailedCalls>,
+}
+
+/// The row of a manifest that ends torn.
+#[derive(Clone, Copy, Serialize)]
+struct TornRow<'a> {
+    note: &'static str,
+    file: &'static str,
+    bytes: u64,
+    copy: &'a str,
+}
+
+impl Display for TornRow<'_> {
+    fn fmt<W: fmt::Write>(&self, f: &mut Formatter<W>) -> fmt::Result {
+        write!(
+            f,
+            "{}: the last {} bytes of {} are no record; {} is a copy",
+            self.note, self.bytes, self.file, self.copy
+        )
+    }
+}
+
+/// Notes on the error stream that a file ended torn. A failed write is ignored.
+pub(crate) fn tell_torn<E: Write>(
+    alloc: Global,
+    form: Form,
+    file: &'static str,
+    torn: &Torn,
+    errors: &mut E,
+) {
+    let row = TornRow {
+        note: "torn manifest",
+        file,
+        bytes: torn.bytes as u64,
+        copy: &torn.copy,
+    };
+    let _ = write_row(alloc, form, &row, errors);
+}
+
+impl Book {
+    /// Opens the manifest of the directory that a disk writes, and makes one if there is none. These
+    /// are the calls that failed on the disk.
+    pub fn open(
+        alloc: Global,
+        disk: &mut DirDisk,
+        failed: &FailedCalls,
+    ) -> Result<Book, BookFault> {
+        let opened = open_ledgers(alloc, disk)?;
+        Ok(Book {
+            alloc,
+            manifest: Some(opened.manifest),
+            torn: opened.torn,
+            failed: Some(failed.share()?),
+        })
+    }
+
+    /// Returns a book that records nothing.
+    pub fn closed(alloc: Global) -> Book {
+        Book {
+            alloc,
+            manifest: None,
+            torn: None,
+            failed: None,
+        }
+    }
+
+    /// Reports that the manifest ended torn, if it did. A failed write is ignored.
+    pub fn tell_torn<E: Write>(&self, form: Form, errors: &mut E) {
+        if let Some(torn) = &self.torn {
+            tell_torn(self.alloc, form, LEDGERS, torn, errors);
+        }
+    }
+
+    /// Returns the ledgers that are recorded as deleted or fenced.
+    pub fn ledgers(&self) -> Result<Listed, AllocError> {
+        match &self.manifest {
+            Some(manifest) => {
+                let records = manifest.state().records(self.alloc)?;
+                ledgers_of(self.alloc, &records)
+            }
+            None => Ok(Listed::none(self.alloc)),
+        }
+    }
+
+    /// Makes the deletion of these ledgers durable, and returns all ledgers whose deletion or fence is.
+    /// A book that records nothing returns these as deleted.
+    ///
+    /// # Errors
+    ///
+    /// - `Disk`, `TooLong`: none of these deletions is recorded. If their records could not be taken
+    ///   back, they may be in the file, and the next opening may find them.
+    /// - `Memory`: the same, or all of them are recorded, and take effect at the next opening.
+    pub fn delete_all(&mut self, ledgers: &[u64]) -> Result<Listed, BookFault> {
+        let fresh = self.fresh_of(ledgers)?;
+        if let Some(manifest) = &mut self.manifest
+            && !fresh.is_empty()
+        {
+            record_deletions(self.alloc, manifest, &fresh)?;
+        }
+        let mut all = self.ledgers()?;
+        if self.manifest.is_none() {
+            all.deleted.extend_from_slice(ledgers)?;
+        }
+        Ok(all)
+    }
+
+    /// Returns those of these ledgers whose deletion is not recorded.
+    fn fresh_of(&self, ledgers: &[u64]) -> Result<Vec<u64>, AllocError> {
+        let mut fresh = Vec::new(self.alloc);
+        if let Some(manifest) = &self.manifest {
+            for ledger in ledgers {
+                if *ledger <= LAST_ID && !manifest.state().is_deleted(*ledger) {
+                    fresh.push(*ledger)?;
+                }
+            }
+        }
+        Ok(fresh)
+    }
+
+    /// Returns whether a call that records was done. Keeps the call of the system if one failed.
+    fn is_done(&self, answer: Result<(), ManifestError>) -> bool {
+        if let (Err(ManifestError::Disk), Some(failed)) = (&answer, &self.failed) {
+            let seen: Result<(), DiskFault> = Err(DiskFault::Disk);
+            failed.see(&seen);
+        }
+        answer.is_ok()
+    }
+}
+
+impl Recorder for Book {
+    /// Records a deletion or a fence of a ledger that can have an entry, unless it is recorded. Returns
+    /// false if that fails.
+    fn record(&mut self, step: &Step) -> bool {
+        let Some(manifest) = &mut self.manifest else {
+            return true;
+        };
+        let answer = match step {
+            Step::Delete(ledger) if *ledger <= LAST_ID => {
+                record_deletion(self.alloc, manifest, *ledger)
+            }
+            Step::Fence(ledger) if *ledger <= LAST_ID => {
+                record_fence(self.alloc, manifest, *ledger)
+            }
+            _ => return true,
+        };
+        self.is_done(answer)
+    }
+}

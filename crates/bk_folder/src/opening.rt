@@ -1,0 +1,274 @@
+//! A disk between a store and a directory that shows on a terminal how far the opening of the store
+//! is.
+//!
+//! An opening lists the logs, and then syncs, views and reads one after another. So the disk sees
+//! when a log is done, and not how much of it is read.
+
+ghost use Rattle.std.specs.Prelude.{false};
+ghost use Rattle.std.specs.FinMap as map;
+ghost use Rattle.bk_folder.specs.Failures.{failures_of};
+
+use crate::book::Book;
+use crate::folder_disk::FolderDisk;
+use crate::opening_view::OpeningView;
+use bk_disk::{DiskFault, LogDisk, LogView};
+use bk_drive::{Answer, OpenFault, Settings, Step, drive_recorded};
+use bk_messages::{FailedCalls, Line};
+use bk_script::ScriptDisk;
+use std::alloc::{AllocError, Global};
+use std::fmt::{Display, Formatter};
+use std::{fmt, mem};
+
+/// How long an opening takes before its progress is shown, in milliseconds.
+const PATIENCE: u64 = 1000;
+
+/// The progress of an opening. Its text is the line on the terminal.
+#[derive(Clone, Copy, Debug)]
+pub struct Opened {
+    /// The number of logs.
+    pub logs: u64,
+    /// The number of logs read to their ends.
+    pub read: u64,
+    /// The bytes of these.
+    pub bytes: u64,
+    /// The seconds so far.
+    pub seconds: u64,
+}
+
+impl Display for Opened {
+    fn fmt<W: fmt::Write>(&self, f: &mut Formatter<W>) -> fmt::Result {
+        let megabytes = self.bytes / 1_000_000;
+        write!(
+            f,
+            "opening: {} of {} logs, {megabytes} MB read",
+            self.read, self.logs
+        )?;
+        match megabytes.checked_div(self.seconds) {
+            Some(rate) => write!(f, ", {rate} MB/s"),
+            None => Ok(()),
+        }
+    }
+}
+
+/// The disk of a directory that shows the progress of an opening, in a line on the error stream of
+/// the process, if that is a terminal and the opening takes longer than a second. The line is
+/// written between two logs, and cleared before a log is written, created or removed, or when the
+/// disk is dropped. A sync leaves it, since an opening syncs each log.
+///
+/// It keeps the calls of the system that fail (`FailedCalls`).
+#[derive(Drop)]
+pub struct OpeningDisk {
+    disk: FolderDisk,
+    failed: FailedCalls,
+    opening: Opening,
+    /// The logs whose file stays when the log is removed.
+    kept: Vec<u32>,
+    /// Where a script records deletions and fences.
+    book: Book,
+    /// The ledgers that are fenced before a script begins.
+    fenced: Vec<u64>,
+}
+
+impl OpeningDisk {
+    /// Returns the disk over the disk of a directory, on which these calls failed.
+    pub fn new(rt: &HostRuntime, disk: FolderDisk, failed: FailedCalls) -> OpeningDisk {
+        OpeningDisk::keeping(rt, disk, failed, Vec::new(rt.alloc()))
+    }
+
+    /// Returns the same disk, except that the files of some logs stay when these are removed. The
+    /// store takes such a log as removed; the next opening lists it again.
+    pub fn keeping(
+        rt: &HostRuntime,
+        disk: FolderDisk,
+        failed: FailedCalls,
+        kept: Vec<u32>,
+    ) -> OpeningDisk {
+        OpeningDisk {
+            disk,
+            failed,
+            kept,
+            book: Book::closed(rt.alloc()),
+            fenced: Vec::new(rt.alloc()),
+            opening: Opening {
+                line: Line::new(rt),
+                logs: 0,
+                viewed: 0,
+                bytes: 0,
+                last: 0,
+            },
+        }
+    }
+
+    /// Returns the same disk for a script, which records deletions and fences in this book before
+    /// they take effect, and begins with these ledgers fenced.
+    pub fn recording(self, book: Book, fenced: Vec<u64>) -> OpeningDisk {
+        let mut disk = self;
+        disk.book = book;
+        disk.fenced = fenced;
+        disk
+    }
+
+    /// Returns the calls of the system that fail, which can be reported after the disk was moved or
+    /// dropped. Fails if memory is refused.
+    pub fn failed_calls(&self) -> Result<FailedCalls, AllocError> {
+        self.failed.share()
+    }
+}
+
+/// An opening, and its line.
+#[derive(Drop)]
+struct Opening {
+    line: Line,
+    /// The number of logs listed.
+    logs: u64,
+    /// The number of logs viewed: all but the last one were read.
+    viewed: u64,
+    /// The bytes of those that were read.
+    bytes: u64,
+    /// The bytes of the last one.
+    last: u64,
+}
+
+impl Opening {
+    /// Begins an opening of this number of logs.
+    fn begin(&mut self, logs: usize) {
+        self.logs = logs as u64;
+        self.viewed = 0;
+        self.bytes = 0;
+        self.last = 0;
+        self.line.begin();
+    }
+
+    /// Goes on to a log of this length: those before it were read.
+    fn go_on(&mut self, bytes: u64) {
+        self.bytes = self.bytes.saturating_add(self.last);
+        self.last = bytes;
+        if let Some(since) = self.line.due(PATIENCE) {
+            self.line.write(&Opened {
+                logs: self.logs,
+                read: self.viewed,
+                bytes: self.bytes,
+                seconds: since.as_secs(),
+            });
+        }
+        self.viewed = self.viewed.saturating_add(1);
+    }
+
+    /// Ends the opening.
+    fn end(&mut self) {
+        self.line.end();
+    }
+}
+
+impl LogDisk for OpeningDisk {
+    type View = OpeningView;
+
+    ghost files = { λ _. map.empty };
+
+    ghost synced = { λ _. map.empty };
+
+    ghost gone = { λ _. map.empty };
+
+    ghost honest = { λ _. false };
+
+    ghost failures = { λ opening. failures_of opening.disk };
+
+    fn bounds(&self) {}
+
+    fn is_lost(&self, log: u32) -> bool {
+        self.disk.is_lost(log)
+    }
+
+    fn is_kept(&self, log: u32) -> bool {
+        self.disk.is_kept(log)
+    }
+
+    fn list(&mut self, alloc: Global) -> Result<Vec<u32>, DiskFault> {
+        let answer = self.disk.list(alloc);
+        self.failed.see(&answer);
+        if let Ok(ids) = &answer {
+            self.opening.begin(ids.len());
+        }
+        answer
+    }
+
+    fn length(&mut self, alloc: Global, log: u32) -> Result<u64, DiskFault> {
+        let answer = self.disk.length(alloc, log);
+        self.failed.see(&answer);
+        answer
+    }
+
+    fn create(&mut self, alloc: Global, log: u32) -> Result<(), DiskFault> {
+        self.opening.end();
+        let answer = self.disk.create(alloc, log);
+        self.failed.see(&answer);
+        answer
+    }
+
+    fn append(&mut self, alloc: Global, log: u32, bytes: &[u8]) -> Result<(), DiskFault> {
+        self.opening.end();
+        let answer = self.disk.append(alloc, log, bytes);
+        self.failed.see(&answer);
+        answer
+    }
+
+    fn patch(&mut self, alloc: Global, log: u32, bytes: &[u8; 12]) -> Result<(), DiskFault> {
+        self.opening.end();
+        let answer = self.disk.patch(alloc, log, bytes);
+        self.failed.see(&answer);
+        answer
+    }
+
+    fn sync(&mut self, alloc: Global, log: u32) -> Result<(), DiskFault> {
+        let answer = self.disk.sync(alloc, log);
+        self.failed.see(&answer);
+        answer
+    }
+
+    fn read_at(&mut self, alloc: Global, log: u32, at: u64, n: u64) -> Result<Vec<u8>, DiskFault> {
+        let answer = self.disk.read_at(alloc, log, at, n);
+        self.failed.see(&answer);
+        answer
+    }
+
+    fn view(&mut self, alloc: Global, log: u32) -> Result<OpeningView, DiskFault> {
+        let Ok(failed) = self.failed.share() else {
+            return Err(DiskFault::Memory);
+        };
+        let answer = self.disk.view(alloc, log);
+        failed.see(&answer);
+        match answer {
+            Ok(view) => {
+                self.opening.go_on(view.end());
+                Ok(OpeningView { view, failed })
+            }
+            Err(fault) => Err(fault),
+        }
+    }
+
+    fn remove(&mut self, alloc: Global, log: u32) -> Result<(), DiskFault> {
+        self.opening.end();
+        if self.kept.contains(&log) {
+            return Ok(());
+        }
+        let answer = self.disk.remove(alloc, log);
+        self.failed.see(&answer);
+        answer
+    }
+}
+
+impl ScriptDisk for OpeningDisk {
+    fn answers(
+        self,
+        alloc: Global,
+        settings: Settings,
+        dead: &[u64],
+        steps: &[Step],
+    ) -> Result<Vec<Answer>, OpenFault> {
+        let mut disk = self;
+        let mut book = mem::replace(&mut disk.book, Book::closed(alloc));
+        let fenced = mem::replace(&mut disk.fenced, Vec::new(alloc));
+        let ran = drive_recorded(alloc, disk, settings, dead, &fenced, steps, &mut book)?;
+        Ok(ran.answers)
+    }
+}

@@ -1,0 +1,268 @@
+//! The command `import`: adds the entries of a file to a directory.
+
+ghost use Rattle.std.specs.Prelude.{◌≤◌};
+
+use bk_cli::DEFAULTS;
+use bk_deleted::Deleted;
+use bk_disk::{FolderFault, LogDisk};
+use bk_folder::{Opening, OpeningDisk, OpeningFault, open_or_make};
+use bk_import::{ImportFault, Imported, Settings, import};
+use bk_inspect::Form;
+use bk_messages::{CommandFault, RowFault, WayOn, end_early, write_object, write_row};
+use serde::Serialize;
+use std::alloc::{AllocError, Global};
+use std::fmt::{Display, Formatter};
+use std::fs::File;
+use std::io::{BufReader, Read, Write};
+use std::{fmt, io};
+use thiserror::Error;
+
+/// The settings of an import. They are allowed, and have a slot for each log of a large directory.
+const SETTINGS: Settings = Settings {
+    slots: 65_536,
+    ..DEFAULTS
+};
+
+/// Why a command ends early. Its text is what the program reports.
+#[derive(Debug, Error, Drop)]
+enum Fault {
+    /// The file cannot be opened.
+    #[error("disk: {path}: {reason}")]
+    File { path: String, reason: io::Error },
+    /// The directory is not opened.
+    #[error("{0}")]
+    Opening(OpeningFault),
+    /// The import ends early.
+    #[error("{0}")]
+    Import(ImportFault),
+    /// Out of memory.
+    #[error("memory")]
+    Memory,
+}
+
+impl From<OpeningFault> for Fault {
+    fn from(fault: OpeningFault) -> Fault {
+        Fault::Opening(fault)
+    }
+}
+
+impl From<AllocError> for Fault {
+    fn from(_: AllocError) -> Fault {
+        Fault::Memory
+    }
+}
+
+impl Fault {
+    /// Its name, without what it is about.
+    fn name(&self) -> &'static str {
+        match self {
+            Fault::File { .. } => "unread",
+            Fault::Opening(OpeningFault::Folder(FolderFault::InUse { .. })) => "in use",
+            Fault::Opening(_) => "disk",
+            Fault::Import(ImportFault::Open(_)) => "bad log",
+            Fault::Import(ImportFault::Read(_)) => "read",
+            Fault::Import(ImportFault::BadRecord(_)) => "bad record",
+            Fault::Import(ImportFault::Add(_)) => "refused",
+            Fault::Import(ImportFault::Step(_) | ImportFault::Flush) => "step",
+            Fault::Memory => "memory",
+        }
+    }
+
+    /// Returns the way on after it, if there is one.
+    fn way_on(&self) -> Option<WayOn> {
+        match self {
+            Fault::Import(ImportFault::Open(fault)) => WayOn::behind(fault),
+            Fault::Opening(fault) => fault.way_on(),
+            _ => None,
+        }
+    }
+}
+
+/// Adds the entries of the file at a path to the directory at another, which is created if it does
+/// not exist, and writes how many were added. Returns the program's status: 0, or 1 with `fault TEXT`
+/// on the error stream; without it if nobody reads the output any more.
+pub fn run_import<W: Write, E: Write>(
+    rt: &HostRuntime,
+    form: Form,
+    path: &str,
+    file: &str,
+    deleted: &Deleted,
+    no_manifest: bool,
+    writer: &mut W,
+    errors: &mut E,
+) -> u8
+    ensures { result ≤ 1 }
+{
+    match import_file(rt, form, path, file, deleted, no_manifest, errors) {
+        Ok(imported) => show(rt.alloc(), form, imported, writer, errors),
+        Err(fault) => {
+            let _ = tell(rt.alloc(), form, &fault, errors);
+            1
+        }
+    }
+}
+
+/// Adds the entries. Reports each call of the system that failed.
+fn import_file<E: Write>(
+    rt: &HostRuntime,
+    form: Form,
+    path: &str,
+    file: &str,
+    deleted: &Deleted,
+    no_manifest: bool,
+    errors: &mut E,
+) -> Result<Imported, Fault> {
+    let mut reader = reader_of(rt, file)?;
+    let opened = open_or_make(rt, path, no_manifest)?;
+    opened.tell(form, errors);
+    import_all(
+        rt.alloc(),
+        form,
+        opened,
+        &deleted.named,
+        &mut reader,
+        errors,
+    )
+}
+
+/// Opens the file at a path.
+fn reader_of(rt: &HostRuntime, file: &str) -> Result<BufReader<File>, Fault> {
+    let alloc = rt.alloc();
+    let opened = match File::open(rt, file) {
+        Ok(opened) => opened,
+        Err(reason) => {
+            let path = String::from_str(alloc, file)?;
+            return Err(Fault::File { path, reason });
+        }
+    };
+    match BufReader::new(alloc, opened) {
+        Ok(reader) => Ok(reader),
+        Err(_) => Err(Fault::Memory),
+    }
+}
+
+/// Adds the entries of a reader to a directory that is open, after the deletion of these ledgers.
+fn import_all<R: Read, E: Write>(
+    alloc: Global,
+    form: Form,
+    opened: Opening,
+    named: &[u64],
+    reader: &mut R,
+    errors: &mut E,
+) -> Result<Imported, Fault> {
+    let failed = opened.disk.failed_calls()?;
+    let (disk, dead) = recorded_disk(opened, named)?;
+    let done = import_on(alloc, disk, &dead, reader);
+    failed.tell(form, errors);
+    done
+}
+
+/// Adds the entries of a reader to the logs of a disk, of which these ledgers are deleted.
+fn import_on<D: LogDisk, R: Read>(
+    alloc: Global,
+    disk: D,
+    dead: &[u64],
+    reader: &mut R,
+) -> Result<Imported, Fault> {
+    match import(alloc, disk, SETTINGS, dead, reader) {
+        Ok(done) => Ok(done.imported),
+        Err(fault) => Err(Fault::Import(fault)),
+    }
+}
+
+/// Returns the disk of an import, and all deleted ledgers: these, whose deletion is durable now, and
+/// those recorded earlier.
+fn recorded_disk(opened: Opening, named: &[u64]) -> Result<(OpeningDisk, Vec<u64>), Fault> {
+    let Opening { disk, mut book, .. } = opened;
+    match book.delete_all(named) {
+        Ok(listed) => Ok((disk, listed.deleted)),
+        Err(fault) => Err(Fault::Opening(OpeningFault::Book(fault))),
+    }
+}
+
+/// The row of what was added.
+#[derive(Clone, Copy, Serialize)]
+struct ImportedRow {
+    added: u64,
+    held: u64,
+}
+
+impl Display for ImportedRow {
+    fn fmt<W: fmt::Write>(&self, f: &mut Formatter<W>) -> fmt::Result {
+        write!(f, "added {} held {}", self.added, self.held)
+    }
+}
+
+/// Writes what was added, and flushes. Returns the status.
+fn show<W: Write, E: Write>(
+    alloc: Global,
+    form: Form,
+    imported: Imported,
+    writer: &mut W,
+    errors: &mut E,
+) -> u8
+    ensures { result ≤ 1 }
+{
+    let row = ImportedRow {
+        added: imported.added,
+        held: imported.held,
+    };
+    match write_flushed(alloc, form, &row, writer) {
+        Ok(()) => 0,
+        Err(fault) => {
+            end_early(alloc, form, &CommandFault::from(fault), &None, errors);
+            1
+        }
+    }
+}
+
+/// Writes a row and flushes.
+fn write_flushed<W: Write>(
+    alloc: Global,
+    form: Form,
+    row: &ImportedRow,
+    writer: &mut W,
+) -> Result<(), RowFault> {
+    write_row(alloc, form, row, writer)?;
+    writer.flush()?;
+    Ok(())
+}
+
+/// The object of a fault.
+#[derive(Drop, Serialize)]
+struct FaultRow {
+    fault: &'static str,
+    reason: String,
+    #[serde(skip_serializing_if = "Option::is_none")]
+    help: Option<String>,
+}
+
+/// Reports why the command ends early, and the way on if there is one.
+fn tell<E: Write>(
+    alloc: Global,
+    form: Form,
+    fault: &Fault,
+    errors: &mut E,
+) -> Result<(), AllocError> {
+    let help = match fault.way_on() {
+        Some(way_on) => Some(format!(in alloc; "{way_on}")?),
+        None => None,
+    };
+    match form {
+        Form::Text => {
+            let _ = writeln!(errors, "fault {fault}");
+            if let Some(help) = help {
+                let _ = writeln!(errors, "help: {help}");
+            }
+        }
+        Form::Json => {
+            let row = FaultRow {
+                fault: fault.name(),
+                reason: format!(in alloc; "{fault}")?,
+                help,
+            };
+            let _ = write_object(alloc, &row, errors);
+        }
+    }
+    Ok(())
+}

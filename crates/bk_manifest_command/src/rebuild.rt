@@ -1,0 +1,153 @@
+//! A damaged manifest is made anew.
+
+ghost use Rattle.std.specs.Prelude.{◌≤◌};
+
+use crate::fault::ManifestFault;
+use crate::rows::{RebuiltRow, WholeRow};
+use bk_disk::{DirDisk, DiskFault, FaultWatch, FolderFile};
+use bk_inspect::Form;
+use bk_manifest::{Fault, HEADER, ReadError, State, read_manifest, rewritten};
+use bk_messages::write_row;
+use std::alloc::Global;
+use std::io::Write;
+
+/// Makes the manifest of this name anew, if it is damaged, of the records before the damage: first
+/// copies it to NAME.damaged, durably, then replaces it. Returns whether there is a manifest.
+///
+/// # Errors
+///
+/// The manifest is as it was, or the new one.
+///
+/// - `Folder`: the directory cannot be opened to be written.
+/// - `CopyExists`: NAME.damaged has bytes already.
+/// - `Call`, `Disk`, `Memory`, `Output`.
+pub(crate) fn rebuild<W: Write>(
+    rt: &HostRuntime,
+    form: Form,
+    path: &str,
+    name: &'static str,
+    writer: &mut W,
+) -> Result<bool, ManifestFault> {
+    let alloc = rt.alloc();
+    let mut disk = DirDisk::open_to_write(rt, path)?;
+    let watch = disk.fault_watch(alloc)?;
+    match replace_damaged(alloc, &mut disk, name) {
+        Ok(done) => show(alloc, form, name, &done, writer),
+        Err(ManifestFault::Disk(DiskFault::Disk)) => Err(of_call(alloc, &watch)?),
+        Err(fault) => Err(fault),
+    }
+}
+
+/// What became of a manifest.
+#[derive(Drop)]
+pub(crate) enum Done {
+    /// There is none.
+    Nothing,
+    /// It is not damaged.
+    Whole,
+    /// It was made anew.
+    Rebuilt {
+        records: u64,
+        unread: u64,
+        kept: String,
+    },
+}
+
+/// Makes a damaged manifest anew.
+fn replace_damaged(alloc: Global, disk: &mut DirDisk, name: &str) -> Result<Done, ManifestFault> {
+    let mut file = disk.file(alloc, name)?;
+    let bytes = file.read(alloc)?;
+    if bytes.is_empty() {
+        return Ok(Done::Nothing);
+    }
+    let front = match read_manifest(alloc, &bytes) {
+        Ok(_) => return Ok(Done::Whole),
+        Err(ReadError::Memory) => return Err(ManifestFault::Memory),
+        Err(ReadError::Fault(fault)) => front_of(fault, bytes.len()),
+    };
+    let kept = format!(in alloc; "{name}.damaged")?;
+    keep(alloc, disk, &kept, &bytes)?;
+    let records = replace(alloc, &mut file, &bytes[..front])?;
+    Ok(Done::Rebuilt {
+        records,
+        unread: (bytes.len() - front) as u64,
+        kept,
+    })
+}
+
+/// Returns how many bytes are before the damage: 0 if the header is damaged.
+pub(crate) fn front_of(fault: Fault, length: usize) -> usize
+    ensures { result ≤ length }
+{
+    let at = match fault {
+        Fault::Short(_) | Fault::BadMagic | Fault::Version(_) | Fault::BadGeneration => 0,
+        Fault::Damaged(at) | Fault::CutRecord(at) => at,
+        Fault::UnknownKind { batch, kind: _ } => batch,
+    };
+    (at as usize).min(length)
+}
+
+/// Copies the bytes to a file of this name, which has none, and makes it durable.
+pub(crate) fn keep(
+    alloc: Global,
+    disk: &mut DirDisk,
+    name: &str,
+    bytes: &[u8],
+) -> Result<(), ManifestFault> {
+    let mut copy = disk.file(alloc, name)?;
+    let there = copy.read(alloc)?;
+    if !there.is_empty() && there.as_slice() != bytes {
+        return Err(ManifestFault::CopyExists(String::from_str(alloc, name)?));
+    }
+    Ok(copy.replace(bytes)?)
+}
+
+/// Replaces a manifest by one of the records of these bytes, a whole front of it. Returns their
+/// number.
+fn replace(alloc: Global, file: &mut FolderFile, front: &[u8]) -> Result<u64, ManifestFault> {
+    let (generation, state) = if front.len() < HEADER {
+        (0, State::new(alloc))
+    } else {
+        let contents = read_manifest(alloc, front)?;
+        (contents.generation, State::of(alloc, contents.records)?)
+    };
+    let whole = rewritten(alloc, generation.wrapping_add(1), &state)?;
+    file.replace(&whole)?;
+    Ok(state.live() as u64)
+}
+
+/// Returns the call of the system that failed last.
+pub(crate) fn of_call(alloc: Global, watch: &FaultWatch) -> Result<ManifestFault, ManifestFault> {
+    match watch.last(alloc)? {
+        Some(call) => Ok(ManifestFault::Call(call)),
+        None => Ok(ManifestFault::Disk(DiskFault::Disk)),
+    }
+}
+
+/// Writes what became of a manifest. Returns whether there is one.
+pub(crate) fn show<W: Write>(
+    alloc: Global,
+    form: Form,
+    name: &'static str,
+    done: &Done,
+    writer: &mut W,
+) -> Result<bool, ManifestFault> {
+    match done {
+        Done::Nothing => return Ok(false),
+        Done::Whole => write_row(alloc, form, &WholeRow { whole: name }, writer)?,
+        Done::Rebuilt {
+            records,
+            unread,
+            kept,
+        } => {
+            let row = RebuiltRow {
+                rebuilt: name,
+                records: *records,
+                unread: *unread,
+                kept,
+            };
+            write_row(alloc, form, &row, writer)?;
+        }
+    }
+    Ok(true)
+}

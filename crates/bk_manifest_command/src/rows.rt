@@ -1,0 +1,189 @@
+//! Rows of the command `manifest`.
+
+use bk_manifest::Record;
+use serde::Serialize;
+use std::fmt;
+use std::fmt::{Display, Formatter};
+
+/// The row of a manifest.
+#[derive(Clone, Copy, Serialize)]
+pub(crate) struct FileRow {
+    /// The file's name.
+    pub manifest: &'static str,
+    pub generation: u64,
+    /// Number of its records, and of those that stand.
+    pub records: u64,
+    pub standing: u64,
+    /// Number of bytes after the last whole batch.
+    pub torn: u64,
+}
+
+impl Display for FileRow {
+    fn fmt<W: fmt::Write>(&self, f: &mut Formatter<W>) -> fmt::Result {
+        write!(
+            f,
+            "{} generation {} records {} standing {} torn {}",
+            self.manifest, self.generation, self.records, self.standing, self.torn
+        )
+    }
+}
+
+/// The row of a record: its word, then the members that it has.
+#[derive(Clone, Copy, Serialize)]
+pub(crate) struct RecordRow {
+    record: &'static str,
+    #[serde(skip_serializing_if = "Option::is_none")]
+    log: Option<u32>,
+    #[serde(skip_serializing_if = "Option::is_none")]
+    ledger: Option<u64>,
+    /// Durable bytes of a log, or the bytes of an attribute.
+    #[serde(skip_serializing_if = "Option::is_none")]
+    length: Option<u64>,
+    /// Kind of an attribute.
+    #[serde(skip_serializing_if = "Option::is_none")]
+    kind: Option<u32>,
+}
+
+impl RecordRow {
+    /// Returns the row of a record.
+    pub(crate) fn of(one: &Record) -> RecordRow {
+        match one {
+            Record::MadeLog(log) => RecordRow::of_log("made", *log, None),
+            Record::DurableLog { log, length } => RecordRow::of_log("durable", *log, Some(*length)),
+            Record::RemovedLog { log, length } => RecordRow::of_log("removed", *log, Some(*length)),
+            Record::DeletedLedger(ledger) => RecordRow::of_ledger("deleted", *ledger),
+            Record::FencedLedger(ledger) => RecordRow::of_ledger("fenced", *ledger),
+            Record::Attribute {
+                ledger,
+                kind,
+                bytes,
+            } => RecordRow {
+                kind: Some(*kind),
+                length: Some(bytes.len() as u64),
+                ..RecordRow::of_ledger("attribute", *ledger)
+            },
+        }
+    }
+
+    /// Returns the row of a record about a log.
+    fn of_log(record: &'static str, log: u32, length: Option<u64>) -> RecordRow {
+        RecordRow {
+            record,
+            log: Some(log),
+            ledger: None,
+            length,
+            kind: None,
+        }
+    }
+
+    /// Returns the row of a record about a ledger.
+    fn of_ledger(record: &'static str, ledger: u64) -> RecordRow {
+        RecordRow {
+            record,
+            log: None,
+            ledger: Some(ledger),
+            length: None,
+            kind: None,
+        }
+    }
+}
+
+impl Display for RecordRow {
+    fn fmt<W: fmt::Write>(&self, f: &mut Formatter<W>) -> fmt::Result {
+        f.write_str(self.record)?;
+        if let Some(log) = self.log {
+            write!(f, " {log}")?;
+        }
+        if let Some(ledger) = self.ledger {
+            write!(f, " {ledger}")?;
+        }
+        if let Some(kind) = self.kind {
+            write!(f, " kind {kind}")?;
+        }
+        match self.length {
+            Some(length) => write!(f, " length {length}"),
+            None => Ok(()),
+        }
+    }
+}
+
+/// The row of a damaged manifest that was made anew.
+#[derive(Clone, Copy, Serialize)]
+pub(crate) struct RebuiltRow<'a> {
+    pub rebuilt: &'static str,
+    /// Number of its records.
+    pub records: u64,
+    /// Number of bytes of the old file that were not read.
+    pub unread: u64,
+    /// Name of the file that has the old bytes.
+    pub kept: &'a str,
+}
+
+impl Display for RebuiltRow<'_> {
+    fn fmt<W: fmt::Write>(&self, f: &mut Formatter<W>) -> fmt::Result {
+        write!(
+            f,
+            "rebuilt {} records {} unread {} kept {}",
+            self.rebuilt, self.records, self.unread, self.kept
+        )
+    }
+}
+
+/// The row of a log that a new manifest takes as it is, although the old one had another durable length.
+#[derive(Clone, Copy, Serialize)]
+pub(crate) struct TakenRow {
+    /// The log.
+    pub taken: u32,
+    pub length: u64,
+    /// Number of its durable bytes by the old manifest.
+    pub durable: u64,
+}
+
+impl Display for TakenRow {
+    fn fmt<W: fmt::Write>(&self, f: &mut Formatter<W>) -> fmt::Result {
+        write!(
+            f,
+            "taken {} length {} durable {}",
+            self.taken, self.length, self.durable
+        )
+    }
+}
+
+/// The row of a log that the old manifest had, and that has no file.
+#[derive(Clone, Copy, Serialize)]
+pub(crate) struct MissingRow {
+    /// The log.
+    pub missing: u32,
+    pub durable: u64,
+}
+
+impl Display for MissingRow {
+    fn fmt<W: fmt::Write>(&self, f: &mut Formatter<W>) -> fmt::Result {
+        write!(f, "missing {} durable {}", self.missing, self.durable)
+    }
+}
+
+/// The row of a manifest that is not damaged.
+#[derive(Clone, Copy, Serialize)]
+pub(crate) struct WholeRow {
+    pub whole: &'static str,
+}
+
+impl Display for WholeRow {
+    fn fmt<W: fmt::Write>(&self, f: &mut Formatter<W>) -> fmt::Result {
+        write!(f, "whole {}", self.whole)
+    }
+}
+
+/// The row of a directory without a manifest.
+#[derive(Clone, Copy, Serialize)]
+pub(crate) struct NoneRow<'a> {
+    pub note: &'static str,
+    pub folder: &'a str,
+}
+
+impl Display for NoneRow<'_> {
+    fn fmt<W: fmt::Write>(&self, f: &mut Formatter<W>) -> fmt::Result {
+        write!(f, "{} in {}", self.note, self.folder)
+    }
+}

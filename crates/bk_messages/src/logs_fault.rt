@@ -1,0 +1,41 @@
+//! Why the logs of a directory cannot be opened by their manifest.
+
+use bk_disk::DiskFault;
+use bk_manifest::ManifestError;
+use bk_manifest_disk::{Fault, LOGS};
+use std::fmt;
+use std::fmt::{Display, Formatter};
+
+/// Why the logs of a directory cannot be opened by their manifest. Its text names the log, or the
+/// manifest.
+#[derive(Clone, Copy, Debug, PartialEq, Eq)]
+pub struct LogsFault {
+    /// The reason. If it is of the disk, the disk's watch has the call of the system.
+    pub fault: Fault,
+}
+
+impl LogsFault {
+    /// Returns whether a call of the system is the reason.
+    pub fn is_of_disk(self) -> bool {
+        matches!(
+            self.fault,
+            Fault::Disk(DiskFault::Disk) | Fault::Manifest(ManifestError::Disk)
+        )
+    }
+}
+
+impl Display for LogsFault {
+    fn fmt<W: fmt::Write>(&self, f: &mut Formatter<W>) -> fmt::Result {
+        match self.fault {
+            Fault::Lack(lack) => write!(f, "{lack}"),
+            Fault::Manifest(error) => write!(f, "{LOGS}: {error}"),
+            Fault::Disk(fault) => write!(f, "{fault}"),
+        }
+    }
+}
+
+impl From<Fault> for LogsFault {
+    fn from(fault: Fault) -> LogsFault {
+        LogsFault { fault }
+    }
+}
