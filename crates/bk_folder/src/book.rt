@@ -3,14 +3,12 @@
 use bk_disk::{DirDisk, DiskFault};
 use bk_drive::{Recorder, Step};
 use bk_inspect::Form;
-use bk_ledgers::{
-    LEDGERS, Listed, Torn, ledgers_of, open_ledgers, record_deletion, record_deletions,
-    record_fence,
-};
-use bk_manifest::{Manifest, ManifestError};
+use bk_ledgers::{LEDGERS, Listed, Torn, open_ledgers, record_deletions};
+use bk_manifest::ManifestError;
 use bk_manifest_disk::KeptFile;
 use bk_messages::{BookFault, FailedCalls, write_row};
 use bk_record::LAST_ID;
+use bk_recorded::LedgerRecorder;
 use serde::Serialize;
 use std::alloc::{AllocError, Global};
 use std::fmt;
@@ -22,7 +20,7 @@ use std::io::Write;
 #[derive(Drop)]
 pub struct Book {
     alloc: Global,
-    manifest: Option<Manifest<KeptFile>>,
+    recorder: Option<LedgerRecorder<KeptFile>>,
     /// The manifest's end that is no records.
     torn: Option<Torn>,
     /// The calls that failed on the disk.
@@ -76,7 +74,7 @@ impl Book {
         let opened = open_ledgers(alloc, disk)?;
         Ok(Book {
             alloc,
-            manifest: Some(opened.manifest),
+            recorder: Some(LedgerRecorder::new(alloc, opened.manifest)),
             torn: opened.torn,
             failed: Some(failed.share()?),
         })
@@ -86,7 +84,7 @@ impl Book {
     pub fn closed(alloc: Global) -> Book {
         Book {
             alloc,
-            manifest: None,
+            recorder: None,
             torn: None,
             failed: None,
         }
@@ -101,11 +99,8 @@ impl Book {
 
     /// Returns the ledgers that are recorded as deleted or fenced.
     pub fn ledgers(&self) -> Result<Listed, AllocError> {
-        match &self.manifest {
-            Some(manifest) => {
-                let records = manifest.state().records(self.alloc)?;
-                ledgers_of(self.alloc, &records)
-            }
+        match &self.recorder {
+            Some(recorder) => recorder.ledgers(),
             None => Ok(Listed::none(self.alloc)),
         }
     }
@@ -120,13 +115,13 @@ impl Book {
     /// - `Memory`: the same, or all of them are recorded, and take effect at the next opening.
     pub fn delete_all(&mut self, ledgers: &[u64]) -> Result<Listed, BookFault> {
         let fresh = self.fresh_of(ledgers)?;
-        if let Some(manifest) = &mut self.manifest
+        if let Some(recorder) = &mut self.recorder
             && !fresh.is_empty()
         {
-            record_deletions(self.alloc, manifest, &fresh)?;
+            record_deletions(self.alloc, &mut recorder.manifest, &fresh)?;
         }
         let mut all = self.ledgers()?;
-        if self.manifest.is_none() {
+        if self.recorder.is_none() {
             all.deleted.extend_from_slice(ledgers)?;
         }
         Ok(all)
@@ -135,42 +130,30 @@ impl Book {
     /// Returns those of these ledgers whose deletion is not recorded.
     fn fresh_of(&self, ledgers: &[u64]) -> Result<Vec<u64>, AllocError> {
         let mut fresh = Vec::new(self.alloc);
-        if let Some(manifest) = &self.manifest {
+        if let Some(recorder) = &self.recorder {
+            let state = recorder.manifest.state();
             for ledger in ledgers {
-                if *ledger <= LAST_ID && !manifest.state().is_deleted(*ledger) {
+                if *ledger <= LAST_ID && !state.is_deleted(*ledger) {
                     fresh.push(*ledger)?;
                 }
             }
         }
         Ok(fresh)
     }
-
-    /// Returns whether a call that records was done. Keeps the call of the system if one failed.
-    fn is_done(&self, answer: Result<(), ManifestError>) -> bool {
-        if let (Err(ManifestError::Disk), Some(failed)) = (&answer, &self.failed) {
-            let seen: Result<(), DiskFault> = Err(DiskFault::Disk);
-            failed.see(&seen);
-        }
-        answer.is_ok()
-    }
 }
 
 impl Recorder for Book {
     /// Records a deletion or a fence of a ledger that can have an entry, unless it is recorded. Returns
-    /// false if that fails.
+    /// false if that fails, and keeps the call of the system if one failed.
     fn record(&mut self, step: &Step) -> bool {
-        let Some(manifest) = &mut self.manifest else {
+        let Some(recorder) = &mut self.recorder else {
             return true;
         };
-        let answer = match step {
-            Step::Delete(ledger) if *ledger <= LAST_ID => {
-                record_deletion(self.alloc, manifest, *ledger)
-            }
-            Step::Fence(ledger) if *ledger <= LAST_ID => {
-                record_fence(self.alloc, manifest, *ledger)
-            }
-            _ => return true,
-        };
-        self.is_done(answer)
+        let allowed = recorder.record(step);
+        if let (Some(ManifestError::Disk), Some(failed)) = (&recorder.refused, &self.failed) {
+            let seen: Result<(), DiskFault> = Err(DiskFault::Disk);
+            failed.see(&seen);
+        }
+        allowed
     }
 }
