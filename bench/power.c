@@ -3,6 +3,7 @@
 //
 //   POWER_LEAVE_OUT  the syncs that are left out, each between commas, as ,opening,folder,
 //                      opening   of a file that is open to read alone, as an opening and a roll have it
+//                      manifest  of a file whose name has `.manifest`
 //                      publish   of another file
 //                      folder    of a directory
 //                      all       each of these
@@ -77,8 +78,12 @@ static void change_fd(int fd) {
 
 static const char *kind_of(int fd) {
     struct stat found;
+    char path[PATH_MAX];
     if (!fstat(fd, &found) && S_ISDIR(found.st_mode))
         return ",folder,";
+    name_of(fd, path);
+    if (strstr(path, ".manifest"))
+        return ",manifest,";
     return (fcntl(fd, F_GETFL) & O_ACCMODE) == O_RDONLY ? ",opening," : ",publish,";
 }
 

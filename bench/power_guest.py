@@ -175,7 +175,7 @@ class Guest:
             [
                 path_of("qemu-system-x86_64"), "-M", "pc", "-accel", "tcg", "-m", "768", "-nodefaults", "-no-reboot",
                 "-display", "none", "-serial", f"file:{self.console}", "-kernel", kernel()[0], "-initrd", str(first),
-                "-append", "console=ttyS0 quiet panic=-1 oops=panic mitigations=off", *disks,
+                "-append", "console=ttyS0 quiet panic=-1 oops=panic mitigations=off no_timer_check", *disks,
             ],
             stdin=subprocess.DEVNULL, preexec_fn=end_with_parent,
         )  # fmt: skip
