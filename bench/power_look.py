@@ -45,22 +45,26 @@ class Looker:
         self.seen = {}
 
     def look(self, tar, promise):
-        digest = hashlib.sha256(repr((sorted(promise.must.items()), sorted(promise.may), sorted(promise.dead))).encode())
+        promised = [sorted(it) for it in (promise.must.items(), promise.may, promise.dead, promise.ended)]
+        digest = hashlib.sha256(repr(promised).encode())
         for name, data in sorted(files_of(tar).items()):
             digest.update(repr((name, len(data))).encode() + data)
-        if digest.digest() not in self.seen:
-            self.seen[digest.digest()] = self.look_first(tar, promise)
-        return self.seen[digest.digest()]
+        key = digest.digest()
+        if key not in self.seen:
+            self.seen[key] = self.look_first(tar, promise, key[0] % 2)
+        return self.seen[key]
 
-    def look_first(self, tar, promise):
+    def look_first(self, tar, promise, checks_first):
         finding, folder = Finding(), self.lay(tar)
         if not folder.exists():
             if promise.must:
                 finding.lost.append("the directory is not there")
             return finding
         looked = fault_runs.Looked(promise.must, promise.may, promise.dead)
+        looked.ended = promise.ended
         self.program.refused = 0
-        for step in (self.check, self.read, self.add_again, self.compact):
+        first = (self.check, self.open) if checks_first else (self.open, self.check)
+        for step in (*first, self.read, self.add_again, self.compact):
             trouble = step(folder, looked)
             if trouble:
                 finding.refused.append(f"{step.__name__}: {trouble}")
@@ -78,19 +82,36 @@ class Looker:
         return folder
 
     def check(self, folder, looked):
-        """Step 1: `check`. A log that was being sealed gets its map."""
+        """`check`, before or after the opening. A log that was being sealed gets its map. Where it is recorded what is
+        durable, there is no other fault."""
         ran = self.program.call(["check", folder])
-        if ran.status not in (0, 1):
+        faults = [line for line in ran.out.splitlines() if " fault " in line or MAP_FAULTS.fullmatch(line)]
+        if ran.status not in (0, 1) or ran.status == 1 and not faults:
             return ran.last()
-        for line in ran.out.splitlines():
+        for line in faults:
             found = MAP_FAULTS.fullmatch(line)
             sealed = self.program.call(["seal", "--cut-torn", folder, found[1]]) if found else None
             if sealed and sealed.status != 0:
                 return f"{line}; seal --cut-torn: {sealed.last()}"
+            if not found and (folder / entry_logs.MANIFEST).exists():
+                return line
         return None
 
+    def open(self, folder, looked):
+        """The store is opened without a word of deleted ledgers. It knows those that were deleted or fenced."""
+        gone = {ledger for step, ledger in looked.ended if step == "delete"}
+        fenced = sorted({ledger for _, ledger in looked.ended} - gone)
+        found = fault_runs.open_and_read(self.program, folder, [key for key in looked.may if key[0] in gone], [])
+        if isinstance(found, str):
+            return found
+        looked.lost += [f"the deletion of ledger {key[0]}" for key, data in found.items() if data is not None]
+        ran = self.program.call(["script", "--folder", folder], "".join(f"fenced {it}\n" for it in fenced))
+        lost = [it for it, answer in zip(fenced, ran.out.splitlines()) if answer != "yes"]
+        looked.lost += [f"the fence of ledger {ledger}" for ledger in lost]
+        return None if ran.status == 0 else ran.last()
+
     def read(self, folder, looked):
-        """Step 2: the store is opened on the directory, after the way on that is printed if it refuses."""
+        """The store is opened on the directory, after the way on that is printed if it refuses."""
         found = fault_runs.open_and_read(self.program, folder, {**looked.may, **looked.must}, looked.dead)
         if isinstance(found, str):
             return found
@@ -101,9 +122,9 @@ class Looker:
         return None
 
     def add_again(self, folder, looked):
-        """Step 3: the entries whose publication was not confirmed are added again, and are all there then."""
+        """The entries whose publication was not confirmed are added again, and are all there then."""
         again = {key: data for key, data in looked.may.items() if key[0] not in looked.dead}
-        steps = [f"add {ledger} {entry} {data.decode()}".rstrip(" ") for (ledger, entry), data in again.items()]
+        steps = [f"radd {ledger} {entry} {data.decode()}".rstrip(" ") for (ledger, entry), data in again.items()]
         steps += ["swap", *["write"] * (len(again) + 1), "publish"]
         ran = self.program.call(["script", "--folder", folder, *looked.dead], "\n".join(steps) + "\n")
         faults = [line for line in ran.out.splitlines() if line.startswith("fault")]

@@ -12,7 +12,11 @@ from power_look import Finding, Looker
 from power_story import FOLDER, Process, Promise, Story, Timeline, files_of, found_by, troubles
 
 # Images of one recording, processes in it, the share of images that the guest opens itself, and cuts of each of these.
-IMAGES, PROCESSES, RECOVERED, AGAIN = 60, 9, 1 / 12, 4
+IMAGES, PROCESSES, RECOVERED, AGAIN = 100, 9, 1 / 12, 4
+
+
+# In the name of an image that was cut off while the machine opened and compacted.
+RECOVERY = ", recovered,"
 
 
 class Stopped(Exception):
@@ -24,7 +28,7 @@ class Counts:
 
     def __init__(self, keep):
         self.keep, self.kept = keep, 0
-        self.cuts = self.lost = self.refused = self.ways_on = 0
+        self.cuts = self.lost = self.refused = self.ways_on = self.torn = self.recovered = 0
         self.texts = collections.Counter()
 
     def add(self, name, finding, image, tar, promise):
@@ -33,6 +37,8 @@ class Counts:
         self.lost += bool(finding.lost)
         self.refused += bool(finding.refused)
         self.ways_on += bool(finding.ways_on)
+        self.torn += name.endswith(" torn")
+        self.recovered += RECOVERY in name
         for sort, whys in (("lost", finding.lost), ("refused", finding.refused)):
             for why in whys[:1]:
                 self.texts[sort, why] += 1
@@ -51,12 +57,13 @@ class Counts:
                 (at / "logs" / file).write_bytes(data)
         whys = [f"lost: {why}" for why in finding.lost] + [f"refused: {why}" for why in finding.refused]
         dead = " ".join(map(str, sorted(promise.dead)))
-        (at / "finding.txt").write_text("\n".join([name, *whys, f"deleted ledgers: {dead}", ""]))
+        ended = " ".join(f"{step} {ledger}" for step, ledger in sorted(promise.ended))
+        (at / "finding.txt").write_text("\n".join([name, *whys, f"deleted ledgers: {dead}", f"answered: {ended}", ""]))
 
     def report(self):
         if self.kept:
             print(f"images with a finding are in {self.keep}")
-        print(f"{self.ways_on} images were opened only after a way on")
+        print(f"{self.ways_on} opened only after a way on, {self.torn} torn, {self.recovered} cut in a recovery")
         print(f"{self.cuts} cuts, {self.lost} lost, {self.refused} refused")
         return 1 if self.lost or self.refused else 0
 
@@ -188,7 +195,7 @@ class Trial:
         timeline = Timeline([look, compaction], recording.events, promise)
         for _ in range(0 if finding.refused or finding.lost else AGAIN):
             if not self.is_over():
-                self.one_cut(recording, timeline, f"{name}, recovered,")
+                self.one_cut(recording, timeline, name + RECOVERY)
         return None
 
     def recovery(self, promise):
@@ -196,8 +203,7 @@ class Trial:
         story = Story(self.chance, self.asked.no_manifest, 0)
         story.dead = sorted(promise.dead)
         look = story.look(0, {**promise.may, **promise.must})
-        dead = [f"--dead={ledger}" for ledger in story.dead]
-        return look, Process(1, "compact", ["compact", "--major", *dead, FOLDER])
+        return look, Process(1, "compact", story.compaction_words("--major"))
 
 
 def run(asked, room):
