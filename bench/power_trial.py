@@ -4,6 +4,7 @@ import collections
 import random
 import sys
 import time
+from concurrent.futures import ThreadPoolExecutor
 
 import fault_runs
 from power_guest import FILE_SYSTEMS, Dead, Guest, Silent, first_files
@@ -13,6 +14,8 @@ from power_story import FOLDER, Process, Promise, Story, Timeline, files_of, fou
 
 # Images of one recording, processes in it, the share of images that the guest opens itself, and cuts of each of these.
 IMAGES, PROCESSES, RECOVERED, AGAIN = 100, 9, 1 / 12, 4
+# Directories that are looked at while the guest mounts the next images.
+LOOKS = 3
 
 
 # In the name of an image that was cut off while the machine opened and compacted.
@@ -77,7 +80,7 @@ class Trial:
         self.chance = random.Random(f"{asked.seed} {name}")
         self.base = self.kind.empty(room / name)
         self.first = first_files(room, asked.program, [name])
-        self.looker = Looker(asked.program, room)
+        self.looker, self.pool, self.looks = Looker(asked.program, room), ThreadPoolExecutor(LOOKS), []
         self.guest, self.cuts, self.runs = None, 0, 0
 
     def is_over(self):
@@ -87,9 +90,17 @@ class Trial:
         try:
             while not self.is_over():
                 self.one_run()
+            self.collect()
         finally:
+            self.pool.shutdown(cancel_futures=True)
             if self.guest:
                 self.guest.close()
+
+    def collect(self, most=0):
+        """Counts the images that were looked at, in their order, until so many are left."""
+        while len(self.looks) > most:
+            name, future, *rest = self.looks.pop(0)
+            self.counts.add(name, future.result(), *rest)
 
     # ---- the guest
 
@@ -158,19 +169,20 @@ class Trial:
             self.look(where, image, promise)
 
     def look(self, name, image, promise):
-        tar, finding = None, Finding()
+        finding = Finding()
         job = f"if {self.mount()}; then tar cf /tmp/tar -C /mnt . && send /tmp/tar tar; else send /tmp/why unmounted; fi\n"
         try:
             messages, _ = self.job(job, image)
             if messages and messages[-1].words == ["tar"]:
                 tar = messages[-1].data
-                finding = self.looker.look(tar, promise)
-            else:
-                why = messages[-1].data.decode(errors="replace").strip() if messages else "no answer"
-                finding.refused.append(f"not mounted: {why}")
+                self.looks.append((name, self.pool.submit(self.looker.look, tar, promise), image, tar, promise))
+                return self.collect(4 * LOOKS)
+            why = messages[-1].data.decode(errors="replace").strip() if messages else "no answer"
+            finding.refused.append(f"not mounted: {why}")
         except Dead as why:
             finding.refused.append(f"the machine ended: {why}")
-        self.counts.add(name, finding, image, tar, promise)
+        self.counts.add(name, finding, image, None, promise)
+        return None
 
     def recover(self, name, image, promise):
         """Lets the guest open and compact the directory, and cuts it off there too."""
