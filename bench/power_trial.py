@@ -219,12 +219,13 @@ class Trial:
 
 
 def run(asked, room):
-    counts = Counts(asked.keep)
+    counts, status = Counts(asked.keep), 2
     try:
         for name in asked.file_system:
             Trial(asked, room, name, counts).all()
+        status = 0
     except Stopped as why:
         print(f"bookie-power: {why}", file=sys.stderr)
-        counts.report()
-        return 2
-    return counts.report()
+    finally:
+        found = counts.report()
+    return status or found
