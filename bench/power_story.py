@@ -271,7 +271,7 @@ class Timeline:
 
 
 def loaded(files):
-    """Returns the entries of loads in the files of a directory: a load uses the ledgers after the last one, and deletes some."""
+    """Returns the entries of loads in a directory's files: a load uses the ledgers after the last one, and deletes some."""
     logs = {entry_logs.log_of(name): entry_logs.Log(data) for name, data in files.items()}
     logs.pop(None, None)
     gone = entry_logs.deleted_ledgers(files.get(entry_logs.LEDGERS, b""))
