@@ -37,7 +37,7 @@ class Process:
     def job(self):
         """The lines of the shell that run it."""
         if self.kind == "taken":
-            return f"tar cf /tmp/tar -C /mnt . && send /tmp/tar taken {self.number}\n"
+            return f"send_logs taken {self.number}\n"
         words = " ".join(self.words)
         steps = "\n".join([*self.steps, "END"])
         return f"cat >/tmp/steps <<'END'\n{steps}\nrun {self.number} {self.first_marker} {self.kill_at} {words}\n"

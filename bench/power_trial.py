@@ -170,7 +170,7 @@ class Trial:
 
     def look(self, name, image, promise):
         finding = Finding()
-        job = f"if {self.mount()}; then tar cf /tmp/tar -C /mnt . && send /tmp/tar tar; else send /tmp/why unmounted; fi\n"
+        job = f"if {self.mount()}; then send_logs tar; else send /tmp/why unmounted; fi\n"
         try:
             messages, _ = self.job(job, image)
             if messages and messages[-1].words == ["tar"]:
