@@ -9,10 +9,11 @@ SHORTEST = 16
 # A log's name: its id in hexadecimal.
 NAME = re.compile(r"(0|[1-9a-f][0-9a-f]{0,7})\.log")
 LAST_LOG = 0x7FFFFFFF
-# The file of durable lengths, its header, and what is around the body of a batch: size and two checksums.
-MANIFEST, MANIFEST_HEADER, BATCH = "logs.manifest", 24, 12
-# Sizes of records about logs, by kind: made, durable, removed.
-SIZES = {1: 5, 2: 13, 3: 13}
+# The files of durable lengths and of ledgers, their header, and what is around the body of a batch: size and two checksums.
+MANIFEST, LEDGERS, MANIFEST_HEADER, BATCH = "logs.manifest", "ledgers.manifest", 24, 12
+# Sizes of records, by kind: a log is made, durable, removed; a ledger is deleted, fenced.
+SIZES = {1: 5, 2: 13, 3: 13, 4: 9, 5: 9}
+DELETED = 4
 
 
 def number(data, at, size):
@@ -26,23 +27,32 @@ def log_of(name):
     return log if log is not None and log <= LAST_LOG else None
 
 
-def durable_lengths(path):
-    """The durable length of each log that the manifest of a directory has, by id; its checksums are not compared."""
-    file = os.path.join(path, MANIFEST)
-    if not os.path.isfile(file):
-        return {}
-    with open(file, "rb") as opened:
-        data = opened.read()
-    lengths, at = {}, MANIFEST_HEADER
+def manifest_records(data):
+    """Yields the records of a manifest, up to one of another kind; its checksums are not compared."""
+    at = MANIFEST_HEADER
     while at + BATCH <= len(data):
         size = number(data, at, 4)
         if size < 0 or len(data) < at + BATCH + size:
             break
         body, at = data[at + 8 : at + 8 + size], at + BATCH + size
         while body and body[0] in SIZES:
-            lengths[number(body, 1, 4)] = number(body, 5, 8) if body[0] != 1 else 0
+            yield body[: SIZES[body[0]]]
             body = body[SIZES[body[0]] :]
-    return lengths
+
+
+def durable_lengths(path):
+    """The durable length of each log that the manifest of a directory has, by id."""
+    file = os.path.join(path, MANIFEST)
+    if not os.path.isfile(file):
+        return {}
+    with open(file, "rb") as opened:
+        records = manifest_records(opened.read())
+    return {number(it, 1, 4): number(it, 5, 8) if it[0] != 1 else 0 for it in records}
+
+
+def deleted_ledgers(data):
+    """The ledgers that a manifest of ledgers has as deleted."""
+    return {number(it, 1, 8) for it in manifest_records(data) if it[0] == DELETED}
 
 
 class Log:

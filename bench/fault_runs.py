@@ -204,6 +204,8 @@ def way_on(program, folder, ran):
     if re.search(r"^\d+ \d+ \d+ \d+$", scan.out, re.M):
         return f"{ran.last()}; scan: {scan.last()}"
     name = f"{int(log):x}.log"
+    if not (folder / name).exists():
+        return f"no way on: {ran.last()}"
     (folder / name).rename(folder / f"{name}.away")
     return None
 

@@ -3,6 +3,8 @@
 //
 //   POWER_LEAVE_OUT  the syncs that are left out, each between commas, as ,opening,folder,
 //                      opening   of a file that is open to read alone, as an opening and a roll have it
+//                      manifest  of a manifest, a file NAME.manifest
+//                      replace   of a file that is to replace one, NAME.manifest.new
 //                      publish   of another file
 //                      folder    of a directory
 //                      all       each of these
@@ -26,7 +28,7 @@
 #include <unistd.h>
 
 enum { MARKER = 900, RECORD = 26, SECTOR = 512 };
-static const char WORD[] = "marker";
+static const char WORD[] = "marker", MANIFEST[] = ".manifest";
 
 static const char *left_out, *folder;
 static unsigned long kill_at, count;
@@ -77,8 +79,13 @@ static void change_fd(int fd) {
 
 static const char *kind_of(int fd) {
     struct stat found;
+    char path[PATH_MAX];
     if (!fstat(fd, &found) && S_ISDIR(found.st_mode))
         return ",folder,";
+    name_of(fd, path);
+    const char *manifest = strstr(path, MANIFEST);
+    if (manifest)
+        return manifest[sizeof MANIFEST - 1] ? ",replace," : ",manifest,";
     return (fcntl(fd, F_GETFL) & O_ACCMODE) == O_RDONLY ? ",opening," : ",publish,";
 }
 

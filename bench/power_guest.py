@@ -22,6 +22,10 @@ TOOLS = {
 }  # fmt: skip
 KERNEL = "linux-image-cloud-amd64"
 ALWAYS = ("virtio_pci", "virtio_blk")
+# A busy machine gives timers late.
+OPTIONS = "console=ttyS0 quiet panic=-1 oops=panic mitigations=off no_timer_check"
+# One processor. Where there cannot be more, QEMU leaves barriers out, and now and then a request of a disk is lost.
+PROCESSORS = ("-smp", "1,maxcpus=2")
 # How long the guest may be silent, on a machine that is busy.
 SECONDS = 900
 
@@ -173,9 +177,9 @@ class Guest:
             disks += ["-device", f"virtio-blk-pci,drive={name},discard=off,write-zeroes=off"]
         self.machine = subprocess.Popen(
             [
-                path_of("qemu-system-x86_64"), "-M", "pc", "-accel", "tcg", "-m", "768", "-nodefaults", "-no-reboot",
+                path_of("qemu-system-x86_64"), "-M", "pc", "-accel", "tcg", *PROCESSORS, "-m", "768", "-nodefaults", "-no-reboot",
                 "-display", "none", "-serial", f"file:{self.console}", "-kernel", kernel()[0], "-initrd", str(first),
-                "-append", "console=ttyS0 quiet panic=-1 oops=panic mitigations=off", *disks,
+                "-append", OPTIONS, *disks,
             ],
             stdin=subprocess.DEVNULL, preexec_fn=end_with_parent,
         )  # fmt: skip

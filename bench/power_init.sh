@@ -31,6 +31,17 @@ send() {
     printf '%-512s' "$size $*" | dd of=/dev/vdb bs=512 count=1 oflag=direct 2>/dev/null
 }
 
+# Reports the directory of logs as an archive, an empty one if it is not there.
+send_logs() {
+    mkdir -p /tmp/none
+    if [ -d /mnt/logs ]; then
+        tar cf /tmp/tar -C /mnt logs
+    else
+        tar cf /tmp/tar -C /tmp/none .
+    fi
+    send /tmp/tar "$@"
+}
+
 # Runs the program with /tmp/steps, between two reports: begin NUMBER, and end NUMBER STATUS with its output.
 # run NUMBER FROM KILL_AT WORD..
 run() {

@@ -2,7 +2,7 @@
 
 import hashlib
 import re
-import shutil
+import tempfile
 from pathlib import Path
 
 import entry_logs
@@ -41,79 +41,108 @@ class Looker:
     """Looks at directories; one that was seen before, with the same promises, is not looked at again."""
 
     def __init__(self, path, room):
-        self.program, self.room = Operator(path), room / "looked"
+        self.path, self.room = path, room
         self.seen = {}
 
     def look(self, tar, promise):
-        digest = hashlib.sha256(repr((sorted(promise.must.items()), sorted(promise.may), sorted(promise.dead))).encode())
+        promised = [sorted(it) for it in (promise.must.items(), promise.may, promise.dead, promise.ended)]
+        digest = hashlib.sha256(repr(promised).encode())
         for name, data in sorted(files_of(tar).items()):
             digest.update(repr((name, len(data))).encode() + data)
-        if digest.digest() not in self.seen:
-            self.seen[digest.digest()] = self.look_first(tar, promise)
-        return self.seen[digest.digest()]
+        key = digest.digest()
+        if key not in self.seen:
+            with tempfile.TemporaryDirectory(prefix="looked-", dir=self.room) as room:
+                self.seen[key] = Look(Operator(self.path), Path(room) / "logs", promise).run(tar, key[0] % 2)
+        return self.seen[key]
 
-    def look_first(self, tar, promise):
-        finding, folder = Finding(), self.lay(tar)
-        if not folder.exists():
-            if promise.must:
+
+class Look:
+    """A look at one directory."""
+
+    def __init__(self, program, folder, promise):
+        self.program, self.folder, self.ended = program, folder, promise.ended
+        self.looked = fault_runs.Looked(promise.must, promise.may, promise.dead)
+
+    def run(self, tar, checks_first):
+        finding = Finding()
+        self.lay(tar)
+        if not self.folder.exists():
+            if self.looked.must:
                 finding.lost.append("the directory is not there")
             return finding
-        looked = fault_runs.Looked(promise.must, promise.may, promise.dead)
-        self.program.refused = 0
-        for step in (self.check, self.read, self.add_again, self.compact):
-            trouble = step(folder, looked)
+        first = (self.check, self.open) if checks_first else (self.open, self.check)
+        for step in (*first, self.read, self.add_again, self.compact):
+            trouble = step()
             if trouble:
                 finding.refused.append(f"{step.__name__}: {trouble}")
                 break
-        finding.lost, finding.ways_on = looked.lost, self.program.refused
+        finding.lost, finding.ways_on = self.looked.lost, self.program.refused
         return finding
 
     def lay(self, tar):
-        shutil.rmtree(self.room, ignore_errors=True)
-        folder = self.room / "logs"
         for name, data in files_of(tar).items():
-            folder.mkdir(parents=True, exist_ok=True)
+            self.folder.mkdir(parents=True, exist_ok=True)
             if name:
-                (folder / name).write_bytes(data)
-        return folder
+                (self.folder / name).write_bytes(data)
 
-    def check(self, folder, looked):
-        """Step 1: `check`. A log that was being sealed gets its map."""
-        ran = self.program.call(["check", folder])
-        if ran.status not in (0, 1):
+    def check(self):
+        """`check`, before or after the opening. A log that was being sealed gets its map. Where it is recorded what is
+        durable, there is no other fault."""
+        ran = self.program.call(["check", self.folder])
+        faults = [line for line in ran.out.splitlines() if " fault " in line or MAP_FAULTS.fullmatch(line)]
+        if ran.status not in (0, 1) or ran.status == 1 and not faults:
             return ran.last()
-        for line in ran.out.splitlines():
+        for line in faults:
             found = MAP_FAULTS.fullmatch(line)
-            sealed = self.program.call(["seal", "--cut-torn", folder, found[1]]) if found else None
+            sealed = self.program.call(["seal", "--cut-torn", self.folder, found[1]]) if found else None
             if sealed and sealed.status != 0:
                 return f"{line}; seal --cut-torn: {sealed.last()}"
+            if not found and (self.folder / entry_logs.MANIFEST).exists():
+                return line
         return None
 
-    def read(self, folder, looked):
-        """Step 2: the store is opened on the directory, after the way on that is printed if it refuses."""
-        found = fault_runs.open_and_read(self.program, folder, {**looked.may, **looked.must}, looked.dead)
+    def open(self):
+        """The store is opened without a word of deleted ledgers. It knows those that were deleted or fenced."""
+        gone = {ledger for step, ledger in self.ended if step == "delete"}
+        fenced = sorted({ledger for _, ledger in self.ended} - gone)
+        keys = [key for key in self.looked.may if key[0] in gone]
+        found = fault_runs.open_and_read(self.program, self.folder, keys, [])
+        if isinstance(found, str):
+            return found
+        self.looked.lost += [f"the deletion of ledger {key[0]}" for key, data in found.items() if data is not None]
+        ran = self.program.call(["script", "--folder", self.folder], "".join(f"fenced {it}\n" for it in fenced))
+        lost = [it for it, answer in zip(fenced, ran.out.splitlines()) if answer != "yes"]
+        self.looked.lost += [f"the fence of ledger {ledger}" for ledger in lost]
+        return None if ran.status == 0 else ran.last()
+
+    def read(self):
+        """The store is opened on the directory, after the way on that is printed if it refuses."""
+        looked = self.looked
+        found = fault_runs.open_and_read(self.program, self.folder, {**looked.may, **looked.must}, looked.dead)
         if isinstance(found, str):
             return found
         looked.compare(found, "opened")
-        found = entry_logs.last_records(entry_logs.read_folder(folder))
+        found = entry_logs.last_records(entry_logs.read_folder(self.folder))
         # Of the entries of a load only those are known that are promised.
         looked.compare({key: data for key, data in found.items() if key[0] <= MARKER or key in looked.must}, "read")
         return None
 
-    def add_again(self, folder, looked):
-        """Step 3: the entries whose publication was not confirmed are added again, and are all there then."""
-        again = {key: data for key, data in looked.may.items() if key[0] not in looked.dead}
-        steps = [f"add {ledger} {entry} {data.decode()}".rstrip(" ") for (ledger, entry), data in again.items()]
+    def add_again(self):
+        """The entries whose publication was not confirmed are added again, and are all there then."""
+        dead = self.looked.dead
+        again = {key: data for key, data in self.looked.may.items() if key[0] not in dead}
+        steps = [f"radd {ledger} {entry} {data.decode()}".rstrip(" ") for (ledger, entry), data in again.items()]
         steps += ["swap", *["write"] * (len(again) + 1), "publish"]
-        ran = self.program.call(["script", "--folder", folder, *looked.dead], "\n".join(steps) + "\n")
+        ran = self.program.call(["script", "--folder", self.folder, *dead], "\n".join(steps) + "\n")
         faults = [line for line in ran.out.splitlines() if line.startswith("fault")]
         if ran.status != 0 or faults:
             return (faults or [ran.last()])[0]
-        looked.must = {**looked.must, **again}
-        return self.read(folder, looked)
+        self.looked.must = {**self.looked.must, **again}
+        return self.read()
 
-    def compact(self, folder, looked):
-        ran = self.program.call(["compact", "--major", *(f"--dead={ledger}" for ledger in looked.dead), folder])
+    def compact(self):
+        dead = [f"--dead={ledger}" for ledger in self.looked.dead]
+        ran = self.program.call(["compact", "--major", *dead, self.folder])
         if ran.status != 0:
             return ran.last()
-        return self.read(folder, looked)
+        return self.read()

@@ -18,10 +18,11 @@ LOGS = range(64)
 
 
 class Stretch:
-    """A part of a script: the ledgers that it deletes, and then the entries that are promised at its marker."""
+    """A part of a script: the ledgers that it ends, and then the entries that are promised at its marker."""
 
     def __init__(self):
-        self.deleted, self.entries, self.marker = [], {}, None
+        # Pairs of `delete` or `fence`, and a ledger.
+        self.ended, self.entries, self.marker = [], {}, None
 
 
 class Process:
@@ -36,20 +37,29 @@ class Process:
     def job(self):
         """The lines of the shell that run it."""
         if self.kind == "taken":
-            return f"tar cf /tmp/tar -C /mnt . && send /tmp/tar taken {self.number}\n"
+            return f"send_logs taken {self.number}\n"
         words = " ".join(self.words)
         steps = "\n".join([*self.steps, "END"])
         return f"cat >/tmp/steps <<'END'\n{steps}\nrun {self.number} {self.first_marker} {self.kill_at} {words}\n"
 
-    def deleted(self):
-        return [ledger for stretch in self.stretches for ledger in stretch.deleted]
+    def ended(self, marker=None):
+        """The ledgers that it ends up to a marker, or to its own end."""
+        found = []
+        for stretch in self.stretches:
+            found += stretch.ended
+            if stretch.marker == marker:
+                break
+        return found
+
+    def is_recorded(self):
+        return UNRECORDED[0] not in self.words
 
     def trouble(self, status, output):
         """Why a run that was not killed is not as it must be, or None."""
         lines, _, told = output.rpartition("--\n")
         faults = [line for line in lines.splitlines() if line.startswith("fault")]
         if status != 0 or faults:
-            return f"{' '.join(self.words)}: status {status}, {(faults or [told.strip()])[0]}"
+            return f"{' '.join(self.words)}: status {status}, {[*faults, *told.strip().splitlines(), ''][0]}"
         if self.kind in ("script", "killed", "look") and len(lines.splitlines()) != len(self.steps):
             return f"{' '.join(self.words)}: {len(lines.splitlines())} answers to {len(self.steps)} steps"
         return None
@@ -89,7 +99,7 @@ class Story:
                 process.steps.append("roll")
             if self.chance.random() < 0.2:
                 process.steps += [f"retire {log}" for log in LOGS] + removals()
-        self.dead += process.deleted()
+        self.dead += deleted(process.ended())
         return [process]
 
     def killed(self):
@@ -109,9 +119,10 @@ class Story:
     def compact(self, after=0):
         if not self.processes and not after:
             return []
-        dead = [f"--dead={ledger}" for ledger in self.dead]
-        words = ["compact", self.chance.choice(("--major", "--minor")), *dead, FOLDER]
-        return [self.process("compact", words, after)]
+        return [self.process("compact", self.compaction_words(self.chance.choice(("--major", "--minor"))), after)]
+
+    def compaction_words(self, kind):
+        return ["compact", kind, *self.keeping, *(f"--dead={ledger}" for ledger in self.dead), FOLDER]
 
     def compact_killed(self):
         """A compaction that is killed, and a look at what it left."""
@@ -138,31 +149,33 @@ class Story:
         return found
 
     def flush(self, process):
-        """Adds entries, writes and publishes them; compactions and deletions come between."""
+        """Adds entries, writes and publishes them; compactions, deletions and fences come between."""
         entries = {**self.some_entries(), (MARKER, self.next_marker): WORD}
         process.steps += [f"add {ledger} {entry} {text}".rstrip(" ") for (ledger, entry), text in entries.items()]
         self.entries.update(entries)
         process.added.update(entries)
-        self.perhaps_delete(process, 0.2)
+        self.perhaps_end(process, 0.2)
         process.steps.append("swap")
         for _ in range(len(entries) + 1):
             process.steps.append("write")
             self.perhaps_compact(process)
-        self.perhaps_delete(process, 0.1)
+        self.perhaps_end(process, 0.1)
         process.steps += ["publish", f"take 3 {MARKER} {self.next_marker}", "fetch 3", "release 3"]
         process.stretches[-1].entries = entries
         process.stretches[-1].marker = self.next_marker
         process.stretches.append(Stretch())
         self.next_marker += 1
-        self.perhaps_delete(process, 0.2)
+        self.perhaps_end(process, 0.2)
 
-    def perhaps_delete(self, process, share):
+    def perhaps_end(self, process, share):
+        """Deletes or fences a ledger; another one gets entries in its place."""
         if self.chance.random() < share:
             ledger = self.live.pop(self.chance.randrange(len(self.live)))
             self.live.append(self.next_ledger)
             self.next_ledger += 1
-            process.steps.append(f"delete {ledger}")
-            process.stretches[-1].deleted.append(ledger)
+            step = self.chance.choice(("delete", "delete", "fence"))
+            process.steps.append(f"{step} {ledger}")
+            process.stretches[-1].ended.append((step, ledger))
 
     def perhaps_compact(self, process):
         if not self.compaction and self.chance.random() < 0.15:
@@ -181,6 +194,10 @@ def removals():
     return [step for log in LOGS for step in (f"close {log}", f"remove {log}")]
 
 
+def deleted(ended):
+    return [ledger for step, ledger in ended if step == "delete"]
+
+
 def found_by(look, output):
     """Returns the entries that a look found, with their bytes."""
     lines, found = output.rpartition("--\n")[0].splitlines(), {}
@@ -192,13 +209,18 @@ def found_by(look, output):
 
 
 class Promise:
-    """What must be found after a power loss, what may be, and the ledgers that are named as deleted."""
+    """What must be found after a power loss, what may be, the ledgers that are named as deleted, and the deletions and fences
+    that were answered, which must be there too."""
 
-    def __init__(self, must=(), may=(), dead=()):
-        self.must, self.may, self.dead = dict(must), dict(may), set(dead)
+    def __init__(self, must=(), may=(), dead=(), ended=()):
+        self.must, self.may, self.dead, self.ended = dict(must), dict(may), set(dead), set(ended)
 
     def copy(self):
-        return Promise(self.must, self.may, self.dead)
+        return Promise(self.must, self.may, self.dead, self.ended)
+
+    def add(self, other):
+        for mine, its in zip(vars(self).values(), vars(other).values()):
+            mine.update(its)
 
 
 class Timeline:
@@ -225,37 +247,36 @@ class Timeline:
         promise = self.before.copy()
         for index, added in self.points:
             if index < cut:
-                promise.must.update(added.must)
-                promise.may.update(added.may)
-                promise.dead.update(added.dead)
+                promise.add(added)
         return promise
 
     def added(self, process, event, follows):
         """What a message adds. A ledger that is deleted before the next message may be deleted at once."""
         kind, until = event.words[0], None
         if kind == "taken":
-            return Promise(loaded(event.data))
+            return Promise(loaded(files_of(event.data)))
         if kind == "end":
-            must = found_by(process, event.data.decode(errors="replace")) if process.kind == "look" else {}
-            return Promise(must, {}, process.deleted())
+            output = event.data.decode(errors="replace")
+            must = found_by(process, output) if process.kind == "look" else {}
+            is_well = process.is_recorded() and not process.trouble(int(event.words[2]), output)
+            return Promise(must, {}, deleted(process.ended()), process.ended() if is_well else ())
         if follows and follows.words[0] == "marker":
             until = int(follows.words[1])
-        dead = []
-        for stretch in process.stretches:
-            dead += stretch.deleted
-            if stretch.marker == until:
-                break
+        dead = deleted(process.ended(until))
         if kind == "begin":
             return Promise({}, coded(process.added), dead)
-        flushed = next(it.entries for it in process.stretches if it.marker == int(event.words[1]))
-        return Promise(coded(flushed), {}, dead)
+        marker = int(event.words[1])
+        flushed = next(it.entries for it in process.stretches if it.marker == marker)
+        return Promise(coded(flushed), {}, dead, process.ended(marker) if process.is_recorded() else ())
 
 
-def loaded(tar):
-    """Returns the entries of loads in an archive of the directory: a load uses the ledgers after the last one."""
-    logs = {entry_logs.log_of(name): entry_logs.Log(data) for name, data in files_of(tar).items()}
+def loaded(files):
+    """Returns the entries of loads in a directory's files: a load uses the ledgers after the last one, and deletes some."""
+    logs = {entry_logs.log_of(name): entry_logs.Log(data) for name, data in files.items()}
     logs.pop(None, None)
-    return {key: data for key, data in entry_logs.last_records(logs).items() if key[0] > MARKER}
+    gone = entry_logs.deleted_ledgers(files.get(entry_logs.LEDGERS, b""))
+    found = entry_logs.last_records(logs).items()
+    return {key: data for key, data in found if key[0] > MARKER and key[0] not in gone}
 
 
 def files_of(tar):

@@ -4,6 +4,7 @@ import collections
 import random
 import sys
 import time
+from concurrent.futures import ThreadPoolExecutor
 
 import fault_runs
 from power_guest import FILE_SYSTEMS, Dead, Guest, Silent, first_files
@@ -12,7 +13,13 @@ from power_look import Finding, Looker
 from power_story import FOLDER, Process, Promise, Story, Timeline, files_of, found_by, troubles
 
 # Images of one recording, processes in it, the share of images that the guest opens itself, and cuts of each of these.
-IMAGES, PROCESSES, RECOVERED, AGAIN = 60, 9, 1 / 12, 4
+IMAGES, PROCESSES, RECOVERED, AGAIN = 100, 9, 1 / 12, 4
+# Directories that are looked at while the guest mounts the next images.
+LOOKS = 3
+
+
+# In the name of an image that was cut off while the machine opened and compacted.
+RECOVERY = ", recovered,"
 
 
 class Stopped(Exception):
@@ -24,7 +31,7 @@ class Counts:
 
     def __init__(self, keep):
         self.keep, self.kept = keep, 0
-        self.cuts = self.lost = self.refused = self.ways_on = 0
+        self.cuts = self.lost = self.refused = self.ways_on = self.torn = self.recovered = 0
         self.texts = collections.Counter()
 
     def add(self, name, finding, image, tar, promise):
@@ -33,6 +40,8 @@ class Counts:
         self.lost += bool(finding.lost)
         self.refused += bool(finding.refused)
         self.ways_on += bool(finding.ways_on)
+        self.torn += name.endswith(" torn")
+        self.recovered += RECOVERY in name
         for sort, whys in (("lost", finding.lost), ("refused", finding.refused)):
             for why in whys[:1]:
                 self.texts[sort, why] += 1
@@ -51,12 +60,13 @@ class Counts:
                 (at / "logs" / file).write_bytes(data)
         whys = [f"lost: {why}" for why in finding.lost] + [f"refused: {why}" for why in finding.refused]
         dead = " ".join(map(str, sorted(promise.dead)))
-        (at / "finding.txt").write_text("\n".join([name, *whys, f"deleted ledgers: {dead}", ""]))
+        ended = " ".join(f"{step} {ledger}" for step, ledger in sorted(promise.ended))
+        (at / "finding.txt").write_text("\n".join([name, *whys, f"deleted ledgers: {dead}", f"answered: {ended}", ""]))
 
     def report(self):
         if self.kept:
             print(f"images with a finding are in {self.keep}")
-        print(f"{self.ways_on} images were opened only after a way on")
+        print(f"{self.ways_on} opened only after a way on, {self.torn} torn, {self.recovered} cut in a recovery")
         print(f"{self.cuts} cuts, {self.lost} lost, {self.refused} refused")
         return 1 if self.lost or self.refused else 0
 
@@ -70,7 +80,7 @@ class Trial:
         self.chance = random.Random(f"{asked.seed} {name}")
         self.base = self.kind.empty(room / name)
         self.first = first_files(room, asked.program, [name])
-        self.looker = Looker(asked.program, room)
+        self.looker, self.pool, self.looks = Looker(asked.program, room), ThreadPoolExecutor(LOOKS), []
         self.guest, self.cuts, self.runs = None, 0, 0
 
     def is_over(self):
@@ -80,9 +90,17 @@ class Trial:
         try:
             while not self.is_over():
                 self.one_run()
+            self.collect()
         finally:
+            self.pool.shutdown(cancel_futures=True)
             if self.guest:
                 self.guest.close()
+
+    def collect(self, most=0):
+        """Counts the images that were looked at, in their order, until so many are left."""
+        while len(self.looks) > most:
+            name, future, *rest = self.looks.pop(0)
+            self.counts.add(name, future.result(), *rest)
 
     # ---- the guest
 
@@ -151,19 +169,20 @@ class Trial:
             self.look(where, image, promise)
 
     def look(self, name, image, promise):
-        tar, finding = None, Finding()
-        job = f"if {self.mount()}; then tar cf /tmp/tar -C /mnt . && send /tmp/tar tar; else send /tmp/why unmounted; fi\n"
+        finding = Finding()
+        job = f"if {self.mount()}; then send_logs tar; else send /tmp/why unmounted; fi\n"
         try:
             messages, _ = self.job(job, image)
             if messages and messages[-1].words == ["tar"]:
                 tar = messages[-1].data
-                finding = self.looker.look(tar, promise)
-            else:
-                why = messages[-1].data.decode(errors="replace").strip() if messages else "no answer"
-                finding.refused.append(f"not mounted: {why}")
+                self.looks.append((name, self.pool.submit(self.looker.look, tar, promise), image, tar, promise))
+                return self.collect(4 * LOOKS)
+            why = messages[-1].data.decode(errors="replace").strip() if messages else "no answer"
+            finding.refused.append(f"not mounted: {why}")
         except Dead as why:
             finding.refused.append(f"the machine ended: {why}")
-        self.counts.add(name, finding, image, tar, promise)
+        self.counts.add(name, finding, image, None, promise)
+        return None
 
     def recover(self, name, image, promise):
         """Lets the guest open and compact the directory, and cuts it off there too."""
@@ -188,7 +207,7 @@ class Trial:
         timeline = Timeline([look, compaction], recording.events, promise)
         for _ in range(0 if finding.refused or finding.lost else AGAIN):
             if not self.is_over():
-                self.one_cut(recording, timeline, f"{name}, recovered,")
+                self.one_cut(recording, timeline, name + RECOVERY)
         return None
 
     def recovery(self, promise):
@@ -196,17 +215,17 @@ class Trial:
         story = Story(self.chance, self.asked.no_manifest, 0)
         story.dead = sorted(promise.dead)
         look = story.look(0, {**promise.may, **promise.must})
-        dead = [f"--dead={ledger}" for ledger in story.dead]
-        return look, Process(1, "compact", ["compact", "--major", *dead, FOLDER])
+        return look, Process(1, "compact", story.compaction_words("--major"))
 
 
 def run(asked, room):
-    counts = Counts(asked.keep)
+    counts, status = Counts(asked.keep), 2
     try:
         for name in asked.file_system:
             Trial(asked, room, name, counts).all()
+        status = 0
     except Stopped as why:
         print(f"bookie-power: {why}", file=sys.stderr)
-        counts.report()
-        return 2
-    return counts.report()
+    finally:
+        found = counts.report()
+    return status or found
