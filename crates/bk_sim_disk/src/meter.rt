@@ -56,41 +56,75 @@ impl Metered {
     }
 }
 
-/// Another disk, whose calls are counted. It begins without logs, and claims no honesty.
+/// The counts, and the bytes of each log.
 #[derive(Drop)]
-pub struct MeterDisk<D: LogDisk> {
-    inner: D,
+struct Meter {
     logs: BTreeMap<u32, Bytes>,
     counts: Metered,
 }
 
-impl<D: LogDisk> MeterDisk<D> {
-    /// Returns the disk over one without logs.
-    pub fn new(alloc: Global, inner: D) -> MeterDisk<D> {
-        MeterDisk {
-            inner,
-            logs: BTreeMap::new(alloc),
-            counts: Metered::default(),
+impl Meter {
+    /// Makes room for a log that is created next.
+    fn ready(&mut self, log: u32) -> Result<(), DiskFault> {
+        match self.logs.insert(log, Bytes::default()) {
+            Ok(_) => Ok(()),
+            Err(_) => Err(DiskFault::Memory),
         }
     }
 
-    /// Returns the counts.
-    pub fn counts(&self) -> Metered {
-        self.counts
-    }
-
-    /// Returns the bytes of a log, and `None` if there is none of this id.
-    pub fn log(&self, log: u32) -> Option<Bytes> {
-        self.logs.get(&log).copied()
+    /// Counts a log that was created.
+    fn create(&mut self) {
+        self.counts.created = self.counts.created.saturating_add(1);
     }
 
     /// Counts an append.
-    fn count(&mut self, log: u32, bytes: &[u8]) {
+    fn append(&mut self, log: u32, bytes: &[u8]) {
         self.counts.appended.add(bytes);
         self.counts.held.add(bytes);
         if let Some(held) = self.logs.get_mut(&log) {
             held.add(bytes);
         }
+    }
+
+    /// Counts a sync.
+    fn sync(&mut self) {
+        self.counts.syncs = self.counts.syncs.saturating_add(1);
+    }
+
+    /// Counts a log that was removed.
+    fn remove(&mut self, log: u32) {
+        self.counts.removed = self.counts.removed.saturating_add(1);
+        if let Some(held) = self.logs.remove(&log) {
+            self.counts.held.take(held);
+        }
+    }
+}
+
+/// Another disk, whose calls are counted. It begins without logs, and claims no honesty.
+#[derive(Drop)]
+pub struct MeterDisk<D: LogDisk> {
+    inner: D,
+    meter: Meter,
+}
+
+impl<D: LogDisk> MeterDisk<D> {
+    /// Returns the disk over one without logs.
+    pub fn new(alloc: Global, inner: D) -> MeterDisk<D> {
+        let meter = Meter {
+            logs: BTreeMap::new(alloc),
+            counts: Metered::default(),
+        };
+        MeterDisk { inner, meter }
+    }
+
+    /// Returns the counts.
+    pub fn counts(&self) -> Metered {
+        self.meter.counts
+    }
+
+    /// Returns the bytes of a log, and `None` if there is none of this id.
+    pub fn log(&self, log: u32) -> Option<Bytes> {
+        self.meter.logs.get(&log).copied()
     }
 }
 
@@ -126,17 +160,15 @@ impl<D: LogDisk> LogDisk for MeterDisk<D> {
     }
 
     fn create(&mut self, alloc: Global, log: u32) -> Result<(), DiskFault> {
-        if self.logs.insert(log, Bytes::default()).is_err() {
-            return Err(DiskFault::Memory);
-        }
+        self.meter.ready(log)?;
         self.inner.create(alloc, log)?;
-        self.counts.created = self.counts.created.saturating_add(1);
+        self.meter.create();
         Ok(())
     }
 
     fn append(&mut self, alloc: Global, log: u32, bytes: &[u8]) -> Result<(), DiskFault> {
         self.inner.append(alloc, log, bytes)?;
-        self.count(log, bytes);
+        self.meter.append(log, bytes);
         Ok(())
     }
 
@@ -145,7 +177,7 @@ impl<D: LogDisk> LogDisk for MeterDisk<D> {
     }
 
     fn sync(&mut self, alloc: Global, log: u32) -> Result<(), DiskFault> {
-        self.counts.syncs = self.counts.syncs.saturating_add(1);
+        self.meter.sync();
         self.inner.sync(alloc, log)
     }
 
@@ -159,10 +191,7 @@ impl<D: LogDisk> LogDisk for MeterDisk<D> {
 
     fn remove(&mut self, alloc: Global, log: u32) -> Result<(), DiskFault> {
         self.inner.remove(alloc, log)?;
-        self.counts.removed = self.counts.removed.saturating_add(1);
-        if let Some(held) = self.logs.remove(&log) {
-            self.counts.held.take(held);
-        }
+        self.meter.remove(log);
         Ok(())
     }
 }

@@ -2,6 +2,8 @@
 //!
 //! Records stand in blocks of one size. All blocks but the last are full, and views share them.
 
+ghost use Rattle.std.specs.Prelude.{◌≤◌, length};
+
 use crate::record::Record;
 use std::alloc::{AllocError, Global};
 use std::sync::Arc;
@@ -188,7 +190,9 @@ impl SimLog {
 }
 
 /// Returns the number of bytes before the zeros at the end.
-fn length_without_zeros(bytes: &[u8]) -> usize {
+fn length_without_zeros(bytes: &[u8]) -> usize
+    ensures { result ≤ length bytes.now }
+{
     let mut kept = 0;
     for (at, byte) in bytes.iter().enumerate() {
         if *byte != 0 {

@@ -1,15 +1,15 @@
 //! The runs, each with its row.
 
 use crate::options::Options;
-use crate::parsing::Thresholds;
 use bk_disk::DirDisk;
 use bk_sim_disk::SimDisk;
 use bk_simulation::{
-    Cost, HEAD, Outcome, Plan, PlanFault, Retention, SimFault, simulate, write_holds, write_row,
+    Cost, HEAD, Outcome, Plan, PlanFault, SimFault, simulate, write_holds, write_row,
 };
+use bk_simulation_page::write_page;
 use std::alloc::AllocError;
-use std::io;
 use std::io::Write;
+use std::{fs, io};
 use thiserror::Error;
 
 /// Why a run ended early.
@@ -21,6 +21,8 @@ enum Fault {
     Sim(SimFault),
     #[error("the directory cannot be opened")]
     Folder,
+    #[error("the page cannot be written")]
+    Page,
     #[error("memory")]
     Memory,
     #[error("output")]
@@ -62,28 +64,27 @@ pub(crate) fn run<E: Write>(rt: &HostRuntime, options: &Options<'_>, errors: &mu
     }
 }
 
-/// Does all runs and prints the table.
+/// Does all runs, prints the table and writes the page.
 fn run_all(rt: &HostRuntime, options: &Options<'_>) -> Result<(), Fault> {
     rt.stdout().write_all(HEAD.as_bytes())?;
+    let mut outcomes = Vec::new(rt.alloc());
     for log_limit in &options.log_limits {
         for thresholds in &options.thresholds {
             for retention in &options.retentions {
-                run_one(rt, options, *retention, *thresholds, *log_limit)?;
+                let plan = options.plan(*retention, *thresholds, *log_limit)?;
+                let outcome = run_one(rt, options, plan)?;
+                outcomes.push(outcome).map_err(|_| Fault::Memory)?;
             }
         }
     }
-    Ok(())
+    match options.html {
+        Some(path) => write_html(rt, path, &outcomes),
+        None => Ok(()),
+    }
 }
 
 /// Does one run and prints its row.
-fn run_one(
-    rt: &HostRuntime,
-    options: &Options<'_>,
-    retention: Retention,
-    thresholds: Thresholds,
-    log_limit: u32,
-) -> Result<(), Fault> {
-    let plan = options.plan(retention, thresholds, log_limit)?;
+fn run_one(rt: &HostRuntime, options: &Options<'_>, plan: Plan) -> Result<Outcome, Fault> {
     let outcome = outcome_of(rt, options, plan)?;
     let mut text = Vec::new(rt.alloc());
     write_row(&mut text, &outcome)?;
@@ -91,7 +92,17 @@ fn run_one(
         write_holds(&mut text, &outcome)?;
     }
     rt.stdout().write_all(&text)?;
-    Ok(())
+    Ok(outcome)
+}
+
+/// Writes the page to a file.
+fn write_html(rt: &HostRuntime, path: &str, outcomes: &[Outcome]) -> Result<(), Fault> {
+    let mut page = Vec::new(rt.alloc());
+    write_page(rt.alloc(), &mut page, outcomes)?;
+    match fs::write(rt, path, page.as_slice()) {
+        Ok(()) => Ok(()),
+        Err(_) => Err(Fault::Page),
+    }
 }
 
 /// Does one run, on the simulated disk or on a directory.

@@ -22,6 +22,17 @@ pub enum Kind {
     HeavyTailed,
 }
 
+impl Kind {
+    /// Returns the name.
+    pub fn name(self) -> &'static str {
+        match self {
+            Kind::Fixed => "fixed",
+            Kind::Exponential => "exponential",
+            Kind::HeavyTailed => "heavy",
+        }
+    }
+}
+
 /// A distribution and its mean in seconds.
 #[derive(Clone, Copy, Debug, PartialEq, Eq)]
 pub struct Retention {

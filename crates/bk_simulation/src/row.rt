@@ -1,7 +1,7 @@
 //! A run as one row of a table.
 
+use crate::Retention;
 use crate::outcome::Outcome;
-use crate::{Retention, RetentionKind};
 use std::io;
 use std::io::Write;
 
@@ -51,18 +51,9 @@ fn digits(number: u64) -> u32 {
     20
 }
 
-/// Returns the name of a distribution.
-fn name_of(kind: RetentionKind) -> &'static str {
-    match kind {
-        RetentionKind::Fixed => "fixed",
-        RetentionKind::Exponential => "exponential",
-        RetentionKind::HeavyTailed => "heavy",
-    }
-}
-
 /// Writes a distribution and its mean in days, in 15 columns.
 fn write_retention<W: Write>(out: &mut W, retention: Retention) -> io::Result<()> {
-    let name = name_of(retention.kind);
+    let name = retention.kind.name();
     let tenths = retention.mean.saturating_mul(10) / DAY;
     let days = tenths / 10;
     let part = tenths % 10;
