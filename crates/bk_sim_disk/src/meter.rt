@@ -5,7 +5,7 @@ ghost use Rattle.std.specs.FinMap as map;
 
 use crate::record::is_entry;
 use bk_disk::{DiskFault, LogDisk};
-use std::alloc::Global;
+use std::alloc::{AllocError, Global};
 use std::collections::BTreeMap;
 
 /// Bytes of a log or of several: those of the records of entries, with their length fields, and all
@@ -65,10 +65,10 @@ struct Meter {
 
 impl Meter {
     /// Makes room for a log that is created next.
-    fn ready(&mut self, log: u32) -> Result<(), DiskFault> {
+    fn ready(&mut self, log: u32) -> Result<(), AllocError> {
         match self.logs.insert(log, Bytes::default()) {
             Ok(_) => Ok(()),
-            Err(_) => Err(DiskFault::Memory),
+            Err(_) => Err(AllocError),
         }
     }
 
@@ -160,7 +160,9 @@ impl<D: LogDisk> LogDisk for MeterDisk<D> {
     }
 
     fn create(&mut self, alloc: Global, log: u32) -> Result<(), DiskFault> {
-        self.meter.ready(log)?;
+        if self.meter.ready(log).is_err() {
+            return Err(DiskFault::Memory);
+        }
         self.inner.create(alloc, log)?;
         self.meter.create();
         Ok(())

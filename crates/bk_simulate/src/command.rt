@@ -140,7 +140,7 @@ fn with_run<'a>(alloc: Global, command: Command<'a>) -> Result<Command<'a>, Allo
             Arg::new(alloc, "holds")
                 .long("holds")
                 .action(ArgAction::SetTrue)
-                .help("Print the holds of each call below each row"),
+                .help("Print counts, bytes and the holds of each call below each row"),
         )
 }
 

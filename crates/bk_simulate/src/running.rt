@@ -4,7 +4,7 @@ use crate::options::Options;
 use bk_disk::DirDisk;
 use bk_sim_disk::SimDisk;
 use bk_simulation::{
-    Cost, HEAD, Outcome, Plan, PlanFault, SimFault, simulate, write_holds, write_row,
+    Cost, HEAD, Outcome, Plan, PlanFault, SimFault, simulate, write_counts, write_holds, write_row,
 };
 use bk_simulation_page::write_page;
 use std::alloc::AllocError;
@@ -89,6 +89,7 @@ fn run_one(rt: &HostRuntime, options: &Options<'_>, plan: Plan) -> Result<Outcom
     let mut text = Vec::new(rt.alloc());
     write_row(&mut text, &outcome)?;
     if options.holds {
+        write_counts(&mut text, &outcome)?;
         write_holds(&mut text, &outcome)?;
     }
     rt.stdout().write_all(&text)?;

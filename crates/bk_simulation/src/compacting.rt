@@ -1,16 +1,15 @@
 //! Compactions and removals, as a bookie's workers do them.
 
 use crate::SimFault;
+use crate::calls::{
+    Began, begin_compaction, bytes_of, copy_entries, counts_of, end_copies, finish_compaction,
+    log_from, remove_log, retire_log, sizes_of, switch_entries,
+};
 use crate::cost::linear;
 use crate::holds::Call;
 use crate::month::Bookie;
-use bk_collect::{RemoveAnswer, RetireAnswer, close, remove, retire};
-use bk_compact::{
-    BeginAnswer, CopyAnswer, EndAnswer, FinishAnswer, Kind, SwitchAnswer, begin, copy, end_copy,
-    finish, switch,
-};
+use bk_compact::Kind;
 use bk_disk::LogDisk;
-use bk_store::StepFault;
 
 /// Number of entries of one step, of real ones.
 const STRIDE: u64 = 1000;
@@ -29,26 +28,22 @@ impl<D: LogDisk> Bookie<D> {
     pub(crate) fn remove_unused(&mut self) -> Result<(), SimFault> {
         let mut from = 0u32;
         for _ in 0..LOGS {
-            let Some(log) = self.store.log_from(from) else {
+            let Some(log) = log_from(&self.store, from) else {
                 break;
             };
             from = log.saturating_add(1);
             self.note_one(Call::Retire, self.cost.retire, 0, 1)?;
-            if let RetireAnswer::Retired(_) = retire(&mut self.store, log) {
-                self.remove_log(log)?;
+            if retire_log(&mut self.store, log) {
+                self.remove(log)?;
             }
         }
         Ok(())
     }
 
     /// Closes and removes a retired log.
-    fn remove_log(&mut self, log: u32) -> Result<(), SimFault> {
+    fn remove(&mut self, log: u32) -> Result<(), SimFault> {
         let ledgers = self.ledgers_in(log);
-        let _ = close(&mut self.store, log);
-        match remove(&mut self.store, log) {
-            Ok(RemoveAnswer::Removed) => {}
-            _ => return Err(SimFault::Answer("remove")),
-        }
+        remove_log(&mut self.store, log)?;
         self.tally.removed = self.tally.removed.saturating_add(1);
         let cost = self.cost;
         self.note_one(Call::Remove, cost.remove, cost.remove_ledger, ledgers)
@@ -56,10 +51,7 @@ impl<D: LogDisk> Bookie<D> {
 
     /// Returns the number of ledgers in the map of a log.
     fn ledgers_in(&self, log: u32) -> u64 {
-        match self.store.disk().log(log) {
-            Some(bytes) => bytes.others.saturating_sub(1024) / LEDGER,
-            None => 0,
-        }
+        bytes_of(&self.store, log).others.saturating_sub(1024) / LEDGER
     }
 
     /// Compacts all logs that qualify, and removes those without entries.
@@ -93,15 +85,14 @@ impl<D: LogDisk> Bookie<D> {
 
     /// Begins a compaction, if a log qualifies. Sets `is_full` if every slot is taken.
     fn begin(&mut self, kind: Kind) -> Result<Option<u32>, SimFault> {
-        let logs = self.store.stats().logs as u64;
-        let found = match begin(&mut self.store, kind) {
-            Ok(BeginAnswer::Chosen(log)) => Some(log),
-            Ok(BeginAnswer::NothingToDo) => None,
-            Err(StepFault::LogsFull) => {
+        let (logs, _) = sizes_of(&self.store);
+        let found = match begin_compaction(&mut self.store, kind)? {
+            Began::Chosen(log) => Some(log),
+            Began::Nothing => None,
+            Began::Full => {
                 self.is_full = true;
                 return Ok(None);
             }
-            _ => return Err(SimFault::Answer("begin")),
         };
         let cost = self.cost;
         self.note_one(Call::Begin, cost.begin, cost.begin_log, logs)?;
@@ -114,10 +105,8 @@ impl<D: LogDisk> Bookie<D> {
         let moved = self.end_copy()?;
         self.switch_all()?;
         self.note_one(Call::Finish, self.cost.finish, 0, 1)?;
-        match finish(&mut self.store) {
-            FinishAnswer::Retired(log) => self.remove_log(log)?,
-            _ => return Err(SimFault::Answer("finish")),
-        }
+        let log = finish_compaction(&mut self.store)?;
+        self.remove(log)?;
         Ok(moved)
     }
 
@@ -125,24 +114,18 @@ impl<D: LogDisk> Bookie<D> {
     fn copy_all(&mut self, source: u32) -> Result<(), SimFault> {
         let mut left = self.records_in(source);
         for _ in 0..u64::MAX {
-            match copy(&mut self.store, RECORDS) {
-                Ok(CopyAnswer::Copied(copied)) => {
-                    self.note_copy(left.min(RECORDS), copied)?;
-                    left = left.saturating_sub(RECORDS);
-                }
-                Ok(CopyAnswer::AtEnd) => return Ok(()),
-                _ => return Err(SimFault::Answer("copy")),
-            }
+            let Some(copied) = copy_entries(&mut self.store, RECORDS)? else {
+                break;
+            };
+            self.note_copy(left.min(RECORDS), copied)?;
+            left = left.saturating_sub(RECORDS);
         }
         Ok(())
     }
 
     /// Returns the number of records in a log.
     fn records_in(&self, log: u32) -> u64 {
-        match self.store.disk().log(log) {
-            Some(bytes) => bytes.records / u64::from(self.plan.scale.record).max(1),
-            None => 0,
-        }
+        bytes_of(&self.store, log).records / u64::from(self.plan.scale.record).max(1)
     }
 
     /// Counts the steps that examine and copy this number of records.
@@ -161,11 +144,9 @@ impl<D: LogDisk> Bookie<D> {
 
     /// Seals the target log. Returns the number of records copied.
     fn end_copy(&mut self) -> Result<u64, SimFault> {
-        let before = self.store.disk().counts();
-        let Ok(EndAnswer::Ended(moved)) = end_copy(&mut self.store) else {
-            return Err(SimFault::Answer("end"));
-        };
-        let after = self.store.disk().counts();
+        let before = counts_of(&self.store);
+        let moved = end_copies(&mut self.store)?;
+        let after = counts_of(&self.store);
         let others = after.appended.others.saturating_sub(before.appended.others);
         let cost = self.cost;
         self.note_one(Call::EndCopy, cost.seal, cost.seal_ledger, others / LEDGER)?;
@@ -175,14 +156,10 @@ impl<D: LogDisk> Bookie<D> {
     /// Points the index to the copies.
     fn switch_all(&mut self) -> Result<(), SimFault> {
         for _ in 0..u64::MAX {
-            match switch(&mut self.store, RECORDS) {
-                SwitchAnswer::Moved(moved, left) => {
-                    self.note_switch(moved)?;
-                    if left == 0 {
-                        return Ok(());
-                    }
-                }
-                _ => return Err(SimFault::Answer("switch")),
+            let (moved, left) = switch_entries(&mut self.store, RECORDS)?;
+            self.note_switch(moved)?;
+            if left == 0 {
+                break;
             }
         }
         Ok(())

@@ -1,12 +1,11 @@
 //! Flushes.
 
 use crate::SimFault;
-use crate::cost::linear;
+use crate::calls::{Wrote, begin_flush, counts_of, flush_len, publish_flush, write_entry};
 use crate::holds::Call;
 use crate::month::Bookie;
 use bk_disk::LogDisk;
-use bk_flush::{PublishAnswer, WriteAnswer, publish, swap, write_one};
-use bk_store::{StepFault, SwapAnswer};
+use bk_sim_disk::Metered;
 
 /// Bytes of a header, and of a ledger in a ledgers map.
 const HEADER: u64 = 1024;
@@ -16,18 +15,15 @@ const LEDGER: u64 = 16;
 impl<D: LogDisk> Bookie<D> {
     /// Writes the cache to logs and publishes it. Sets `is_full` if every slot is taken.
     pub(crate) fn flush(&mut self) -> Result<(), SimFault> {
-        match swap(&mut self.store) {
-            SwapAnswer::Nothing => return Ok(()),
-            SwapAnswer::Running | SwapAnswer::Swapped(_) => {}
+        if !begin_flush(&mut self.store) {
+            return Ok(());
         }
         self.write_all()?;
         if self.is_full {
             return Ok(());
         }
-        match publish(&mut self.store) {
-            Ok(PublishAnswer::Published(records)) => self.note_publish(records)?,
-            _ => return Err(SimFault::Answer("publish")),
-        }
+        let records = publish_flush(&mut self.store)?;
+        self.note_publish(records)?;
         self.note_peaks();
         Ok(())
     }
@@ -42,23 +38,27 @@ impl<D: LogDisk> Bookie<D> {
 
     /// Writes all records of the flush.
     fn write_all(&mut self) -> Result<(), SimFault> {
-        for _ in 0..=self.store.flush_len() {
-            let before = self.store.disk().counts();
-            match write_one(&mut self.store) {
-                Ok(WriteAnswer::Wrote(_)) => {}
-                Ok(_) => return Ok(()),
-                Err(StepFault::LogsFull) => {
+        for _ in 0..=flush_len(&self.store) {
+            let before = counts_of(&self.store);
+            match write_entry(&mut self.store)? {
+                Wrote::Entry => self.note_write(&before)?,
+                Wrote::All => break,
+                Wrote::Full => {
                     self.is_full = true;
-                    return Ok(());
+                    break;
                 }
-                Err(_) => return Err(SimFault::Answer("write")),
             }
-            let after = self.store.disk().counts();
-            self.note_each(Call::Write, self.cost.write, 1)?;
-            if after.created > before.created {
-                let others = after.appended.others.saturating_sub(before.appended.others);
-                self.note_seal(others)?;
-            }
+        }
+        Ok(())
+    }
+
+    /// Counts a write, by the counts of the disk before it.
+    fn note_write(&mut self, before: &Metered) -> Result<(), SimFault> {
+        let after = counts_of(&self.store);
+        self.note_each(Call::Write, self.cost.write, 1)?;
+        if after.created > before.created {
+            let others = after.appended.others.saturating_sub(before.appended.others);
+            self.note_seal(others)?;
         }
         Ok(())
     }
@@ -67,7 +67,7 @@ impl<D: LogDisk> Bookie<D> {
     fn note_seal(&mut self, others: u64) -> Result<(), SimFault> {
         let ledgers = others.saturating_sub(HEADER) / LEDGER;
         let cost = self.cost;
-        let fixed = linear(cost.seal, 0, 0).saturating_add(cost.write);
+        let fixed = cost.seal.saturating_add(cost.write);
         self.note_one(Call::Seal, fixed, cost.seal_ledger, ledgers)
     }
 }

@@ -2,6 +2,7 @@
 //! with flushes and compactions as a bookie's workers do them.
 #![tactic(auto)]
 
+mod calls;
 mod chance;
 mod compacting;
 mod cost;
@@ -27,5 +28,5 @@ pub use month::simulate;
 pub use outcome::{Outcome, Sample};
 pub use plan::{Plan, PlanFault};
 pub use retention::{Kind as RetentionKind, Retention};
-pub use row::{HEAD, write_holds, write_row};
+pub use row::{HEAD, write_counts, write_holds, write_row};
 pub use tally::Tally;

@@ -1,5 +1,8 @@
 //! A run: records come in one after another, and between them what is due is done.
 
+use crate::calls::{
+    SimStore, add_entry, counts_of, delete_ledger, live_bytes, logs_of, open_store, sizes_of,
+};
 use crate::chance::Chance;
 use crate::cost::linear;
 use crate::deaths::Deaths;
@@ -9,8 +12,7 @@ use crate::writers::{Next, Writers};
 use crate::{Cost, Plan, SimFault, Tally};
 use bk_compact::Kind;
 use bk_disk::LogDisk;
-use bk_sim_disk::{MeterDisk, payload_of};
-use bk_store::{AddFault, Added, Store};
+use bk_sim_disk::payload_of;
 use std::alloc::Global;
 
 /// Number of samples of a run.
@@ -25,7 +27,7 @@ pub(crate) struct Bookie<D: LogDisk> {
     pub alloc: Global,
     pub plan: Plan,
     pub cost: Cost,
-    pub store: Store<MeterDisk<D>>,
+    pub store: SimStore<D>,
     pub holds: Holds,
     pub tally: Tally,
     pub peak_disk: u64,
@@ -38,14 +40,7 @@ pub(crate) struct Bookie<D: LogDisk> {
 impl<D: LogDisk> Bookie<D> {
     /// Opens the store on a disk without logs.
     fn open(alloc: Global, disk: D, plan: Plan, cost: Cost) -> Result<Bookie<D>, SimFault> {
-        let disk = MeterDisk::new(alloc, disk);
-        let store = match Store::open(alloc, disk, plan.settings, &[]) {
-            Ok(store) => store,
-            Err(fault) => return Err(SimFault::Open(fault)),
-        };
-        if store.log_from(0).is_some() {
-            return Err(SimFault::NotEmpty);
-        }
+        let store = open_store(alloc, disk, plan.settings)?;
         Ok(Bookie {
             alloc,
             plan,
@@ -86,16 +81,16 @@ impl<D: LogDisk> Bookie<D> {
 
     /// Returns the real bytes of all logs.
     fn disk_bytes(&self) -> u64 {
-        let held = self.store.disk().counts().held;
+        let held = counts_of(&self.store).held;
         self.plan.real(held.records).saturating_add(held.others)
     }
 
     /// Notes the peaks.
     pub(crate) fn note_peaks(&mut self) {
-        let stats = self.store.stats();
-        let keys = self.plan.entries(stats.indexed as u64);
+        let (logs, keys) = sizes_of(&self.store);
+        let keys = self.plan.entries(keys);
         self.peak_disk = self.peak_disk.max(self.disk_bytes());
-        self.peak_logs = self.peak_logs.max(stats.logs as u64);
+        self.peak_logs = self.peak_logs.max(logs);
         self.peak_keys = self.peak_keys.max(keys);
     }
 
@@ -103,64 +98,38 @@ impl<D: LogDisk> Bookie<D> {
     fn add(&mut self, next: &Next) -> Result<(), SimFault> {
         let size = self.plan.scale.record.saturating_sub(4);
         let payload = payload_of(self.alloc, next.ledger, next.entry, size)?;
-        if let Err(AddFault::Full { .. }) = self.try_add(&payload)? {
+        if !add_entry(&mut self.store, &payload)? {
             self.flush()?;
             if self.is_full {
                 return Ok(());
             }
-            if let Err(fault) = self.try_add(&payload)? {
-                return Err(SimFault::Add(fault));
+            if !add_entry(&mut self.store, &payload)? {
+                return Err(SimFault::Answer("add"));
             }
         }
         self.tally.added = self.tally.added.saturating_add(1);
         self.note_each(Call::Add, self.cost.add, 1)
     }
 
-    /// Adds a payload. The inner result is the refusal that a flush may end.
-    fn try_add(&mut self, payload: &[u8]) -> Result<Result<(), AddFault>, SimFault> {
-        match self.store.add(payload) {
-            Ok(Added::Accepted(_)) => Ok(Ok(())),
-            Ok(Added::Held) => Err(SimFault::Answer("add")),
-            Err(AddFault::Full { used, limit }) => Ok(Err(AddFault::Full { used, limit })),
-            Err(fault) => Err(SimFault::Add(fault)),
-        }
-    }
-
     /// Deletes a ledger.
     fn delete(&mut self, ledger: u64) -> Result<(), SimFault> {
-        let logs = self.logs_of(ledger);
-        let Ok(keys) = self.store.delete(ledger) else {
-            return Err(SimFault::Answer("delete"));
-        };
+        let logs = logs_of(&self.store, ledger);
+        let keys = delete_ledger(&mut self.store, ledger)?;
         self.tally.deleted = self.tally.deleted.saturating_add(1);
         let keys = self.plan.entries(keys);
         let fixed = linear(self.cost.delete, self.cost.delete_log, logs);
         self.note_one(Call::Delete, fixed, self.cost.delete_key, keys)
     }
 
-    /// Returns how often the log changes from a key of the ledger to the next, and one more.
-    fn logs_of(&self, ledger: u64) -> u64 {
-        let mut logs = 0u64;
-        let mut last = None;
-        for (_, location) in self.store.index().walk_ledger(ledger) {
-            let log = Some(location.log());
-            if log != last {
-                logs = logs.saturating_add(1);
-                last = log;
-            }
-        }
-        logs
-    }
-
     /// Returns the state at a time.
     fn sample(&self, time: u64) -> Sample {
-        let stats = self.store.stats();
+        let (logs, keys) = sizes_of(&self.store);
         Sample {
             time,
-            live: self.plan.real(self.store.bytes().live),
+            live: self.plan.real(live_bytes(&self.store)),
             disk: self.disk_bytes(),
-            logs: stats.logs as u64,
-            keys: self.plan.entries(stats.indexed as u64),
+            logs,
+            keys: self.plan.entries(keys),
         }
     }
 }
@@ -315,7 +284,7 @@ fn outcome_of<D: LogDisk>(
         plan: bookie.plan,
         samples,
         tally: bookie.tally,
-        metered: bookie.store.disk().counts(),
+        metered: counts_of(&bookie.store),
         holds: bookie.holds,
         peak_disk: bookie.peak_disk,
         peak_logs: bookie.peak_logs,

@@ -7,7 +7,7 @@ use std::io::Write;
 
 /// The columns.
 pub static HEAD: &str =
-    "retention       minor major log-MiB write-amp space-amp  peak logs logs-peak index-MiB minor-n major-n moved-GiB   p99.9   longest
+    "retention       minor major log-MiB write-amp space-amp  peak logs logs-peak index-MiB minor-n major-n moved-MiB   p99.9   longest
 ";
 
 /// Bytes of a MiB.
@@ -58,13 +58,13 @@ fn write_retention<W: Write>(out: &mut W, retention: Retention) -> io::Result<()
     let days = tenths / 10;
     let part = tenths % 10;
     write!(out, "{name}:{days}.{part}")?;
-    let used = (name.len() as u32)
+    let used = (name.len().min(99) as u32)
         .saturating_add(3)
         .saturating_add(digits(days));
     write_space(out, 15u32.saturating_sub(used))
 }
 
-/// Writes a run as a row: thresholds in thousandths, memory and bytes in MiB or GiB, holds in
+/// Writes a run as a row: thresholds in thousandths, memory and bytes in MiB, holds in
 /// instructions.
 ///
 /// # Errors
@@ -95,7 +95,7 @@ fn write_logs<W: Write>(out: &mut W, outcome: &Outcome) -> io::Result<()> {
 fn write_moves<W: Write>(out: &mut W, outcome: &Outcome) -> io::Result<()> {
     write_cell(out, outcome.tally.minor, 8)?;
     write_cell(out, outcome.tally.major, 8)?;
-    write_cell(out, outcome.moved() / MIB / 1024, 10)
+    write_cell(out, outcome.moved() / MIB, 10)
 }
 
 /// Writes the holds, and the time at which the slots were full.
@@ -121,11 +121,43 @@ pub fn write_holds<W: Write>(out: &mut W, outcome: &Outcome) -> io::Result<()> {
     for longest in outcome.holds.calls() {
         let name = longest.call.name();
         write!(out, "  {name}")?;
-        write_space(out, 10u32.saturating_sub(name.len() as u32))?;
+        write_space(out, 10u32.saturating_sub(name.len().min(99) as u32))?;
         write_cell(out, longest.count, 14)?;
         write_cell(out, longest.size, 10)?;
         write_cell(out, longest.cost, 12)?;
         out.write_all(b"\n")?;
     }
     Ok(())
+}
+
+/// Writes what happened: the logs, and real bytes that were appended and are held, of records and of
+/// headers and maps.
+///
+/// # Errors
+///
+/// That of the writer.
+pub fn write_counts<W: Write>(out: &mut W, outcome: &Outcome) -> io::Result<()> {
+    let tally = outcome.tally;
+    let metered = outcome.metered;
+    let added = tally.added;
+    let flushes = tally.flushes;
+    let deleted = tally.deleted;
+    write!(
+        out,
+        "  records {added} flushes {flushes} ledgers deleted {deleted}\n"
+    )?;
+    let created = metered.created;
+    let removed = metered.removed;
+    let syncs = metered.syncs;
+    write!(
+        out,
+        "  logs created {created} removed {removed} syncs {syncs}\n"
+    )?;
+    let appended = outcome.real(metered.appended);
+    let held = outcome.real(metered.held);
+    let moved = outcome.moved();
+    write!(
+        out,
+        "  bytes appended {appended} moved {moved} held {held}\n"
+    )
 }

@@ -53,12 +53,12 @@ fn are_same<D: LogDisk, E: LogDisk>(
         return Ok(false);
     }
     for from in 0..length {
-        let count = (from * 7919 % 300).min(length - from);
+        let count = (from % 1000 * 7919 % 300).min(length - from);
         if one.read_at(alloc, log, from, count)? != other.read_at(alloc, log, from, count)? {
             return Ok(false);
         }
     }
-    let whole = length - HEADER as u64;
+    let whole = length.saturating_sub(HEADER as u64);
     let first = one.view(alloc, log)?;
     let second = other.view(alloc, log)?;
     let bytes = first.read_at(alloc, HEADER as u64, whole)?;
