@@ -18,18 +18,47 @@ const STRIDE: u64 = 1000;
 
 /// Makes the calls beside `count` of something.
 pub(crate) fn run(rt: &HostRuntime, beside: Beside, count: u64) -> Result<(), PauseFault> {
-    let alloc = rt.alloc();
     let logs = count.min(65_536) as u32;
     match beside {
-        Beside::Logs => beside_logs(rt, &mut of(alloc, logs, 1, false, &[])?),
-        Beside::Worn => beside_worn(rt, &mut of(alloc, logs, 2, true, &[0])?),
-        Beside::Slots => beside_slots(rt, logs),
-        Beside::Keys => beside_keys(rt, &mut of(alloc, 1, count, false, &[])?),
-        Beside::Spread => delete_one(rt, &mut of(alloc, logs, 1, false, &[])?),
-        Beside::Cache => beside_cache(rt, &mut cached(alloc, count, false)?, count),
-        Beside::Ledgers => beside_cache(rt, &mut cached(alloc, count, true)?, count),
-        Beside::Copies => compact(rt, count),
+        Beside::Logs => with_logs(rt, logs),
+        Beside::Worn => with_worn(rt, logs),
+        Beside::Slots => with_slots(rt, logs),
+        Beside::Keys => with_keys(rt, count),
+        Beside::Spread => with_spread(rt, logs),
+        Beside::Cache => with_cache(rt, count, false),
+        Beside::Ledgers => with_cache(rt, count, true),
+        Beside::Copies => with_copies(rt, count),
     }
+}
+
+/// Opens a store on logs of one live entry, and makes calls that visit logs.
+fn with_logs(rt: &HostRuntime, logs: u32) -> Result<(), PauseFault> {
+    let mut store = of(rt.alloc(), logs, 1, false, &[])?;
+    beside_logs(rt, &mut store)
+}
+
+/// Opens a store on logs that are half live, and begins a compaction.
+fn with_worn(rt: &HostRuntime, logs: u32) -> Result<(), PauseFault> {
+    let mut store = of(rt.alloc(), logs, 2, true, &[0])?;
+    beside_worn(rt, &mut store)
+}
+
+/// Opens a store on a log of one ledger, and makes calls that look up a key.
+fn with_keys(rt: &HostRuntime, count: u64) -> Result<(), PauseFault> {
+    let mut store = of(rt.alloc(), 1, count, false, &[])?;
+    beside_keys(rt, &mut store)
+}
+
+/// Opens a store on logs that each have one entry of a ledger, and deletes it.
+fn with_spread(rt: &HostRuntime, logs: u32) -> Result<(), PauseFault> {
+    let mut store = of(rt.alloc(), logs, 1, false, &[])?;
+    delete_one(rt, &mut store)
+}
+
+/// Fills the cache of a store, and flushes it.
+fn with_cache(rt: &HostRuntime, count: u64, apart: bool) -> Result<(), PauseFault> {
+    let mut store = cached(rt.alloc(), count, apart)?;
+    beside_cache(rt, &mut store, count)
 }
 
 /// Opens a store on logs.
@@ -65,9 +94,7 @@ fn beside_logs(rt: &HostRuntime, store: &mut Store<MemDisk>) -> Result<(), Pause
 
 /// Adds an entry and flushes it to a new log.
 fn write_one(rt: &HostRuntime, store: &mut Store<MemDisk>) -> Result<(), PauseFault> {
-    let entry = fresh(rt.alloc(), 0)?;
-    let added = add(store, entry)?;
-    tell(rt, "add", added)?;
+    add_one(rt, store)?;
     let swapped = swap(store)?;
     tell(rt, "swap", swapped)?;
     let written = write(store)?;
@@ -85,7 +112,7 @@ fn beside_worn(rt: &HostRuntime, store: &mut Store<MemDisk>) -> Result<(), Pause
 }
 
 /// Writes to a new log where one slot is free.
-fn beside_slots(rt: &HostRuntime, logs: u32) -> Result<(), PauseFault> {
+fn with_slots(rt: &HostRuntime, logs: u32) -> Result<(), PauseFault> {
     let files = Files {
         logs: logs.saturating_sub(1),
         each: 1,
@@ -101,9 +128,7 @@ fn beside_slots(rt: &HostRuntime, logs: u32) -> Result<(), PauseFault> {
 
 /// Makes calls that look up a key, then deletes all.
 fn beside_keys(rt: &HostRuntime, store: &mut Store<MemDisk>) -> Result<(), PauseFault> {
-    let entry = fresh(rt.alloc(), 0)?;
-    let added = add(store, entry)?;
-    tell(rt, "add", added)?;
+    add_one(rt, store)?;
     if let Some(key) = Key::new(0, 0) {
         let taken = take(store, key)?;
         tell(rt, "take", taken)?;
@@ -123,13 +148,18 @@ fn cached(alloc: Global, count: u64, apart: bool) -> Result<Store<MemDisk>, Paus
     let mut store = of(alloc, 0, 0, false, &[])?;
     for number in 0..count {
         let ids = if apart { (number, 0) } else { (0, number) };
-        let payload = payload(alloc, ids)?;
-        match store.add(&payload) {
-            Ok(Added::Accepted(_)) => {}
-            _ => return Err(PauseFault::Answer("add")),
-        }
+        put(alloc, &mut store, ids)?;
     }
     Ok(store)
+}
+
+/// Adds an entry.
+fn put(alloc: Global, store: &mut Store<MemDisk>, ids: (u64, u64)) -> Result<(), PauseFault> {
+    let payload = payload(alloc, ids)?;
+    match store.add(&payload) {
+        Ok(Added::Accepted(_)) => Ok(()),
+        _ => Err(PauseFault::Answer("add")),
+    }
 }
 
 /// Flushes the cache, and seals the log.
@@ -138,17 +168,10 @@ fn beside_cache(
     store: &mut Store<MemDisk>,
     count: u64,
 ) -> Result<(), PauseFault> {
-    let entry = fresh(rt.alloc(), 0)?;
-    let added = add(store, entry)?;
-    tell(rt, "add", added)?;
+    add_one(rt, store)?;
     let swapped = swap(store)?;
     tell(rt, "swap", swapped)?;
-    for _ in 0..count {
-        write(store)?;
-    }
-    tell(rt, "writes", count)?;
-    let written = write(store)?;
-    tell(rt, "write", written)?;
+    write_all(rt, store, count)?;
     let published = publish(store)?;
     tell(rt, "publish", published)?;
     let sealed = seal(store)?;
@@ -156,20 +179,49 @@ fn beside_cache(
     Ok(())
 }
 
-/// Compacts a log of `count` entries, half of them deleted.
-fn compact(rt: &HostRuntime, count: u64) -> Result<(), PauseFault> {
-    let alloc = rt.alloc();
+/// Adds an entry of another ledger.
+fn add_one(rt: &HostRuntime, store: &mut Store<MemDisk>) -> Result<(), PauseFault> {
+    let entry = fresh(rt.alloc(), 0)?;
+    let added = add(store, entry)?;
+    tell(rt, "add", added)?;
+    Ok(())
+}
+
+/// Writes `count` entries, then one more.
+fn write_all(rt: &HostRuntime, store: &mut Store<MemDisk>, count: u64) -> Result<(), PauseFault> {
+    for _ in 0..count {
+        write(store)?;
+    }
+    tell(rt, "writes", count)?;
+    let written = write(store)?;
+    tell(rt, "write", written)?;
+    Ok(())
+}
+
+/// Returns each second number below `count`.
+fn halves(alloc: Global, count: u64) -> Result<Vec<u64>, PauseFault> {
     let mut dead = Vec::new(alloc);
     for number in 0..count / 2 {
-        dead.push(number.saturating_mul(2))
-            .map_err(|_| PauseFault::Memory)?;
+        let ledger = number.saturating_mul(2);
+        dead.push(ledger).map_err(|_| PauseFault::Memory)?;
     }
-    let mut store = of(alloc, 1, count, true, &dead)?;
-    let found = choose(&mut store, Kind::Major)?;
+    Ok(dead)
+}
+
+/// Opens a store on a log of `count` entries, half of them deleted, and compacts it.
+fn with_copies(rt: &HostRuntime, count: u64) -> Result<(), PauseFault> {
+    let dead = halves(rt.alloc(), count)?;
+    let mut store = of(rt.alloc(), 1, count, true, &dead)?;
+    compact(rt, &mut store)
+}
+
+/// Compacts the one log.
+fn compact(rt: &HostRuntime, store: &mut Store<MemDisk>) -> Result<(), PauseFault> {
+    let found = choose(store, Kind::Major)?;
     tell(rt, "begin", found)?;
-    copies(rt, &mut store)?;
-    switches(rt, &mut store)?;
-    removal(rt, &mut store)
+    copies(rt, store)?;
+    switches(rt, store)?;
+    removal(rt, store)
 }
 
 /// Copies all entries: one step, then the rest at once.

@@ -66,8 +66,8 @@ pub(crate) static MEGABYTES: NumberOption = NumberOption {
     name: "megabytes",
     least: 1,
     most: 1_000_000_000,
-    default: 432_000,
-    help: "Let this many megabytes of records come in per day: 1 to 1000000000 [default: 432000, which is 5 a second]",
+    default: 108_000,
+    help: "Let this many megabytes of records come in per day: 1 to 1000000000 [default: 108000, which is 1.25 a second]",
 };
 
 pub(crate) static ENTRY: NumberOption = NumberOption {
@@ -90,8 +90,8 @@ pub(crate) static WRITERS: NumberOption = NumberOption {
     name: "writers",
     least: 1,
     most: 100_000,
-    default: 100,
-    help: "Ledgers that are written at the same time: 1 to 100000 [default: 100]",
+    default: 25,
+    help: "Ledgers that are written at the same time: 1 to 100000 [default: 25]",
 };
 
 pub(crate) static CACHE_LIMIT: NumberOption = NumberOption {

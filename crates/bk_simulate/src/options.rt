@@ -17,10 +17,10 @@ const MEGABYTE: u64 = 1_000_000;
 const DAY: u64 = 86_400;
 
 /// The number of records of a run, about, where the batch is to be chosen.
-const RECORDS: u64 = 2_000_000;
+const RECORDS: u64 = 500_000;
 
 /// The least number of records of a log then.
-const PER_LOG: u64 = 256;
+const PER_LOG: u64 = 128;
 
 /// What the options select. Each retention, pair of thresholds and limit is one run with each other.
 #[derive(Drop)]
