@@ -1,0 +1,4 @@
+//! Tests over public calls.
+
+mod disks;
+mod runs;

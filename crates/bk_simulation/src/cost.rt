@@ -1,0 +1,76 @@
+//! Instructions of a call under the lock, by its size, as measured.
+//!
+//! A cost is a fixed part and parts for each thing that the call visits.
+
+/// Bytes of memory of a key in the index and the accounts.
+pub const INDEX_BYTES: u64 = 48;
+
+/// Bytes of memory of a mark of the trail, while it is stored nearly twice.
+pub const TRAIL_BYTES: u64 = 94;
+
+/// Instructions of the parts of calls.
+#[derive(Clone, Copy, Debug, PartialEq, Eq)]
+pub struct Cost {
+    /// An add, without its digest.
+    pub add: u64,
+    /// A write of one entry.
+    pub write: u64,
+    /// A seal and the creation of the next log, and for each ledger of the sealed log.
+    pub seal: u64,
+    pub seal_ledger: u64,
+    /// A publish, and for each entry.
+    pub publish: u64,
+    pub publish_entry: u64,
+    /// A deletion, for each key, and for each log that has the ledger.
+    pub delete: u64,
+    pub delete_key: u64,
+    pub delete_log: u64,
+    /// The begin of a compaction, and for each log that is held.
+    pub begin: u64,
+    pub begin_log: u64,
+    /// A step of a copy, for each entry that is examined, and for each that is copied.
+    pub copy: u64,
+    pub copy_examined: u64,
+    pub copy_copied: u64,
+    /// A switch, and for each entry.
+    pub switch: u64,
+    pub switch_entry: u64,
+    /// The end of a compaction.
+    pub finish: u64,
+    /// A look at one log whether it can be retired.
+    pub retire: u64,
+    /// The removal of a log, and for each ledger in it.
+    pub remove: u64,
+    pub remove_ledger: u64,
+}
+
+impl Cost {
+    /// What was measured (docs/scale.md).
+    pub const MEASURED: Cost = Cost {
+        add: 1500,
+        write: 1250,
+        seal: 9000,
+        seal_ledger: 60,
+        publish: 3000,
+        publish_entry: 485,
+        delete: 1500,
+        delete_key: 70,
+        delete_log: 700,
+        begin: 6000,
+        begin_log: 690,
+        copy: 5000,
+        copy_examined: 500,
+        copy_copied: 400,
+        switch: 500,
+        switch_entry: 500,
+        finish: 1000,
+        retire: 500,
+        remove: 6000,
+        remove_ledger: 300,
+    };
+}
+
+/// Returns a fixed part and a part for each of `count`.
+pub(crate) fn linear(fixed: u64, each: u64, count: u64) -> u64 {
+    fixed.saturating_add(each.saturating_mul(count))
+}

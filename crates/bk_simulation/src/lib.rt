@@ -1,0 +1,32 @@
+//! A simulation of a bookie: the real store, with ledgers that are created, filled and deleted, and
+//! with flushes and compactions as a bookie's workers do them.
+#![tactic(auto)]
+
+mod calls;
+mod chance;
+mod compacting;
+mod cost;
+mod deaths;
+mod fault;
+mod figures;
+mod flushing;
+mod holds;
+mod load;
+mod month;
+mod outcome;
+mod plan;
+mod retention;
+mod row;
+mod tally;
+mod writers;
+
+pub use cost::{Cost, INDEX_BYTES, TRAIL_BYTES};
+pub use fault::SimFault;
+pub use holds::{Call, Holds, Longest};
+pub use load::{Load, Scale, Upkeep};
+pub use month::simulate;
+pub use outcome::{Outcome, Sample};
+pub use plan::{Plan, PlanFault};
+pub use retention::{Kind as RetentionKind, Retention};
+pub use row::{HEAD, write_counts, write_holds, write_row};
+pub use tally::Tally;

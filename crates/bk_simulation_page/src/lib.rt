@@ -1,0 +1,9 @@
+//! A page on the runs of a simulation: one HTML file that loads nothing.
+#![tactic(auto)]
+
+mod markup;
+mod page;
+mod picture;
+mod table;
+
+pub use page::write_page;

@@ -1,0 +1,64 @@
+//! Fixed parts of the page.
+
+pub(crate) static HEAD: &str = "<!doctype html>
+<html lang=\"en\">
+<head>
+<meta charset=\"utf-8\">
+<meta name=\"viewport\" content=\"width=device-width, initial-scale=1\">
+<meta name=\"color-scheme\" content=\"light dark\">
+<meta http-equiv=\"Content-Security-Policy\" content=\"default-src 'none'; style-src 'unsafe-inline'\">
+<title>Simulation of a bookie</title>
+<style>
+";
+
+pub(crate) static STYLE: &str = "
+:root { --paper: #fff; --ink: #1c2430; --quiet: #5c6675; --line: #d9dee5; --live: #0072b2; --disk: #c8371b; --logs: #0a7d4f; }
+@media screen and (prefers-color-scheme: dark) {
+  :root { --paper: #14181d; --ink: #e4e8ed; --quiet: #9aa5b3; --line: #333b45; --live: #4fa8dc; --disk: #f2694b; --logs: #4cc38a; }
+}
+* { box-sizing: border-box; }
+html { background: var(--paper); color: var(--ink); }
+body { max-width: 72rem; margin: 0 auto; padding: 1.5rem; font: 15px/1.45 system-ui, sans-serif; }
+h1 { font-size: 1.6rem; margin: 0; }
+h2 { font-size: 1.15rem; margin: 2.2rem 0 .4rem; }
+.quiet { color: var(--quiet); }
+.scroll { overflow-x: auto; }
+table { border-collapse: collapse; width: 100%; font-variant-numeric: tabular-nums; font-size: .9rem; }
+th, td { padding: .25rem .42rem; text-align: right; border-bottom: 1px solid var(--line); white-space: nowrap; }
+th { font-weight: 600; color: var(--quiet); }
+th.text, td.text { text-align: left; }
+svg { display: block; width: 100%; max-width: 52rem; margin: .4rem 0 .8rem; }
+svg text { fill: var(--quiet); font: 12px system-ui, sans-serif; }
+.grid { stroke: var(--line); }
+polyline { fill: none; stroke-width: 2; }
+.live { stroke: var(--live); color: var(--live); }
+.disk { stroke: var(--disk); color: var(--disk); }
+.logs { stroke: var(--logs); color: var(--logs); }
+span.live, span.disk, span.logs { font-weight: 600; }
+";
+
+pub(crate) static BEGIN: &str = "</style>
+</head>
+<body>
+<header>
+<h1>Simulation of a bookie</h1>
+<p class=\"quiet\">The store ran over a disk that keeps lengths and keys of records, and no data. Each
+simulated record stands for the entries of one ledger that the last column names.</p>
+</header>
+<main>
+";
+
+pub(crate) static KEY_BYTES: &str =
+    "<p><span class=\"disk\">bytes of all logs</span>, <span class=\"live\">of them live</span></p>
+";
+
+pub(crate) static KEY_LOGS: &str = "<p><span class=\"logs\">logs that are held</span></p>
+";
+
+pub(crate) static FOOT: &str = "</main>
+<footer class=\"quiet\">
+<p>1 MiB is 1,048,576 bytes. This page loads nothing and runs no script.</p>
+</footer>
+</body>
+</html>
+";

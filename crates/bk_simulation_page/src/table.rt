@@ -1,0 +1,88 @@
+//! The table of the runs.
+
+use bk_report::write_number;
+use bk_simulation::Outcome;
+use std::io;
+use std::io::Write;
+
+/// Bytes of a MiB.
+const MIB: u64 = 1_048_576;
+
+/// Seconds of a day.
+const DAY: u64 = 86_400;
+
+static HEAD: &str = "<div class=\"scroll\"><table>
+<tr><th class=\"text\">retention, days</th><th>minor</th><th>major</th><th>log MiB</th><th>write amplification</th><th>space amplification</th><th>peak</th><th>logs</th><th>peak</th><th>index MiB</th><th>compactions</th><th>moved MiB</th><th>99.9 % hold</th><th>longest hold</th><th class=\"text\">call</th><th>entries a record</th></tr>
+";
+
+/// Writes the table.
+pub(crate) fn write_table<W: Write>(out: &mut W, outcomes: &[Outcome]) -> io::Result<()> {
+    out.write_all(HEAD.as_bytes())?;
+    for outcome in outcomes {
+        write_row(out, outcome)?;
+    }
+    out.write_all(b"</table></div>\n")
+}
+
+/// Writes a run: its retention and its thresholds in thousandths.
+pub(crate) fn write_name<W: Write>(out: &mut W, outcome: &Outcome) -> io::Result<()> {
+    let retention = outcome.plan.load.retention;
+    let days = retention.mean / DAY;
+    out.write_all(retention.kind.name().as_bytes())?;
+    write!(out, " {days}")
+}
+
+/// Writes a row.
+fn write_row<W: Write>(out: &mut W, outcome: &Outcome) -> io::Result<()> {
+    let settings = outcome.plan.upkeep.settings;
+    out.write_all(b"<tr><td class=\"text\">")?;
+    write_name(out, outcome)?;
+    out.write_all(b"</td>")?;
+    write_cell(out, u64::from(settings.minor))?;
+    write_cell(out, u64::from(settings.major))?;
+    write_cell(out, u64::from(settings.log_limit) / MIB)?;
+    write_ratio(out, outcome.write_amplification())?;
+    write_ratio(out, outcome.space_amplification())?;
+    write_ratio(out, outcome.peak_space_amplification())?;
+    write_counts(out, outcome)?;
+    write_holds(out, outcome)?;
+    write_cell(out, outcome.plan.scale.batch)?;
+    out.write_all(b"</tr>\n")
+}
+
+/// Writes the logs, the memory of the index and the compactions.
+fn write_counts<W: Write>(out: &mut W, outcome: &Outcome) -> io::Result<()> {
+    write_cell(out, outcome.mean_logs())?;
+    write_cell(out, outcome.peak_logs)?;
+    write_cell(out, outcome.index_memory() / MIB)?;
+    write_cell(out, outcome.compactions())?;
+    write_cell(out, outcome.moved() / MIB)
+}
+
+/// Writes the holds.
+fn write_holds<W: Write>(out: &mut W, outcome: &Outcome) -> io::Result<()> {
+    write_cell(out, outcome.holds.exceeded_by(1))?;
+    let (cost, name) = match outcome.holds.longest() {
+        Some(longest) => (longest.cost, longest.call.name()),
+        None => (0, ""),
+    };
+    write_cell(out, cost)?;
+    out.write_all(b"<td class=\"text\">")?;
+    out.write_all(name.as_bytes())?;
+    out.write_all(b"</td>")
+}
+
+/// Writes a number in a cell.
+fn write_cell<W: Write>(out: &mut W, number: u64) -> io::Result<()> {
+    out.write_all(b"<td>")?;
+    write_number(out, number)?;
+    out.write_all(b"</td>")
+}
+
+/// Writes thousandths as a decimal number of two places, rounded down, in a cell.
+fn write_ratio<W: Write>(out: &mut W, thousandths: u64) -> io::Result<()> {
+    let whole = thousandths / 1000;
+    let tenths = thousandths / 100 % 10;
+    let hundredths = thousandths / 10 % 10;
+    write!(out, "<td>{whole}.{tenths}{hundredths}</td>")
+}
