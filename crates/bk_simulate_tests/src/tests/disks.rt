@@ -28,6 +28,9 @@ fn header(alloc: Global) -> Result<Vec<u8>, AllocError> {
 
 /// Writes a log: a header, records, a piece that is no record, and a patch of the header.
 fn fill<D: LogDisk>(alloc: Global, disk: &mut D, log: u32) -> Result<(), DiskFault> {
+    if log >= 2_147_483_648 {
+        return Err(DiskFault::NoLog);
+    }
     disk.create(alloc, log)?;
     let header = header(alloc).map_err(|_| DiskFault::Memory)?;
     disk.append(alloc, log, &header)?;
