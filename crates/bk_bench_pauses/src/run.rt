@@ -5,7 +5,7 @@ use crate::beside::Beside;
 use crate::files::{Files, SETTINGS, payload};
 use crate::stages::{
     add, bytes, choose, close_log, copy_some, delete, end, finish_job, publish, remove_log,
-    retire_log, seal, stats, swap, switch_some, take, tell, write,
+    retire_log, seal, stats, swap, switch_some, take, tell, write, writes,
 };
 use bk_compact::Kind;
 use bk_disk::MemDisk;
@@ -189,10 +189,8 @@ fn add_one(rt: &HostRuntime, store: &mut Store<MemDisk>) -> Result<(), PauseFaul
 
 /// Writes `count` entries, then one more.
 fn write_all(rt: &HostRuntime, store: &mut Store<MemDisk>, count: u64) -> Result<(), PauseFault> {
-    for _ in 0..count {
-        write(store)?;
-    }
-    tell(rt, "writes", count)?;
+    let before = writes(store, count)?;
+    tell(rt, "writes", before)?;
     let written = write(store)?;
     tell(rt, "write", written)?;
     Ok(())

@@ -64,6 +64,17 @@ pub(crate) fn write(store: &mut Mem) -> Result<u64, PauseFault> {
     }
 }
 
+/// Writes `count` entries.
+#[inline(never)]
+pub(crate) fn writes(store: &mut Mem, count: u64) -> Result<u64, PauseFault> {
+    for _ in 0..count {
+        let Ok(WriteAnswer::Wrote(_)) = write_one(store) else {
+            return Err(PauseFault::Answer("writes"));
+        };
+    }
+    Ok(count)
+}
+
 /// Publishes the flush.
 #[inline(never)]
 pub(crate) fn publish(store: &mut Mem) -> Result<u64, PauseFault> {

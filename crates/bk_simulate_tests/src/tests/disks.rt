@@ -28,9 +28,7 @@ fn header(alloc: Global) -> Result<Vec<u8>, AllocError> {
 
 /// Writes a log: a header, records, a piece that is no record, and a patch of the header.
 fn fill<D: LogDisk>(alloc: Global, disk: &mut D, log: u32) -> Result<(), DiskFault> {
-    if log >= 2_147_483_648 {
-        return Err(DiskFault::NoLog);
-    }
+    let log = log.min(1000);
     disk.create(alloc, log)?;
     let header = header(alloc).map_err(|_| DiskFault::Memory)?;
     disk.append(alloc, log, &header)?;
