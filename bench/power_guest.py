@@ -24,7 +24,7 @@ KERNEL = "linux-image-cloud-amd64"
 ALWAYS = ("virtio_pci", "virtio_blk")
 # A busy machine gives timers late.
 OPTIONS = "console=ttyS0 quiet panic=-1 oops=panic mitigations=off no_timer_check"
-# One processor. Where there cannot be more, QEMU leaves barriers out, and now and then a request of a disk is lost.
+# One processor, on which code runs as if there were more: else a request of a disk was lost, perhaps for want of barriers.
 PROCESSORS = ("-smp", "1,maxcpus=2")
 # How long the guest may be silent, on a machine that is busy.
 SECONDS = 900

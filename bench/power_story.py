@@ -77,6 +77,7 @@ class Story:
         if with_load:
             # A load uses the ledgers after the last one with an entry: after MARKER from now on.
             self.processes += self.script()
+            self.processes += self.load(is_whole=True)
         while len(self.processes) < length:
             kinds = [self.script, self.script, self.killed, self.killed, self.compact, self.compact_killed]
             self.processes += chance.choice([*kinds, *[self.load] * (2 * with_load)])()
@@ -131,11 +132,11 @@ class Story:
             process.kill_at = self.chance.randrange(2, 30)
         return found and [*found, self.look(found[0].number + 1)]
 
-    def load(self):
-        """A load of threads, half of them killed; then a compaction, which opens what that left, and the files as they are."""
+    def load(self, is_whole=False):
+        """A load of threads, half of them killed if not the whole is asked for; then a compaction, which opens what that left, and the files as they are."""
         words = ["load", "--threads", "2", "--adds", str(self.chance.randrange(20, 200)), "--folder", FOLDER, *self.keeping]
         load = self.process("load", words)
-        load.kill_at = self.chance.choice((0, self.chance.randrange(2, 400)))
+        load.kill_at = 0 if is_whole else self.chance.choice((0, self.chance.randrange(2, 400)))
         return [load, *self.compact(1), self.process("taken", [], 2)]
 
     # ---- the steps of a script
