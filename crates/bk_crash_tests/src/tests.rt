@@ -3,7 +3,6 @@
 
 mod chance;
 mod finding;
-mod ledgers;
 mod life;
 mod owed;
 mod powered;

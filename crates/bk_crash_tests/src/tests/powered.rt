@@ -10,7 +10,7 @@ use bk_manifest::{ManifestError, State, read_manifest};
 use bk_manifest_disk::{Fault, KeptDisk, LimitedDisk, open};
 use std::alloc::{AllocError, Global};
 
-pub(super) const SETTINGS: Settings = Settings {
+const SETTINGS: Settings = Settings {
     log_limit: 2048,
     cache_limit: 100_000,
     recent: 2,
